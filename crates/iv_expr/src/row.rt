@@ -1,0 +1,82 @@
+//! Rows and the tables that they stand in.
+ghost use Rattle.std.specs.Prelude.{◌≡◌, IfOk};
+
+use iv_value::Value;
+use std::alloc::AllocError;
+use std::marker::Model;
+use std::rc::RcSlice;
+
+/// A table, by its place in the order of creation, from 0. Contracts see it as that number.
+#[derive(Clone, Copy, Debug, PartialEq, Eq)]
+pub struct TableId {
+    place: u32,
+}
+
+impl Model for TableId {
+    ghost use Rattle.std.specs.Prelude.{ℕ};
+
+    ghost Value = { ℕ };
+
+    ghost view = { λ t. t.place };
+
+    ghost inverse = { λ n. record { place = n } };
+}
+
+impl TableId {
+    /// The table at this place.
+    pub fn new(place: u32) -> TableId
+        ensures { result ≡ place }
+    {
+        TableId { place }
+    }
+
+    /// Its place, from 0.
+    pub fn place(self) -> u32
+        ensures { result ≡ self }
+    {
+        self.place
+    }
+}
+
+/// A shared list of values: its copy shares them. Contracts see it as the list.
+#[derive(Drop)]
+pub struct Row {
+    shared: RcSlice<Value>,
+}
+
+impl Model for Row {
+    ghost use Rattle.std.specs.Prelude.{List};
+    ghost use Rattle.iv_value.specs.declared.value.Value.{Value as Cell};
+
+    ghost Value = { List Cell };
+
+    ghost view = { λ r. r.shared.items.value.items };
+}
+
+impl Row {
+    /// A row of these values.
+    pub fn new(values: Vec<Value>) -> Result<Row, AllocError>
+        ensures { IfOk result (λ r. r ≡ values.items) }
+    {
+        Ok(Row {
+            shared: RcSlice::from_vec(values)?,
+        })
+    }
+
+    /// The values, in the order of the columns.
+    pub fn values(&self) -> &[Value]
+        ensures { result.now ≡ self.now }
+    {
+        &self.shared
+    }
+}
+
+impl Clone for Row {
+    ghost is_clone = { λ x y. y ≡ x };
+
+    fn clone(&self) -> Result<Row, AllocError> {
+        Ok(Row {
+            shared: self.shared.clone()?,
+        })
+    }
+}

@@ -1,0 +1,46 @@
+//! Names of tables, columns, constraints, triggers, ranges and savepoints.
+ghost use Rattle.std.specs.Prelude.{◌≡◌};
+
+use iv_value::Text;
+use std::alloc::AllocError;
+use std::marker::Model;
+
+/// A name, folded to upper case and shared. Contracts see it as its bytes.
+#[derive(Drop)]
+pub struct Name {
+    folded: Text,
+}
+
+impl Model for Name {
+    ghost use Rattle.std.specs.Prelude.{List, ℕ};
+
+    ghost Value = { List ℕ };
+
+    ghost view = { λ n. n.folded };
+}
+
+impl Name {
+    /// The name that is this text, which is taken as it stands.
+    pub fn new(folded: Text) -> Name
+        ensures { result ≡ folded }
+    {
+        Name { folded }
+    }
+
+    /// Its characters.
+    pub fn as_str(&self) -> &str
+        ensures { result.now ≡ self.now }
+    {
+        self.folded.as_str()
+    }
+}
+
+impl Clone for Name {
+    ghost is_clone = { λ x y. y ≡ x };
+
+    fn clone(&self) -> Result<Name, AllocError> {
+        Ok(Name {
+            folded: self.folded.clone()?,
+        })
+    }
+}
