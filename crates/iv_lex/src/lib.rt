@@ -1,13 +1,8 @@
-// A library with one function.
+//! The tokens of a script.
 #![tactic(auto)]
 
-ghost use Rattle.std.specs.Prelude.{◌≡◌};
-ghost use Rattle.iv_lex.specs.Echo.{echo_of};
+mod kind;
+mod token;
 
-// The `ensures` clause is the contract: what `echo` returns is `echo_of` of its argument, a definition
-// in `specs/Echo.antt`, which a caller's clause can cite too.
-pub fn echo(x: usize) -> usize
-    ensures { result ≡ echo_of x }
-{
-    x
-}
+pub use kind::Kind;
+pub use token::Token;

@@ -1,0 +1,10 @@
+//! Tokens.
+use crate::kind::Kind;
+
+/// A token and its place: it is the text from byte `start` on, up to byte `end`.
+#[derive(Clone, Copy, Debug, PartialEq, Eq)]
+pub struct Token {
+    pub kind: Kind,
+    pub start: usize,
+    pub end: usize,
+}
