@@ -1,0 +1,58 @@
+//! Why a statement is refused.
+use crate::number::{ConstraintId, TriggerId};
+
+/// A violation: the constraint and the number of the row that violates it.
+#[derive(Clone, Copy, Debug, PartialEq, Eq)]
+pub struct Fault {
+    pub constraint: ConstraintId,
+    pub row: u64,
+}
+
+/// The 22 causes of a refusal, in the order of their numbers from 1.
+#[derive(Clone, Copy, Debug, PartialEq, Eq)]
+pub enum Cause {
+    /// A name that names nothing.
+    Unknown,
+    /// A name that is in use or comes twice.
+    Duplicate,
+    /// A definition that no schema can have, or a statement that isn't taken up.
+    SchemaFault,
+    /// A schema statement inside a transaction.
+    InTransaction,
+    /// A savepoint or mode statement outside a transaction.
+    NoTransaction,
+    /// START TRANSACTION inside a transaction.
+    ActiveTransaction,
+    UnknownSavepoint,
+    NotDeferrable(ConstraintId),
+    /// The number of values isn't that of the columns, or an integer meets a text.
+    WrongShape,
+    NumberOutOfRange,
+    TextTooLong,
+    /// ON DELETE RESTRICT or ON UPDATE RESTRICT, with the row that refers.
+    Restrict(Fault),
+    /// An immediate constraint that a statement violates, with the first row.
+    Violation(Fault),
+    /// Two referential actions that set one column of the row to different values.
+    ActionConflict(Fault),
+    /// SIGNAL of a trigger, by its place in the body, from 1.
+    Signal(TriggerId, u32),
+    DepthLimit(TriggerId),
+    TooManyChanges,
+    TransactionTooLarge,
+    /// A constraint that COMMIT found violated, with the first row.
+    CommitRefused(Fault),
+    /// A constraint to be added that this row violates.
+    AddRefused(u64),
+    /// A number beyond the limits of the language.
+    Limit,
+    /// Memory was refused.
+    OutOfMemory,
+}
+
+/// A refusal, with the innermost trigger whose body or WHEN was running.
+#[derive(Clone, Copy, Debug, PartialEq, Eq)]
+pub struct Refusal {
+    pub cause: Cause,
+    pub trigger: Option<TriggerId>,
+}

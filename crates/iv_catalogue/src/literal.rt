@@ -1,0 +1,57 @@
+//! Literals of integers and NULL.
+ghost use Rattle.std.specs.Prelude.{◌≡◌};
+ghost use Rattle.iv_catalogue.specs.Resolution.{integer, signed_number, literal_value, literal_or_null};
+
+use iv_syntax::{Expression, Sign, ValueOrDefault};
+use iv_value::Value;
+
+fn integer(sign: Sign, number: u64) -> Option<Value>
+    ensures { result ≡ integer sign number }
+{
+    if number > 9_223_372_036_854_775_807 {
+        return None;
+    }
+    let size = number as i64;
+    match sign {
+        Sign::Plus => Some(Value::Int(size)),
+        Sign::Minus => Some(Value::Int(0 - size)),
+    }
+}
+
+fn signed_number(sign: Sign, operand: &Expression) -> Option<Value>
+    ensures { result ≡ signed_number sign operand.now }
+{
+    match operand {
+        Expression::Number(number) => integer(sign, *number),
+        _ => None,
+    }
+}
+
+/// The value of a literal.
+#[tactic(auto, using(crate::proofs::Literals::literal_signed))]
+pub fn literal_value(expression: &Expression) -> Option<Value>
+    ensures { result ≡ literal_value expression.now }
+{
+    match expression {
+        Expression::Number(number) => integer(Sign::Plus, *number),
+        Expression::Null => Some(Value::Null),
+        Expression::Signed(sign, operand) => signed_number(*sign, operand.get()),
+        Expression::Text(_) | Expression::Column(_) => None,
+        Expression::Group(_) => None,
+        Expression::Product(_, _) => None,
+        Expression::Sum(_, _, _) => None,
+    }
+}
+
+/// The value of a literal in a tuple, NULL for all else.
+pub fn literal_or_null(value: &ValueOrDefault) -> Value
+    ensures { result ≡ literal_or_null value.now }
+{
+    match value {
+        ValueOrDefault::Value(expression) => match literal_value(expression) {
+            Some(literal) => literal,
+            None => Value::Null,
+        },
+        ValueOrDefault::Default => Value::Null,
+    }
+}

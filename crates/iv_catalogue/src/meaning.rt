@@ -1,0 +1,154 @@
+//! What a statement means in a catalogue.
+ghost use Rattle.std.specs.Prelude.{◌≡◌, position, map, Option, IfOk, option_copied, IfSome, ◌<◌, ◌≤◌, length, ◌^◌};
+ghost use Rattle.std.specs.Str.{bytes_eq};
+ghost use Rattle.iv_catalogue.specs.Resolution.{table_named, refused, literal_or_null, insert_into, insert_plan, insert_tuples, select_plan, resolved_insert, resolved_select, resolution, Resolves};
+
+use crate::catalogue::{Catalogue, Plan, Table};
+use crate::cause::{Cause, Refusal};
+use crate::create::create;
+use crate::literal::literal_or_null;
+use iv_expr::{Row, TableId};
+use iv_syntax::{Insert, InsertSource, Select, Statement, ValueOrDefault};
+use iv_value::Value;
+use sqlite_items::Items;
+use std::alloc::{AllocError, Global};
+
+fn place_of(tables: &[Table], name: &str) -> Option<usize>
+    ensures place { result ≡ position (λ t. bytes_eq name.now t.name) tables.now }
+    ensures within { IfSome result (λ place. place < length tables.now) }
+{
+    tables.iter().position(|table| name == table.name.as_str())
+}
+
+fn refuse<T>(cause: Cause) -> Result<T, Refusal>
+    ensures { result ≡ refused cause }
+{
+    Err(Refusal {
+        cause,
+        trigger: None,
+    })
+}
+
+fn literals(alloc: Global, tuple: &[ValueOrDefault]) -> Result<Vec<Value>, AllocError>
+    ensures { IfOk result (λ values. values.items ≡ map literal_or_null tuple.now) }
+{
+    let mut values = Vec::new(alloc);
+    for value in tuple {
+        values.push(literal_or_null(value))?;
+    }
+    Ok(values)
+}
+
+// The plan of INSERT into the table at this place.
+fn insert_at(
+    alloc: Global,
+    table: &Table,
+    place: u32,
+    tuple: &[ValueOrDefault],
+) -> Result<Result<Plan, Refusal>, AllocError>
+    ensures { IfOk result (λ r. r ≡ insert_into place table.now tuple.now) }
+{
+    if tuple.len() != table.columns.len() {
+        return Ok(refuse(Cause::WrongShape));
+    }
+    let row = Row::new(literals(alloc, tuple)?)?;
+    Ok(Ok(Plan::Insert(TableId::new(place), row)))
+}
+
+fn insert(
+    alloc: Global,
+    catalogue: &Catalogue,
+    insert: &Insert,
+) -> Result<Result<Plan, Refusal>, AllocError>
+    ensures { IfOk result (λ r. r ≡ resolved_insert catalogue.now insert.now) }
+{
+    match insert {
+        Insert::Rows {
+            table,
+            columns: None,
+            source: InsertSource::Values(tuples),
+        } => insert_tuples(alloc, catalogue, table.as_str(), tuples.as_slice()),
+        _ => Ok(refuse(Cause::SchemaFault)),
+    }
+}
+
+fn insert_tuples(
+    alloc: Global,
+    catalogue: &Catalogue,
+    name: &str,
+    tuples: &[Items<ValueOrDefault>],
+) -> Result<Result<Plan, Refusal>, AllocError>
+    ensures { IfOk result (λ r. r ≡ insert_tuples catalogue.now name.now tuples.now) }
+{
+    match tuples {
+        [tuple] => insert_tuple(alloc, catalogue.tables(), name, tuple.as_slice()),
+        _ => Ok(refuse(Cause::SchemaFault)),
+    }
+}
+
+fn insert_tuple(
+    alloc: Global,
+    tables: &[Table],
+    name: &str,
+    tuple: &[ValueOrDefault],
+) -> Result<Result<Plan, Refusal>, AllocError>
+    requires { length tables.now ≤ 64 }
+    ensures { IfOk result (λ r. r ≡ insert_plan tables.now (position (λ t. bytes_eq name.now t.name) tables.now) tuple.now) }
+{
+    match place_of(tables, name) {
+        Some(place) => match tables.get(place) {
+            Some(table) => insert_at(alloc, table, place as u32, tuple),
+            None => Ok(refuse(Cause::Unknown)),
+        },
+        None => Ok(refuse(Cause::Unknown)),
+    }
+}
+
+fn select(catalogue: &Catalogue, select: &Select) -> Result<Plan, Refusal>
+    ensures { result ≡ resolved_select catalogue.now select.now }
+{
+    match select {
+        Select::Rows(_, range, _) => select_from(catalogue.tables(), range.table.as_str()),
+        Select::Count(_, _) => refuse(Cause::SchemaFault),
+    }
+}
+
+fn select_from(tables: &[Table], name: &str) -> Result<Plan, Refusal>
+    requires { length tables.now ≤ 64 }
+    ensures { result ≡ select_plan (position (λ t. bytes_eq name.now t.name) tables.now) }
+{
+    match place_of(tables, name) {
+        Some(place) => Ok(Plan::Select(TableId::new(place as u32))),
+        None => refuse(Cause::Unknown),
+    }
+}
+
+fn resolved(
+    alloc: Global,
+    catalogue: &Catalogue,
+    statement: &Statement,
+) -> Result<Result<Plan, Refusal>, AllocError>
+    ensures { IfOk result (λ r. r ≡ resolution catalogue.now statement.now) }
+{
+    match statement {
+        Statement::CreateTable { name, elements } => {
+            create(alloc, catalogue, name, elements.as_slice())
+        }
+        Statement::Insert(written) => insert(alloc, catalogue, written),
+        Statement::Select(written) => Ok(select(catalogue, written)),
+        Statement::Commit => Ok(Ok(Plan::Commit)),
+        Statement::Rollback => Ok(Ok(Plan::Rollback)),
+        _ => Ok(refuse(Cause::SchemaFault)),
+    }
+}
+
+/// The plan of a statement, or the least cause that it deserves, or want of memory. It takes time in
+/// proportion to the statement and, for CREATE TABLE, to the constraints of the catalogue.
+pub fn resolve(alloc: Global, catalogue: &Catalogue, statement: &Statement) -> Result<Plan, Refusal>
+    ensures { Resolves catalogue.now statement.now result }
+{
+    match resolved(alloc, catalogue, statement) {
+        Ok(answer) => answer,
+        Err(_) => refuse(Cause::OutOfMemory),
+    }
+}
