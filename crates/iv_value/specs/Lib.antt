@@ -1,0 +1,3 @@
+pub mod Truths
+pub mod Values
+pub mod References
