@@ -1,0 +1,4 @@
+pub mod Trees
+pub mod Scopes
+pub mod Evaluation
+pub mod References
