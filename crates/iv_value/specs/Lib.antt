@@ -1,3 +1,4 @@
 pub mod Truths
 pub mod Values
 pub mod References
+pub mod Worked

@@ -6,10 +6,14 @@ mod fitting;
 mod logic;
 mod order;
 mod shared_text;
+#[cfg(test)]
+mod tests;
 mod value;
+mod worked;
 
 pub use arithmetic::{minus, plus, times};
 pub use fitting::fit;
 pub use order::{compare, same};
 pub use shared_text::Text;
 pub use value::{Fit, Kind, Truth, Value, ValueRef, text};
+pub use worked::worked_values;
