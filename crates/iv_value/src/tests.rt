@@ -66,6 +66,9 @@ fn nulls_and_two_kinds_have_no_order(rt: HostRuntime) -> Result<(), Fail> {
     assert!(rt; !same(&one, &word));
     assert!(rt; Value::Null.as_ref().is_null());
     assert!(rt; !word.as_ref().is_null());
+    assert!(rt; same(&word.as_ref().to_value()?, &word));
+    assert!(rt; same(&one.as_ref().to_value()?, &one));
+    assert!(rt; same(&Value::Null.as_ref().to_value()?, &Value::Null));
     Ok(())
 }
 

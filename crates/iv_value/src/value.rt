@@ -1,6 +1,6 @@
 //! Values, truth values, the kinds of columns and how a value fits one.
 ghost use Rattle.std.specs.Prelude.{◌≡◌, IfOk};
-ghost use Rattle.iv_value.specs.References.{value_of};
+ghost use Rattle.iv_value.specs.References.{Copied, value_of};
 ghost use Rattle.iv_value.specs.declared.value.Value.TheVariants as variant;
 
 use crate::shared_text::Text;
@@ -61,6 +61,19 @@ impl Value {
             Value::Null => ValueRef::Null,
             Value::Int(number) => ValueRef::Int(*number),
             Value::Text(text) => ValueRef::Text(text),
+        }
+    }
+}
+
+impl<'a> ValueRef<'a> {
+    /// The value itself; only the copy of a text takes memory.
+    pub fn to_value(self) -> Result<Value, AllocError>
+        ensures { Copied (value_of self.entry) result }
+    {
+        match self {
+            ValueRef::Null => Ok(Value::Null),
+            ValueRef::Int(number) => Ok(Value::Int(number)),
+            ValueRef::Text(text) => Ok(Value::Text(text.clone()?)),
         }
     }
 }
