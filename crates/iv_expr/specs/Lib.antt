@@ -2,3 +2,5 @@ pub mod Trees
 pub mod Scopes
 pub mod Evaluation
 pub mod References
+pub mod Suiting
+pub mod Changes

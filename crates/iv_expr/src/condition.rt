@@ -1,10 +1,12 @@
 //! The truth of a condition.
-ghost use Rattle.std.specs.Prelude.{◌≡◌, map, false, []};
+ghost use Rattle.std.specs.Prelude.{◌≡◌, ◌≢◌, Err, map, false, []};
 ghost use Rattle.std.specs.Option.{option_copied};
 ghost use Rattle.iv_expr.specs.Evaluation.{any_from, check_truth as truth_of_check, truth as truth_at};
 ghost use Rattle.iv_expr.specs.Scopes.{contents, side_of, table_rows, transition_rows, within};
+ghost use Rattle.iv_expr.specs.Suiting.{Suits};
+ghost use Rattle.iv_expr.specs.declared.tree.ExprFault.TheVariants as fault;
 
-use crate::eval::eval_ref;
+use crate::expression::value_in;
 use crate::operators::{and_both, compare_both, is_null_of, not_of, or_both, or_true};
 use crate::row::{Change, TableId};
 use crate::scope::{Frame, Rows, Scope};
@@ -13,9 +15,16 @@ use iv_value::{Truth, Value};
 
 /// The truth of a condition in a scope. Both sides of every operator are evaluated, and all rows of every EXISTS.
 /// It takes no memory.
-#[cycle(truth)]
-#[tactic(auto, using(crate::proofs::Steps::truth_not_at, crate::proofs::Steps::truth_and_at, crate::proofs::Steps::truth_or_at, crate::proofs::Steps::truth_exists_at))]
 pub fn truth<R: Rows>(cond: &Cond, scope: &Scope<'_, R>) -> Result<Truth, ExprFault>
+    ensures value { result ≡ truth_at scope.now cond.now }
+    ensures suited { Suits scope.now cond.now → result ≢ Err fault.Misfit }
+{
+    truth_in(cond, scope)
+}
+
+#[cycle(truth_in)]
+#[tactic(auto, using(crate::proofs::Steps::truth_not_at, crate::proofs::Steps::truth_and_at, crate::proofs::Steps::truth_or_at, crate::proofs::Steps::truth_exists_at))]
+fn truth_in<R: Rows>(cond: &Cond, scope: &Scope<'_, R>) -> Result<Truth, ExprFault>
     ensures { result ≡ truth_at scope.now cond.now }
 {
     match cond {
@@ -23,14 +32,20 @@ pub fn truth<R: Rows>(cond: &Cond, scope: &Scope<'_, R>) -> Result<Truth, ExprFa
         Cond::Compare(comparison, left, right) => {
             compare_both(
                 *comparison,
-                eval_ref(left, &*scope),
-                eval_ref(right, &*scope),
+                value_in(left, &*scope),
+                value_in(right, &*scope),
             )
         }
-        Cond::IsNull(operand) => is_null_of(eval_ref(operand, &*scope)),
-        Cond::Not(operand) => not_of(truth(operand.get(), &*scope)),
-        Cond::And(left, right) => and_both(truth(left.get(), &*scope), truth(right.get(), &*scope)),
-        Cond::Or(left, right) => or_both(truth(left.get(), &*scope), truth(right.get(), &*scope)),
+        Cond::IsNull(operand) => is_null_of(value_in(operand, &*scope)),
+        Cond::Not(operand) => not_of(truth_in(operand.get(), &*scope)),
+        Cond::And(left, right) => and_both(
+            truth_in(left.get(), &*scope),
+            truth_in(right.get(), &*scope),
+        ),
+        Cond::Or(left, right) => or_both(
+            truth_in(left.get(), &*scope),
+            truth_in(right.get(), &*scope),
+        ),
         Cond::Exists(range, operand) => match range {
             Range::Table(table) => exists_in_table(*table, operand.get(), &*scope),
             Range::Transition(side) => exists_in_transition(*side, operand.get(), &*scope),
@@ -39,7 +54,7 @@ pub fn truth<R: Rows>(cond: &Cond, scope: &Scope<'_, R>) -> Result<Truth, ExprFa
 }
 
 /// Whether a condition is true at a row of a table.
-#[cycle(truth)]
+#[cycle(truth_in)]
 fn exists_in_table<R: Rows>(
     table: TableId,
     cond: &Cond,
@@ -53,7 +68,7 @@ fn exists_in_table<R: Rows>(
     while let Some((number, row)) = (&*scope).scan(table, after) {
         after = number;
         let ranges = (&*scope).ranges_with(row);
-        match truth(&*cond, &(&*scope).over(&ranges)) {
+        match truth_in(&*cond, &(&*scope).over(&ranges)) {
             Ok(at_row) => found = or_true(found, at_row),
             Err(fault) => return Err(fault),
         }
@@ -62,7 +77,7 @@ fn exists_in_table<R: Rows>(
 }
 
 /// Whether a condition is true at a row of a transition table.
-#[cycle(truth)]
+#[cycle(truth_in)]
 fn exists_in_transition<R: Rows>(
     side: Side,
     cond: &Cond,
@@ -74,7 +89,7 @@ fn exists_in_transition<R: Rows>(
     for change in (&*scope).transition() {
         if let Some(row) = row_on(side, change) {
             let ranges = (&*scope).ranges_with(row);
-            match truth(&*cond, &(&*scope).over(&ranges)) {
+            match truth_in(&*cond, &(&*scope).over(&ranges)) {
                 Ok(at_row) => found = or_true(found, at_row),
                 Err(fault) => return Err(fault),
             }

@@ -2,14 +2,16 @@
 #![tactic(auto)]
 
 mod condition;
-mod eval;
+mod expression;
 mod operators;
 mod row;
 mod scope;
 mod tree;
+mod wave;
 
-pub use condition::{check_truth, truth};
-pub use eval::eval_ref;
+pub use condition::{check_truth, truth, truth_at_row};
+pub use expression::{eval, eval_ref};
 pub use row::{Change, Row, StoredRow, TableId};
 pub use scope::{Frame, Ranges, Rows, Scope};
 pub use tree::{Comparison, Cond, Expr, ExprFault, Range, Side};
+pub use wave::Wave;

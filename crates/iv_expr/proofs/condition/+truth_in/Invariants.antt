@@ -3,7 +3,7 @@ use Rattle.iv_expr.specs.Evaluation.{truth, any_from}
 use Rattle.iv_expr.specs.Scopes.{contents, table_rows, transition_rows, within}
 use Rattle.iv_value.specs.declared.value.Value.{Value}
 use Rattle.iv_expr.proofs.Scan.{rows_above}
-use Rattle.iv_expr.proofs.condition.+truth.Given as goal
+use Rattle.iv_expr.proofs.condition.+truth_in.Given as goal
 
 abbrev pub invariant-exists_in_transition-loop-change : goal.invariant-exists_in_transition-loop-change
 invariant-exists_in_transition-loop-change g l =
