@@ -1,0 +1,6 @@
+pub mod Trees
+pub mod Scopes
+pub mod Evaluation
+pub mod References
+pub mod Suiting
+pub mod Changes

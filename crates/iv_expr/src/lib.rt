@@ -1,8 +1,17 @@
 //! Expressions and conditions with every name resolved, and the rows that they are evaluated over.
 #![tactic(auto)]
 
+mod condition;
+mod expression;
+mod operators;
 mod row;
+mod scope;
 mod tree;
+mod wave;
 
-pub use row::{Row, TableId};
+pub use condition::{check_truth, truth, truth_at_row};
+pub use expression::{eval, eval_ref};
+pub use row::{Change, Row, StoredRow, TableId};
+pub use scope::{Frame, Ranges, Rows, Scope};
 pub use tree::{Comparison, Cond, Expr, ExprFault, Range, Side};
+pub use wave::Wave;

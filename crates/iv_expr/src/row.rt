@@ -80,3 +80,47 @@ impl Clone for Row {
         })
     }
 }
+
+/// A row of a table, with its number.
+#[derive(Drop)]
+pub struct StoredRow {
+    pub table: TableId,
+    /// The number of the row in the database, from 1 to 9,223,372,036,854,775,807.
+    pub number: u64,
+    pub values: Row,
+}
+
+/// A change of one row: what it was and what it is. Without `old` it is an insertion, without `new` a deletion.
+#[derive(Drop)]
+pub struct Change {
+    pub table: TableId,
+    /// The number of the row, from 1 to 9,223,372,036,854,775,807.
+    pub row: u64,
+    pub old: Option<Row>,
+    pub new: Option<Row>,
+}
+
+/// The copy shares the rows.
+impl Clone for Change {
+    ghost is_clone = { λ x y. y ≡ x };
+
+    fn clone(&self) -> Result<Change, AllocError> {
+        let old = copy_row(&self.old)?;
+        let new = copy_row(&self.new)?;
+        Ok(Change {
+            table: self.table,
+            row: self.row,
+            old,
+            new,
+        })
+    }
+}
+
+fn copy_row(row: &Option<Row>) -> Result<Option<Row>, AllocError>
+    ensures { IfOk result (λ r. r ≡ row.now) }
+{
+    match row {
+        Some(row) => Ok(Some(row.clone()?)),
+        None => Ok(None),
+    }
+}

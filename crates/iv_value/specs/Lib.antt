@@ -1,0 +1,4 @@
+pub mod Truths
+pub mod Values
+pub mod References
+pub mod Worked

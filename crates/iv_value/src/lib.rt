@@ -1,8 +1,19 @@
 //! Values of SQL: nulls, integers and texts; truth values; the kinds of columns.
 #![tactic(auto)]
 
-mod text;
+mod arithmetic;
+mod fitting;
+mod logic;
+mod order;
+mod shared_text;
+#[cfg(test)]
+mod tests;
 mod value;
+mod worked;
 
-pub use text::Text;
-pub use value::{Kind, Truth, Value};
+pub use arithmetic::{minus, plus, times};
+pub use fitting::fit;
+pub use order::{compare, same};
+pub use shared_text::Text;
+pub use value::{Fit, Kind, Truth, Value, ValueRef, text};
+pub use worked::worked_values;

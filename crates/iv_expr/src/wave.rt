@@ -1,0 +1,66 @@
+//! Waves: changes that are made together.
+ghost use Rattle.std.specs.Prelude.{◌≡◌, ℕ, ◌<◌, ◌++◌, [], ◌∷◌, OnErr, OnOk};
+ghost use Rattle.iv_expr.specs.Changes.{Rising, last_row};
+
+use crate::row::Change;
+use std::alloc::{AllocError, Global};
+use std::marker::Model;
+
+/// Changes by rising row number, so of different rows. Contracts see it as their list.
+#[derive(Drop)]
+pub struct Wave {
+    changes: Vec<Change>,
+    /// The greatest row number, or 0.
+    last: u64,
+}
+
+impl Model for Wave {
+    ghost use Rattle.std.specs.Prelude.{List, ◌≡◌};
+    ghost use Rattle.iv_expr.specs.declared.row.Change.{Change as Item};
+    ghost use Rattle.iv_expr.specs.Changes.{Rising, last_row};
+
+    ghost Value = { List Item };
+
+    ghost view = { λ w. w.changes.items };
+
+    ghost invariant = { λ w. (w.last ≡ last_row w.changes.items) × Rising w.changes.items };
+}
+
+impl Wave {
+    /// No changes.
+    pub fn new(alloc: Global) -> Wave
+        ensures { result ≡ [] }
+    {
+        Wave {
+            changes: Vec::new(alloc),
+            last: 0,
+        }
+    }
+
+    /// The row number of the last change, or 0 where there is none.
+    pub fn last_row(&self) -> u64
+        ensures { result ≡ last_row self.now }
+    {
+        self.last
+    }
+
+    /// Adds a change of a row above those that are there.
+    pub fn push(&mut self, change: Change) -> Result<(), AllocError>
+        requires { last_row self.old < change.row }
+        ensures ok { OnOk result (self.new ≡ self.old ++ change ∷ []) }
+        ensures err { OnErr result (self.new ≡ self.old) }
+    {
+        let row = change.row;
+        self.changes.push(change)?;
+        self.last = row;
+        Ok(())
+    }
+
+    /// The changes.
+    pub fn changes(&self) -> &[Change]
+        ensures list { result.now ≡ self.now }
+        ensures rising { Rising self.now }
+    {
+        &self.changes
+    }
+}
