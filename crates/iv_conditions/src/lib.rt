@@ -1,2 +1,11 @@
-//! To be written.
+//! Value expressions and search conditions at the front of tokens.
 #![tactic(auto)]
+
+mod expression;
+mod front;
+mod make;
+mod part;
+
+pub use expression::read_expression;
+pub use front::{after, name, sign};
+pub use part::ExpressionPart;

@@ -1,5 +1,6 @@
 -- Words: what the grammar sees of tokens, without their places.
-use Rattle.std.specs.Prelude.{ℕ, ◌+◌, ◌-◌, ◌^◌, ◌&&◌, ◌==◌, nat_le, Bool, true, false, if◌then◌else◌, List, [], ◌∷◌, map, take, drop, length}
+use Rattle.std.specs.Prelude.{ℕ, ◌-◌, ◌&&◌, nat_eq, if◌then◌else◌, List, [], ◌∷◌, map, take, drop, length}
+use Rattle.std.specs.Char.{to_ascii_uppercase}
 use Rattle.iv_lex.specs.declared.kind.Kind.{Kind}
 use Rattle.iv_lex.specs.declared.kind.Kind.TheVariants as kind
 use Rattle.iv_lex.specs.declared.token.Token.{Token}
@@ -11,18 +12,15 @@ pub data Word : Type 0 where
   quoted : List ℕ → Word
   plain : Kind → Word
 
--- a letter in upper case; every other byte as it is
-abbrev pub folded_byte : ℕ → ℕ
-folded_byte b = if nat_le 97 b && nat_le b 122 then b - 32 else b
-
+-- the letters of ASCII in upper case; every other byte as it is
 abbrev pub folded : List ℕ → List ℕ
-folded = map folded_byte
+folded = map to_ascii_uppercase
 
 -- one quote for each two
 abbrev pub single_quotes : List ℕ → List ℕ
 single_quotes [] = []
 single_quotes (b ∷ []) = b ∷ []
-single_quotes (b ∷ c ∷ bs) = if b == 39 && c == 39 then 39 ∷ single_quotes bs else b ∷ single_quotes (c ∷ bs)
+single_quotes (b ∷ c ∷ bs) = if nat_eq b 39 && nat_eq c 39 then 39 ∷ single_quotes bs else b ∷ single_quotes (c ∷ bs)
 
 -- the bytes from one place up to another
 abbrev pub slice : List ℕ → ℕ → ℕ → List ℕ

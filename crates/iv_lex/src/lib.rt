@@ -2,7 +2,13 @@
 #![tactic(auto)]
 
 mod kind;
+mod lexer;
+mod reserved;
+mod scan;
+mod spelling;
 mod token;
 
 pub use kind::Kind;
+pub use lexer::{Lexed, tokens};
+pub use spelling::{folded_text, unquoted_text};
 pub use token::Token;

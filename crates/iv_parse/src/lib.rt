@@ -1,2 +1,2 @@
-//! To be written.
+//! Statements and scripts.
 #![tactic(auto)]

@@ -1,0 +1,4 @@
+pub mod Exact
+pub mod Fronts
+pub mod Bridges
+pub mod Steps
