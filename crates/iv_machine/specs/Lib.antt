@@ -1,0 +1,5 @@
+pub mod Bounds
+pub mod Databases
+pub mod Machine
+pub mod Laws
+pub mod WorkedScripts

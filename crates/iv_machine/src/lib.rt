@@ -1,2 +1,12 @@
-//! To be written.
+//! The SQL machine: databases, violations, states, and what a statement answers and leaves.
 #![tactic(auto)]
+
+mod answer;
+mod database;
+mod laws;
+mod limits;
+
+pub use answer::Answer;
+pub use database::{Stored, Which};
+pub use laws::{reached_states_are_sound, worked_scripts};
+pub use limits::Limits;
