@@ -1,3 +1,76 @@
--- Worked scripts.
-abbrev pub WorkedScripts : Type 0
-WorkedScripts = Unit {0}
+-- Worked scripts: what the machine answers to two lists of statements.
+use Rattle.std.specs.Prelude.{◌≡◌, ℕ, pos, List, [], ◌∷◌, Option, Some, None, Result, Ok, Err, codes}
+use Rattle.iv_value.specs.declared.value.Value.TheVariants.{Null, Int}
+use Rattle.iv_expr.specs.declared.tree.Comparison.{Comparison}
+use Rattle.iv_expr.specs.declared.tree.Comparison.TheVariants.{Less, Greater}
+use Rattle.iv_syntax.specs.declared.tree.Expression.{Expression}
+use Rattle.iv_syntax.specs.declared.tree.Expression.TheVariants as expression
+use Rattle.iv_syntax.specs.declared.tree.Condition.TheVariants as condition
+use Rattle.iv_syntax.specs.declared.table.ColumnType.TheVariants.{Integer}
+use Rattle.iv_syntax.specs.declared.table.TableElement.{TableElement}
+use Rattle.iv_syntax.specs.declared.table.TableElement.TheVariants as element
+use Rattle.iv_syntax.specs.declared.table.TableRule.TheVariants.{Check}
+use Rattle.iv_syntax.specs.declared.statement.ConstraintMode.{ConstraintMode}
+use Rattle.iv_syntax.specs.declared.statement.ConstraintMode.TheVariants.{Deferred}
+use Rattle.iv_syntax.specs.declared.statement.ValueOrDefault.TheVariants as value
+use Rattle.iv_syntax.specs.declared.statement.InsertSource.TheVariants as source
+use Rattle.iv_syntax.specs.declared.statement.Insert.TheVariants as insert
+use Rattle.iv_syntax.specs.declared.statement.SelectList.TheVariants.{Star}
+use Rattle.iv_syntax.specs.declared.statement.Select.TheVariants as select
+use Rattle.iv_syntax.specs.declared.statement.Statement.{Statement}
+use Rattle.iv_syntax.specs.declared.statement.Statement.TheVariants as statement
+use Rattle.iv_catalogue.specs.declared.cause.Cause.TheVariants.{Violation, CommitRefused}
+use Rattle.iv_catalogue.specs.declared.cause.Refusal.{Refusal}
+use Rattle.iv_catalogue.specs.Resolution.{refused}
+use Rattle.iv_machine.specs.declared.answer.Answer.{Answer}
+use Rattle.iv_machine.specs.declared.answer.Answer.TheVariants.{Done, Changed, Rows}
+use Rattle.iv_machine.specs.Bounds.{Bounds}
+use Rattle.iv_machine.specs.Machine.{empty_state, run}
+
+-- name INTEGER
+abbrev pub column : List ℕ → TableElement
+column name = element.Column (record { name = name; kind = Integer; default = None; constraints = [] })
+
+-- CHECK (A op number)
+abbrev pub check : Option (List ℕ) → Comparison → ℕ → Option ConstraintMode → TableElement
+check name op n mode =
+    element.Constraint (record {
+      name = name;
+      rule = Check (condition.Compare op (expression.Column (record { qualifier = None; name = codes "A" })) (expression.Number n));
+      time = record { deferrable = None; initially = mode };
+    })
+
+-- INSERT INTO T VALUES (literal)
+abbrev pub insert_one : Expression → Statement
+insert_one e = statement.Insert (insert.Rows (codes "T") None (source.Values ((value.Value e ∷ []) ∷ [])))
+
+-- SELECT * FROM T
+abbrev pub select_all : Statement
+select_all = statement.Select (select.Rows Star (record { table = codes "T"; alias = None }) None)
+
+-- CREATE TABLE T (A INTEGER, CHECK (A > 0)); INSERT INTO T VALUES (1); COMMIT; SELECT * FROM T;
+abbrev pub check_insert_commit_select : List Statement
+check_insert_commit_select =
+    statement.CreateTable (codes "T") (column (codes "A") ∷ check None Greater 0 None ∷ [])
+    ∷ insert_one (expression.Number 1) ∷ statement.Commit ∷ select_all ∷ []
+
+-- CREATE TABLE T (A INT, CONSTRAINT POS CHECK (A > 0) INITIALLY DEFERRED, CONSTRAINT BIG CHECK (A < 9));
+-- INSERT INTO T VALUES (0); INSERT INTO T VALUES (9); COMMIT; INSERT INTO T VALUES (NULL); COMMIT; SELECT * FROM T;
+abbrev pub two_checks_one_deferred : List Statement
+two_checks_one_deferred =
+    statement.CreateTable (codes "T") (column (codes "A") ∷ check (Some (codes "POS")) Greater 0 (Some Deferred) ∷ check (Some (codes "BIG")) Less 9 None ∷ [])
+    ∷ insert_one (expression.Number 0) ∷ insert_one (expression.Number 9) ∷ statement.Commit
+    ∷ insert_one expression.Null ∷ statement.Commit ∷ select_all ∷ []
+
+abbrev pub usual_limits : Bounds
+usual_limits = record { depth = 16; changes = 65536 }
+
+abbrev pub answers : List Statement → List (Result Answer Refusal)
+answers statements = (run (empty_state usual_limits) statements).0
+
+-- The constraint POS has the number 0, and BIG the number 1.
+pub record WorkedScripts : Type 0 where
+  pub one_check : answers check_insert_commit_select ≡ Ok Done ∷ Ok (Changed 1) ∷ Ok Done ∷ Ok (Rows ((Int (pos 1) ∷ []) ∷ [])) ∷ []
+  pub two_checks : answers two_checks_one_deferred
+      ≡ Ok Done ∷ Ok (Changed 1) ∷ refused (Violation (record { constraint = 1; row = 2 })) ∷ refused (CommitRefused (record { constraint = 0; row = 1 }))
+      ∷ Ok (Changed 1) ∷ Ok Done ∷ Ok (Rows ((Null ∷ []) ∷ [])) ∷ []
