@@ -131,6 +131,14 @@ run s (st ∷ sts) = let o : Outcome = step s st in let rest : List (Result Answ
 abbrev pub Executes : State → Statement → Result Answer Refusal → State → Type 0
 Executes old st r new = MatchBool (is_memory r) (new ≡ old) ((r ≡ (step old st).answer) × (new ≡ (step old st).state))
 
+-- the same of a plan
+abbrev pub Performs : State → Plan → Result Answer Refusal → State → Type 0
+Performs old p r new = MatchBool (is_memory r) (new ≡ old) ((r ≡ (performed old p).answer) × (new ≡ (performed old p).state))
+
+-- the same of what resolution gives
+abbrev pub Follows : State → Result Plan Refusal → Result Answer Refusal → State → Type 0
+Follows old p r new = MatchBool (is_memory r) (new ≡ old) ((r ≡ (performed_where old p).answer) × (new ≡ (performed_where old p).state))
+
 -- the statement takes no memory: COMMIT, ROLLBACK, and one that is refused for the open transaction
 abbrev pub takes_no_memory : State → Statement → Bool
 takes_no_memory s statement.Commit = true
