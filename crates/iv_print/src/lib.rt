@@ -1,2 +1,10 @@
-//! To be written.
-#![tactic(auto)]
+//! Outcomes as text, and the devices that text goes to and scripts come from.
+#![tactic(auto, using(crate::proofs::WriteLemmas::writes_then))]
+
+mod device;
+mod outcome;
+mod write;
+
+pub use device::{DeviceFault, Sink, Source, Std};
+pub use outcome::write_outcome;
+pub use write::{write_all, write_number};

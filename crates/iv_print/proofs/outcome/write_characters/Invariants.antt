@@ -1,0 +1,11 @@
+use Rattle.std.proofs.Common.{length}
+use Rattle.std.specs.List.{flat_map}
+use Rattle.iv_print.specs.Lines.{quote_doubled}
+use Rattle.iv_print.proofs.WriteLemmas.{Wrote}
+use Rattle.iv_print.proofs.outcome.write_characters.Given as goal
+
+abbrev pub invariant-loop-byte : goal.invariant-loop-byte
+invariant-loop-byte g l = Wrote (flat_map quote_doubled l.fn.bytes) (flat_map quote_doubled l.rest) (g.W.Sink.contents l.initial.sink) (g.W.Sink.contents l.sink) (g.W.Sink.failed l.initial.sink) (g.W.Sink.failed l.sink)
+
+abbrev pub decreases-loop-byte : goal.decreases-loop-byte
+decreases-loop-byte g l = length l.rest

@@ -1,0 +1,101 @@
+-- The lines of an outcome in a transcript.
+use Rattle.std.specs.Prelude.{ℕ, ◌==◌, if◌then◌else◌, List, [], ◌∷◌, ◌++◌, length, codes, decimal, slice_get, Option, Some, None, Result, Ok, Err}
+use Rattle.std.specs.Fmt.{signed_decimal}
+use Rattle.std.specs.List.{flat_map}
+use Rattle.iv_value.specs.declared.value.Value.{Value}
+use Rattle.iv_value.specs.declared.value.Value.TheVariants.{Null, Int, Text}
+use Rattle.iv_catalogue.specs.Catalogues.{Schema}
+use Rattle.iv_catalogue.specs.declared.catalogue.Constraint.{Constraint}
+use Rattle.iv_catalogue.specs.declared.cause.Cause.{Cause}
+use Rattle.iv_catalogue.specs.declared.cause.Cause.TheVariants as cause
+use Rattle.iv_catalogue.specs.declared.cause.Fault.{Fault}
+use Rattle.iv_catalogue.specs.declared.cause.Refusal.{Refusal}
+use Rattle.iv_machine.specs.declared.answer.Answer.{Answer}
+use Rattle.iv_machine.specs.declared.answer.Answer.TheVariants.{Done, Changed, Rows}
+
+-- two quotes for each one; every other character as it is
+abbrev pub quote_doubled : ℕ → List ℕ
+quote_doubled b = if b == 39 then codes "''" else b ∷ []
+
+-- NULL, a decimal integer, or a text between single quotes
+abbrev pub value_text : Value → List ℕ
+value_text Null = codes "NULL"
+value_text (Int z) = signed_decimal z
+value_text (Text t) = codes "'" ++ (flat_map quote_doubled t ++ codes "'")
+
+-- a value behind another
+abbrev pub further_text : Value → List ℕ
+further_text v = codes ", " ++ value_text v
+
+abbrev pub values_text : List Value → List ℕ
+values_text [] = []
+values_text (v ∷ vs) = value_text v ++ flat_map further_text vs
+
+abbrev pub row_text : List Value → List ℕ
+row_text row = codes "| " ++ (values_text row ++ codes "\n")
+
+-- the name of the constraint with this number
+abbrev pub name_of : Option Constraint → List ℕ
+name_of (Some k) = k.name
+name_of None = []
+
+abbrev pub constraint_text : Schema → ℕ → List ℕ
+constraint_text s id = codes " " ++ name_of (slice_get s.constraints id)
+
+abbrev pub row_number_text : ℕ → List ℕ
+row_number_text row = codes " row " ++ decimal row
+
+-- a constraint and a row
+abbrev pub fault_text : Schema → Fault → List ℕ
+fault_text s f = constraint_text s f.constraint ++ row_number_text f.row
+
+-- the number and the name of a cause
+abbrev pub cause_words : Cause → List ℕ
+cause_words cause.Unknown = codes "1 Unknown"
+cause_words cause.Duplicate = codes "2 Duplicate"
+cause_words cause.SchemaFault = codes "3 SchemaFault"
+cause_words cause.InTransaction = codes "4 InTransaction"
+cause_words cause.NoTransaction = codes "5 NoTransaction"
+cause_words cause.ActiveTransaction = codes "6 ActiveTransaction"
+cause_words cause.UnknownSavepoint = codes "7 UnknownSavepoint"
+cause_words (cause.NotDeferrable c) = codes "8 NotDeferrable"
+cause_words cause.WrongShape = codes "9 WrongShape"
+cause_words cause.NumberOutOfRange = codes "10 NumberOutOfRange"
+cause_words cause.TextTooLong = codes "11 TextTooLong"
+cause_words (cause.Restrict f) = codes "12 Restrict"
+cause_words (cause.Violation f) = codes "13 Violation"
+cause_words (cause.ActionConflict f) = codes "14 ActionConflict"
+cause_words (cause.Signal t place) = codes "15 Signal"
+cause_words (cause.DepthLimit t) = codes "16 DepthLimit"
+cause_words cause.TooManyChanges = codes "17 TooManyChanges"
+cause_words cause.TransactionTooLarge = codes "18 TransactionTooLarge"
+cause_words (cause.CommitRefused f) = codes "19 CommitRefused"
+cause_words (cause.AddRefused row) = codes "20 AddRefused"
+cause_words cause.Limit = codes "21 Limit"
+cause_words cause.OutOfMemory = codes "22 OutOfMemory"
+
+-- the constraint and the row that a cause speaks of; triggers have no names yet, since no statement makes one
+abbrev pub details : Schema → Cause → List ℕ
+details s (cause.NotDeferrable c) = constraint_text s c
+details s (cause.Restrict f) = fault_text s f
+details s (cause.Violation f) = fault_text s f
+details s (cause.ActionConflict f) = fault_text s f
+details s (cause.CommitRefused f) = fault_text s f
+details s (cause.AddRefused row) = row_number_text row
+details s _ = []
+
+abbrev pub answer_text : Answer → List ℕ
+answer_text Done = codes " ok\n"
+answer_text (Changed k) = codes " ok " ++ (decimal k ++ codes "\n")
+answer_text (Rows rows) = codes " rows " ++ (decimal (length rows) ++ (codes "\n" ++ flat_map row_text rows))
+
+abbrev pub refusal_text : Schema → Cause → List ℕ
+refusal_text s c = codes " refused " ++ (cause_words c ++ (details s c ++ codes "\n"))
+
+abbrev pub outcome_text : Schema → Result Answer Refusal → List ℕ
+outcome_text s (Ok a) = answer_text a
+outcome_text s (Err r) = refusal_text s r.cause
+
+-- The lines of the outcome of statement n, with names as the catalogue has them directly after it.
+abbrev pub line : ℕ → Result Answer Refusal → Schema → List ℕ
+line n outcome s = decimal n ++ outcome_text s outcome

@@ -1,0 +1,249 @@
+//! The text of an outcome.
+ghost use Rattle.std.specs.Prelude.{◌≡◌, ℕ, ◌++◌, length, slice_get, codes};
+ghost use Rattle.std.specs.List.{flat_map};
+ghost use Rattle.iv_print.specs.Writing.{Writes};
+ghost use Rattle.iv_print.specs.Lines.{quote_doubled, value_text, further_text, values_text, row_text, name_of, constraint_text, row_number_text, fault_text, cause_words, details, answer_text, refusal_text, line};
+
+use crate::device::{DeviceFault, Sink};
+use crate::write::{write_all, write_number};
+use itoa::Buffer;
+use iv_catalogue::{Catalogue, Cause, Constraint, ConstraintId, Fault, Refusal};
+use iv_expr::Row;
+use iv_machine::Answer;
+use iv_value::Value;
+
+fn write_byte<W: Sink>(sink: &mut W, byte: u8) -> Result<(), DeviceFault>
+    ensures { Writes (W.contents sink.old) (W.contents sink.new) (W.failed sink.old) (W.failed sink.new) result (quote_doubled byte) }
+{
+    if byte == b'\'' {
+        write_all(sink, b"''")
+    } else {
+        write_all(sink, &[byte])
+    }
+}
+
+// The characters with each quote doubled.
+fn write_characters<W: Sink>(sink: &mut W, bytes: &[u8]) -> Result<(), DeviceFault>
+    ensures { Writes (W.contents sink.old) (W.contents sink.new) (W.failed sink.old) (W.failed sink.new) result (flat_map quote_doubled bytes.now) }
+{
+    let mut rest = bytes;
+    while let Some((byte, others)) = rest.split_first() {
+        write_byte(sink, *byte)?;
+        rest = others;
+    }
+    Ok(())
+}
+
+fn write_text<W: Sink>(sink: &mut W, text: &str) -> Result<(), DeviceFault>
+    ensures { Writes (W.contents sink.old) (W.contents sink.new) (W.failed sink.old) (W.failed sink.new) result
+        (codes "'" ++ (flat_map quote_doubled text.now ++ codes "'")) }
+{
+    write_all(sink, b"'")?;
+    write_characters(sink, text.as_bytes())?;
+    write_all(sink, b"'")
+}
+
+fn write_value<W: Sink>(sink: &mut W, value: &Value) -> Result<(), DeviceFault>
+    ensures { Writes (W.contents sink.old) (W.contents sink.new) (W.failed sink.old) (W.failed sink.new) result (value_text value.now) }
+{
+    match value {
+        Value::Null => write_all(sink, b"NULL"),
+        Value::Int(number) => {
+            let mut buffer = Buffer::new();
+            write_all(sink, buffer.format(*number).as_bytes())
+        }
+        Value::Text(text) => write_text(sink, text.as_str()),
+    }
+}
+
+fn write_further<W: Sink>(sink: &mut W, value: &Value) -> Result<(), DeviceFault>
+    ensures { Writes (W.contents sink.old) (W.contents sink.new) (W.failed sink.old) (W.failed sink.new) result (further_text value.now) }
+{
+    write_all(sink, b", ")?;
+    write_value(sink, value)
+}
+
+// Values, each behind another.
+fn write_more<W: Sink>(sink: &mut W, values: &[Value]) -> Result<(), DeviceFault>
+    ensures { Writes (W.contents sink.old) (W.contents sink.new) (W.failed sink.old) (W.failed sink.new) result (flat_map further_text values.now) }
+{
+    let mut rest = values;
+    while let Some((value, others)) = rest.split_first() {
+        write_further(sink, value)?;
+        rest = others;
+    }
+    Ok(())
+}
+
+fn write_values<W: Sink>(sink: &mut W, values: &[Value]) -> Result<(), DeviceFault>
+    ensures { Writes (W.contents sink.old) (W.contents sink.new) (W.failed sink.old) (W.failed sink.new) result (values_text values.now) }
+{
+    match values {
+        [] => write_all(sink, b""),
+        [value, more @ ..] => {
+            write_value(sink, value)?;
+            write_more(sink, more)
+        }
+    }
+}
+
+fn write_row<W: Sink>(sink: &mut W, row: &Row) -> Result<(), DeviceFault>
+    ensures { Writes (W.contents sink.old) (W.contents sink.new) (W.failed sink.old) (W.failed sink.new) result (row_text row.now) }
+{
+    write_all(sink, b"| ")?;
+    write_values(sink, row.values())?;
+    write_all(sink, b"\n")
+}
+
+fn write_rows<W: Sink>(sink: &mut W, rows: &[Row]) -> Result<(), DeviceFault>
+    ensures { Writes (W.contents sink.old) (W.contents sink.new) (W.failed sink.old) (W.failed sink.new) result (flat_map row_text rows.now) }
+{
+    let mut rest = rows;
+    while let Some((row, others)) = rest.split_first() {
+        write_row(sink, row)?;
+        rest = others;
+    }
+    Ok(())
+}
+
+fn write_name<W: Sink>(
+    sink: &mut W,
+    constraints: &[Constraint],
+    id: ConstraintId,
+) -> Result<(), DeviceFault>
+    ensures { Writes (W.contents sink.old) (W.contents sink.new) (W.failed sink.old) (W.failed sink.new) result (name_of (slice_get constraints.now id)) }
+{
+    match constraints.get(id.place() as usize) {
+        Some(constraint) => write_all(sink, constraint.name.as_str().as_bytes()),
+        None => write_all(sink, b""),
+    }
+}
+
+fn write_constraint<W: Sink>(
+    sink: &mut W,
+    catalogue: &Catalogue,
+    id: ConstraintId,
+) -> Result<(), DeviceFault>
+    ensures { Writes (W.contents sink.old) (W.contents sink.new) (W.failed sink.old) (W.failed sink.new) result (constraint_text catalogue.now id) }
+{
+    write_all(sink, b" ")?;
+    write_name(sink, catalogue.constraints(), id)
+}
+
+fn write_row_number<W: Sink>(sink: &mut W, row: u64) -> Result<(), DeviceFault>
+    ensures { Writes (W.contents sink.old) (W.contents sink.new) (W.failed sink.old) (W.failed sink.new) result (row_number_text row) }
+{
+    write_all(sink, b" row ")?;
+    write_number(sink, row)
+}
+
+fn write_fault<W: Sink>(
+    sink: &mut W,
+    catalogue: &Catalogue,
+    fault: Fault,
+) -> Result<(), DeviceFault>
+    ensures { Writes (W.contents sink.old) (W.contents sink.new) (W.failed sink.old) (W.failed sink.new) result (fault_text catalogue.now fault) }
+{
+    write_constraint(sink, catalogue, fault.constraint)?;
+    write_row_number(sink, fault.row)
+}
+
+// The number and the name of a cause.
+fn cause_words(cause: &Cause) -> &'static str
+    ensures { result.now ≡ cause_words cause.now }
+{
+    match cause {
+        Cause::Unknown => "1 Unknown",
+        Cause::Duplicate => "2 Duplicate",
+        Cause::SchemaFault => "3 SchemaFault",
+        Cause::InTransaction => "4 InTransaction",
+        Cause::NoTransaction => "5 NoTransaction",
+        Cause::ActiveTransaction => "6 ActiveTransaction",
+        Cause::UnknownSavepoint => "7 UnknownSavepoint",
+        Cause::NotDeferrable(_) => "8 NotDeferrable",
+        Cause::WrongShape => "9 WrongShape",
+        Cause::NumberOutOfRange => "10 NumberOutOfRange",
+        Cause::TextTooLong => "11 TextTooLong",
+        Cause::Restrict(_) => "12 Restrict",
+        Cause::Violation(_) => "13 Violation",
+        Cause::ActionConflict(_) => "14 ActionConflict",
+        Cause::Signal(_, _) => "15 Signal",
+        Cause::DepthLimit(_) => "16 DepthLimit",
+        Cause::TooManyChanges => "17 TooManyChanges",
+        Cause::TransactionTooLarge => "18 TransactionTooLarge",
+        Cause::CommitRefused(_) => "19 CommitRefused",
+        Cause::AddRefused(_) => "20 AddRefused",
+        Cause::Limit => "21 Limit",
+        Cause::OutOfMemory => "22 OutOfMemory",
+    }
+}
+
+// The constraint and the row that a cause speaks of.
+fn write_details<W: Sink>(
+    sink: &mut W,
+    catalogue: &Catalogue,
+    cause: &Cause,
+) -> Result<(), DeviceFault>
+    ensures { Writes (W.contents sink.old) (W.contents sink.new) (W.failed sink.old) (W.failed sink.new) result (details catalogue.now cause.now) }
+{
+    match cause {
+        Cause::NotDeferrable(id) => write_constraint(sink, catalogue, *id),
+        Cause::Restrict(fault) => write_fault(sink, catalogue, *fault),
+        Cause::Violation(fault) => write_fault(sink, catalogue, *fault),
+        Cause::ActionConflict(fault) => write_fault(sink, catalogue, *fault),
+        Cause::CommitRefused(fault) => write_fault(sink, catalogue, *fault),
+        Cause::AddRefused(row) => write_row_number(sink, *row),
+        _ => write_all(sink, b""),
+    }
+}
+
+fn write_refusal<W: Sink>(
+    sink: &mut W,
+    catalogue: &Catalogue,
+    cause: &Cause,
+) -> Result<(), DeviceFault>
+    ensures { Writes (W.contents sink.old) (W.contents sink.new) (W.failed sink.old) (W.failed sink.new) result (refusal_text catalogue.now cause.now) }
+{
+    write_all(sink, b" refused ")?;
+    write_all(sink, cause_words(cause).as_bytes())?;
+    write_details(sink, catalogue, cause)?;
+    write_all(sink, b"\n")
+}
+
+fn write_answer<W: Sink>(sink: &mut W, answer: &Answer) -> Result<(), DeviceFault>
+    ensures { Writes (W.contents sink.old) (W.contents sink.new) (W.failed sink.old) (W.failed sink.new) result (answer_text answer.now) }
+{
+    match answer {
+        Answer::Done => write_all(sink, b" ok\n"),
+        Answer::Changed(count) => {
+            write_all(sink, b" ok ")?;
+            write_number(sink, *count)?;
+            write_all(sink, b"\n")
+        }
+        Answer::Rows(rows) => {
+            let rows = rows.as_slice();
+            write_all(sink, b" rows ")?;
+            write_number(sink, rows.len() as u64)?;
+            write_all(sink, b"\n")?;
+            write_rows(sink, rows)
+        }
+    }
+}
+
+/// Writes the lines of the outcome of statement `number`, a place in the script from 1, with the names of
+/// constraints as the catalogue has them. It takes no memory.
+pub fn write_outcome<W: Sink>(
+    sink: &mut W,
+    number: u64,
+    outcome: &Result<Answer, Refusal>,
+    catalogue: &Catalogue,
+) -> Result<(), DeviceFault>
+    ensures { Writes (W.contents sink.old) (W.contents sink.new) (W.failed sink.old) (W.failed sink.new) result
+        (line number outcome.now catalogue.now) }
+{
+    write_number(sink, number)?;
+    match outcome {
+        Ok(answer) => write_answer(sink, answer),
+        Err(refusal) => write_refusal(sink, catalogue, &refusal.cause),
+    }
+}

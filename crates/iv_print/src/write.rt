@@ -1,0 +1,26 @@
+//! Bytes and numbers, written to a sink.
+ghost use Rattle.std.specs.Prelude.{◌≡◌, ℕ, decimal};
+ghost use Rattle.iv_print.specs.Writing.{Writes};
+
+use crate::device::{DeviceFault, Sink};
+use itoa::Buffer;
+
+/// Writes all of the bytes.
+pub fn write_all<W: Sink>(sink: &mut W, bytes: &[u8]) -> Result<(), DeviceFault>
+    ensures { Writes (W.contents sink.old) (W.contents sink.new) (W.failed sink.old) (W.failed sink.new) result bytes.now }
+{
+    let mut rest = bytes;
+    while !rest.is_empty() {
+        let count = sink.write(rest)?;
+        rest = &rest[count..];
+    }
+    Ok(())
+}
+
+/// Writes a number in decimal. It takes no memory.
+pub fn write_number<W: Sink>(sink: &mut W, number: u64) -> Result<(), DeviceFault>
+    ensures { Writes (W.contents sink.old) (W.contents sink.new) (W.failed sink.old) (W.failed sink.new) result (decimal number) }
+{
+    let mut buffer = Buffer::new();
+    write_all(sink, buffer.format(number).as_bytes())
+}
