@@ -1,2 +1,5 @@
 //! Statements and scripts.
 #![tactic(auto)]
+
+mod parse;
+mod series;
