@@ -57,8 +57,8 @@ module _ {A : Type 0} where
       let e : suc n - 1 ≡ n = omega arith in
       record {
         is = ap (λ m. preceded (items ++ a ∷ []) (read_more part m left)) e
-          ∙ next_preceded items a (read_more part n left)
-          ∙ ap (λ o. preceded items (then_read o (λ b others. then_read (read_more part n others) (with_first b)))) g
-          ∙ ap (λ o. preceded items (if_some o (λ others. then_read (part others) (λ b more. then_read (read_more part n more) (with_first b))) (Some ([], ws)))) h
-          ∙ along.is;
+            ∙ next_preceded items a (read_more part n left)
+            ∙ ap (λ o. preceded items (then_read o (λ b others. then_read (read_more part n others) (with_first b)))) g
+            ∙ ap (λ o. preceded items (if_some o (λ others. then_read (part others) (λ b more. then_read (read_more part n more) (with_first b))) (Some ([], ws)))) h
+            ∙ along.is;
       }

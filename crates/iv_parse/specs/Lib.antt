@@ -1,1 +1,4 @@
 pub mod Series
+pub mod Statements
+pub mod Readers
+pub mod Script

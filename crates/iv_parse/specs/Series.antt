@@ -24,8 +24,8 @@ module _ {A : Type 0} where
   read_more part zero ws = if_some (after kind.Comma ws) (λ rest. None) (Some ([], ws))
   read_more part (suc n) ws =
       if_some (after kind.Comma ws)
-        (λ rest. then_read (part rest) (λ a others. then_read (read_more part n others) (with_first a)))
-        (Some ([], ws))
+      (λ rest. then_read (part rest) (λ a others. then_read (read_more part n others) (with_first a)))
+      (Some ([], ws))
 
   -- the series at the front; there are fewer commas than words
   abbrev pub read_series : (List Word → Option (A × List Word)) → List Word → Option (List A × List Word)

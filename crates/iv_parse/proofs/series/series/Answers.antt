@@ -8,9 +8,9 @@ use Rattle.iv_parse.proofs.series.series.Goals as goal
 pub loop-others-preserved : goal.loop-others-preserved
 loop-others-preserved g c =
     rw c.in_ok-push-2.ensures.ok
-      (along_more g.T.Parse.found c.loop-others.items c.loop-others.most (words c.args.text.now c.loop-others.rest.now) (words c.args.text.now c.in-Some-after.others.now) (words c.args.text.now c.in-Some-2.others.now) c.in-Some-2.item _
-        c.loop-others.invariant (omega arith) (c.in-Some-after.ensures c.args.text.now)
-        (ap (with_words c.args.text.now) (sym c.in-Some-2.is) ∙ c.in_ok-item.ensures))
+    (along_more g.T.Parse.found c.loop-others.items c.loop-others.most (words c.args.text.now c.loop-others.rest.now) (words c.args.text.now c.in-Some-after.others.now) (words c.args.text.now c.in-Some-2.others.now) c.in-Some-2.item _
+    c.loop-others.invariant (omega arith) (c.in-Some-after.ensures c.args.text.now)
+    (ap (with_words c.args.text.now) (sym c.in-Some-2.is) ∙ c.in_ok-item.ensures))
 
 pub returns : goal.returns
 returns g c =
