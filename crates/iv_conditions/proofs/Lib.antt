@@ -4,3 +4,5 @@ pub mod Bridges
 pub mod Steps
 pub mod Parts
 pub mod Sound
+pub mod Complete
+pub mod Theorems
