@@ -1,12 +1,12 @@
 -- What is read stands at the front.
-use Rattle.std.proofs.Common.{◌≡◌, inl, inr, ℕ, zero, suc, ◌+◌, ◌≤◌, Bool, true, false, Option, Some, None, unwrap_or, List, [], ◌∷◌, ◌++◌, length, refl, sym, ◌∙◌, ap, subst, arith, append_assoc, append-nil, length-append}
+use Rattle.std.proofs.Common.{◌≡◌, inl, inr, ℕ, zero, suc, Bool, true, false, Option, Some, None, unwrap_or, List, [], ◌∷◌, ◌++◌, length, refl, sym, ◌∙◌, ap, subst, append_assoc, append-nil}
 use Rattle.std.specs.Prelude.{if◌then◌else◌}
 use Rattle.iv_lex.specs.declared.kind.Kind.{Kind}
 use Rattle.iv_lex.specs.declared.kind.Kind.TheVariants as kind
 use Rattle.iv_lex.specs.Words.{Word, name, number, quoted, plain}
-use Rattle.iv_conditions.specs.After.{after, after_name, if_some, then_read, is_plain, is_word, same}
+use Rattle.iv_conditions.specs.After.{after, after_name, if_some, then_read, is_word}
 use Rattle.iv_conditions.proofs.Exact.{exact}
-use Rattle.iv_parse.specs.Series.{More, Series, read_more, read_series, with_first}
+use Rattle.iv_parse.specs.Series.{More, Series, read_more, read_series, with_first, InParentheses, close, read_closed, read_enclosed}
 use Rattle.iv_parse.specs.Statements.{Optional}
 use Rattle.iv_parse.specs.Readers.{skip}
 
@@ -128,3 +128,25 @@ module _ {A : Type 0} where
   pub skip_good : (Part : List Word → A → Type 0) (k : Kind) (ws : List Word) (f : List Word → Option (A × List Word))
       → ((front rest : List Word) → Optional k front → Good (λ back a. Part (front ++ back) a) rest (f rest)) → Good Part ws (f (skip k ws))
   skip_good Part k ws f g = skip_option Part k ws (after k ws) f refl g
+
+module _ {A : Type 0} where
+  -- what is read up to the parenthesis that closes
+  pub closed_good : (Part : List Word → A → Type 0) (part : List Word → Option (A × List Word)) → ((ws : List Word) → Good Part ws (part ws))
+      → (ws : List Word) → Good (λ back a. InParentheses Part (plain kind.LeftParenthesis ∷ back) a) ws (read_closed part ws)
+  closed_good Part part g ws =
+      then_good Part _ ws (part ws) close (g ws)
+      (λ a front rest p. after_good _ kind.RightParenthesis rest (λ more. Some (a, more)) None
+      (λ more. done_good _ more a (front, p, refl))
+      (nothing_good _ rest))
+
+  pub enclosed_good : (Part : List Word → A → Type 0) (part : List Word → Option (A × List Word)) → ((ws : List Word) → Good Part ws (part ws))
+      → (ws : List Word) → Good (InParentheses Part) ws (read_enclosed part ws)
+  enclosed_good Part part g ws = after_good _ kind.LeftParenthesis ws (read_closed part) None (λ rest. closed_good Part part g rest) (nothing_good _ ws)
+
+module _ {A B : Type 0} where
+  -- what is made of a part
+  pub made_good : (Part : List Word → A → Type 0) (Whole : List Word → B → Type 0) (ws : List Word) (o : Option (A × List Word)) (make : A → B)
+      → Good Part ws o → ((a : A) (front : List Word) → Part front a → Whole front (make a)) → Good Whole ws (then_read o (λ a rest. Some (make a, rest)))
+  made_good Part Whole ws o make g h =
+      then_good Part Whole ws o _ g
+      (λ a front rest p. done_good _ rest (make a) (subst (λ z. Whole z (make a)) (sym (append-nil front)) (h a front p)))

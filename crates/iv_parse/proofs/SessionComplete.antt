@@ -1,6 +1,5 @@
 -- What is in the grammar of statements about transactions, savepoints and constraint modes is read.
-use Rattle.std.proofs.Common.{◌≡◌, ◌⊎◌, inl, inr, ℕ, Option, Some, None, List, [], ◌∷◌, ◌++◌, refl, sym, ◌∙◌, ap, subst, append-nil, append_assoc}
-use Rattle.iv_lex.specs.declared.kind.Kind.{Kind}
+use Rattle.std.proofs.Common.{◌≡◌, inl, inr, ℕ, Some, None, List, [], ◌∷◌, ◌++◌, refl, ◌∙◌, ap, append_assoc}
 use Rattle.iv_lex.specs.declared.kind.Kind.TheVariants as kind
 use Rattle.iv_lex.specs.Words.{Word, name, plain}
 use Rattle.iv_syntax.specs.declared.statement.Statement.{Statement}
@@ -9,11 +8,13 @@ use Rattle.iv_syntax.specs.declared.statement.ConstraintMode.{ConstraintMode}
 use Rattle.iv_syntax.specs.declared.statement.ConstraintMode.TheVariants.{Immediate, Deferred}
 use Rattle.iv_syntax.specs.declared.statement.ConstraintList.{ConstraintList}
 use Rattle.iv_syntax.specs.declared.statement.ConstraintList.TheVariants.{All, Named}
-use Rattle.iv_conditions.specs.After.{after, after_name, if_some, then_read}
-use Rattle.iv_parse.specs.Series.{Series, read_series}
-use Rattle.iv_parse.specs.Statements.{Optional, IsName, Names, IsConstraintList, mode_kind, Reads}
-use Rattle.iv_parse.specs.Readers.{Found, skip, then_word, read_name, read_drop, read_start, read_commit, read_to, read_rollback_rest, read_rollback, read_savepoint, read_release, read_mode, read_list, read_set, read_savepoint_rule, read_session_rule}
-use Rattle.iv_parse.proofs.Complete.{Reads_all, series_complete}
+use Rattle.iv_conditions.specs.After.{after, if_some, then_read}
+use Rattle.iv_parse.specs.Series.{read_series}
+use Rattle.iv_parse.specs.Data.{Names}
+use Rattle.iv_parse.specs.DataReaders.{Found, read_name}
+use Rattle.iv_parse.specs.Statements.{Optional, IsConstraintList, mode_kind}
+use Rattle.iv_parse.specs.Readers.{read_drop, read_start, read_commit, read_to, read_rollback, read_savepoint, read_release, read_mode, read_list, read_set, read_savepoint_rule, read_session_rule}
+use Rattle.iv_parse.proofs.DataComplete.{names_complete}
 
 -- a rule reads these words of a statement, and leaves the semicolon
 abbrev pub Reads_to_end : (List Word → Found Statement) → List Word → Statement → Type 0
@@ -23,43 +24,33 @@ pub drop_complete : (n : List ℕ) → Reads_to_end (λ ws. if_some (after kind.
 unfolding read_drop
 drop_complete n rest = refl
 
-start_complete : Reads_to_end read_session_rule (plain kind.Start ∷ plain kind.Transaction ∷ []) StartTransaction
+pub start_complete : Reads_to_end read_session_rule (plain kind.Start ∷ plain kind.Transaction ∷ []) StartTransaction
 unfolding read_session_rule read_start
 start_complete rest = refl
 
-commit_complete : (work : List Word) → Optional kind.Work work → Reads_to_end read_session_rule (plain kind.Commit ∷ work) Commit
+pub commit_complete : (work : List Word) → Optional kind.Work work → Reads_to_end read_session_rule (plain kind.Commit ∷ work) Commit
 unfolding read_session_rule read_commit
 commit_complete work (inl e) rest = ap (λ z. read_session_rule (plain kind.Commit ∷ (z ++ plain kind.Semicolon ∷ rest))) e
 commit_complete work (inr e) rest = ap (λ z. read_session_rule (plain kind.Commit ∷ (z ++ plain kind.Semicolon ∷ rest))) e
 
-rollback_complete : (work : List Word) → Optional kind.Work work → Reads_to_end read_session_rule (plain kind.Rollback ∷ work) Rollback
+pub rollback_complete : (work : List Word) → Optional kind.Work work → Reads_to_end read_session_rule (plain kind.Rollback ∷ work) Rollback
 unfolding read_session_rule read_rollback
 rollback_complete work (inl e) rest = ap (λ z. read_session_rule (plain kind.Rollback ∷ (z ++ plain kind.Semicolon ∷ rest))) e
 rollback_complete work (inr e) rest = ap (λ z. read_session_rule (plain kind.Rollback ∷ (z ++ plain kind.Semicolon ∷ rest))) e
 
-to_complete : (n : List ℕ) (work : List Word) → Optional kind.Work work
+pub to_complete : (n : List ℕ) (work : List Word) → Optional kind.Work work
     → Reads_to_end read_session_rule (plain kind.Rollback ∷ (work ++ plain kind.To ∷ plain kind.Savepoint ∷ name n ∷ [])) (RollbackTo n)
 unfolding read_session_rule read_rollback read_to
 to_complete n work (inl e) rest = ap (λ z. read_session_rule (plain kind.Rollback ∷ ((z ++ plain kind.To ∷ plain kind.Savepoint ∷ name n ∷ []) ++ plain kind.Semicolon ∷ rest))) e
 to_complete n work (inr e) rest = ap (λ z. read_session_rule (plain kind.Rollback ∷ ((z ++ plain kind.To ∷ plain kind.Savepoint ∷ name n ∷ []) ++ plain kind.Semicolon ∷ rest))) e
 
-savepoint_complete : (n : List ℕ) → Reads_to_end read_session_rule (plain kind.Savepoint ∷ name n ∷ []) (Savepoint n)
+pub savepoint_complete : (n : List ℕ) → Reads_to_end read_session_rule (plain kind.Savepoint ∷ name n ∷ []) (Savepoint n)
 unfolding read_session_rule read_savepoint_rule read_savepoint
 savepoint_complete n rest = refl
 
-release_complete : (n : List ℕ) → Reads_to_end read_session_rule (plain kind.Release ∷ plain kind.Savepoint ∷ name n ∷ []) (Release n)
+pub release_complete : (n : List ℕ) → Reads_to_end read_session_rule (plain kind.Release ∷ plain kind.Savepoint ∷ name n ∷ []) (Release n)
 unfolding read_session_rule read_savepoint_rule read_release
 release_complete n rest = refl
-
--- any words may follow
-abbrev pub Anything : List Word → Type 0
-Anything ws = Unit {0}
-
-pub name_complete : Reads_all IsName Anything read_name
-name_complete = record { reads = λ n front rest p e. ap (λ z. read_name (z ++ rest)) p }
-
-pub names_complete : Reads_all Names (λ rest. Anything rest × (after kind.Comma rest ≡ None)) (read_series read_name)
-names_complete = series_complete IsName Anything read_name name_complete (λ ws. tt)
 
 mode_complete : (m : ConstraintMode) (rest : List Word) → read_mode (plain (mode_kind m) ∷ rest) ≡ Some (m, rest)
 mode_complete Immediate rest = refl
@@ -80,7 +71,7 @@ list_complete (Named ns) front rest p e =
     ap (λ o. if_some o (λ left. Some (All, left)) (then_read (read_series read_name (front ++ rest)) (λ ns left. Some (Named ns, left)))) (names_begin ns front rest p)
     ∙ ap (λ o. then_read o (λ ns left. Some (Named ns, left))) (names_complete.reads ns front rest p (tt, e))
 
-set_complete : (l : ConstraintList) (m : ConstraintMode) (front : List Word) → IsConstraintList front l
+pub set_complete : (l : ConstraintList) (m : ConstraintMode) (front : List Word) → IsConstraintList front l
     → Reads_to_end read_session_rule (plain kind.Set ∷ plain kind.Constraints ∷ (front ++ plain (mode_kind m) ∷ [])) (SetConstraints l m)
 unfolding read_session_rule read_savepoint_rule read_set
 set_complete l m front p rest =

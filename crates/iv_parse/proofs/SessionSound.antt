@@ -1,19 +1,18 @@
 -- What is read of statements about transactions, savepoints and constraint modes is in the grammar.
-use Rattle.std.proofs.Common.{◌≡◌, ◌⊎◌, inl, inr, ℕ, Option, Some, None, List, [], ◌∷◌, ◌++◌, refl, sym, ◌∙◌, ap, subst, append-nil, append_assoc}
-use Rattle.iv_lex.specs.declared.kind.Kind.{Kind}
+use Rattle.std.proofs.Common.{◌≡◌, Some, None, List, [], ◌∷◌, ◌++◌, refl, sym, ◌∙◌, ap, subst, append-nil}
 use Rattle.iv_lex.specs.declared.kind.Kind.TheVariants as kind
-use Rattle.iv_lex.specs.Words.{Word, name, plain}
-use Rattle.iv_syntax.specs.declared.statement.Statement.{Statement}
+use Rattle.iv_lex.specs.Words.{Word, plain}
 use Rattle.iv_syntax.specs.declared.statement.Statement.TheVariants.{DropTrigger, StartTransaction, Commit, Rollback, Savepoint, Release, RollbackTo, SetConstraints}
 use Rattle.iv_syntax.specs.declared.statement.ConstraintMode.{ConstraintMode}
 use Rattle.iv_syntax.specs.declared.statement.ConstraintMode.TheVariants.{Immediate, Deferred}
-use Rattle.iv_syntax.specs.declared.statement.ConstraintList.{ConstraintList}
 use Rattle.iv_syntax.specs.declared.statement.ConstraintList.TheVariants.{All, Named}
-use Rattle.iv_conditions.specs.After.{after, after_name, if_some, then_read}
-use Rattle.iv_parse.specs.Series.{Series, read_series}
-use Rattle.iv_parse.specs.Statements.{Optional, IsName, Names, IsConstraintList, mode_kind, Reads}
-use Rattle.iv_parse.specs.Readers.{Found, skip, then_word, read_name, read_drop, read_start, read_commit, read_to, read_rollback_rest, read_rollback, read_savepoint, read_release, read_mode, read_list, read_set, read_savepoint_rule, read_session_rule}
-use Rattle.iv_parse.proofs.Fronts.{Good, nothing_good, done_good, after_good, name_good, then_good, series_good, skip_good, name_is}
+use Rattle.iv_parse.specs.Series.{read_series}
+use Rattle.iv_parse.specs.Data.{Names}
+use Rattle.iv_parse.specs.DataReaders.{read_name}
+use Rattle.iv_parse.specs.Statements.{Optional, IsConstraintList, mode_kind, Reads}
+use Rattle.iv_parse.specs.Readers.{read_drop, read_start, read_commit, read_to, read_rollback_rest, read_rollback, read_savepoint, read_release, read_mode, read_list, read_set, read_savepoint_rule, read_session_rule}
+use Rattle.iv_parse.proofs.DataSound.{names_good}
+use Rattle.iv_parse.proofs.Fronts.{Good, nothing_good, done_good, after_good, name_good, then_good, skip_good}
 
 pub drop_good : (ws : List Word) → Good (λ back s. Reads (plain kind.Drop ∷ back) s) ws (read_drop ws)
 unfolding read_drop
@@ -56,12 +55,6 @@ release_good ws =
     after_good _ kind.Savepoint ws _ None
     (λ rest. name_good _ rest _ (λ n more. done_good _ more (Release n) refl))
     (nothing_good _ ws)
-
-pub one_name_good : (ws : List Word) → Good IsName ws (read_name ws)
-one_name_good ws = record { holds = λ n rest h. record { front = name n ∷ []; part = refl; whole = name_is ws n rest h } }
-
-pub names_good : (ws : List Word) → Good Names ws (read_series read_name ws)
-names_good ws = series_good IsName read_name one_name_good ws
 
 list_good : (ws : List Word) → Good IsConstraintList ws (read_list ws)
 list_good ws =

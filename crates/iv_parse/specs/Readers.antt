@@ -1,31 +1,22 @@
 -- Statements as they are found at the front of words, with one word of look-ahead.
-use Rattle.std.specs.Prelude.{◌≡◌, ℕ, Option, Some, None, List, [], ◌∷◌, ◌++◌}
+use Rattle.std.specs.Prelude.{Some, None, List}
 use Rattle.iv_lex.specs.declared.kind.Kind.{Kind}
 use Rattle.iv_lex.specs.declared.kind.Kind.TheVariants as kind
 use Rattle.iv_lex.specs.Words.{Word}
 use Rattle.iv_syntax.specs.declared.statement.Statement.{Statement}
 use Rattle.iv_syntax.specs.declared.statement.Statement.TheVariants.{DropTrigger, StartTransaction, Commit, Rollback, Savepoint, Release, RollbackTo, SetConstraints}
+use Rattle.iv_syntax.specs.declared.statement.Statement.TheVariants as statement
 use Rattle.iv_syntax.specs.declared.statement.ConstraintMode.{ConstraintMode}
 use Rattle.iv_syntax.specs.declared.statement.ConstraintMode.TheVariants.{Immediate, Deferred}
 use Rattle.iv_syntax.specs.declared.statement.ConstraintList.{ConstraintList}
 use Rattle.iv_syntax.specs.declared.statement.ConstraintList.TheVariants.{All, Named}
-use Rattle.iv_conditions.specs.After.{after, after_name, if_some, then_read}
+use Rattle.iv_conditions.specs.After.{after, if_some, then_read}
 use Rattle.iv_parse.specs.Series.{read_series}
-
--- what was found, and the words after it
-abbrev pub Found : Type 0 → Type 0
-Found A = Option (A × List Word)
+use Rattle.iv_parse.specs.DataReaders.{Found, then_word, read_name, read_insert}
 
 -- the words after a word that may be left out
 abbrev pub skip : Kind → List Word → List Word
 skip k ws = if_some (after k ws) (λ rest. rest) ws
-
--- this word, and then what the function finds
-abbrev pub then_word : {A : Type 0} → Kind → List Word → (List Word → Found A) → Found A
-then_word k ws f = if_some (after k ws) f None
-
-abbrev pub read_name : List Word → Found (List ℕ)
-read_name = after_name
 
 unfoldable pub read_drop : List Word → Found Statement
 read_drop ws = then_word kind.Trigger ws (λ rest. then_read (read_name rest) (λ n more. Some (DropTrigger n, more)))
@@ -79,11 +70,15 @@ read_session_rule ws =
     (if_some (after kind.Start ws) read_start
     (read_savepoint_rule ws)))
 
+unfoldable pub read_insert_rule : List Word → Found Statement
+read_insert_rule ws = then_read (read_insert ws) (λ i rest. Some (statement.Insert i, rest))
+
 -- a statement without its semicolon
-abbrev pub read_rule : List Word → Found Statement
+unfoldable pub read_rule : List Word → Found Statement
 read_rule ws =
-    if_some (after kind.Drop ws) read_drop
-    (read_session_rule ws)
+    if_some (after kind.Insert ws) read_insert_rule
+    (if_some (after kind.Drop ws) read_drop
+    (read_session_rule ws))
 
 -- a statement with its semicolon
 unfoldable pub read_statement : List Word → Found Statement

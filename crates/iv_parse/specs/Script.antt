@@ -1,13 +1,11 @@
 -- Scripts: the longest run of whole statements, and the fault where it ends too soon.
-use Rattle.std.specs.Prelude.{◌≡◌, ℕ, zero, suc, ◌-◌, Option, Some, None, List, [], ◌∷◌, ◌++◌, length, drop}
+use Rattle.std.specs.Prelude.{◌≡◌, ℕ, Option, Some, List, [], ◌∷◌, ◌++◌}
 use Rattle.iv_lex.specs.declared.kind.Kind.TheVariants as kind
 use Rattle.iv_lex.specs.declared.token.Token.{Token}
-use Rattle.iv_lex.specs.declared.lexer.Lexed.{Lexed}
 use Rattle.iv_lex.specs.Words.{Word, plain, words}
 use Rattle.iv_lex.specs.Tokens.{tokens_of}
 use Rattle.iv_syntax.specs.declared.statement.Statement.{Statement}
 use Rattle.iv_parse.specs.Statements.{Reads}
-use Rattle.iv_parse.specs.Readers.{Found, read_statement}
 
 -- the words are these statements, each with its semicolon
 abbrev pub AreStatements : List Word → List Statement → Type 0

@@ -1,26 +1,20 @@
 -- Statements: which words are which statement.
-use Rattle.std.specs.Prelude.{◌≡◌, ◌⊎◌, ℕ, Option, Some, None, List, [], ◌∷◌, ◌++◌}
+use Rattle.std.specs.Prelude.{◌≡◌, ◌⊎◌, List, [], ◌∷◌, ◌++◌}
 use Rattle.iv_lex.specs.declared.kind.Kind.{Kind}
 use Rattle.iv_lex.specs.declared.kind.Kind.TheVariants as kind
-use Rattle.iv_lex.specs.Words.{Word, name, number, quoted, plain}
+use Rattle.iv_lex.specs.Words.{Word, name, plain}
 use Rattle.iv_syntax.specs.declared.statement.Statement.{Statement}
-use Rattle.iv_syntax.specs.declared.statement.Statement.TheVariants.{CreateTable, AlterTable, CreateTrigger, DropTrigger, Insert, Update, Delete, Select, StartTransaction, Commit, Rollback, Savepoint, Release, RollbackTo, SetConstraints}
+use Rattle.iv_syntax.specs.declared.statement.Statement.TheVariants.{DropTrigger, StartTransaction, Commit, Rollback, Savepoint, Release, RollbackTo, SetConstraints}
+use Rattle.iv_syntax.specs.declared.statement.Statement.TheVariants as statement
 use Rattle.iv_syntax.specs.declared.statement.ConstraintMode.{ConstraintMode}
 use Rattle.iv_syntax.specs.declared.statement.ConstraintMode.TheVariants.{Immediate, Deferred}
 use Rattle.iv_syntax.specs.declared.statement.ConstraintList.{ConstraintList}
 use Rattle.iv_syntax.specs.declared.statement.ConstraintList.TheVariants.{All, Named}
-use Rattle.iv_parse.specs.Series.{Series}
+use Rattle.iv_parse.specs.Data.{Names, IsInsert}
 
 -- a word that may be left out
 abbrev pub Optional : Kind → List Word → Type 0
 Optional k ws = (ws ≡ []) ⊎ (ws ≡ plain k ∷ [])
-
-abbrev pub IsName : List Word → List ℕ → Type 0
-IsName ws n = ws ≡ name n ∷ []
-
--- names with commas between them
-abbrev pub Names : List Word → List (List ℕ) → Type 0
-Names = Series IsName
 
 -- ALL | names
 abbrev pub IsConstraintList : List Word → ConstraintList → Type 0
@@ -33,6 +27,7 @@ mode_kind Deferred = kind.Deferred
 
 -- the words, without the semicolon, are the statement
 abbrev pub Reads : List Word → Statement → Type 0
+Reads ws (statement.Insert i) = IsInsert ws i
 Reads ws (DropTrigger n) = ws ≡ plain kind.Drop ∷ plain kind.Trigger ∷ name n ∷ []
 Reads ws StartTransaction = ws ≡ plain kind.Start ∷ plain kind.Transaction ∷ []
 Reads ws Commit = (work : List Word) × Optional kind.Work work × (ws ≡ plain kind.Commit ∷ work)

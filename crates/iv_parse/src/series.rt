@@ -2,7 +2,7 @@
 ghost use Rattle.std.specs.Prelude.{◌≡◌, IfOk};
 ghost use Rattle.iv_lex.specs.Words.{words};
 ghost use Rattle.iv_conditions.specs.Seen.{with_words};
-ghost use Rattle.iv_parse.specs.Series.{read_series};
+ghost use Rattle.iv_parse.specs.Series.{read_series, read_closed, read_enclosed};
 
 use crate::parse::Parse;
 use iv_conditions::after;
@@ -37,4 +37,35 @@ pub fn series<'a, T: Parse + Drop>(
         most -= 1;
     }
     Ok(Some((items, rest)))
+}
+
+/// A series and the parenthesis that closes.
+pub fn closed_series<'a, T: Parse + Drop>(
+    alloc: Global,
+    text: &str,
+    tokens: &'a [Token],
+) -> Result<Option<(Items<T>, &'a [Token])>, AllocError>
+    ensures { IfOk result (λ r. with_words text.now r ≡ read_closed (read_series T.found) (words text.now tokens.now)) }
+{
+    let Some((items, rest)) = series::<T>(alloc, text, tokens)? else {
+        return Ok(None);
+    };
+    match after(Kind::RightParenthesis, rest) {
+        Some(rest) => Ok(Some((items, rest))),
+        None => Ok(None),
+    }
+}
+
+/// A series between parentheses.
+pub fn enclosed_series<'a, T: Parse + Drop>(
+    alloc: Global,
+    text: &str,
+    tokens: &'a [Token],
+) -> Result<Option<(Items<T>, &'a [Token])>, AllocError>
+    ensures { IfOk result (λ r. with_words text.now r ≡ read_enclosed (read_series T.found) (words text.now tokens.now)) }
+{
+    match after(Kind::LeftParenthesis, tokens) {
+        Some(rest) => closed_series::<T>(alloc, text, rest),
+        None => Ok(None),
+    }
 }

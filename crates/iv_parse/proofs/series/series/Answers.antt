@@ -1,7 +1,6 @@
 use Rattle.std.proofs.Common.{arith, sym, ◌∙◌, ap}
 use Rattle.iv_lex.specs.Words.{words}
 use Rattle.iv_conditions.specs.Seen.{with_words}
-use Rattle.iv_parse.specs.Series.{read_series}
 use Rattle.iv_parse.proofs.Loops.{along_more, along_end}
 use Rattle.iv_parse.proofs.series.series.Goals as goal
 

@@ -1,4 +1,3 @@
-use Rattle.std.proofs.Common.{length}
 use Rattle.iv_lex.specs.Words.{words}
 use Rattle.iv_parse.specs.Series.{read_series}
 use Rattle.iv_parse.proofs.Loops.{Along}

@@ -1,4 +1,3 @@
-use Rattle.std.proofs.Common.{sym}
 use Rattle.iv_parse.specs.Readers.{read_savepoint_rule}
 use Rattle.iv_parse.proofs.session.savepoint_statement.Goals as goal
 
