@@ -3,3 +3,7 @@ pub mod Trees
 pub mod Expressions
 pub mod ExpressionReader
 pub mod Seen
+pub mod Conditions
+pub mod ItemDepth
+pub mod ConditionReader
+pub mod SeenItem

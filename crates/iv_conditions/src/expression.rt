@@ -4,7 +4,7 @@ ghost use Rattle.iv_lex.specs.Words.{words};
 ghost use Rattle.iv_conditions.specs.Trees.{group, signed, product, sum};
 ghost use Rattle.iv_conditions.specs.Expressions.{depth as depth_of};
 ghost use Rattle.iv_conditions.specs.ExpressionReader.{column_from, simple as simple_at, closed, fits, more_factors, more_terms, read_primary, read_factor, read_term, read_expression as read};
-ghost use Rattle.iv_conditions.specs.Seen.{expression_found};
+ghost use Rattle.iv_conditions.specs.Seen.{expression_found, with_words};
 
 use crate::front::{after, name, sign};
 use crate::make::{group_of, product_of, signed_of, sum_of};
@@ -324,14 +324,23 @@ pub fn expression<'a>(
     }
 }
 
-/// The expression at the front of the tokens of `text`, as long as it can be, and the tokens after it.
-/// None where there is none, or where its tree is deeper than 64.
+/// The expression at the front of the tokens of `text`, as long as it can be, and the tokens after it. None where
+/// there is none, or where its tree is deeper than 64.
 pub fn read_expression<'a>(
     alloc: Global,
     text: &str,
     tokens: &'a [Token],
-) -> Result<Option<ExpressionPart<'a>>, AllocError>
-    ensures { IfOk result (λ r. expression_found text.now r ≡ read 64 (words text.now tokens.now)) }
+) -> Result<Option<(Expression, &'a [Token])>, AllocError>
+    ensures { IfOk result (λ r. with_words text.now r ≡ read 64 (words text.now tokens.now)) }
 {
-    expression(alloc, 64, text, tokens)
+    match expression(alloc, 64, text, tokens)? {
+        Some(
+            ExpressionPart {
+                tree,
+                depth: _,
+                rest,
+            },
+        ) => Ok(Some((tree, rest))),
+        None => Ok(None),
+    }
 }

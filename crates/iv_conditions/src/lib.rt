@@ -3,9 +3,10 @@
 
 mod expression;
 mod front;
+mod item;
+mod item_part;
 mod make;
 mod part;
 
 pub use expression::read_expression;
 pub use front::{after, name, sign};
-pub use part::ExpressionPart;

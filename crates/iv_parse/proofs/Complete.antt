@@ -1,10 +1,13 @@
 -- What stands at the front is read.
-use Rattle.std.proofs.Common.{◌≡◌, ℕ, zero, suc, ◌+◌, ◌≤◌, Option, Some, None, List, [], ◌∷◌, ◌++◌, length, refl, sym, ◌∙◌, ap, subst, arith, append_assoc, append-nil, length-append}
-use Rattle.iv_lex.specs.declared.kind.Kind.{Kind}
+use Rattle.std.proofs.Common.{◌≡◌, ℕ, zero, suc, ◌+◌, ◌≤◌, Option, Some, None, List, [], ◌∷◌, ◌++◌, length, sym, ◌∙◌, ap, subst, arith, append_assoc, length-append}
 use Rattle.iv_lex.specs.declared.kind.Kind.TheVariants as kind
-use Rattle.iv_lex.specs.Words.{Word, name, number, quoted, plain}
-use Rattle.iv_conditions.specs.After.{after, after_name, if_some, then_read}
-use Rattle.iv_parse.specs.Series.{More, Series, read_more, read_series, with_first}
+use Rattle.iv_lex.specs.Words.{Word, plain}
+use Rattle.iv_conditions.specs.After.{after, if_some, then_read}
+use Rattle.iv_parse.specs.Series.{More, Series, read_more, read_series, with_first, InParentheses, close, read_enclosed}
+
+-- any words may follow
+abbrev pub Anything : List Word → Type 0
+Anything ws = Unit {0}
 
 -- a part of the rule is read where what follows cannot go on with it
 pub record Reads_all {A : Type 0} (Part : List Word → A → Type 0) (Ends : List Word → Type 0) (part : List Word → Option (A × List Word)) : Type 0 where
@@ -60,3 +63,14 @@ module _ {A : Type 0} where
       → ((ws : List Word) → Ends (plain kind.Comma ∷ ws))
       → Reads_all (Series Part) (λ rest. Ends rest × (after kind.Comma rest ≡ None)) (read_series part)
   series_complete Part Ends part all comma = record { reads = λ bs front rest p e. series_reads Part Ends part all comma bs front rest p e.0 e.1 }
+
+  -- a part between parentheses is read
+  pub enclosed_complete : (Part : List Word → A → Type 0) (Ends : List Word → Type 0) (part : List Word → Option (A × List Word)) → Reads_all Part Ends part
+      → ((ws : List Word) → Ends (plain kind.RightParenthesis ∷ ws))
+      → Reads_all (InParentheses Part) Anything (read_enclosed part)
+  enclosed_complete Part Ends part all ends = record {
+    reads = λ a front rest (inner, p, w) e.
+        ap (λ z. read_enclosed part (z ++ rest)) w
+        ∙ ap (λ z. then_read (part z) close) (append_assoc inner (plain kind.RightParenthesis ∷ []) rest)
+        ∙ ap (λ o. then_read o close) (all.reads a inner (plain kind.RightParenthesis ∷ rest) p (ends rest));
+  }

@@ -1,12 +1,14 @@
 -- What is read stands at the front.
-use Rattle.std.proofs.Common.{◌≡◌, ℕ, zero, suc, ◌+◌, ◌≤◌, Bool, true, false, Option, Some, None, unwrap_or, List, [], ◌∷◌, ◌++◌, length, refl, sym, ◌∙◌, ap, subst, arith, append_assoc, append-nil, length-append}
+use Rattle.std.proofs.Common.{◌≡◌, inl, inr, ℕ, zero, suc, Bool, true, false, Option, Some, None, unwrap_or, List, [], ◌∷◌, ◌++◌, length, refl, sym, ◌∙◌, ap, subst, append_assoc, append-nil}
 use Rattle.std.specs.Prelude.{if◌then◌else◌}
 use Rattle.iv_lex.specs.declared.kind.Kind.{Kind}
 use Rattle.iv_lex.specs.declared.kind.Kind.TheVariants as kind
 use Rattle.iv_lex.specs.Words.{Word, name, number, quoted, plain}
-use Rattle.iv_conditions.specs.After.{after, after_name, if_some, then_read, is_plain, is_word, same}
+use Rattle.iv_conditions.specs.After.{after, after_name, if_some, then_read, is_word}
 use Rattle.iv_conditions.proofs.Exact.{exact}
-use Rattle.iv_parse.specs.Series.{More, Series, read_more, read_series, with_first}
+use Rattle.iv_parse.specs.Series.{More, Series, read_more, read_series, with_first, InParentheses, close, read_closed, read_enclosed}
+use Rattle.iv_parse.specs.Statements.{Optional}
+use Rattle.iv_parse.specs.Readers.{skip}
 
 -- the words begin with a part of the rule, which is this tree
 pub record Fits {A : Type 0} (Part : List Word → A → Type 0) (ws : List Word) (a : A) (rest : List Word) : Type 0 where
@@ -54,8 +56,8 @@ module _ {A : Type 0} where
   pub done_good : (Part : List Word → A → Type 0) (ws : List Word) (a : A) → Part [] a → Good Part ws (Some (a, ws))
   done_good Part ws a p = record {
     holds = λ b rest h.
-      let e = same_found a b ws rest h in
-      record { front = []; part = subst (λ x. Part [] x) e.0 p; whole = e.1 };
+        let e = same_found a b ws rest h in
+        record { front = []; part = subst (λ x. Part [] x) e.0 p; whole = e.1 };
   }
 
   -- a part of the rest, after these words
@@ -63,8 +65,8 @@ module _ {A : Type 0} where
       → ws ≡ front ++ rest → Good (λ back a. Part (front ++ back) a) rest found → Good Part ws found
   further Part front ws rest found e g = record {
     holds = λ a left h.
-      let f = g.holds a left h in
-      record { front = front ++ f.front; part = f.part; whole = e ∙ ap (λ z. front ++ z) f.whole ∙ sym (append_assoc front f.front left) };
+        let f = g.holds a left h in
+        record { front = front ++ f.front; part = f.part; whole = e ∙ ap (λ z. front ++ z) f.whole ∙ sym (append_assoc front f.front left) };
   }
 
   after_option : (Part : List Word → A → Type 0) (k : Kind) (ws : List Word) (o : Option (List Word)) (f : List Word → Option (A × List Word)) (other : Option (A × List Word))
@@ -103,15 +105,48 @@ module _ {A : Type 0} where
       after_good (More Part) kind.Comma ws (λ rest. None) (Some ([], ws)) (λ rest. nothing_good _ rest) (done_good (More Part) ws [] refl)
   more_good Part part g (suc n) ws =
       after_good (More Part) kind.Comma ws _ (Some ([], ws))
-        (λ rest. then_good Part (λ back bs. More Part (plain kind.Comma ∷ back) bs) rest (part rest) _ (g rest)
-          (λ a front others p. then_good (More Part) (λ back bs. More Part (plain kind.Comma ∷ (front ++ back)) bs) others (read_more part n others) (with_first a) (more_good Part part g n others)
-            (λ bs back left q. done_good _ left (a ∷ bs) (front, back, p, q, ap (λ z. plain kind.Comma ∷ (front ++ z)) (append-nil back)))))
-        (done_good (More Part) ws [] refl)
+      (λ rest. then_good Part (λ back bs. More Part (plain kind.Comma ∷ back) bs) rest (part rest) _ (g rest)
+      (λ a front others p. then_good (More Part) (λ back bs. More Part (plain kind.Comma ∷ (front ++ back)) bs) others (read_more part n others) (with_first a) (more_good Part part g n others)
+      (λ bs back left q. done_good _ left (a ∷ bs) (front, back, p, q, ap (λ z. plain kind.Comma ∷ (front ++ z)) (append-nil back)))))
+      (done_good (More Part) ws [] refl)
 
   -- the parts of a series at the front
   pub series_good : (Part : List Word → A → Type 0) (part : List Word → Option (A × List Word)) → ((ws : List Word) → Good Part ws (part ws))
       → (ws : List Word) → Good (Series Part) ws (read_series part ws)
   series_good Part part g ws =
       then_good Part (Series Part) ws (part ws) _ (g ws)
-        (λ a front rest p. then_good (More Part) (λ back bs. Series Part (front ++ back) bs) rest (read_more part (length rest) rest) (with_first a) (more_good Part part g (length rest) rest)
-          (λ bs back left q. done_good _ left (a ∷ bs) (front, back, p, q, ap (λ z. front ++ z) (append-nil back))))
+      (λ a front rest p. then_good (More Part) (λ back bs. Series Part (front ++ back) bs) rest (read_more part (length rest) rest) (with_first a) (more_good Part part g (length rest) rest)
+      (λ bs back left q. done_good _ left (a ∷ bs) (front, back, p, q, ap (λ z. front ++ z) (append-nil back))))
+
+module _ {A : Type 0} where
+  skip_option : (Part : List Word → A → Type 0) (k : Kind) (ws : List Word) (o : Option (List Word)) (f : List Word → Option (A × List Word))
+      → after k ws ≡ o → ((front rest : List Word) → Optional k front → Good (λ back a. Part (front ++ back) a) rest (f rest)) → Good Part ws (f (if_some o (λ rest. rest) ws))
+  skip_option Part k ws None f e g = g [] ws (inl refl)
+  skip_option Part k ws (Some rest) f e g = further Part (plain k ∷ []) ws rest (f rest) (after_is k ws rest e) (g (plain k ∷ []) rest (inr refl))
+
+  -- a word that may be left out at the front
+  pub skip_good : (Part : List Word → A → Type 0) (k : Kind) (ws : List Word) (f : List Word → Option (A × List Word))
+      → ((front rest : List Word) → Optional k front → Good (λ back a. Part (front ++ back) a) rest (f rest)) → Good Part ws (f (skip k ws))
+  skip_good Part k ws f g = skip_option Part k ws (after k ws) f refl g
+
+module _ {A : Type 0} where
+  -- what is read up to the parenthesis that closes
+  pub closed_good : (Part : List Word → A → Type 0) (part : List Word → Option (A × List Word)) → ((ws : List Word) → Good Part ws (part ws))
+      → (ws : List Word) → Good (λ back a. InParentheses Part (plain kind.LeftParenthesis ∷ back) a) ws (read_closed part ws)
+  closed_good Part part g ws =
+      then_good Part _ ws (part ws) close (g ws)
+      (λ a front rest p. after_good _ kind.RightParenthesis rest (λ more. Some (a, more)) None
+      (λ more. done_good _ more a (front, p, refl))
+      (nothing_good _ rest))
+
+  pub enclosed_good : (Part : List Word → A → Type 0) (part : List Word → Option (A × List Word)) → ((ws : List Word) → Good Part ws (part ws))
+      → (ws : List Word) → Good (InParentheses Part) ws (read_enclosed part ws)
+  enclosed_good Part part g ws = after_good _ kind.LeftParenthesis ws (read_closed part) None (λ rest. closed_good Part part g rest) (nothing_good _ ws)
+
+module _ {A B : Type 0} where
+  -- what is made of a part
+  pub made_good : (Part : List Word → A → Type 0) (Whole : List Word → B → Type 0) (ws : List Word) (o : Option (A × List Word)) (make : A → B)
+      → Good Part ws o → ((a : A) (front : List Word) → Part front a → Whole front (make a)) → Good Whole ws (then_read o (λ a rest. Some (make a, rest)))
+  made_good Part Whole ws o make g h =
+      then_good Part Whole ws o _ g
+      (λ a front rest p. done_good _ rest (make a) (subst (λ z. Whole z (make a)) (sym (append-nil front)) (h a front p)))

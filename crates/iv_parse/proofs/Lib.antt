@@ -1,2 +1,9 @@
 pub mod Fronts
 pub mod Complete
+pub mod Loops
+pub mod DataSound
+pub mod DataComplete
+pub mod SessionSound
+pub mod SessionComplete
+pub mod Rules
+pub mod Runs

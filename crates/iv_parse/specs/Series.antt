@@ -24,9 +24,24 @@ module _ {A : Type 0} where
   read_more part zero ws = if_some (after kind.Comma ws) (λ rest. None) (Some ([], ws))
   read_more part (suc n) ws =
       if_some (after kind.Comma ws)
-        (λ rest. then_read (part rest) (λ a others. then_read (read_more part n others) (with_first a)))
-        (Some ([], ws))
+      (λ rest. then_read (part rest) (λ a others. then_read (read_more part n others) (with_first a)))
+      (Some ([], ws))
 
   -- the series at the front; there are fewer commas than words
   abbrev pub read_series : (List Word → Option (A × List Word)) → List Word → Option (List A × List Word)
   read_series part ws = then_read (part ws) (λ a rest. then_read (read_more part (length rest) rest) (with_first a))
+
+  -- a part between parentheses
+  abbrev pub InParentheses : (List Word → A → Type 0) → List Word → A → Type 0
+  InParentheses Part ws a =
+      (inner : List Word) × Part inner a × (ws ≡ plain kind.LeftParenthesis ∷ (inner ++ plain kind.RightParenthesis ∷ []))
+
+  abbrev pub close : A → List Word → Option (A × List Word)
+  close a ws = if_some (after kind.RightParenthesis ws) (λ rest. Some (a, rest)) None
+
+  -- the part at the front and the parenthesis that closes
+  abbrev pub read_closed : (List Word → Option (A × List Word)) → List Word → Option (A × List Word)
+  read_closed part ws = then_read (part ws) close
+
+  abbrev pub read_enclosed : (List Word → Option (A × List Word)) → List Word → Option (A × List Word)
+  read_enclosed part ws = if_some (after kind.LeftParenthesis ws) (read_closed part) None

@@ -1,2 +1,11 @@
 //! Statements and scripts.
 #![tactic(auto)]
+
+mod insert;
+mod parse;
+mod parser;
+mod series;
+mod session;
+mod statement;
+
+pub use parser::{Parsed, SyntaxFault, script};

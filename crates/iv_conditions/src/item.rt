@@ -1,0 +1,16 @@
+//! What stands where a test may begin.
+use iv_syntax::{Condition, Expression};
+
+/// A value, or a condition that is whole.
+#[derive(Drop)]
+pub enum Item {
+    Value(Expression),
+    Truth(Condition),
+}
+
+/// AND or OR.
+#[derive(Clone, Copy)]
+pub enum Connective {
+    And,
+    Or,
+}

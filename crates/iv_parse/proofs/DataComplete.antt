@@ -1,0 +1,135 @@
+-- What is in the grammar of data statements is read.
+use Rattle.std.proofs.Common.{◌≡◌, ℕ, false, Option, Some, None, List, [], ◌∷◌, ◌++◌, refl, ◌∙◌, ap, append_assoc}
+use Rattle.std.specs.Prelude.{if◌then◌else◌}
+use Rattle.iv_lex.specs.declared.kind.Kind.{Kind}
+use Rattle.iv_lex.specs.declared.kind.Kind.TheVariants as kind
+use Rattle.iv_lex.specs.Words.{Word, name, plain}
+use Rattle.iv_syntax.specs.declared.tree.Expression.{Expression}
+use Rattle.iv_syntax.specs.declared.statement.ValueOrDefault.{ValueOrDefault}
+use Rattle.iv_syntax.specs.declared.statement.ValueOrDefault.TheVariants.{Value, Default}
+use Rattle.iv_syntax.specs.declared.statement.InsertSource.{InsertSource}
+use Rattle.iv_syntax.specs.declared.statement.InsertSource.TheVariants as source
+use Rattle.iv_syntax.specs.declared.statement.Insert.{Insert}
+use Rattle.iv_syntax.specs.declared.statement.Insert.TheVariants.{DefaultValues, Rows}
+use Rattle.iv_conditions.specs.After.{after, if_some, then_read, same}
+use Rattle.iv_conditions.specs.Expressions.{EndsExpression, spelling, qualifier_spelling, sign_kind}
+use Rattle.iv_conditions.specs.Trees.{group, signed, product, sum}
+use Rattle.iv_syntax.specs.declared.tree.Sign.{Sign}
+use Rattle.iv_syntax.specs.declared.tree.Sign.TheVariants as sign
+use Rattle.iv_syntax.specs.declared.tree.Expression.TheVariants.{Number, Text, Null, Column}
+use Rattle.iv_conditions.proofs.Theorems.{expression_complete}
+use Rattle.iv_parse.specs.Series.{Series, read_series, close, read_closed}
+use Rattle.iv_parse.specs.Data.{IsName, Names, IsShallow, IsValue, IsTuple, IsColumnList, IsSource, IsInsert}
+use Rattle.iv_parse.specs.DataReaders.{then_word, read_name, read_shallow, read_value, read_tuple, read_column_list, read_source, read_insert_rows, read_insert_into, read_insert}
+use Rattle.iv_parse.proofs.Complete.{Reads_all, Anything, series_complete, enclosed_complete}
+
+pub name_complete : Reads_all IsName Anything read_name
+name_complete = record { reads = λ n front rest p e. ap (λ z. read_name (z ++ rest)) p }
+
+pub names_complete : Reads_all Names (λ rest. Anything rest × (after kind.Comma rest ≡ None)) (read_series read_name)
+names_complete = series_complete IsName Anything read_name name_complete (λ ws. tt)
+
+pub shallow_complete : Reads_all IsShallow EndsExpression read_shallow
+unfolding read_shallow
+shallow_complete = record { reads = λ e front rest p ends. expression_complete front rest e p.0 p.1 ends }
+
+-- no expression begins with this word
+pub record Apart (k : Kind) : Type 0 where
+  pub null : same kind.Null k ≡ false
+  pub parenthesis : same kind.LeftParenthesis k ≡ false
+  pub plus : same kind.Plus k ≡ false
+  pub minus : same kind.Minus k ≡ false
+
+other_word : (k j : Kind) (ws : List Word) → same j k ≡ false → after k (plain j ∷ ws) ≡ None
+other_word k j ws h = ap (λ b. if b then Some ws else None) h
+
+column_begins : (k : Kind) (q : Option (List ℕ)) (n : List ℕ) (rest : List Word) → after k ((qualifier_spelling q ++ name n ∷ []) ++ rest) ≡ None
+column_begins k None n rest = refl
+column_begins k (Some q) n rest = refl
+
+sign_begins : (k : Kind) → Apart k → (s : Sign) (ws : List Word) → after k (plain (sign_kind s) ∷ ws) ≡ None
+sign_begins k a sign.Plus ws = other_word k kind.Plus ws a.plus
+sign_begins k a sign.Minus ws = other_word k kind.Minus ws a.minus
+
+spelling_begins : (k : Kind) → Apart k → (e : Expression) (rest : List Word) → after k (spelling e ++ rest) ≡ None
+spelling_begins k a (Number n) rest = refl
+spelling_begins k a (Text t) rest = refl
+spelling_begins k a Null rest = other_word k kind.Null rest a.null
+spelling_begins k a (Column c) rest = column_begins k c.qualifier c.name rest
+spelling_begins k a (group e) rest = other_word k kind.LeftParenthesis _ a.parenthesis
+spelling_begins k a (signed s e) rest = sign_begins k a s _
+spelling_begins k a (product e f) rest = ap (after k) (append_assoc (spelling e) (plain kind.Asterisk ∷ spelling f) rest) ∙ spelling_begins k a e ((plain kind.Asterisk ∷ spelling f) ++ rest)
+spelling_begins k a (sum s e f) rest = ap (after k) (append_assoc (spelling e) (plain (sign_kind s) ∷ spelling f) rest) ∙ spelling_begins k a e ((plain (sign_kind s) ∷ spelling f) ++ rest)
+
+pub expression_begins : (k : Kind) → Apart k → (e : Expression) (front rest : List Word) → IsShallow front e → after k (front ++ rest) ≡ None
+expression_begins k a e front rest p = ap (λ z. after k (z ++ rest)) p.0.spelled ∙ spelling_begins k a e rest
+
+value_reads : (v : ValueOrDefault) (front rest : List Word) → IsValue front v → EndsExpression rest → read_value (front ++ rest) ≡ Some (v, rest)
+unfolding read_value
+value_reads (Value e) front rest p ends =
+    ap (λ o. if_some o (λ more. Some (Default, more)) (then_read (read_shallow (front ++ rest)) (λ x more. Some (Value x, more))))
+    (expression_begins kind.Default (record { null = refl; parenthesis = refl; plus = refl; minus = refl }) e front rest p)
+    ∙ ap (λ o. then_read o (λ x more. Some (Value x, more))) (shallow_complete.reads e front rest p ends)
+value_reads Default front rest p ends = ap (λ z. read_value (z ++ rest)) p
+
+pub value_complete : Reads_all IsValue EndsExpression read_value
+value_complete = record { reads = λ v front rest p e. value_reads v front rest p e }
+
+comma_ends : (ws : List Word) → EndsExpression (plain kind.Comma ∷ ws)
+comma_ends ws = ((refl, refl), refl, refl)
+
+close_ends : (ws : List Word) → EndsExpression (plain kind.RightParenthesis ∷ ws)
+close_ends ws = ((refl, refl), refl, refl)
+
+pub tuple_complete : Reads_all IsTuple Anything read_tuple
+unfolding read_tuple
+tuple_complete =
+    enclosed_complete (Series IsValue) (λ rest. EndsExpression rest × (after kind.Comma rest ≡ None)) (read_series read_value)
+    (series_complete IsValue EndsExpression read_value value_complete comma_ends) (λ ws. (close_ends ws, refl))
+
+column_list_reads : (cs : Option (List (List ℕ))) (front rest : List Word) → IsColumnList front cs → after kind.LeftParenthesis rest ≡ None → read_column_list (front ++ rest) ≡ Some (cs, rest)
+unfolding read_column_list
+column_list_reads None front rest p e =
+    ap (λ z. read_column_list (z ++ rest)) p
+    ∙ ap (λ o. if_some o (λ more. then_read (read_closed (read_series read_name) more) (λ ns left. Some (Some ns, left))) (Some (None, rest))) e
+column_list_reads (Some ns) front rest (inner, p, w) e =
+    ap (λ z. read_column_list (z ++ rest)) w
+    ∙ ap (λ o. then_read o (λ ns left. Some (Some ns, left)))
+    (ap (λ z. read_closed (read_series read_name) z) (append_assoc inner (plain kind.RightParenthesis ∷ []) rest)
+    ∙ ap (λ o. then_read o close) (names_complete.reads ns inner (plain kind.RightParenthesis ∷ rest) p (tt, refl)))
+
+pub column_list_complete : Reads_all IsColumnList (λ rest. after kind.LeftParenthesis rest ≡ None) read_column_list
+column_list_complete = record { reads = λ cs front rest p e. column_list_reads cs front rest p e }
+
+-- what follows a statement
+abbrev pub Ends : List Word → Type 0
+Ends rest = (more : List Word) × (rest ≡ plain kind.Semicolon ∷ more)
+
+source_reads : (s : InsertSource) (front rest : List Word) → IsSource front s → after kind.Comma rest ≡ None → read_source (front ++ rest) ≡ Some (s, rest)
+unfolding read_source
+source_reads (source.Values ts) front rest (inner, p, w) e =
+    ap (λ z. read_source (z ++ rest)) w
+    ∙ ap (λ o. then_read o (λ ts more. Some (source.Values ts, more))) ((series_complete IsTuple Anything read_tuple tuple_complete (λ ws. tt)).reads ts inner rest p (tt, e))
+source_reads (source.Select l r c) front rest p e = absurd p
+
+-- a source of rows begins with neither DEFAULT nor a parenthesis
+source_begins : (k : Kind) → same kind.Values k ≡ false → (s : InsertSource) (front rest : List Word) → IsSource front s → after k (front ++ rest) ≡ None
+source_begins k h (source.Values ts) front rest (inner, p, w) = ap (λ z. after k (z ++ rest)) w ∙ other_word k kind.Values _ h
+source_begins k h (source.Select l r c) front rest p = absurd p
+
+rows_begin : (cs : Option (List (List ℕ))) (s : InsertSource) (columns rows rest : List Word) → IsColumnList columns cs → IsSource rows s → after kind.Default (columns ++ (rows ++ rest)) ≡ None
+rows_begin None s columns rows rest p q = ap (λ z. after kind.Default (z ++ (rows ++ rest))) p ∙ source_begins kind.Default refl s rows rest q
+rows_begin (Some ns) s columns rows rest (inner, p, w) q = ap (λ z. after kind.Default (z ++ (rows ++ rest))) w
+
+pub insert_reads : (i : Insert) (front rest : List Word) → IsInsert front i → after kind.Comma rest ≡ None
+    → (back : List Word) × (front ++ rest ≡ plain kind.Insert ∷ back) × (read_insert back ≡ Some (i, rest))
+unfolding read_insert read_insert_into read_insert_rows
+insert_reads (DefaultValues t) front rest p e =
+    (plain kind.Into ∷ name t ∷ plain kind.Default ∷ plain kind.Values ∷ rest, ap (λ z. z ++ rest) p, refl)
+insert_reads (Rows t cs s) front rest (columns, rows, p, q, w) e = (
+  plain kind.Into ∷ name t ∷ (columns ++ (rows ++ rest)),
+  ap (λ z. z ++ rest) w ∙ ap (λ z. plain kind.Insert ∷ plain kind.Into ∷ name t ∷ z) (append_assoc columns rows rest),
+  ap (λ o. if_some o (λ more. then_word kind.Values more (λ left. Some (DefaultValues t, left))) (read_insert_rows t (columns ++ (rows ++ rest)))) (rows_begin cs s columns rows rest p q)
+      ∙ ap (λ o. then_read o (λ cs more. then_read (read_source more) (λ s left. Some (Rows t cs s, left)))) (column_list_reads cs columns (rows ++ rest) p (source_begins kind.LeftParenthesis refl s rows rest q))
+      ∙ ap (λ o. then_read o (λ s left. Some (Rows t cs s, left))) (source_reads s rows rest q e),
+)

@@ -1,0 +1,85 @@
+-- Statements as they are found at the front of words, with one word of look-ahead.
+use Rattle.std.specs.Prelude.{Some, None, List}
+use Rattle.iv_lex.specs.declared.kind.Kind.{Kind}
+use Rattle.iv_lex.specs.declared.kind.Kind.TheVariants as kind
+use Rattle.iv_lex.specs.Words.{Word}
+use Rattle.iv_syntax.specs.declared.statement.Statement.{Statement}
+use Rattle.iv_syntax.specs.declared.statement.Statement.TheVariants.{DropTrigger, StartTransaction, Commit, Rollback, Savepoint, Release, RollbackTo, SetConstraints}
+use Rattle.iv_syntax.specs.declared.statement.Statement.TheVariants as statement
+use Rattle.iv_syntax.specs.declared.statement.ConstraintMode.{ConstraintMode}
+use Rattle.iv_syntax.specs.declared.statement.ConstraintMode.TheVariants.{Immediate, Deferred}
+use Rattle.iv_syntax.specs.declared.statement.ConstraintList.{ConstraintList}
+use Rattle.iv_syntax.specs.declared.statement.ConstraintList.TheVariants.{All, Named}
+use Rattle.iv_conditions.specs.After.{after, if_some, then_read}
+use Rattle.iv_parse.specs.Series.{read_series}
+use Rattle.iv_parse.specs.DataReaders.{Found, then_word, read_name, read_insert}
+
+-- the words after a word that may be left out
+abbrev pub skip : Kind → List Word → List Word
+skip k ws = if_some (after k ws) (λ rest. rest) ws
+
+unfoldable pub read_drop : List Word → Found Statement
+read_drop ws = then_word kind.Trigger ws (λ rest. then_read (read_name rest) (λ n more. Some (DropTrigger n, more)))
+
+unfoldable pub read_start : List Word → Found Statement
+read_start ws = then_word kind.Transaction ws (λ rest. Some (StartTransaction, rest))
+
+unfoldable pub read_commit : List Word → Found Statement
+read_commit ws = Some (Commit, skip kind.Work ws)
+
+unfoldable pub read_to : List Word → Found Statement
+read_to ws = then_word kind.Savepoint ws (λ rest. then_read (read_name rest) (λ n more. Some (RollbackTo n, more)))
+
+abbrev pub read_rollback_rest : List Word → Found Statement
+read_rollback_rest ws = if_some (after kind.To ws) read_to (Some (Rollback, ws))
+
+unfoldable pub read_rollback : List Word → Found Statement
+read_rollback ws = read_rollback_rest (skip kind.Work ws)
+
+unfoldable pub read_savepoint : List Word → Found Statement
+read_savepoint ws = then_read (read_name ws) (λ n rest. Some (Savepoint n, rest))
+
+unfoldable pub read_release : List Word → Found Statement
+read_release ws = then_word kind.Savepoint ws (λ rest. then_read (read_name rest) (λ n more. Some (Release n, more)))
+
+abbrev pub read_mode : List Word → Found ConstraintMode
+read_mode ws =
+    if_some (after kind.Deferred ws) (λ rest. Some (Deferred, rest))
+    (if_some (after kind.Immediate ws) (λ rest. Some (Immediate, rest)) None)
+
+abbrev pub read_list : List Word → Found ConstraintList
+read_list ws =
+    if_some (after kind.All ws) (λ rest. Some (All, rest))
+    (then_read (read_series read_name ws) (λ ns rest. Some (Named ns, rest)))
+
+unfoldable pub read_set : List Word → Found Statement
+read_set ws =
+    then_word kind.Constraints ws (λ rest. then_read (read_list rest) (λ l more. then_read (read_mode more) (λ m left. Some (SetConstraints l m, left))))
+
+unfoldable pub read_savepoint_rule : List Word → Found Statement
+read_savepoint_rule ws =
+    if_some (after kind.Savepoint ws) read_savepoint
+    (if_some (after kind.Release ws) read_release
+    (then_word kind.Set ws read_set))
+
+-- the statements about transactions, savepoints and constraint modes
+unfoldable pub read_session_rule : List Word → Found Statement
+read_session_rule ws =
+    if_some (after kind.Commit ws) read_commit
+    (if_some (after kind.Rollback ws) read_rollback
+    (if_some (after kind.Start ws) read_start
+    (read_savepoint_rule ws)))
+
+unfoldable pub read_insert_rule : List Word → Found Statement
+read_insert_rule ws = then_read (read_insert ws) (λ i rest. Some (statement.Insert i, rest))
+
+-- a statement without its semicolon
+unfoldable pub read_rule : List Word → Found Statement
+read_rule ws =
+    if_some (after kind.Insert ws) read_insert_rule
+    (if_some (after kind.Drop ws) read_drop
+    (read_session_rule ws))
+
+-- a statement with its semicolon
+unfoldable pub read_statement : List Word → Found Statement
+read_statement ws = then_read (read_rule ws) (λ s rest. then_word kind.Semicolon rest (λ more. Some (s, more)))

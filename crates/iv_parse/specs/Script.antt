@@ -1,0 +1,33 @@
+-- Scripts: the longest run of whole statements, and the fault where it ends too soon.
+use Rattle.std.specs.Prelude.{◌≡◌, ℕ, Option, Some, List, [], ◌∷◌, ◌++◌}
+use Rattle.iv_lex.specs.declared.kind.Kind.TheVariants as kind
+use Rattle.iv_lex.specs.declared.token.Token.{Token}
+use Rattle.iv_lex.specs.Words.{Word, plain, words}
+use Rattle.iv_lex.specs.Tokens.{tokens_of}
+use Rattle.iv_syntax.specs.declared.statement.Statement.{Statement}
+use Rattle.iv_parse.specs.Statements.{Reads}
+
+-- the words are these statements, each with its semicolon
+abbrev pub AreStatements : List Word → List Statement → Type 0
+AreStatements ws [] = ws ≡ []
+AreStatements ws (s ∷ ss) =
+    (front : List Word) × (back : List Word) × Reads front s × AreStatements back ss × (ws ≡ front ++ plain kind.Semicolon ∷ back)
+
+-- the words begin with a statement and its semicolon
+abbrev pub BeginsStatement : List Word → Type 0
+BeginsStatement ws = (s : Statement) × (front : List Word) × (rest : List Word) × Reads front s × (ws ≡ front ++ plain kind.Semicolon ∷ rest)
+
+-- the place of the first token that is left, or else of the lexical fault
+abbrev pub first_place : List Token → Option ℕ → Option ℕ
+first_place [] fault = fault
+first_place (t ∷ ts) fault = Some t.start
+
+-- The script is these statements, and then tokens that begin with no further one; its fault stands where those begin, or else at
+-- the lexical fault.
+pub record IsScript (text : List ℕ) (statements : List Statement) (fault : Option ℕ) : Type 0 where
+  pub run : List Token
+  pub left : List Token
+  pub tokens : (tokens_of text).tokens ≡ run ++ left
+  pub whole : AreStatements (words text run) statements
+  pub longest : ¬ (BeginsStatement (words text left))
+  pub place : fault ≡ first_place left (tokens_of text).fault

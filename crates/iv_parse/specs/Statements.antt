@@ -1,0 +1,41 @@
+-- Statements: which words are which statement.
+use Rattle.std.specs.Prelude.{◌≡◌, ◌⊎◌, List, [], ◌∷◌, ◌++◌}
+use Rattle.iv_lex.specs.declared.kind.Kind.{Kind}
+use Rattle.iv_lex.specs.declared.kind.Kind.TheVariants as kind
+use Rattle.iv_lex.specs.Words.{Word, name, plain}
+use Rattle.iv_syntax.specs.declared.statement.Statement.{Statement}
+use Rattle.iv_syntax.specs.declared.statement.Statement.TheVariants.{DropTrigger, StartTransaction, Commit, Rollback, Savepoint, Release, RollbackTo, SetConstraints}
+use Rattle.iv_syntax.specs.declared.statement.Statement.TheVariants as statement
+use Rattle.iv_syntax.specs.declared.statement.ConstraintMode.{ConstraintMode}
+use Rattle.iv_syntax.specs.declared.statement.ConstraintMode.TheVariants.{Immediate, Deferred}
+use Rattle.iv_syntax.specs.declared.statement.ConstraintList.{ConstraintList}
+use Rattle.iv_syntax.specs.declared.statement.ConstraintList.TheVariants.{All, Named}
+use Rattle.iv_parse.specs.Data.{Names, IsInsert}
+
+-- a word that may be left out
+abbrev pub Optional : Kind → List Word → Type 0
+Optional k ws = (ws ≡ []) ⊎ (ws ≡ plain k ∷ [])
+
+-- ALL | names
+abbrev pub IsConstraintList : List Word → ConstraintList → Type 0
+IsConstraintList ws All = ws ≡ plain kind.All ∷ []
+IsConstraintList ws (Named ns) = Names ws ns
+
+abbrev pub mode_kind : ConstraintMode → Kind
+mode_kind Immediate = kind.Immediate
+mode_kind Deferred = kind.Deferred
+
+-- the words, without the semicolon, are the statement
+abbrev pub Reads : List Word → Statement → Type 0
+Reads ws (statement.Insert i) = IsInsert ws i
+Reads ws (DropTrigger n) = ws ≡ plain kind.Drop ∷ plain kind.Trigger ∷ name n ∷ []
+Reads ws StartTransaction = ws ≡ plain kind.Start ∷ plain kind.Transaction ∷ []
+Reads ws Commit = (work : List Word) × Optional kind.Work work × (ws ≡ plain kind.Commit ∷ work)
+Reads ws Rollback = (work : List Word) × Optional kind.Work work × (ws ≡ plain kind.Rollback ∷ work)
+Reads ws (RollbackTo n) =
+    (work : List Word) × Optional kind.Work work × (ws ≡ plain kind.Rollback ∷ (work ++ plain kind.To ∷ plain kind.Savepoint ∷ name n ∷ []))
+Reads ws (Savepoint n) = ws ≡ plain kind.Savepoint ∷ name n ∷ []
+Reads ws (Release n) = ws ≡ plain kind.Release ∷ plain kind.Savepoint ∷ name n ∷ []
+Reads ws (SetConstraints l m) =
+    (list : List Word) × IsConstraintList list l × (ws ≡ plain kind.Set ∷ plain kind.Constraints ∷ (list ++ plain (mode_kind m) ∷ []))
+Reads ws _ = ⊥

@@ -1,0 +1,71 @@
+//! Series of parts.
+ghost use Rattle.std.specs.Prelude.{◌≡◌, IfOk};
+ghost use Rattle.iv_lex.specs.Words.{words};
+ghost use Rattle.iv_conditions.specs.Seen.{with_words};
+ghost use Rattle.iv_parse.specs.Series.{read_series, read_closed, read_enclosed};
+
+use crate::parse::Parse;
+use iv_conditions::after;
+use iv_lex::{Kind, Token};
+use sqlite_items::Items;
+use std::alloc::{AllocError, Global};
+
+/// Parts with a comma between any two.
+pub fn series<'a, T: Parse + Drop>(
+    alloc: Global,
+    text: &str,
+    tokens: &'a [Token],
+) -> Result<Option<(Items<T>, &'a [Token])>, AllocError>
+    ensures { IfOk result (λ r. with_words text.now r ≡ read_series T.found (words text.now tokens.now)) }
+{
+    let Some((first, rest)) = T::parse(alloc, text, tokens)? else {
+        return Ok(None);
+    };
+    let mut items = Items::new(alloc);
+    items.push(first)?;
+    let mut rest = rest;
+    let mut most = rest.len();
+    while let Some(others) = after(Kind::Comma, rest) {
+        if most == 0 {
+            return Ok(None);
+        }
+        let Some((item, others)) = T::parse(alloc, text, others)? else {
+            return Ok(None);
+        };
+        items.push(item)?;
+        rest = others;
+        most -= 1;
+    }
+    Ok(Some((items, rest)))
+}
+
+/// A series and the parenthesis that closes.
+pub fn closed_series<'a, T: Parse + Drop>(
+    alloc: Global,
+    text: &str,
+    tokens: &'a [Token],
+) -> Result<Option<(Items<T>, &'a [Token])>, AllocError>
+    ensures { IfOk result (λ r. with_words text.now r ≡ read_closed (read_series T.found) (words text.now tokens.now)) }
+{
+    let Some((items, rest)) = series::<T>(alloc, text, tokens)? else {
+        return Ok(None);
+    };
+    match after(Kind::RightParenthesis, rest) {
+        Some(rest) => Ok(Some((items, rest))),
+        None => Ok(None),
+    }
+}
+
+/// A series between parentheses.
+pub fn enclosed_series<'a, T: Parse + Drop>(
+    alloc: Global,
+    text: &str,
+    tokens: &'a [Token],
+) -> Result<Option<(Items<T>, &'a [Token])>, AllocError>
+    ensures { IfOk result (λ r. with_words text.now r ≡ read_enclosed (read_series T.found) (words text.now tokens.now)) }
+{
+    match after(Kind::LeftParenthesis, tokens) {
+        Some(rest) => closed_series::<T>(alloc, text, rest),
+        None => Ok(None),
+    }
+}

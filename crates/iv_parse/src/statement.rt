@@ -1,0 +1,79 @@
+//! Statements.
+ghost use Rattle.std.specs.Prelude.{◌≡◌, IfOk};
+ghost use Rattle.iv_lex.specs.Words.{words};
+ghost use Rattle.iv_conditions.specs.Seen.{with_words};
+ghost use Rattle.iv_parse.specs.Readers.{read_drop, read_insert_rule, read_rule, read_statement};
+
+use crate::insert::insert;
+use crate::session::session_statement;
+use iv_conditions::{after, name};
+use iv_lex::{Kind, Token};
+use iv_syntax::Statement;
+use std::alloc::{AllocError, Global};
+
+#[tactic(auto, unfolding(crate::specs::Readers::read_drop))]
+fn drop_trigger<'a>(
+    alloc: Global,
+    text: &str,
+    tokens: &'a [Token],
+) -> Result<Option<(Statement, &'a [Token])>, AllocError>
+    ensures { IfOk result (λ r. with_words text.now r ≡ read_drop (words text.now tokens.now)) }
+{
+    let Some(rest) = after(Kind::Trigger, tokens) else {
+        return Ok(None);
+    };
+    match name(alloc, text, rest)? {
+        Some((name, rest)) => Ok(Some((Statement::DropTrigger(name), rest))),
+        None => Ok(None),
+    }
+}
+
+#[tactic(auto, unfolding(crate::specs::Readers::read_insert_rule))]
+fn insert_statement<'a>(
+    alloc: Global,
+    text: &str,
+    tokens: &'a [Token],
+) -> Result<Option<(Statement, &'a [Token])>, AllocError>
+    ensures { IfOk result (λ r. with_words text.now r ≡ read_insert_rule (words text.now tokens.now)) }
+{
+    match insert(alloc, text, tokens)? {
+        Some((insert, rest)) => Ok(Some((Statement::Insert(insert), rest))),
+        None => Ok(None),
+    }
+}
+
+// A statement without its semicolon.
+fn rule<'a>(
+    alloc: Global,
+    text: &str,
+    tokens: &'a [Token],
+) -> Result<Option<(Statement, &'a [Token])>, AllocError>
+    ensures { IfOk result (λ r. with_words text.now r ≡ read_rule (words text.now tokens.now)) }
+{
+    if let Some(rest) = after(Kind::Insert, tokens) {
+        return insert_statement(alloc, text, rest);
+    }
+    if let Some(rest) = after(Kind::Drop, tokens) {
+        return drop_trigger(alloc, text, rest);
+    }
+    session_statement(alloc, text, tokens)
+}
+
+/// The statement at the front of the tokens of `text` and the tokens after its semicolon; none where no
+/// statement begins there.
+#[tactic(auto, unfolding(crate::specs::Readers::read_statement))]
+pub fn statement<'a>(
+    alloc: Global,
+    text: &str,
+    tokens: &'a [Token],
+) -> Result<Option<(Statement, &'a [Token])>, AllocError>
+    ensures { IfOk result (λ r. with_words text.now r ≡ read_statement (words text.now tokens.now)) }
+{
+    let Some((statement, rest)) = rule(alloc, text, tokens)? else {
+        return Ok(None);
+    };
+    match after(Kind::Semicolon, rest) {
+        Some(rest) => Ok(Some((statement, rest))),
+        None => Ok(None),
+    }
+}
