@@ -1,23 +1,23 @@
 -- This file states worked values of the definitions: arithmetic at its edges, the tables of NOT, AND and OR with unknowns and
 -- faults, and EXISTS over no rows, over nulls, over a fault and inside of another range.
-use Rattle.std.specs.Prelude.{◌≡◌, ℕ, List, [], ◌∷◌, ℤ, pos, negsuc, Result, Some, None, Ok, Err}
+use Rattle.std.specs.Prelude.{true, false, ◌≡◌, ℕ, [], ◌∷◌, ℤ, pos, negsuc, Result, None, Ok, Err}
 use Rattle.iv_value.specs.declared.value.Value.{Value}
-use Rattle.iv_value.specs.declared.value.Value.TheVariants.{Null, Int, Text}
+use Rattle.iv_value.specs.declared.value.Value.TheVariants.{Null, Int}
 use Rattle.iv_value.specs.declared.value.Truth.{Truth}
 use Rattle.iv_value.specs.declared.value.Truth.TheVariants.{False, Unknown, True}
 use Rattle.iv_expr.specs.declared.row.StoredRow.{StoredRow}
-use Rattle.iv_expr.specs.declared.tree.Range.{Range}
 use Rattle.iv_expr.specs.declared.tree.Range.TheVariants.{Table}
-use Rattle.iv_expr.specs.declared.tree.Side.TheVariants.{Old}
 use Rattle.iv_expr.specs.declared.tree.Expr.{Expr}
-use Rattle.iv_expr.specs.declared.tree.Expr.TheVariants.{Literal, Column, Variable}
+use Rattle.iv_expr.specs.declared.tree.Expr.TheVariants.{Literal, Column}
 use Rattle.iv_expr.specs.declared.tree.Comparison.TheVariants.{Equal, Less}
 use Rattle.iv_expr.specs.declared.tree.Cond.{Cond}
 use Rattle.iv_expr.specs.declared.tree.Cond.TheVariants.{Always, Compare, IsNull}
 use Rattle.iv_expr.specs.declared.tree.ExprFault.{ExprFault}
 use Rattle.iv_expr.specs.declared.tree.ExprFault.TheVariants.{OutOfRange, Misfit}
 use Rattle.iv_expr.specs.Trees.{plus, minus, times, not_c, and_c, or_c, exists_c}
-use Rattle.iv_expr.specs.Scopes.{Scope, scope_of, no_frame}
+use Rattle.iv_expr.specs.Scopes.{Scope, scope_of, no_frame, alone}
+use Rattle.iv_expr.specs.Suiting.{Shape, suits, Suits}
+use Rattle.iv_value.specs.declared.value.Kind.TheVariants.{Integer, Varchar}
 use Rattle.iv_expr.specs.Evaluation.{value, truth, check_truth}
 
 -- A scope without tables, and literals.
@@ -130,3 +130,21 @@ CheckWorked =
     (check_truth (Compare Less column (plus column (number (pos 1)))) (Int (pos 1) ∷ []) ≡ True)
     × (check_truth (Compare Less column (plus column (number (pos 1)))) (Null ∷ []) ≡ Unknown)
     × (check_truth (Compare Less column (plus column (number (pos 1)))) (Int (pos 9223372036854775807) ∷ []) ≡ False)
+
+-- A range of an integer and a text of at most three characters.
+abbrev pub shape : Shape
+shape = record { ranges = (Integer ∷ Varchar 3 ∷ []) ∷ []; old = None; new = None; transition = []; tables = λ table. [] }
+
+abbrev word : Expr
+word = Column 0 1
+
+-- Null suits each kind, and arithmetic on nulls is a number; an integer doesn't suit a text, nor a column that isn't there.
+-- A row of an integer and a null has that shape, and a condition on it suits its scope.
+abbrev pub SuitingWorked : Type 0
+SuitingWorked =
+    (suits shape (Compare Equal column (number (pos 1))) ≡ true)
+    × (suits shape (Compare Equal word (Literal Null)) ≡ true)
+    × (suits shape (Compare Equal column word) ≡ false)
+    × (suits shape (Compare Equal word (plus (Literal Null) (Literal Null))) ≡ false)
+    × (suits shape (IsNull (Column 0 2)) ≡ false)
+    × Suits (alone (Int (pos 1) ∷ Null ∷ [])) (Compare Less column (plus column (number (pos 1))))

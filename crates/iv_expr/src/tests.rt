@@ -243,6 +243,7 @@ fn transitions_are_the_sides_of_a_wave(rt: HostRuntime) -> Result<(), Fail> {
     ))?;
     assert_eq!(rt; wave.last_row(), 4);
     let tables = NoTables {};
+    assert!(rt; wave.changes().len() == 1);
     for change in wave.changes() {
         let frame = Frame::at(wave.changes(), change);
         let scope = Scope::new(&tables, &frame);
@@ -266,45 +267,64 @@ fn transitions_are_the_sides_of_a_wave(rt: HostRuntime) -> Result<(), Fail> {
     Ok(())
 }
 
-#[test]
-fn trees_of_depth_64_are_evaluated(rt: HostRuntime) -> Result<(), Fail> {
-    let alloc = rt.alloc();
-    let (mut sum, mut difference, mut product) = (number(1), number(1), number(1));
-    let (mut negation, mut both, mut either, mut found) = (
-        Cond::Always,
-        Cond::Always,
-        Cond::Always,
-        Cond::Always,
-    );
+/// A condition of depth 64: 63 times one operator, chosen by a number.
+fn deep(alloc: Global, operator: u8) -> Result<Cond, AllocError> {
+    let mut cond = Cond::Always;
     for _ in 1..64 {
-        sum = plus(alloc, number(1), sum)?;
-        difference = minus(alloc, number(1), difference)?;
-        product = times(alloc, number(-1), product)?;
-        negation = not(alloc, negation)?;
-        both = and(alloc, Cond::Always, both)?;
-        either = or(alloc, Cond::Always, either)?;
-        found = exists(alloc, Range::Transition(Side::New), found)?;
+        cond = match operator {
+            0 => not(alloc, cond)?,
+            1 => and(alloc, Cond::Always, cond)?,
+            2 => or(alloc, cond, Cond::Always)?,
+            _ => exists(alloc, Range::Transition(Side::New), cond)?,
+        };
     }
-    let tables = NoTables {};
-    let mut wave = Wave::new(alloc);
+    Ok(cond)
+}
+
+/// An expression of depth 64: 63 times one operator, chosen by a number.
+fn deep_expr(alloc: Global, operator: u8) -> Result<Expr, AllocError> {
+    let mut expr = number(1);
+    for _ in 1..64 {
+        expr = match operator {
+            0 => plus(alloc, number(1), expr)?,
+            1 => minus(alloc, expr, number(1))?,
+            _ => times(alloc, number(-1), expr)?,
+        };
+    }
+    Ok(expr)
+}
+
+#[test]
+fn expressions_of_depth_64_are_evaluated(rt: HostRuntime) -> Result<(), Fail> {
+    for (operator, wanted) in [(0, 64), (1, -62), (2, -1)] {
+        assert!(rt; is_number(evaluated(&deep_expr(rt.alloc(), operator)?), wanted));
+    }
+    Ok(())
+}
+
+#[test]
+fn conditions_of_depth_64_are_evaluated(rt: HostRuntime) -> Result<(), Fail> {
+    let mut wave = Wave::new(rt.alloc());
     wave.push(updated(
         TableId::new(0),
         1,
-        row(alloc, Value::Null)?,
-        row(alloc, Value::Null)?,
+        row(rt.alloc(), Value::Null)?,
+        row(rt.alloc(), Value::Null)?,
     ))?;
+    let tables = NoTables {};
     let frame = Frame {
         old: None,
         new: None,
         transition: wave.changes(),
     };
     let scope = Scope::new(&tables, &frame);
-    assert!(rt; is_number(eval(&sum, &scope), 64));
-    assert!(rt; is_number(eval(&difference, &scope), 0));
-    assert!(rt; is_number(eval(&product, &scope), -1));
-    assert!(rt; truth(&negation, &scope) == Ok(Truth::False));
-    assert!(rt; truth(&both, &scope) == Ok(Truth::True));
-    assert!(rt; truth(&either, &scope) == Ok(Truth::True));
-    assert!(rt; truth(&found, &scope) == Ok(Truth::True));
+    for (operator, wanted) in [
+        (0, Truth::False),
+        (1, Truth::True),
+        (2, Truth::True),
+        (3, Truth::True),
+    ] {
+        assert!(rt; truth(&deep(rt.alloc(), operator)?, &scope) == Ok(wanted));
+    }
     Ok(())
 }

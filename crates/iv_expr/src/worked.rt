@@ -1,5 +1,5 @@
 //! Worked values of the definitions, as theorems.
-ghost use Rattle.iv_expr.specs.Worked.{AndWorked, ArithmeticWorked, CheckWorked, ExistsWorked, NotWorked, OrWorked};
+ghost use Rattle.iv_expr.specs.Worked.{AndWorked, ArithmeticWorked, CheckWorked, ExistsWorked, NotWorked, OrWorked, SuitingWorked};
 
 /// Does nothing. Its contract states worked values of the definitions, which the check computes.
 pub fn worked_values()
@@ -9,4 +9,5 @@ pub fn worked_values()
     ensures or { OrWorked }
     ensures exists { ExistsWorked }
     ensures check { CheckWorked }
+    ensures suiting { SuitingWorked }
 {}
