@@ -105,35 +105,42 @@ table_rises low t (r ∷ rs) h = elim (decided (r.table == t)) [
 ]
 
 -- What a scan found is a row.
-pub found_row : (o : Option StoredRow) (p : ℕ × List Value) → option_map numbered o ≡ Some p → (r : StoredRow) × (o ≡ Some r) × (r.number ≡ p.0) × (r.values ≡ p.1)
+pub found_row : (o : Option StoredRow) (p : ℕ × List Value) → Some p ≡ option_map numbered o → (r : StoredRow) × (o ≡ Some r) × (r.number ≡ p.0) × (r.values ≡ p.1)
 found_row None p h = cc
 found_row (Some r) p h = (r, refl, cc, cc)
 
-pub found_none : (o : Option StoredRow) → option_map numbered o ≡ None → o ≡ None
+pub found_none : (o : Option StoredRow) → None ≡ option_map numbered o → o ≡ None
 found_none None h = refl
 found_none (Some r) h = cc
 
 -- The number that a scan found is above the one that it went from, and small.
-pub scan_above : (n : ℕ) (rs : List StoredRow) (p : ℕ × List Value) → option_map numbered (row_above n rs) ≡ Some p → n < p.0
+pub scan_above : (n : ℕ) (rs : List StoredRow) (p : ℕ × List Value) → Some p ≡ option_map numbered (row_above n rs) → n < p.0
 scan_above n rs p h = let f = found_row (row_above n rs) p h in rw (← f.2) (above_first n rs f.0 f.1)
 
-pub scan_small : (n : ℕ) (rs : List StoredRow) (p : ℕ × List Value) → Rises 0 rs → option_map numbered (row_above n rs) ≡ Some p → p.0 < 2 ^ 63
+pub scan_small : (n : ℕ) (rs : List StoredRow) (p : ℕ × List Value) → Rises 0 rs → Some p ≡ option_map numbered (row_above n rs) → p.0 < 2 ^ 63
 scan_small n rs p s h = let f = found_row (row_above n rs) p h in rw (← f.2) (rows_small 0 n rs f.0 s f.1)
 
+-- What is above is the row that was found and what is above it.
+pub scan_next : (n : ℕ) (rs : List StoredRow) (p : ℕ × List Value) → Rises 0 rs → Some p ≡ option_map numbered (row_above n rs) →
+    (r : StoredRow) × (rows_above n rs ≡ r ∷ rows_above p.0 rs) × (r.number ≡ p.0) × (r.values ≡ p.1)
+scan_next n rs p s h =
+    let f = found_row (row_above n rs) p h in
+    (f.0, above_next 0 n rs f.0 s f.1 ∙ ap (λ k. f.0 ∷ rows_above k rs) f.2, f.2, f.3)
+
 -- One row that was scanned, where the condition has a truth.
-pub scan_step : (f : List Value → Result Truth ExprFault) (found : Bool) (rs : List StoredRow) (n : ℕ) (p : ℕ × List Value) (t : Truth) → Rises 0 rs → option_map numbered (row_above n rs) ≡ Some p → f p.1 ≡ Ok t →
+pub scan_step : (f : List Value → Result Truth ExprFault) (found : Bool) (rs : List StoredRow) (n : ℕ) (p : ℕ × List Value) (t : Truth) → Rises 0 rs → Some p ≡ option_map numbered (row_above n rs) → f p.1 ≡ Ok t →
     any_from found (map f (contents (rows_above n rs))) ≡ any_from (found || is_true t) (map f (contents (rows_above p.0 rs)))
 scan_step f found rs n p t s h e =
     let r = found_row (row_above n rs) p h in
     any_step f found rs n r.0 t s r.1 (ap f r.3 ∙ e) ∙ ap (λ k. any_from (found || is_true t) (map f (contents (rows_above k rs)))) r.2
 
 -- One row that was scanned, where the condition has a fault.
-pub scan_fault : (f : List Value → Result Truth ExprFault) (found : Bool) (rs : List StoredRow) (n : ℕ) (p : ℕ × List Value) (e : ExprFault) → Rises 0 rs → option_map numbered (row_above n rs) ≡ Some p → f p.1 ≡ Err e →
+pub scan_fault : (f : List Value → Result Truth ExprFault) (found : Bool) (rs : List StoredRow) (n : ℕ) (p : ℕ × List Value) (e : ExprFault) → Rises 0 rs → Some p ≡ option_map numbered (row_above n rs) → f p.1 ≡ Err e →
     any_from found (map f (contents (rows_above n rs))) ≡ Err e
 scan_fault f found rs n p e s h q =
     let r = found_row (row_above n rs) p h in
     any_fault f found rs n r.0 e s r.1 (ap f r.3 ∙ q)
 
 -- Nothing found: no rows are above.
-pub scan_none : (n : ℕ) (rs : List StoredRow) → option_map numbered (row_above n rs) ≡ None → rows_above n rs ≡ []
+pub scan_none : (n : ℕ) (rs : List StoredRow) → None ≡ option_map numbered (row_above n rs) → rows_above n rs ≡ []
 scan_none n rs h = above_none n rs (found_none _ h)

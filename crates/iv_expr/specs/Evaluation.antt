@@ -76,7 +76,7 @@ any_from found [] = Ok (truth_of found)
 any_from found (Ok t ∷ ts) = any_from (found || is_true t) ts
 any_from found (Err e ∷ ts) = Err e
 
--- The truth of a condition (8.12 "search condition"). IS NULL is never unknown (8.7). EXISTS is true where some row of its
+-- The truth of a condition (8.15 "search condition"). IS NULL is never unknown (8.7). EXISTS is true where some row of its
 -- range makes its condition true (8.9).
 abbrev pub truth : Scope → Cond → Result Truth ExprFault
 truth s Always = Ok True

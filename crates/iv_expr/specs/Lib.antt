@@ -4,3 +4,4 @@ pub mod Evaluation
 pub mod References
 pub mod Suiting
 pub mod Changes
+pub mod Worked

@@ -113,7 +113,7 @@ fn row_on(side: Side, change: &Change) -> Option<&[Value]>
 
 /// No tables at all.
 #[derive(Drop)]
-struct NoTables {}
+pub struct NoTables {}
 
 impl Rows for NoTables {
     ghost rows = { λ s. [] };

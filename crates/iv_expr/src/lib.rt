@@ -6,8 +6,11 @@ mod expression;
 mod operators;
 mod row;
 mod scope;
+#[cfg(test)]
+mod tests;
 mod tree;
 mod wave;
+mod worked;
 
 pub use condition::{check_truth, truth, truth_at_row};
 pub use expression::{eval, eval_ref};
@@ -15,3 +18,4 @@ pub use row::{Change, Row, StoredRow, TableId};
 pub use scope::{Frame, Ranges, Rows, Scope};
 pub use tree::{Comparison, Cond, Expr, ExprFault, Range, Side};
 pub use wave::Wave;
+pub use worked::worked_values;

@@ -90,6 +90,19 @@ pub struct StoredRow {
     pub values: Row,
 }
 
+/// The copy shares the values.
+impl Clone for StoredRow {
+    ghost is_clone = { λ x y. y ≡ x };
+
+    fn clone(&self) -> Result<StoredRow, AllocError> {
+        Ok(StoredRow {
+            table: self.table,
+            number: self.number,
+            values: self.values.clone()?,
+        })
+    }
+}
+
 /// A change of one row: what it was and what it is. Without `old` it is an insertion, without `new` a deletion.
 #[derive(Drop)]
 pub struct Change {

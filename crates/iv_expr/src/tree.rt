@@ -17,7 +17,7 @@ pub enum Range {
     Transition(Side),
 }
 
-/// An expression.
+/// An expression (6.23 "value expression"). A sign is no node of its own: `-x` is 0 minus x, and `+x` is x.
 #[derive(Drop)]
 pub enum Expr {
     Literal(Value),
@@ -41,7 +41,7 @@ pub enum Comparison {
     GreaterEqual,
 }
 
-/// A search condition (8.12).
+/// A search condition (8.15). IS NOT NULL is NOT over IS NULL, which is never unknown.
 #[derive(Drop)]
 pub enum Cond {
     /// No WHERE or WHEN: true of every row.

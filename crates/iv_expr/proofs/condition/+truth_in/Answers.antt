@@ -16,25 +16,25 @@ pub exists_in_table-loop-number-smaller : goal.exists_in_table-loop-number-small
 exists_in_table-loop-number-smaller g t c =
     let p : ℕ × List Value = (c.in-Some.number, c.in-Some.row.now) in
     let rises = table_rises 0 c.args.table _ c.known.ensures in
-    omega (arith, scan_above c.loop-number.after _ p (sym c.in-Some.ensures), scan_small c.loop-number.after _ p rises (sym c.in-Some.ensures))
+    omega (arith, scan_above c.loop-number.after _ p c.in-Some.ensures, scan_small c.loop-number.after _ p rises c.in-Some.ensures)
 
 pub exists_in_table-loop-number-preserved : goal.exists_in_table-loop-number-preserved
 exists_in_table-loop-number-preserved g t c =
     let rises = table_rises 0 c.args.table _ c.known.ensures in
     let here = at_row c.args.scope.now _ _ c.in-Some.row.now c.args.cond.now _ _ c.truth_in.ensures c.over.ensures c.ranges_with-ranges.ensures c.in-Ok.is in
     rw c.or_true-found.ensures
-    (sym (scan_step (λ row. truth (within c.args.scope.now row) c.args.cond.now) c.loop-number.found _ c.loop-number.after (c.in-Some.number, c.in-Some.row.now) c.in-Ok.at_row rises (sym c.in-Some.ensures) here) ∙ c.loop-number.invariant)
+    (sym (scan_step (λ row. truth (within c.args.scope.now row) c.args.cond.now) c.loop-number.found _ c.loop-number.after (c.in-Some.number, c.in-Some.row.now) c.in-Ok.at_row rises c.in-Some.ensures here) ∙ c.loop-number.invariant)
 
 pub exists_in_table-returns-in-Err : goal.exists_in_table-returns-in-Err
 exists_in_table-returns-in-Err g t c =
     let rises = table_rises 0 c.args.table _ c.known.ensures in
     let here = at_row c.args.scope.now _ _ c.in-Some.row.now c.args.cond.now _ _ c.truth_in.ensures c.over.ensures c.ranges_with-ranges.ensures c.in-Err.is in
-    sym (scan_fault (λ row. truth (within c.args.scope.now row) c.args.cond.now) c.loop-number.found _ c.loop-number.after (c.in-Some.number, c.in-Some.row.now) c.in-Err.fault rises (sym c.in-Some.ensures) here) ∙ c.loop-number.invariant
+    sym (scan_fault (λ row. truth (within c.args.scope.now row) c.args.cond.now) c.loop-number.found _ c.loop-number.after (c.in-Some.number, c.in-Some.row.now) c.in-Err.fault rises c.in-Some.ensures here) ∙ c.loop-number.invariant
 
 pub exists_in_table-returns : goal.exists_in_table-returns
 exists_in_table-returns g t c =
     ap (λ (x : Truth). Ok x) c.of.ensures
-    ∙ ap (λ (x : List StoredRow). any_from c.loop-number.found (map (λ (row : List Value). truth (within c.args.scope.now row) c.args.cond.now) (contents x))) (sym (scan_none c.loop-number.after _ (sym c.in_default.ensures)))
+    ∙ ap (λ (x : List StoredRow). any_from c.loop-number.found (map (λ (row : List Value). truth (within c.args.scope.now row) c.args.cond.now) (contents x))) (sym (scan_none c.loop-number.after _ c.in_default.ensures))
     ∙ c.loop-number.invariant
 
 pub truth_in-returns-in-Table : goal.truth_in-returns-in-Table
