@@ -1,2 +1,13 @@
-//! To be written.
-#![tactic(auto)]
+//! Scripts: read from a device, run in a new session, and answered as a transcript.
+#![tactic(auto, using(iv_print::proofs::WriteLemmas::writes_then))]
+
+mod read;
+mod running;
+mod statements;
+mod summary;
+
+pub use iv_parse::SyntaxFault;
+pub use iv_print::{DeviceFault, Sink, Source, Std};
+pub use read::LONGEST;
+pub use running::run;
+pub use summary::{RunFault, Summary};

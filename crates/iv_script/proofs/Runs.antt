@@ -1,0 +1,186 @@
+-- One statement after another.
+use Rattle.std.proofs.Common.{◌≡◌, ℕ, ◌+◌, ◌≤◌, ◌<◌, Bool, true, false, if◌then◌else◌, List, [], ◌∷◌, ◌++◌, Option, None, Some, Result, Ok, Err, ◌∙◌, sym, ap, subst, refl, length, append_assoc, append-nil, arith, is_some}
+use Rattle.std.specs.Io.KnownBytes.{Appends}
+use Rattle.std.proofs.KnownBytes.{Appends-trans, Appends-nil}
+use Rattle.iv_syntax.specs.declared.statement.Statement.{Statement}
+use Rattle.iv_catalogue.specs.Catalogues.{Schema}
+use Rattle.iv_catalogue.specs.Resolution.{is_memory, is_memory_cause, refused}
+use Rattle.iv_catalogue.specs.declared.cause.Cause.{Cause}
+use Rattle.iv_catalogue.specs.declared.cause.Cause.TheVariants as cause
+use Rattle.iv_catalogue.specs.declared.cause.Refusal.{Refusal}
+use Rattle.iv_machine.specs.declared.answer.Answer.{Answer}
+use Rattle.iv_machine.specs.Machine.{State, Outcome, step, Executes}
+use Rattle.iv_print.specs.Lines.{line}
+use Rattle.iv_print.specs.Writing.{Writes}
+use Rattle.iv_print.specs.declared.device.DeviceFault.{DeviceFault}
+use Rattle.iv_script.specs.declared.statements.Tally.{Tally}
+use Rattle.iv_script.specs.Transcript.{Ran, following, outcome, lines, accepted_of, refused_of, run_from, starved_count, first_starves, later_starve}
+use Rattle.iv_script.specs.Running.{RanOne, RanAll}
+
+-- ---- one statement
+
+-- the answer and the state are those of the machine with or without memory, but for the trigger of a want of memory
+pub record Did (old new : State) (st : Statement) (r : Result Answer Refusal) : Type 0 where
+  pub starves : Bool
+  pub same : is_memory r ≡ starves
+  pub state_is : new ≡ (outcome starves old st).state
+  pub accepted_is : accepted_of r ≡ accepted_of (outcome starves old st).answer
+  pub refused_is : refused_of r ≡ refused_of (outcome starves old st).answer
+  pub lines_are : (n : ℕ) (s : Schema) → line n r s ≡ line n (outcome starves old st).answer s
+
+did_plain : (old new : State) (st : Statement) (r : Result Answer Refusal) → is_memory r ≡ false → (r ≡ (step old st).answer) × (new ≡ (step old st).state) → Did old new st r
+did_plain old new st r m e = record {
+  starves = false;
+  same = m;
+  state_is = e.1;
+  accepted_is = ap accepted_of e.0;
+  refused_is = ap refused_of e.0;
+  lines_are = λ n s. ap (λ a. line n a s) e.0;
+}
+
+did_refused : (old new : State) (st : Statement) (c : Cause) (t : Option ℕ) → Executes old st (Err (record { cause = c; trigger = t })) new → Did old new st (Err (record { cause = c; trigger = t }))
+did_refused old new st cause.OutOfMemory t e = record { starves = true; same = refl; state_is = e; accepted_is = refl; refused_is = refl; lines_are = λ n s. refl }
+did_refused old new st cause.Unknown t e = did_plain old new st (Err (record { cause = cause.Unknown; trigger = t })) refl e
+did_refused old new st cause.Duplicate t e = did_plain old new st (Err (record { cause = cause.Duplicate; trigger = t })) refl e
+did_refused old new st cause.SchemaFault t e = did_plain old new st (Err (record { cause = cause.SchemaFault; trigger = t })) refl e
+did_refused old new st cause.InTransaction t e = did_plain old new st (Err (record { cause = cause.InTransaction; trigger = t })) refl e
+did_refused old new st cause.NoTransaction t e = did_plain old new st (Err (record { cause = cause.NoTransaction; trigger = t })) refl e
+did_refused old new st cause.ActiveTransaction t e = did_plain old new st (Err (record { cause = cause.ActiveTransaction; trigger = t })) refl e
+did_refused old new st cause.UnknownSavepoint t e = did_plain old new st (Err (record { cause = cause.UnknownSavepoint; trigger = t })) refl e
+did_refused old new st (cause.NotDeferrable k) t e = did_plain old new st (Err (record { cause = cause.NotDeferrable k; trigger = t })) refl e
+did_refused old new st cause.WrongShape t e = did_plain old new st (Err (record { cause = cause.WrongShape; trigger = t })) refl e
+did_refused old new st cause.NumberOutOfRange t e = did_plain old new st (Err (record { cause = cause.NumberOutOfRange; trigger = t })) refl e
+did_refused old new st cause.TextTooLong t e = did_plain old new st (Err (record { cause = cause.TextTooLong; trigger = t })) refl e
+did_refused old new st (cause.Restrict f) t e = did_plain old new st (Err (record { cause = cause.Restrict f; trigger = t })) refl e
+did_refused old new st (cause.Violation f) t e = did_plain old new st (Err (record { cause = cause.Violation f; trigger = t })) refl e
+did_refused old new st (cause.ActionConflict f) t e = did_plain old new st (Err (record { cause = cause.ActionConflict f; trigger = t })) refl e
+did_refused old new st (cause.Signal k p) t e = did_plain old new st (Err (record { cause = cause.Signal k p; trigger = t })) refl e
+did_refused old new st (cause.DepthLimit k) t e = did_plain old new st (Err (record { cause = cause.DepthLimit k; trigger = t })) refl e
+did_refused old new st cause.TooManyChanges t e = did_plain old new st (Err (record { cause = cause.TooManyChanges; trigger = t })) refl e
+did_refused old new st cause.TransactionTooLarge t e = did_plain old new st (Err (record { cause = cause.TransactionTooLarge; trigger = t })) refl e
+did_refused old new st (cause.CommitRefused f) t e = did_plain old new st (Err (record { cause = cause.CommitRefused f; trigger = t })) refl e
+did_refused old new st (cause.AddRefused n) t e = did_plain old new st (Err (record { cause = cause.AddRefused n; trigger = t })) refl e
+did_refused old new st cause.Limit t e = did_plain old new st (Err (record { cause = cause.Limit; trigger = t })) refl e
+
+pub did : (old new : State) (st : Statement) (r : Result Answer Refusal) → Executes old st r new → Did old new st r
+did old new st (Ok a) e = did_plain old new st (Ok a) refl e
+did old new st (Err r) e = did_refused old new st r.cause r.trigger e
+
+-- a statement's lines were written, and its outcome was counted
+pub ran_one : (n : ℕ) (old new : State) (st : Statement) (r : Result Answer Refusal) (schema : Schema) (tally tally_then : Tally) (before after : Option (List ℕ)) (failed failed_then : ℕ)
+    → Executes old st r new → schema ≡ new.schema → Writes before after failed failed_then (Ok tt) (line n r schema)
+    → tally_then.accepted ≡ tally.accepted + accepted_of r → tally_then.refused ≡ tally.refused + refused_of r → tally_then.starved ≡ tally.starved + (if is_memory r then 1 else 0)
+    → RanOne n old new st tally tally_then before after failed failed_then
+ran_one n old new st r schema tally tally_then before after failed failed_then e q w a f s =
+    let d : Did old new st r = did old new st r e in
+    record {
+      starves = d.starves;
+      state_is = d.state_is;
+      accepted_is = a ∙ ap (λ k. tally.accepted + k) d.accepted_is;
+      refused_is = f ∙ ap (λ k. tally.refused + k) d.refused_is;
+      starved_is = s ∙ ap (λ b. tally.starved + (if b then 1 else 0)) d.same;
+      appended = subst (Appends before after) (d.lines_are n schema ∙ ap (λ c. line n (outcome d.starves old st).answer c) (q ∙ ap (λ t. t.schema) d.state_is)) w.0;
+      works = w.1;
+    }
+
+-- ---- one after another
+
+sum_of : (a b c : ℕ) → a + (b + c) ≡ (a + b) + c
+sum_of a b c = omega arith
+
+none_before : (a : ℕ) → a ≡ 0 + a
+none_before a = omega arith
+
+none_more : (a : ℕ) → a + 0 ≡ a
+none_more a = omega arith
+
+following_twice : (a b : List ℕ) (p q u v : ℕ) (r : Ran) → following a p u (following b q v r) ≡ following (a ++ b) (p + q) (u + v) r
+following_twice a b p q u v r =
+    ap (λ l. record { text = l; state = r.state; accepted = p + (q + r.accepted); refused = u + (v + r.refused) }) (sym (append_assoc a b r.text))
+    ∙ ap (λ k. record { text = (a ++ b) ++ r.text; state = r.state; accepted = k; refused = u + (v + r.refused) }) (sum_of p q r.accepted)
+    ∙ ap (λ k. record { text = (a ++ b) ++ r.text; state = r.state; accepted = (p + q) + r.accepted; refused = k }) (sum_of u v r.refused)
+
+following_none : (r : Ran) → r ≡ following [] 0 0 r
+following_none r =
+    ap (λ k. record { text = r.text; state = r.state; accepted = k; refused = r.refused }) (none_before r.accepted)
+    ∙ ap (λ k. record { text = r.text; state = r.state; accepted = 0 + r.accepted; refused = k }) (none_before r.refused)
+
+counted_more : (bs : List Bool) (b : Bool) → starved_count (bs ++ b ∷ []) ≡ starved_count bs + (if b then 1 else 0)
+counted_more [] true = refl
+counted_more [] false = refl
+counted_more (true ∷ bs) b = omega (arith, counted_more bs b)
+counted_more (false ∷ bs) b = counted_more bs b
+
+-- these ran, and the rest is left
+pub record Onward (old now : State) (all rest : List Statement) (n : ℕ) (tally : Tally) (before after : Option (List ℕ)) (failed failed_then : ℕ) : Type 0 where
+  pub starves : List Bool
+  pub written : List ℕ
+  pub starved_is : starved_count starves ≡ tally.starved
+  pub appended : Appends before after written
+  pub onward : (more : List Bool) → run_from old 0 all (starves ++ more) ≡ following written tally.accepted tally.refused (run_from now n rest more)
+  pub works : failed_then ≡ failed
+
+pub onward_start : (s : State) (all : List Statement) (tally : Tally) (a : Option (List ℕ)) (m : ℕ) → tally.accepted ≡ 0 → tally.refused ≡ 0 → tally.starved ≡ 0 → Onward s s all all 0 tally a a m m
+onward_start s all tally a m p q z = record {
+  starves = [];
+  written = [];
+  starved_is = sym z;
+  appended = Appends-nil a;
+  onward = λ more. rw (p, q) (following_none (run_from s 0 all more));
+  works = refl;
+}
+
+pub onward_more : (old now new : State) (all left rest : List Statement) (st : Statement) (n : ℕ) (t u : Tally) (a before after : Option (List ℕ)) (m k j : ℕ)
+    → Onward old now all left n t a before m k → left ≡ st ∷ rest → RanOne (n + 1) now new st t u before after k j → Onward old new all rest (n + 1) u a after m j
+onward_more old now new all left rest st n t u a before after m k j w e r =
+    let o : Outcome = outcome r.starves now st in
+    record {
+      starves = w.starves ++ r.starves ∷ [];
+      written = w.written ++ lines (n + 1) o;
+      starved_is = counted_more w.starves r.starves ∙ ap (λ z. z + (if r.starves then 1 else 0)) w.starved_is ∙ sym r.starved_is;
+      appended = Appends-trans a before after w.written (lines (n + 1) o) w.appended r.appended;
+      onward = λ more.
+          ap (λ l. run_from old 0 all l) (append_assoc w.starves (r.starves ∷ []) more)
+          ∙ w.onward (r.starves ∷ more)
+          ∙ ap (λ l. following w.written t.accepted t.refused (run_from now n l (r.starves ∷ more))) e
+          ∙ following_twice w.written (lines (n + 1) o) t.accepted (accepted_of o.answer) t.refused (refused_of o.answer) (run_from o.state (n + 1) rest more)
+          ∙ ap (λ z. following (w.written ++ lines (n + 1) o) z (t.refused + refused_of o.answer) (run_from o.state (n + 1) rest more)) (sym r.accepted_is)
+          ∙ ap (λ z. following (w.written ++ lines (n + 1) o) u.accepted z (run_from o.state (n + 1) rest more)) (sym r.refused_is)
+          ∙ ap (λ s. following (w.written ++ lines (n + 1) o) u.accepted u.refused (run_from s (n + 1) rest more)) (sym r.state_is);
+      works = r.works ∙ w.works;
+    }
+
+pub onward_end : (old now : State) (all rest : List Statement) (n : ℕ) (t : Tally) (a b : Option (List ℕ)) (m k : ℕ) → Onward old now all rest n t a b m k → rest ≡ [] → RanAll old now all t a b m k
+onward_end old now all rest n t a b m k w e =
+    let done : run_from old 0 all w.starves ≡ following w.written t.accepted t.refused (record { text = []; state = now; accepted = 0; refused = 0 }) =
+    ap (run_from old 0 all) (sym (append-nil w.starves)) ∙ w.onward [] ∙ ap (λ l. following w.written t.accepted t.refused (run_from now n l [])) e in
+    record {
+      starves = w.starves;
+      starved_is = w.starved_is;
+      accepted_is = ap (λ r. r.accepted) done ∙ none_more t.accepted;
+      refused_is = ap (λ r. r.refused) done ∙ none_more t.refused;
+      state_is = sym (ap (λ r. r.state) done);
+      appended = subst (Appends a b) (sym (append-nil w.written) ∙ sym (ap (λ r. r.text) done)) w.appended;
+      works = w.works;
+    }
+
+one_accepted : (r : Result Answer Refusal) → accepted_of r ≤ 1
+one_accepted (Ok a) = omega arith
+one_accepted (Err r) = omega arith
+
+one_refused : (r : Result Answer Refusal) → refused_of r ≤ 1
+one_refused (Ok a) = omega arith
+one_refused (Err r) = omega arith
+
+one_starved : (b : Bool) → (if b then 1 else 0) ≤ 1
+one_starved true = omega arith
+one_starved false = omega arith
+
+-- a statement is counted once
+pub few_more : (n k : ℕ) (now new : State) (st : Statement) (t u : Tally) (before after : Option (List ℕ)) (m j : ℕ) → RanOne n now new st t u before after m j
+    → t.accepted ≤ k → t.refused ≤ k → t.starved ≤ k → (u.accepted ≤ k + 1) × (u.refused ≤ k + 1) × (u.starved ≤ k + 1)
+few_more n k now new st t u before after m j r a f s = (
+  omega (arith, r.accepted_is, one_accepted (outcome r.starves now st).answer, a),
+  omega (arith, r.refused_is, one_refused (outcome r.starves now st).answer, f),
+  omega (arith, r.starved_is, one_starved r.starves, s),
+)

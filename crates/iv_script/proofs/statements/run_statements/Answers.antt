@@ -1,0 +1,39 @@
+use Rattle.std.proofs.Common.{◌≡◌, ◌+◌, ◌∷◌, [], rules, arith, length, refl}
+use Rattle.std.proofs.lemmas.Grind.{common_steps}
+use Rattle.iv_script.proofs.Runs.{onward_start, onward_more, onward_end, few_more}
+use Rattle.iv_script.proofs.statements.run_statements.Goals as goal
+
+pub loop-statement-init : goal.loop-statement-init
+loop-statement-init g c = record {
+  counted = omega arith;
+  accepted_few = omega arith;
+  refused_few = omega arith;
+  starved_few = omega arith;
+  onward = onward_start c.args.session.now c.args.statements.now _ (g.W.Sink.contents c.args.writer.now) (g.W.Sink.failed c.args.writer.now) refl refl refl;
+}
+
+pub loop-statement-preserved : goal.loop-statement-preserved
+loop-statement-preserved g c =
+    let e : c.loop-statement.rest.now ≡ c.in-Some.statement.now ∷ c.in-Some.others.now = search rules in
+    let n : length c.loop-statement.rest.now ≡ length c.in-Some.others.now + 1 = grind (arith, common_steps, e) in
+    let few = few_more (c.loop-statement.number + 1) c.loop-statement.number c.loop-statement.session c.run_one.new.session c.in-Some.statement.now c.loop-statement.tally c.in_ok-tally.tally
+    (g.W.Sink.contents c.loop-statement.writer) (g.W.Sink.contents c.run_one.new.writer) (g.W.Sink.failed c.loop-statement.writer) (g.W.Sink.failed c.run_one.new.writer)
+    c.in_ok-tally.ensures c.loop-statement.invariant.accepted_few c.loop-statement.invariant.refused_few c.loop-statement.invariant.starved_few in
+    record {
+      counted = omega (arith, n, c.loop-statement.invariant.counted);
+      accepted_few = few.0;
+      refused_few = few.1;
+      starved_few = few.2;
+      onward = onward_more c.args.session.now c.loop-statement.session c.run_one.new.session c.args.statements.now c.loop-statement.rest.now c.in-Some.others.now c.in-Some.statement.now
+          c.loop-statement.number c.loop-statement.tally c.in_ok-tally.tally
+          (g.W.Sink.contents c.args.writer.now) (g.W.Sink.contents c.loop-statement.writer) (g.W.Sink.contents c.run_one.new.writer)
+          (g.W.Sink.failed c.args.writer.now) (g.W.Sink.failed c.loop-statement.writer) (g.W.Sink.failed c.run_one.new.writer)
+          c.loop-statement.invariant.onward e c.in_ok-tally.ensures;
+    }
+
+pub returns : goal.returns
+returns g c =
+    let e : c.loop-statement.rest.now ≡ [] = grind (arith, common_steps, c.in_default.ensures.cases) in
+    onward_end c.args.session.now c.loop-statement.session c.args.statements.now c.loop-statement.rest.now c.loop-statement.number c.loop-statement.tally
+    (g.W.Sink.contents c.args.writer.now) (g.W.Sink.contents c.loop-statement.writer) (g.W.Sink.failed c.args.writer.now) (g.W.Sink.failed c.loop-statement.writer)
+    c.loop-statement.invariant.onward e

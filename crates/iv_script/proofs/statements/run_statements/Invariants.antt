@@ -1,0 +1,15 @@
+use Rattle.std.proofs.Common.{◌≡◌, ◌≤◌, ◌+◌, length}
+use Rattle.iv_script.proofs.Runs.{Onward}
+use Rattle.iv_script.proofs.statements.run_statements.Given as goal
+
+abbrev pub invariant-loop-statement : goal.invariant-loop-statement
+invariant-loop-statement g l = record {
+  counted : l.number + length l.rest ≡ length l.statements;
+  accepted_few : l.tally.accepted ≤ l.number;
+  refused_few : l.tally.refused ≤ l.number;
+  starved_few : l.tally.starved ≤ l.number;
+  onward : Onward l.initial.session l.session l.statements l.rest l.number l.tally (g.W.Sink.contents l.initial.writer) (g.W.Sink.contents l.writer) (g.W.Sink.failed l.initial.writer) (g.W.Sink.failed l.writer);
+}
+
+abbrev pub decreases-loop-statement : goal.decreases-loop-statement
+decreases-loop-statement g l = length l.rest

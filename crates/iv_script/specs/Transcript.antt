@@ -1,0 +1,99 @@
+-- The transcript of a script: what its bytes are answered with.
+use Rattle.std.specs.Prelude.{◌≡◌, ℕ, ◌+◌, Bool, true, false, List, [], ◌∷◌, ◌++◌, codes, decimal, Option, Some, None, option_map, Result, Ok, Err, length, is_some}
+use Rattle.std.specs.Io.KnownBytes.{Appends}
+use Rattle.iv_syntax.specs.declared.statement.Statement.{Statement}
+use Rattle.iv_parse.specs.Script.{IsScript}
+use Rattle.iv_catalogue.specs.declared.cause.Cause.TheVariants.{OutOfMemory}
+use Rattle.iv_catalogue.specs.declared.cause.Refusal.{Refusal}
+use Rattle.iv_machine.specs.declared.answer.Answer.{Answer}
+use Rattle.iv_machine.specs.Bounds.{Bounds}
+use Rattle.iv_machine.specs.Machine.{State, Outcome, refuse, step, empty_state}
+use Rattle.iv_print.specs.Lines.{line}
+
+-- The lines that statements were answered with, the state after them, and how many were accepted and refused.
+pub record Ran : Type 0 where
+  pub text : List ℕ
+  pub state : State
+  pub accepted : ℕ
+  pub refused : ℕ
+
+-- what ran before, and then this
+abbrev pub following : List ℕ → ℕ → ℕ → Ran → Ran
+following text accepted refused r = record { text = text ++ r.text; state = r.state; accepted = accepted + r.accepted; refused = refused + r.refused }
+
+abbrev pub accepted_of : Result Answer Refusal → ℕ
+accepted_of (Ok a) = 1
+accepted_of (Err r) = 0
+
+abbrev pub refused_of : Result Answer Refusal → ℕ
+refused_of (Ok a) = 0
+refused_of (Err r) = 1
+
+-- what a statement does: the machine's step, or a want of memory, which leaves the state
+abbrev pub outcome : Bool → State → Statement → Outcome
+outcome true s st = refuse s OutOfMemory
+outcome false s st = step s st
+
+-- the lines of a statement's outcome, with the catalogue as it stands directly after it
+abbrev pub lines : ℕ → Outcome → List ℕ
+lines n o = line n o.answer o.state.schema
+
+-- whether the first statement wants memory, where none is named
+abbrev pub first_starves : List Bool → Bool
+first_starves [] = false
+first_starves (b ∷ bs) = b
+
+abbrev pub later_starve : List Bool → List Bool
+later_starve [] = []
+later_starve (b ∷ bs) = bs
+
+-- The run of statements after the n-th, where the list says which of them want memory.
+abbrev pub run_from : State → ℕ → List Statement → List Bool → Ran
+run_from s n [] starves = record { text = []; state = s; accepted = 0; refused = 0 }
+run_from s n (st ∷ sts) starves =
+    let o : Outcome = outcome (first_starves starves) s st in
+    following (lines (n + 1) o) (accepted_of o.answer) (refused_of o.answer) (run_from o.state (n + 1) sts (later_starve starves))
+
+-- the line of a fault, which stands after so many statements
+abbrev pub fault_line : ℕ → Option ℕ → List ℕ
+fault_line n None = []
+fault_line n (Some at) = decimal (n + 1) ++ (codes " fault " ++ (decimal at ++ codes "\n"))
+
+-- the line of a transaction that is open at the end
+abbrev pub end_line : Bool → List ℕ
+end_line true = codes "end rolled back\n"
+end_line false = []
+
+-- the lines after those of the statements
+abbrev pub closing_lines : ℕ → Option ℕ → State → List ℕ
+closing_lines n fault s = fault_line n fault ++ end_line (is_some s.start)
+
+-- The transcript of a script that has these statements and this fault, run in a new session with these limits; the list says which
+-- statements want memory.
+abbrev pub transcript : Bounds → List Statement → Option ℕ → List Bool → List ℕ
+transcript limits statements fault starves =
+    let r : Ran = run_from (empty_state limits) 0 statements starves in
+    r.text ++ closing_lines (length statements) fault r.state
+
+-- how many statements want memory
+abbrev pub starved_count : List Bool → ℕ
+starved_count [] = 0
+starved_count (true ∷ bs) = 1 + starved_count bs
+starved_count (false ∷ bs) = starved_count bs
+
+-- The transcript of these bytes was appended, for some choice of so many statements that want memory, and so many were accepted and
+-- refused.
+pub record RanScript (bytes : List ℕ) (limits : Bounds) (fault : Option ℕ) (accepted refused starved : ℕ) (before after : Option (List ℕ)) : Type 0 where
+  pub statements : List Statement
+  pub starves : List Bool
+  pub is_script : IsScript bytes statements fault
+  pub starved_is : starved_count starves ≡ starved
+  pub accepted_is : (run_from (empty_state limits) 0 statements starves).accepted ≡ accepted
+  pub refused_is : (run_from (empty_state limits) 0 statements starves).refused ≡ refused
+  pub appended : Appends before after (transcript limits statements fault starves)
+
+-- The transcript of these bytes was appended, and no statement wanted memory.
+pub record RanFed (bytes : List ℕ) (limits : Bounds) (fault : Option ℕ) (before after : Option (List ℕ)) : Type 0 where
+  pub statements : List Statement
+  pub is_script : IsScript bytes statements fault
+  pub appended : Appends before after (transcript limits statements fault [])

@@ -1,0 +1,159 @@
+//! A script's run.
+ghost use Rattle.std.specs.Prelude.{◌≡◌, ◌≢◌, ℕ, ◌+◌, ◌<◌, ◌≤◌, ◌^◌, length, max, is_some, option_map, MatchResult, IfErr, IfOk, IfSome, IsErrOf, OnOk, OnErr};
+ghost use Rattle.std.specs.Str.{IsUtf8};
+ghost use Rattle.iv_machine.specs.Machine.{empty_state};
+ghost use Rattle.iv_parse.specs.Script.{IsScript};
+ghost use Rattle.iv_print.specs.Counts.{counted};
+ghost use Rattle.iv_print.specs.Writing.{Writes};
+ghost use Rattle.iv_script.specs.Transcript.{fault_line, end_line, RanScript, RanFed};
+ghost use Rattle.iv_script.specs.Running.{RanParsed};
+
+use crate::read::{LONGEST, ReadEnd, read_script};
+use crate::statements::{Tally, run_statements};
+use crate::summary::{RunFault, Summary};
+use iv_machine::Limits;
+use iv_parse::{Parsed, SyntaxFault, script};
+use iv_print::{DeviceFault, Sink, Source, write_all, write_number};
+use iv_session::Session;
+use iv_syntax::Statement;
+use std::alloc::Global;
+use std::str::from_utf8;
+
+// Writes the line of a fault, which stands after so many statements.
+fn write_fault<W: Sink>(
+    writer: &mut W,
+    count: u64,
+    fault: Option<SyntaxFault>,
+) -> Result<(), DeviceFault>
+    requires { count < 2 ^ 63 }
+    ensures { Writes (W.contents writer.old) (W.contents writer.new) (W.failed writer.old) (W.failed writer.new) result (fault_line count (option_map (λ f. f.at) fault)) }
+{
+    match fault {
+        None => write_all(writer, b""),
+        Some(fault) => {
+            write_number(writer, count + 1)?;
+            write_all(writer, b" fault ")?;
+            write_number(writer, fault.at as u64)?;
+            write_all(writer, b"\n")
+        }
+    }
+}
+
+// Writes the line of a transaction that is open at the end.
+fn write_end<W: Sink>(writer: &mut W, is_open: bool) -> Result<(), DeviceFault>
+    ensures { Writes (W.contents writer.old) (W.contents writer.new) (W.failed writer.old) (W.failed writer.new) result (end_line is_open) }
+{
+    if is_open {
+        write_all(writer, b"end rolled back\n")
+    } else {
+        write_all(writer, b"")
+    }
+}
+
+// Runs the statements, and writes their lines and those of the script's end.
+fn run_parsed<W: Sink>(
+    session: &mut Session,
+    statements: &[Statement],
+    fault: Option<SyntaxFault>,
+    writer: &mut W,
+) -> Result<Tally, DeviceFault>
+    requires { length statements.now < 2 ^ 63 }
+    ensures { MatchResult result
+        (λ t. RanParsed session.old statements.now (option_map (λ f. f.at) fault) t (W.contents writer.old) (W.contents writer.new))
+        (λ _. W.failed writer.new ≡ counted (W.failed writer.old) 1) }
+{
+    let tally = run_statements(session, statements, writer)?;
+    write_fault(writer, statements.len() as u64, fault)?;
+    write_end(writer, session.in_transaction())?;
+    Ok(tally)
+}
+
+// Runs the script that this text is.
+#[tactic(auto, using(crate::proofs::Scripts::ran_script, crate::proofs::Scripts::ran_fed))]
+fn run_text<W: Sink>(
+    alloc: Global,
+    text: &str,
+    writer: &mut W,
+    limits: Limits,
+) -> Result<Summary, RunFault>
+    requires { length text.now ≤ LONGEST }
+    ensures transcript { IfOk result (λ s. RanScript text.now limits (option_map (λ f. f.at) s.fault) s.accepted s.refused s.starved (W.contents writer.old) (W.contents writer.new)) }
+    ensures fed { IfOk result (λ s. s.starved ≡ 0 → RanFed text.now limits (option_map (λ f. f.at) s.fault) (W.contents writer.old) (W.contents writer.new)) }
+    ensures kinds { IfErr result (λ e. (e ≢ RunFault.Read) × (e ≢ RunFault.TooLong) × (e ≢ RunFault.NotUtf8)) }
+    ensures write { IsErrOf result RunFault.Write → W.failed writer.new ≡ counted (W.failed writer.old) 1 }
+    ensures silent { IfErr result (λ e. e ≢ RunFault.Write → writer.new ≡ writer.old) }
+{
+    let Ok(Parsed { statements, fault }) = script(alloc, text) else {
+        return Err(RunFault::NoMemory);
+    };
+    let Ok(mut session) = Session::new(alloc, limits) else {
+        return Err(RunFault::NoMemory);
+    };
+    match run_parsed(&mut session, statements.as_slice(), fault, writer) {
+        Ok(tally) => Ok(Summary {
+            accepted: tally.accepted,
+            refused: tally.refused,
+            starved: tally.starved,
+            fault,
+        }),
+        Err(_) => Err(RunFault::Write),
+    }
+}
+
+// Runs the script that these bytes are.
+fn run_bytes<W: Sink>(
+    alloc: Global,
+    bytes: &[u8],
+    writer: &mut W,
+    limits: Limits,
+) -> Result<Summary, RunFault>
+    requires { length bytes.now ≤ LONGEST }
+    ensures transcript { IfOk result (λ s. RanScript bytes.now limits (option_map (λ f. f.at) s.fault) s.accepted s.refused s.starved (W.contents writer.old) (W.contents writer.new)) }
+    ensures fed { IfOk result (λ s. s.starved ≡ 0 → RanFed bytes.now limits (option_map (λ f. f.at) s.fault) (W.contents writer.old) (W.contents writer.new)) }
+    ensures utf8 { OnOk result (IsUtf8 bytes.now) }
+    ensures not_utf8 { IsErrOf result RunFault.NotUtf8 → ¬ (IsUtf8 bytes.now) }
+    ensures kinds { IfErr result (λ e. (e ≢ RunFault.Read) × (e ≢ RunFault.TooLong)) }
+    ensures write { IsErrOf result RunFault.Write → W.failed writer.new ≡ counted (W.failed writer.old) 1 }
+    ensures silent { IfErr result (λ e. e ≢ RunFault.Write → writer.new ≡ writer.old) }
+{
+    match from_utf8(bytes) {
+        Ok(text) => run_text(alloc, text, writer, limits),
+        Err(_) => Err(RunFault::NotUtf8),
+    }
+}
+
+/// Reads a whole script, runs it in a new session and writes its transcript. Until the script is read and
+/// parsed and the session is made nothing is run or written. It takes time in proportion to the script and
+/// to the rows that its statements touch.
+///
+/// A statement that wants memory is refused as an outcome of its own, with the cause 22; the summary's
+/// `starved` counts these, and `refused` counts them too. After `RunFault::Write` nothing is said of how
+/// much was written.
+pub fn run<R: Source, W: Sink>(
+    alloc: Global,
+    reader: &mut R,
+    writer: &mut W,
+    limits: Limits,
+) -> Result<Summary, RunFault>
+    // What was written is the transcript, for some choice of `starved` statements that want memory.
+    ensures transcript { IfOk result (λ s. IfSome (R.remaining reader.old) (λ bytes. RanScript bytes limits (option_map (λ f. f.at) s.fault) s.accepted s.refused s.starved (W.contents writer.old) (W.contents writer.new))) }
+    // Where `starved` is 0 it is the transcript of the machine.
+    ensures fed { IfOk result (λ s. s.starved ≡ 0 → IfSome (R.remaining reader.old) (λ bytes. RanFed bytes limits (option_map (λ f. f.at) s.fault) (W.contents writer.old) (W.contents writer.new))) }
+    // A script that ran is short enough and UTF-8.
+    ensures fits { OnOk result (IfSome (R.remaining reader.old) (λ bytes. (length bytes ≤ LONGEST) × IsUtf8 bytes)) }
+    ensures too_long { IsErrOf result RunFault.TooLong → IfSome (R.remaining reader.old) (λ bytes. LONGEST < length bytes) }
+    ensures not_utf8 { IsErrOf result RunFault.NotUtf8 → IfSome (R.remaining reader.old) (λ bytes. (length bytes ≤ LONGEST) × ¬ (IsUtf8 bytes)) }
+    ensures read { IsErrOf result RunFault.Read → R.failed reader.new ≡ counted (R.failed reader.old) 1 }
+    ensures write { IsErrOf result RunFault.Write → W.failed writer.new ≡ counted (W.failed writer.old) 1 }
+    ensures silent { IfErr result (λ e. e ≢ RunFault.Write → writer.new ≡ writer.old) }
+    // No byte is asked for beyond one more than a script may have.
+    ensures asked { R.asked reader.new ≤ max (R.asked reader.old) (R.given reader.old + (LONGEST + 1)) }
+{
+    let bytes = match read_script(alloc, reader) {
+        Ok(bytes) => bytes,
+        Err(ReadEnd::Fault) => return Err(RunFault::Read),
+        Err(ReadEnd::TooLong) => return Err(RunFault::TooLong),
+        Err(ReadEnd::NoMemory) => return Err(RunFault::NoMemory),
+    };
+    run_bytes(alloc, bytes.as_slice(), writer, limits)
+}

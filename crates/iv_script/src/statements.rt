@@ -1,0 +1,101 @@
+//! The statements of a script, run one after the other, with the lines of their outcomes.
+ghost use Rattle.std.specs.Prelude.{◌≡◌, ℕ, ◌+◌, ◌<◌, ◌^◌, length, MatchResult, if◌then◌else◌};
+ghost use Rattle.iv_catalogue.specs.Resolution.{is_memory};
+ghost use Rattle.iv_print.specs.Counts.{counted};
+ghost use Rattle.iv_script.specs.Transcript.{accepted_of, refused_of};
+ghost use Rattle.iv_script.specs.Running.{RanOne, RanAll};
+
+use iv_catalogue::{Cause, Refusal};
+use iv_machine::Answer;
+use iv_print::{DeviceFault, Sink, write_outcome};
+use iv_session::{Outcome, Session};
+use iv_syntax::Statement;
+
+/// How many statements were accepted and refused, and how many of the refused wanted memory.
+#[derive(Clone, Copy, Debug, PartialEq, Eq)]
+pub struct Tally {
+    pub accepted: u64,
+    pub refused: u64,
+    pub starved: u64,
+}
+
+fn is_starved(outcome: &Outcome) -> bool
+    ensures { result ≡ is_memory outcome.now }
+{
+    match outcome {
+        Ok(_) => false,
+        Err(refusal) => matches!(refusal.cause, Cause::OutOfMemory),
+    }
+}
+
+// The tally with an outcome more.
+fn with(tally: Tally, outcome: &Outcome) -> Tally
+    requires accepted { tally.accepted < 2 ^ 63 }
+    requires refused { tally.refused < 2 ^ 63 }
+    requires starved { tally.starved < 2 ^ 63 }
+    ensures accepted { result.accepted ≡ tally.accepted + accepted_of outcome.now }
+    ensures refused { result.refused ≡ tally.refused + refused_of outcome.now }
+    ensures starved { result.starved ≡ tally.starved + (if is_memory outcome.now then 1 else 0) }
+{
+    let starved = if is_starved(outcome) { 1 } else { 0 };
+    match outcome {
+        Ok(_) => Tally {
+            accepted: tally.accepted + 1,
+            refused: tally.refused,
+            starved: tally.starved + starved,
+        },
+        Err(_) => Tally {
+            accepted: tally.accepted,
+            refused: tally.refused + 1,
+            starved: tally.starved + starved,
+        },
+    }
+}
+
+// Runs one statement and writes its lines.
+#[tactic(auto, using(crate::proofs::Runs::ran_one))]
+fn run_one<W: Sink>(
+    session: &mut Session,
+    number: u64,
+    statement: &Statement,
+    writer: &mut W,
+    tally: Tally,
+) -> Result<Tally, DeviceFault>
+    requires accepted { tally.accepted < 2 ^ 63 }
+    requires refused { tally.refused < 2 ^ 63 }
+    requires starved { tally.starved < 2 ^ 63 }
+    ensures { MatchResult result
+        (λ t. RanOne number session.old session.new statement.now tally t
+        (W.contents writer.old) (W.contents writer.new) (W.failed writer.old) (W.failed writer.new))
+        (λ _. W.failed writer.new ≡ counted (W.failed writer.old) 1) }
+{
+    let outcome = session.execute(statement);
+    write_outcome(writer, number, &outcome, session.catalogue())?;
+    Ok(with(tally, &outcome))
+}
+
+/// Runs the statements and writes their lines.
+pub fn run_statements<W: Sink>(
+    session: &mut Session,
+    statements: &[Statement],
+    writer: &mut W,
+) -> Result<Tally, DeviceFault>
+    ensures { MatchResult result
+        (λ t. RanAll session.old session.new statements.now t
+        (W.contents writer.old) (W.contents writer.new) (W.failed writer.old) (W.failed writer.new))
+        (λ _. W.failed writer.new ≡ counted (W.failed writer.old) 1) }
+{
+    let mut rest = statements;
+    let mut number = 0u64;
+    let mut tally = Tally {
+        accepted: 0,
+        refused: 0,
+        starved: 0,
+    };
+    while let Some((statement, others)) = rest.split_first() {
+        number += 1;
+        tally = run_one(session, number, statement, writer, tally)?;
+        rest = others;
+    }
+    Ok(tally)
+}
