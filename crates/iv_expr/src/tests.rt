@@ -129,6 +129,59 @@ fn checks_take_a_fault_for_false(rt: HostRuntime) -> Result<(), Fail> {
     Ok(())
 }
 
+/// A condition that is false, unknown or true, or that is a fault, by its place in that order.
+fn nth(alloc: Global, place: usize) -> Result<Cond, AllocError> {
+    match place {
+        0 => not(alloc, Cond::Always),
+        1 => Ok(Cond::Compare(Comparison::Equal, number(1), Expr::Literal(Value::Null))),
+        2 => Ok(Cond::Always),
+        _ => Ok(Cond::IsNull(plus(alloc, number(i64::MAX), number(1))?)),
+    }
+}
+
+/// The conditions of two places, joined by AND.
+fn both(alloc: Global, left: usize, right: usize) -> Result<Cond, AllocError> {
+    let left = nth(alloc, left)?;
+    let right = nth(alloc, right)?;
+    and(alloc, left, right)
+}
+
+/// The conditions of two places, joined by OR.
+fn either(alloc: Global, left: usize, right: usize) -> Result<Cond, AllocError> {
+    let left = nth(alloc, left)?;
+    let right = nth(alloc, right)?;
+    or(alloc, left, right)
+}
+
+/// Which place gives what this condition gives: 3 for a fault.
+fn place_of(cond: &Cond) -> usize {
+    let tables = NoTables {};
+    let frame = Frame::none();
+    match truth(cond, &Scope::new(&tables, &frame)) {
+        Ok(Truth::False) => 0,
+        Ok(Truth::Unknown) => 1,
+        Ok(Truth::True) => 2,
+        Err(_) => 3,
+    }
+}
+
+#[test]
+fn both_sides_are_evaluated(rt: HostRuntime) -> Result<(), Fail> {
+    for (left, outcomes) in [
+        (0, [(0, 0), (0, 1), (0, 2), (3, 3)]),
+        (1, [(0, 1), (1, 1), (1, 2), (3, 3)]),
+        (2, [(0, 2), (1, 2), (2, 2), (3, 3)]),
+        (3, [(3, 3), (3, 3), (3, 3), (3, 3)]),
+    ] {
+        for right in 0..4 {
+            let (least, greatest) = outcomes[right];
+            assert_eq!(rt; place_of(&both(rt.alloc(), left, right)?), least);
+            assert_eq!(rt; place_of(&either(rt.alloc(), left, right)?), greatest);
+        }
+    }
+    Ok(())
+}
+
 /// Table 0 with two rows, 1 and 3; there are no other tables.
 #[derive(Drop)]
 struct TwoRows<'a> {
