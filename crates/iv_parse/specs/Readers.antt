@@ -12,6 +12,7 @@ use Rattle.iv_syntax.specs.declared.statement.ConstraintList.{ConstraintList}
 use Rattle.iv_syntax.specs.declared.statement.ConstraintList.TheVariants.{All, Named}
 use Rattle.iv_conditions.specs.After.{after, if_some, then_read}
 use Rattle.iv_parse.specs.Series.{read_series}
+use Rattle.iv_parse.specs.TableReaders.{read_mode}
 use Rattle.iv_parse.specs.DataReaders.{Found, then_word, read_name, read_insert}
 
 -- the words after a word that may be left out
@@ -41,11 +42,6 @@ read_savepoint ws = then_read (read_name ws) (λ n rest. Some (Savepoint n, rest
 
 unfoldable pub read_release : List Word → Found Statement
 read_release ws = then_word kind.Savepoint ws (λ rest. then_read (read_name rest) (λ n more. Some (Release n, more)))
-
-abbrev pub read_mode : List Word → Found ConstraintMode
-read_mode ws =
-    if_some (after kind.Deferred ws) (λ rest. Some (Deferred, rest))
-    (if_some (after kind.Immediate ws) (λ rest. Some (Immediate, rest)) None)
 
 abbrev pub read_list : List Word → Found ConstraintList
 read_list ws =

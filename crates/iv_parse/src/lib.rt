@@ -7,5 +7,6 @@ mod parser;
 mod series;
 mod session;
 mod statement;
+mod time;
 
 pub use parser::{Parsed, SyntaxFault, script};
