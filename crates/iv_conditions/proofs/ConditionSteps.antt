@@ -1,5 +1,5 @@
 -- One step of each reader of conditions, as the code takes it.
-use Rattle.std.proofs.Common.{◌≡◌, ◌≢◌, ℕ, ◌-◌, ◌+◌, List, [], ◌∷◌, Option, Some, None, refl, sym, ◌∙◌, ap, arith}
+use Rattle.std.proofs.Common.{◌≡◌, ◌≢◌, ℕ, ◌-◌, ◌+◌, List, Option, Some, None, refl, sym, ◌∙◌, ap, arith}
 use Rattle.std.specs.Prelude.{zero, suc, max}
 use Rattle.std.proofs.lemmas.Option.{none-some}
 use Rattle.iv_lex.specs.declared.kind.Kind.TheVariants as kind
@@ -16,7 +16,7 @@ use Rattle.iv_conditions.specs.ItemDepth.{where_depth}
 use Rattle.iv_conditions.specs.Conditions.{condition_depth}
 use Rattle.iv_conditions.proofs.Parts.{some_same}
 use Rattle.iv_conditions.specs.After.{after, if_some, then_read}
-use Rattle.iv_conditions.specs.ExpressionReader.{Found, after_sign, simple, more_factors, more_terms, read_factor, read_term}
+use Rattle.iv_conditions.specs.ExpressionReader.{after_sign, simple, more_factors, more_terms, read_factor, read_term}
 use Rattle.iv_conditions.specs.ConditionReader.{FoundItem, as_item, on_value, close_item, tested, exists_by, exists_over, item_over, negate, after_truth, joined, condition_fits, connected, truth_alone, more_by, value_test, lead_factor, read_lead, read_test, read_negation, read_conjunction, read_item}
 
 -- a value, its further factors, its further terms, its predicate
@@ -29,14 +29,14 @@ pub value_term : (d : ℕ) (e t : Expression) (ws rest : List Word) → Some (t,
 unfolding value_test
 value_term d e t ws rest h g =
     ap (λ o. then_read (as_item o) (on_value (tested d))) g
-      ∙ ap (λ o. then_read (then_read (as_item o) (on_value (λ a left. as_item (more_terms d (read_term d) d a left)))) (on_value (tested d))) h
+    ∙ ap (λ o. then_read (then_read (as_item o) (on_value (λ a left. as_item (more_terms d (read_term d) d a left)))) (on_value (tested d))) h
 
 pub value_whole : (d : ℕ) (e t w : Expression) (ws rest left : List Word) → Some (t, rest) ≡ more_factors d (read_factor d) d e ws
     → Some (w, left) ≡ more_terms d (read_term d) d t rest → tested d w left ≡ value_test d e ws
 unfolding value_test
 value_whole d e t w ws rest left h g =
     ap (λ o. then_read (as_item o) (on_value (tested d))) g
-      ∙ ap (λ o. then_read (then_read (as_item o) (on_value (λ a more. as_item (more_terms d (read_term d) d a more)))) (on_value (tested d))) h
+    ∙ ap (λ o. then_read (then_read (as_item o) (on_value (λ a more. as_item (more_terms d (read_term d) d a more)))) (on_value (tested d))) h
 
 pub connected_depth : (k : Connective) (a b : Condition) → condition_depth (connected k a b) ≡ 1 + max (condition_depth a) (condition_depth b)
 connected_depth And a b = refl
@@ -76,8 +76,8 @@ lead_open zero ws rest n h = absurd (n refl)
 lead_open (suc d) ws rest n h =
     let e : suc d - 1 ≡ d = omega arith in
     ap (λ o. if_some o (λ r. then_read (item_over d (read_lead d) r) (close_item (suc d)))
-      (if_some (after kind.Exists ws) (exists_by (suc d) (item_over d (read_lead d))) (as_item (simple ws)))) (sym h)
-      ∙ ap (λ m. then_read (read_item m rest) (close_item (suc d))) (sym e)
+    (if_some (after kind.Exists ws) (exists_by (suc d) (item_over d (read_lead d))) (as_item (simple ws)))) (sym h)
+    ∙ ap (λ m. then_read (read_item m rest) (close_item (suc d))) (sym e)
 
 pub lead_exists : (d : ℕ) (ws rest : List Word) → d ≢ 0 → None ≡ after kind.LeftParenthesis ws → Some rest ≡ after kind.Exists ws
     → exists_by d (read_item (d - 1)) rest ≡ read_lead d ws
@@ -86,9 +86,9 @@ lead_exists zero ws rest n g h = absurd (n refl)
 lead_exists (suc d) ws rest n g h =
     let e : suc d - 1 ≡ d = omega arith in
     ap (λ m. exists_by (suc d) (read_item m) rest) e
-      ∙ (ap (λ o. if_some o (exists_by (suc d) (item_over d (read_lead d))) (as_item (simple ws))) h
-      ∙ ap (λ o. if_some o (λ r. then_read (item_over d (read_lead d) r) (close_item (suc d)))
-        (if_some (after kind.Exists ws) (exists_by (suc d) (item_over d (read_lead d))) (as_item (simple ws)))) g)
+    ∙ (ap (λ o. if_some o (exists_by (suc d) (item_over d (read_lead d))) (as_item (simple ws))) h
+    ∙ ap (λ o. if_some o (λ r. then_read (item_over d (read_lead d) r) (close_item (suc d)))
+    (if_some (after kind.Exists ws) (exists_by (suc d) (item_over d (read_lead d))) (as_item (simple ws)))) g)
 
 pub lead_simple : (d : ℕ) (ws : List Word) → d ≢ 0 → None ≡ after kind.LeftParenthesis ws → None ≡ after kind.Exists ws
     → as_item (simple ws) ≡ read_lead d ws
@@ -96,8 +96,8 @@ unfolding read_lead
 lead_simple zero ws n g h = absurd (n refl)
 lead_simple (suc d) ws n g h =
     ap (λ o. if_some o (exists_by (suc d) (item_over d (read_lead d))) (as_item (simple ws))) h
-      ∙ ap (λ o. if_some o (λ r. then_read (item_over d (read_lead d) r) (close_item (suc d)))
-        (if_some (after kind.Exists ws) (exists_by (suc d) (item_over d (read_lead d))) (as_item (simple ws)))) g
+    ∙ ap (λ o. if_some o (λ r. then_read (item_over d (read_lead d) r) (close_item (suc d)))
+    (if_some (after kind.Exists ws) (exists_by (suc d) (item_over d (read_lead d))) (as_item (simple ws)))) g
 
 pub factor_signed : (d : ℕ) (ws : List Word) (p : Sign × List Word) → Some p ≡ after_sign ws → as_item (read_factor d ws) ≡ lead_factor d ws
 unfolding lead_factor
@@ -153,5 +153,5 @@ more_step k d F zero i ws rest n h = absurd (n refl)
 more_step k d F (suc m) i ws rest n h =
     let e : suc m - 1 ≡ m = omega arith in
     ap (λ q. then_read (then_read (F rest) (joined k d i)) (more_by k d F q)) e
-      ∙ (read_twice (F rest) (joined k d i) (more_by k d F m)
-      ∙ ap (λ o. if_some o (λ r. then_read (F r) (λ j more. then_read (joined k d i j more) (more_by k d F m))) (Some (i, ws))) h)
+    ∙ (read_twice (F rest) (joined k d i) (more_by k d F m)
+    ∙ ap (λ o. if_some o (λ r. then_read (F r) (λ j more. then_read (joined k d i j more) (more_by k d F m))) (Some (i, ws))) h)

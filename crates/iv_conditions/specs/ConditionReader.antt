@@ -1,6 +1,6 @@
 -- The condition at the front of words, read with one word of look-ahead and no deeper than a limit. What parentheses hold is read once, into
 -- an item: a value or a condition that is whole.
-use Rattle.std.specs.Prelude.{ℕ, zero, suc, Bool, true, false, nat_le, if◌then◌else◌, Option, Some, None, List, [], ◌∷◌}
+use Rattle.std.specs.Prelude.{ℕ, zero, suc, nat_le, if◌then◌else◌, Option, Some, None, List, ◌∷◌}
 use Rattle.iv_expr.specs.declared.tree.Comparison.{Comparison}
 use Rattle.iv_expr.specs.declared.tree.Comparison.TheVariants as comparison
 use Rattle.iv_lex.specs.declared.kind.Kind.{Kind}
@@ -178,7 +178,7 @@ lead_factor d = lead_factor_by d (read_lead d)
 unfoldable pub value_test : ℕ → Expression → List Word → FoundItem
 value_test d e ws =
     then_read (then_read (as_item (more_factors d (read_factor d) d e ws)) (on_value (λ a rest. as_item (more_terms d (read_term d) d a rest))))
-      (on_value (tested d))
+    (on_value (tested d))
 
 unfoldable pub read_test : ℕ → List Word → FoundItem
 read_test d = test_by d (lead_expression_by d (lead_term_by d (lead_factor d)))

@@ -1,6 +1,7 @@
 //! Value expressions and search conditions at the front of tokens.
 #![tactic(auto)]
 
+mod condition;
 mod condition_part;
 mod expression;
 mod from;
@@ -12,5 +13,6 @@ mod make;
 mod part;
 mod test;
 
+pub use condition::{read_condition, read_from};
 pub use expression::read_expression;
 pub use front::{after, name, sign};

@@ -92,10 +92,7 @@ pub fn exists_of(
     ensures { IfOk result (λ c. c ≡ exists_over (range, condition)) }
 {
     match condition {
-        Some(condition) => Ok(Condition::ExistsWhere(
-            range,
-            Boxed::new(alloc, condition)?,
-        )),
+        Some(condition) => Ok(Condition::ExistsWhere(range, Boxed::new(alloc, condition)?)),
         None => Ok(Condition::Exists(range)),
     }
 }

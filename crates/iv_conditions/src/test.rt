@@ -85,11 +85,7 @@ pub fn close_item<'a>(
 }
 
 /// IS [NOT] NULL; the tokens are those after IS.
-fn test_null<'a>(
-    limit: u8,
-    value: ExpressionPart<'a>,
-    tokens: &'a [Token],
-) -> Option<ItemPart<'a>>
+fn test_null<'a>(limit: u8, value: ExpressionPart<'a>, tokens: &'a [Token]) -> Option<ItemPart<'a>>
     ensures { (text : List ℕ) → item_found text result ≡ null_test limit value.entry.tree (words text tokens.now) }
 {
     let ExpressionPart {

@@ -1,4 +1,4 @@
-use Rattle.std.proofs.Common.{◌≡◌, Some, None, refl, sym, ◌∙◌, ap}
+use Rattle.std.proofs.Common.{◌∙◌, ap}
 use Rattle.iv_lex.specs.Words.{words}
 use Rattle.iv_conditions.specs.SeenItem.{item_found}
 use Rattle.iv_conditions.proofs.ConditionSteps.{joined_truth, joined_value}
