@@ -6,3 +6,4 @@ pub mod Parts
 pub mod Sound
 pub mod Complete
 pub mod Theorems
+pub mod ConditionSteps

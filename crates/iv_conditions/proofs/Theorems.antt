@@ -1,6 +1,6 @@
 -- The theorems of the readers, in the form that statements use.
-use Rattle.std.specs.Prelude.{◌≡◌, ℕ, ◌≤◌, Option, Some, None, List, [], ◌∷◌, ◌++◌, refl}
-use Rattle.std.proofs.Common.{sym, ◌∙◌, ap, subst}
+use Rattle.std.specs.Prelude.{◌≡◌, ◌≤◌, Some, List, ◌++◌, refl}
+use Rattle.std.proofs.Common.{◌∙◌, ap, subst}
 use Rattle.iv_lex.specs.Words.{Word}
 use Rattle.iv_syntax.specs.declared.tree.Expression.{Expression}
 use Rattle.iv_conditions.specs.Expressions.{IsExpression, EndsExpression, spelling, depth, expression}

@@ -7,3 +7,4 @@ pub mod Conditions
 pub mod ItemDepth
 pub mod ConditionReader
 pub mod SeenItem
+pub mod SeenFrom
