@@ -7,3 +7,5 @@ pub mod Sound
 pub mod Complete
 pub mod Theorems
 pub mod ConditionSteps
+pub mod ConditionSound
+pub mod ConditionComplete

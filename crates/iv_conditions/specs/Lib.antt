@@ -8,3 +8,4 @@ pub mod ItemDepth
 pub mod ConditionReader
 pub mod SeenItem
 pub mod SeenFrom
+pub mod Laws
