@@ -27,7 +27,7 @@ use Rattle.iv_syntax.specs.declared.table.TableElement.TheVariants.{Column, Cons
 use Rattle.iv_conditions.specs.After.{after, after_name, if_some, then_read}
 use Rattle.iv_conditions.specs.ExpressionReader.{after_sign}
 use Rattle.iv_parse.specs.Series.{read_series, read_enclosed, read_sequence, read_either_order}
-use Rattle.iv_parse.specs.DataReaders.{Found, then_word, read_name, read_column_list}
+use Rattle.iv_parse.specs.DataReaders.{Found, then_word, read_name, read_column_list, read_check}
 
 abbrev pub read_number : List Word → Found ℕ
 read_number (number n ∷ ws) = Some (n, ws)
@@ -143,19 +143,31 @@ read_reference_columns t ws =
 unfoldable pub read_references : List Word → Found References
 read_references ws = then_read (read_name ws) read_reference_columns
 
+-- after NOT
+unfoldable pub read_null_rule : List Word → Found (Option ColumnRule)
+read_null_rule ws = then_word kind.Null ws (λ rest. Some (Some column_rule.NotNull, rest))
+
+unfoldable pub read_primary_rule : List Word → Found (Option ColumnRule)
+read_primary_rule ws =
+    if_some (after kind.Primary ws) (λ rest. then_word kind.Key rest (λ more. Some (Some column_rule.PrimaryKey, more))) (Some (None, ws))
+
 -- a rule that begins with NOT, UNIQUE or PRIMARY
 unfoldable pub read_plain_rule : List Word → Found (Option ColumnRule)
 read_plain_rule ws =
-    if_some (after kind.Not ws) (λ rest. then_word kind.Null rest (λ more. Some (Some column_rule.NotNull, more)))
+    if_some (after kind.Not ws) read_null_rule
       (if_some (after kind.Unique ws) (λ rest. Some (Some column_rule.Unique, rest))
-      (if_some (after kind.Primary ws) (λ rest. then_word kind.Key rest (λ more. Some (Some column_rule.PrimaryKey, more)))
-      (Some (None, ws))))
+      (read_primary_rule ws))
+
+unfoldable pub read_condition_rule : List Word → Found (Option ColumnRule)
+read_condition_rule ws =
+    if_some (after kind.Check ws) (λ rest. then_read (read_check rest) (λ c more. Some (Some (column_rule.Check c), more)))
+      (read_plain_rule ws)
 
 -- the rule of a column, where one begins
 unfoldable pub read_column_rule : List Word → Found (Option ColumnRule)
 read_column_rule ws =
     if_some (after kind.References ws) (λ rest. then_read (read_references rest) (λ r more. Some (Some (column_rule.References r), more)))
-      (read_plain_rule ws)
+      (read_condition_rule ws)
 
 abbrev pub column_constraint_of : Option (List ℕ) → Option ColumnRule → List Word → Found (Option ColumnConstraint)
 column_constraint_of n (Some r) ws = then_read (read_time ws) (λ t rest. Some (Some (record { name = n; rule = r; time = t }), rest))
@@ -187,11 +199,19 @@ read_foreign_key ws =
     then_word kind.Key ws (λ rest. then_read (read_key rest) (λ ns more. then_word kind.References more
       (λ left. then_read (read_references left) (λ r last. Some (table_rule.ForeignKey ns r, last)))))
 
+unfoldable pub read_check_rule : List Word → Found TableRule
+read_check_rule ws = then_word kind.Check ws (λ rest. then_read (read_check rest) (λ c more. Some (table_rule.Check c, more)))
+
+unfoldable pub read_unique_rule : List Word → Found TableRule
+read_unique_rule ws =
+    if_some (after kind.Unique ws) (λ rest. then_read (read_key rest) (λ ns more. Some (table_rule.Unique ns, more)))
+      (read_check_rule ws)
+
 unfoldable pub read_table_rule : List Word → Found TableRule
 read_table_rule ws =
-    if_some (after kind.Unique ws) (λ rest. then_read (read_key rest) (λ ns more. Some (table_rule.Unique ns, more)))
-      (if_some (after kind.Primary ws) read_primary_key
-      (if_some (after kind.Foreign ws) read_foreign_key None))
+    if_some (after kind.Primary ws) read_primary_key
+      (if_some (after kind.Foreign ws) read_foreign_key
+      (read_unique_rule ws))
 
 unfoldable pub read_table_constraint : List Word → Found TableConstraint
 read_table_constraint ws =
