@@ -1,9 +1,9 @@
 -- What the grammar has of expressions, the reader finds.
-use Rattle.std.specs.Prelude.{◌≡◌, ℕ, ◌+◌, ◌≤◌, zero, suc, max, nat_le, Option, Some, None, List, [], ◌∷◌, ◌++◌, refl}
-use Rattle.std.proofs.Common.{sym, ◌∙◌, ap, subst, arith, append_assoc}
+use Rattle.std.specs.Prelude.{◌≡◌, ℕ, ◌+◌, ◌≤◌, zero, suc, Option, Some, None, List, [], ◌∷◌, ◌++◌, refl}
+use Rattle.std.proofs.Common.{◌∙◌, ap, arith, append_assoc}
 use Rattle.std.proofs.lemmas.Bool.{le-leb}
 use Rattle.iv_lex.specs.declared.kind.Kind.TheVariants as kind
-use Rattle.iv_lex.specs.Words.{Word, name, number, quoted, plain}
+use Rattle.iv_lex.specs.Words.{Word, name, plain}
 use Rattle.iv_syntax.specs.declared.tree.Sign.{Sign}
 use Rattle.iv_syntax.specs.declared.tree.Sign.TheVariants as sign
 use Rattle.iv_syntax.specs.declared.tree.ColumnName.{ColumnName}
@@ -11,9 +11,8 @@ use Rattle.iv_syntax.specs.declared.tree.Expression.{Expression}
 use Rattle.iv_syntax.specs.declared.tree.Expression.TheVariants.{Number, Text, Null, Column}
 use Rattle.iv_conditions.specs.Trees.{group, signed, product, sum}
 use Rattle.iv_conditions.specs.After.{after, after_name, if_some, then_read}
-use Rattle.iv_conditions.specs.Expressions.{Rule, expression, term, factor, primary, sign_kind, qualifier_spelling, spelling, depth, Formed, EndsPrimary, EndsTerm, EndsExpression}
-use Rattle.iv_conditions.specs.ExpressionReader.{Found, fits, after_sign, column_of, column_from, simple, closed, primary_by, factor_by, more_factors, term_by, more_terms, expression_by, expression_over, read_primary, read_factor, read_term, read_expression}
-use Rattle.iv_conditions.proofs.Parts.{sign_found}
+use Rattle.iv_conditions.specs.Expressions.{expression, term, factor, primary, sign_kind, qualifier_spelling, spelling, depth, Formed, EndsPrimary, EndsTerm, EndsExpression}
+use Rattle.iv_conditions.specs.ExpressionReader.{Found, fits, after_sign, column_of, simple, closed, more_factors, more_terms, expression_over, read_primary, read_factor, read_term, read_expression}
 
 pub fits_ok : (d : ℕ) (e : Expression) (ws : List Word) → depth e ≤ d → fits d e ws ≡ Some (e, ws)
 fits_ok d e ws h = rw (le-leb (depth e) d h) refl
@@ -69,11 +68,11 @@ pub from_factor : (e : Expression) → (Formed primary e → (d : ℕ) → depth
     → ((d : ℕ) → depth e ≤ d → (rest : List Word) → EndsPrimary rest → read_factor d (spelling e ++ rest) ≡ Some (e, rest))
     → Complete e
 from_factor e p f = record {
-    primary_read = p;
-    factor_read = λ _ d h rest a. f d h rest a;
-    term_read = λ _ d h rest a. term_of_factor e d rest (f d h rest a);
-    expression_read = λ _ d h rest a. expression_of_term e d rest a (term_of_factor e d rest (f d h rest a.0));
-  }
+  primary_read = p;
+  factor_read = λ _ d h rest a. f d h rest a;
+  term_read = λ _ d h rest a. term_of_factor e d rest (f d h rest a);
+  expression_read = λ _ d h rest a. expression_of_term e d rest a (term_of_factor e d rest (f d h rest a.0));
+}
 
 -- a tree of depth one is read at any depth but 0
 pub primary_at : (d : ℕ) (ws : List Word) (f : Found) → 1 ≤ d → ((m : ℕ) → read_primary (suc m) ws ≡ f) → read_primary d ws ≡ f
@@ -96,12 +95,12 @@ unfolding read_primary
 column_primary c zero h rest a = absurd (omega arith)
 column_primary c (suc d) h rest a =
     ap (λ o. if_some o (λ r. then_read (expression_over d (read_primary d) r) (closed (suc d))) (simple (spelling (Column c) ++ rest))) (column_first c.qualifier c.name rest).0
-      ∙ column_read c.qualifier c.name rest a
+    ∙ column_read c.qualifier c.name rest a
 
 pub column_factor : (c : ColumnName) (d : ℕ) → 1 ≤ d → (rest : List Word) → EndsPrimary rest → read_factor d (spelling (Column c) ++ rest) ≡ Some (Column c, rest)
 column_factor c d h rest a =
     ap (λ o. if_some o (λ p. then_read (read_primary d p.1) (λ e. fits d (signed p.0 e))) (read_primary d (spelling (Column c) ++ rest))) (column_first c.qualifier c.name rest).1
-      ∙ column_primary c d h rest a
+    ∙ column_primary c d h rest a
 
 pub group_read : (a : Expression) → Formed expression a → Complete a → (d : ℕ) → depth (group a) ≤ d → (rest : List Word)
     → read_primary d (spelling (group a) ++ rest) ≡ Some (group a, rest)
@@ -110,7 +109,7 @@ group_read a f c zero h rest = absurd (omega arith)
 group_read a f c (suc d) h rest =
     let inner = c.expression_read f d (omega arith) (plain kind.RightParenthesis ∷ rest) (refl, refl) in
     let left : read_expression d (spelling a ++ plain kind.RightParenthesis ∷ rest) ≡ Some (a, plain kind.RightParenthesis ∷ rest) =
-      inner.2 ∙ stop_terms d (read_term d) inner.0 a (plain kind.RightParenthesis ∷ rest) ((refl, refl), refl, refl) in
+    inner.2 ∙ stop_terms d (read_term d) inner.0 a (plain kind.RightParenthesis ∷ rest) ((refl, refl), refl, refl) in
     rw (append_assoc (spelling a) (plain kind.RightParenthesis ∷ []) rest) (ap (λ o. then_read o (closed (suc d))) left ∙ fits_ok (suc d) (group a) rest h)
 
 pub signed_read : (s : Sign) (a : Expression) → Formed primary a → Complete a → (d : ℕ) → depth (signed s a) ≤ d → (rest : List Word) → EndsPrimary rest
@@ -148,29 +147,29 @@ complete (Text t) = from_factor (Text t) (λ _ d h rest a. primary_at d _ _ h (�
 complete Null = from_factor Null (λ _ d h rest a. primary_at d _ _ h (λ m. refl)) (λ d h rest a. primary_at d _ _ h (λ m. refl))
 complete (Column c) = from_factor (Column c) (λ _ d h rest a. column_primary c d h rest a) (λ d h rest a. column_factor c d h rest a)
 complete (group a) = record {
-    primary_read = λ f d h rest _. group_read a f (complete a) d h rest;
-    factor_read = λ f d h rest _. group_read a f (complete a) d h rest;
-    term_read = λ f d h rest _. term_of_factor (group a) d rest (group_read a f (complete a) d h rest);
-    expression_read = λ f d h rest after. expression_of_term (group a) d rest after (term_of_factor (group a) d rest (group_read a f (complete a) d h rest));
-  }
+  primary_read = λ f d h rest _. group_read a f (complete a) d h rest;
+  factor_read = λ f d h rest _. group_read a f (complete a) d h rest;
+  term_read = λ f d h rest _. term_of_factor (group a) d rest (group_read a f (complete a) d h rest);
+  expression_read = λ f d h rest after. expression_of_term (group a) d rest after (term_of_factor (group a) d rest (group_read a f (complete a) d h rest));
+}
 complete (signed s a) = record {
-    primary_read = λ f d h rest _. absurd f.0;
-    factor_read = λ f d h rest after. signed_read s a f.1 (complete a) d h rest after;
-    term_read = λ f d h rest after. term_of_factor (signed s a) d rest (signed_read s a f.1 (complete a) d h rest after);
-    expression_read = λ f d h rest after. expression_of_term (signed s a) d rest after (term_of_factor (signed s a) d rest (signed_read s a f.1 (complete a) d h rest after.0));
-  }
+  primary_read = λ f d h rest _. absurd f.0;
+  factor_read = λ f d h rest after. signed_read s a f.1 (complete a) d h rest after;
+  term_read = λ f d h rest after. term_of_factor (signed s a) d rest (signed_read s a f.1 (complete a) d h rest after);
+  expression_read = λ f d h rest after. expression_of_term (signed s a) d rest after (term_of_factor (signed s a) d rest (signed_read s a f.1 (complete a) d h rest after.0));
+}
 complete (product a b) = record {
-    primary_read = λ f d h rest _. absurd f.0;
-    factor_read = λ f d h rest _. absurd f.0;
-    term_read = λ f d h rest after. product_read a b f.1 f.2 (complete a) (complete b) d h rest after;
-    expression_read = λ f d h rest after. expression_of_term (product a b) d rest after (product_read a b f.1 f.2 (complete a) (complete b) d h rest after.0);
-  }
+  primary_read = λ f d h rest _. absurd f.0;
+  factor_read = λ f d h rest _. absurd f.0;
+  term_read = λ f d h rest after. product_read a b f.1 f.2 (complete a) (complete b) d h rest after;
+  expression_read = λ f d h rest after. expression_of_term (product a b) d rest after (product_read a b f.1 f.2 (complete a) (complete b) d h rest after.0);
+}
 complete (sum s a b) = record {
-    primary_read = λ f d h rest _. absurd f.0;
-    factor_read = λ f d h rest _. absurd f.0;
-    term_read = λ f d h rest _. absurd f.0;
-    expression_read = λ f d h rest after. sum_read s a b f.1 f.2 (complete a) (complete b) d h rest after;
-  }
+  primary_read = λ f d h rest _. absurd f.0;
+  factor_read = λ f d h rest _. absurd f.0;
+  term_read = λ f d h rest _. absurd f.0;
+  expression_read = λ f d h rest after. sum_read s a b f.1 f.2 (complete a) (complete b) d h rest after;
+}
 
 -- an expression of the grammar that is not too deep is read whole, whatever follows that cannot go on with it
 pub expression_whole : (e : Expression) → Formed expression e → (d : ℕ) → depth e ≤ d → (rest : List Word) → EndsExpression rest → read_expression d (spelling e ++ rest) ≡ Some (e, rest)

@@ -6,3 +6,6 @@ pub mod Parts
 pub mod Sound
 pub mod Complete
 pub mod Theorems
+pub mod ConditionSteps
+pub mod ConditionSound
+pub mod ConditionComplete

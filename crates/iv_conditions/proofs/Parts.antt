@@ -1,6 +1,6 @@
 -- Small laws of the front of words, of options and of what is read.
 use Rattle.std.specs.Prelude.{◌≡◌, ℕ, Bool, true, false, if◌then◌else◌, Option, Some, None, List, [], ◌∷◌, refl}
-use Rattle.std.proofs.Common.{sym, ◌∙◌, ap, subst}
+use Rattle.std.proofs.Common.{◌∙◌, ap}
 use Rattle.std.proofs.lemmas.Bool.{false≢true}
 use Rattle.std.proofs.lemmas.Option.{none-some}
 use Rattle.iv_lex.specs.declared.kind.Kind.{Kind}
@@ -8,7 +8,7 @@ use Rattle.iv_lex.specs.declared.kind.Kind.TheVariants as kind
 use Rattle.iv_lex.specs.Words.{Word, name, number, quoted, plain}
 use Rattle.iv_syntax.specs.declared.tree.Sign.{Sign}
 use Rattle.iv_syntax.specs.declared.tree.Sign.TheVariants as sign
-use Rattle.iv_conditions.specs.After.{same, is_word, after, after_name, if_some}
+use Rattle.iv_conditions.specs.After.{is_word, after, after_name, if_some}
 use Rattle.iv_conditions.specs.Expressions.{sign_kind}
 use Rattle.iv_conditions.specs.ExpressionReader.{after_sign}
 use Rattle.iv_conditions.proofs.Exact.{exact}
@@ -47,7 +47,7 @@ sign_found sign.Minus ws = refl
 pub after_sign_is : (ws : List Word) (p : Sign × List Word) → after_sign ws ≡ Some p → ws ≡ plain (sign_kind p.0) ∷ p.1
 after_sign_is ws p =
     if_some_has (λ o. o ≡ Some p → ws ≡ plain (sign_kind p.0) ∷ p.1) (after kind.Plus ws) (λ rest. Some (sign.Plus, rest)) _
-      (λ rest e h. after_is kind.Plus ws rest e ∙ ap (λ (q : Sign × List Word). plain (sign_kind q.0) ∷ q.1) (some_same (sign.Plus, rest) p h))
-      (λ _. if_some_has (λ o. o ≡ Some p → ws ≡ plain (sign_kind p.0) ∷ p.1) (after kind.Minus ws) (λ rest. Some (sign.Minus, rest)) None
-        (λ rest e h. after_is kind.Minus ws rest e ∙ ap (λ (q : Sign × List Word). plain (sign_kind q.0) ∷ q.1) (some_same (sign.Minus, rest) p h))
-        (λ _ h. absurd (none-some p h)))
+    (λ rest e h. after_is kind.Plus ws rest e ∙ ap (λ (q : Sign × List Word). plain (sign_kind q.0) ∷ q.1) (some_same (sign.Plus, rest) p h))
+    (λ _. if_some_has (λ o. o ≡ Some p → ws ≡ plain (sign_kind p.0) ∷ p.1) (after kind.Minus ws) (λ rest. Some (sign.Minus, rest)) None
+    (λ rest e h. after_is kind.Minus ws rest e ∙ ap (λ (q : Sign × List Word). plain (sign_kind q.0) ∷ q.1) (some_same (sign.Minus, rest) p h))
+    (λ _ h. absurd (none-some p h)))

@@ -1,15 +1,15 @@
 -- What the reader finds of expressions, the grammar has.
-use Rattle.std.specs.Prelude.{◌≡◌, ℕ, ◌+◌, ◌≤◌, zero, suc, max, nat_le, Bool, true, false, if◌then◌else◌, Option, Some, None, List, [], ◌∷◌, ◌++◌, refl}
-use Rattle.std.proofs.Common.{sym, ◌∙◌, ap, subst, arith, append_assoc}
+use Rattle.std.specs.Prelude.{◌≡◌, ℕ, ◌≤◌, zero, suc, nat_le, Bool, true, false, if◌then◌else◌, Option, Some, None, List, [], ◌∷◌, ◌++◌, refl}
+use Rattle.std.proofs.Common.{sym, ◌∙◌, ap, arith, append_assoc}
 use Rattle.std.proofs.lemmas.Bool.{leb-true}
 use Rattle.iv_lex.specs.declared.kind.Kind.{Kind}
 use Rattle.iv_lex.specs.declared.kind.Kind.TheVariants as kind
 use Rattle.iv_lex.specs.Words.{Word, name, number, quoted, plain}
 use Rattle.iv_syntax.specs.declared.tree.Sign.{Sign}
 use Rattle.iv_syntax.specs.declared.tree.Expression.{Expression}
-use Rattle.iv_syntax.specs.declared.tree.Expression.TheVariants.{Number, Text, Null, Column}
+use Rattle.iv_syntax.specs.declared.tree.Expression.TheVariants.{Null}
 use Rattle.iv_conditions.specs.Trees.{group, signed, product, sum}
-use Rattle.iv_conditions.specs.After.{same, after, after_name, if_some, then_read}
+use Rattle.iv_conditions.specs.After.{same, after, after_name, then_read}
 use Rattle.iv_conditions.specs.Expressions.{Rule, expression, term, factor, primary, sign_kind, spelling, depth, Formed}
 use Rattle.iv_conditions.specs.ExpressionReader.{Found, fits, after_sign, column_of, column_from, simple, closed, primary_by, factor_by, more_factors, term_by, more_terms, expression_by, expression_over, read_primary, read_factor, read_term, read_expression}
 use Rattle.iv_conditions.proofs.Exact.{exact}
@@ -51,8 +51,8 @@ qualified_good d n ws rest h (Some p) e =
 pub column_good : (d : ℕ) (n : List ℕ) (ws : List Word) → Good primary (suc d) (name n ∷ ws) (column_from n ws)
 column_good d n ws =
     if_some_has (Good primary (suc d) (name n ∷ ws)) (after kind.Period ws) _ _
-      (λ rest e. qualified_good d n ws rest (after_is kind.Period ws rest e) (after_name rest) refl)
-      (λ _. record { formed = tt; shallow = omega arith; front = refl })
+    (λ rest e. qualified_good d n ws rest (after_is kind.Period ws rest e) (after_name rest) refl)
+    (λ _. record { formed = tt; shallow = omega arith; front = refl })
 
 pub null_good : (d : ℕ) (k : Kind) (ws : List Word) (b : Bool) → same k kind.Null ≡ b → Good primary (suc d) (plain k ∷ ws) (if b then Some (Null, ws) else None)
 null_good d k ws true e = record { formed = tt; shallow = omega arith; front = ap (λ j. plain j ∷ ws) (exact k kind.Null e) }
@@ -69,17 +69,17 @@ pub closed_good : (d : ℕ) (all ws : List Word) (e : Expression) (rest : List W
     → Good primary (suc d) all (closed (suc d) e rest)
 closed_good d all ws e rest a h =
     if_some_has (Good primary (suc d) all) (after kind.RightParenthesis rest) (fits (suc d) (group e)) None
-      (λ more t. fits_good primary (suc d) all (group e) more h.formed
-        (a ∙ ap (λ l. plain kind.LeftParenthesis ∷ l)
-          (h.front ∙ (ap (λ l. spelling e ++ l) (after_is kind.RightParenthesis rest more t) ∙ sym (append_assoc (spelling e) (plain kind.RightParenthesis ∷ []) more)))))
-      (λ _. tt)
+    (λ more t. fits_good primary (suc d) all (group e) more h.formed
+    (a ∙ ap (λ l. plain kind.LeftParenthesis ∷ l)
+    (h.front ∙ (ap (λ l. spelling e ++ l) (after_is kind.RightParenthesis rest more t) ∙ sym (append_assoc (spelling e) (plain kind.RightParenthesis ∷ []) more)))))
+    (λ _. tt)
 
 pub primary_by_sound : (d : ℕ) (inner : List Word → Found) → Sound expression d inner → Sound primary (suc d) (primary_by (suc d) inner)
 primary_by_sound d inner h ws =
     if_some_has (Good primary (suc d) ws) (after kind.LeftParenthesis ws) _ (simple ws)
-      (λ rest e. then_good expression primary d (suc d) rest ws (closed (suc d)) (inner rest) (h rest)
-        (λ a more r. closed_good d ws rest a more (after_is kind.LeftParenthesis ws rest e) r))
-      (λ _. simple_good d ws)
+    (λ rest e. then_good expression primary d (suc d) rest ws (closed (suc d)) (inner rest) (h rest)
+    (λ a more r. closed_good d ws rest a more (after_is kind.LeftParenthesis ws rest e) r))
+    (λ _. simple_good d ws)
 
 -- what a narrower rule has, a wider one has
 pub factor_primary : (e : Expression) → Formed primary e → Formed factor e
@@ -110,27 +110,27 @@ widened r s d ws (Some p) f h = record { formed = f p.0 h.formed; shallow = h.sh
 pub factor_by_sound : (d : ℕ) (P : List Word → Found) → Sound primary d P → Sound factor d (factor_by d P)
 factor_by_sound d P h ws =
     if_some_has (Good factor d ws) (after_sign ws) _ (P ws)
-      (λ p e. then_good primary factor d d p.1 ws (λ a. fits d (signed p.0 a)) (P p.1) (h p.1)
-        (λ a rest r. fits_good factor d ws (signed p.0 a) rest (tt, r.formed) (after_sign_is ws p e ∙ ap (λ l. plain (sign_kind p.0) ∷ l) r.front)))
-      (λ _. widened primary factor d ws (P ws) factor_primary (h ws))
+    (λ p e. then_good primary factor d d p.1 ws (λ a. fits d (signed p.0 a)) (P p.1) (h p.1)
+    (λ a rest r. fits_good factor d ws (signed p.0 a) rest (tt, r.formed) (after_sign_is ws p e ∙ ap (λ l. plain (sign_kind p.0) ∷ l) r.front)))
+    (λ _. widened primary factor d ws (P ws) factor_primary (h ws))
 
 -- the operands so far and one more make one tree of all the words
 pub product_good : (d : ℕ) (all ws rest more : List Word) (a b : Expression) → Read term d all a ws → ws ≡ plain kind.Asterisk ∷ rest → Read factor d rest b more
     → Good term d all (fits d (product a b) more)
 product_good d all ws rest more a b r e rb =
     fits_good term d all (product a b) more (tt, r.formed, rb.formed)
-      (r.front ∙ (ap (λ l. spelling a ++ l) (e ∙ ap (λ l. plain kind.Asterisk ∷ l) rb.front) ∙ sym (append_assoc (spelling a) (plain kind.Asterisk ∷ spelling b) more)))
+    (r.front ∙ (ap (λ l. spelling a ++ l) (e ∙ ap (λ l. plain kind.Asterisk ∷ l) rb.front) ∙ sym (append_assoc (spelling a) (plain kind.Asterisk ∷ spelling b) more)))
 
 pub more_factors_good : (d : ℕ) (F : List Word → Found) → Sound factor d F → (n : ℕ) (all : List Word) (a : Expression) (ws : List Word)
     → Read term d all a ws → Good term d all (more_factors d F n a ws)
 more_factors_good d F h zero all a ws r = if_some_has (Good term d all) (after kind.Asterisk ws) (λ rest. None) (Some (a, ws)) (λ rest e. tt) (λ _. r)
 more_factors_good d F h (suc n) all a ws r =
     if_some_has (Good term d all) (after kind.Asterisk ws) _ (Some (a, ws))
-      (λ rest e. then_good factor term d d rest all (λ b more. then_read (fits d (product a b) more) (more_factors d F n)) (F rest) (h rest)
-        (λ b more rb. then_good term term d d all all (more_factors d F n) (fits d (product a b) more)
-          (product_good d all ws rest more a b r (after_is kind.Asterisk ws rest e) rb)
-          (λ c left rc. more_factors_good d F h n all c left rc)))
-      (λ _. r)
+    (λ rest e. then_good factor term d d rest all (λ b more. then_read (fits d (product a b) more) (more_factors d F n)) (F rest) (h rest)
+    (λ b more rb. then_good term term d d all all (more_factors d F n) (fits d (product a b) more)
+    (product_good d all ws rest more a b r (after_is kind.Asterisk ws rest e) rb)
+    (λ c left rc. more_factors_good d F h n all c left rc)))
+    (λ _. r)
 
 pub term_by_sound : (d : ℕ) (F : List Word → Found) → Sound factor d F → Sound term d (term_by d F)
 term_by_sound d F h ws = then_good factor term d d ws ws (more_factors d F d) (F ws) (h ws)
@@ -140,18 +140,18 @@ pub sum_good : (d : ℕ) (all ws more : List Word) (p : Sign × List Word) (a b 
     → Good expression d all (fits d (sum p.0 a b) more)
 sum_good d all ws more p a b r e rb =
     fits_good expression d all (sum p.0 a b) more (tt, r.formed, rb.formed)
-      (r.front ∙ (ap (λ l. spelling a ++ l) (e ∙ ap (λ l. plain (sign_kind p.0) ∷ l) rb.front) ∙ sym (append_assoc (spelling a) (plain (sign_kind p.0) ∷ spelling b) more)))
+    (r.front ∙ (ap (λ l. spelling a ++ l) (e ∙ ap (λ l. plain (sign_kind p.0) ∷ l) rb.front) ∙ sym (append_assoc (spelling a) (plain (sign_kind p.0) ∷ spelling b) more)))
 
 pub more_terms_good : (d : ℕ) (F : List Word → Found) → Sound term d F → (n : ℕ) (all : List Word) (a : Expression) (ws : List Word)
     → Read expression d all a ws → Good expression d all (more_terms d F n a ws)
 more_terms_good d F h zero all a ws r = if_some_has (Good expression d all) (after_sign ws) (λ p. None) (Some (a, ws)) (λ p e. tt) (λ _. r)
 more_terms_good d F h (suc n) all a ws r =
     if_some_has (Good expression d all) (after_sign ws) _ (Some (a, ws))
-      (λ p e. then_good term expression d d p.1 all (λ b more. then_read (fits d (sum p.0 a b) more) (more_terms d F n)) (F p.1) (h p.1)
-        (λ b more rb. then_good expression expression d d all all (more_terms d F n) (fits d (sum p.0 a b) more)
-          (sum_good d all ws more p a b r (after_sign_is ws p e) rb)
-          (λ c left rc. more_terms_good d F h n all c left rc)))
-      (λ _. r)
+    (λ p e. then_good term expression d d p.1 all (λ b more. then_read (fits d (sum p.0 a b) more) (more_terms d F n)) (F p.1) (h p.1)
+    (λ b more rb. then_good expression expression d d all all (more_terms d F n) (fits d (sum p.0 a b) more)
+    (sum_good d all ws more p a b r (after_sign_is ws p e) rb)
+    (λ c left rc. more_terms_good d F h n all c left rc)))
+    (λ _. r)
 
 pub expression_by_sound : (d : ℕ) (F : List Word → Found) → Sound term d F → Sound expression d (expression_by d F)
 expression_by_sound d F h ws = then_good term expression d d ws ws (more_terms d F d) (F ws) (h ws)

@@ -1,12 +1,23 @@
 -- The theorems of the readers, in the form that statements use.
-use Rattle.std.specs.Prelude.{◌≡◌, ℕ, ◌≤◌, Option, Some, None, List, [], ◌∷◌, ◌++◌, refl}
-use Rattle.std.proofs.Common.{sym, ◌∙◌, ap, subst}
+use Rattle.std.specs.Prelude.{◌≡◌, ◌≤◌, max, Option, Some, None, List, [], ◌++◌, refl}
+use Rattle.std.proofs.Common.{sym, ◌∙◌, ap, subst, arith}
+use Rattle.std.proofs.lemmas.Option.{none-some}
 use Rattle.iv_lex.specs.Words.{Word}
 use Rattle.iv_syntax.specs.declared.tree.Expression.{Expression}
+use Rattle.iv_syntax.specs.declared.tree.RangeName.{RangeName}
+use Rattle.iv_syntax.specs.declared.tree.Condition.{Condition}
+use Rattle.iv_conditions.specs.declared.item.Item.TheVariants.{Value, Truth}
+use Rattle.iv_conditions.specs.After.{then_read}
+use Rattle.iv_conditions.specs.ItemDepth.{where_depth}
 use Rattle.iv_conditions.specs.Expressions.{IsExpression, EndsExpression, spelling, depth, expression}
 use Rattle.iv_conditions.specs.ExpressionReader.{Found, read_expression}
+use Rattle.iv_conditions.specs.Conditions.{IsCondition, IsFrom, EndsCondition, EndsFrom, condition_depth, condition}
+use Rattle.iv_conditions.specs.ConditionReader.{FoundItem, truth_alone, read_item, read_condition, read_from}
+use Rattle.iv_conditions.proofs.Parts.{some_same}
 use Rattle.iv_conditions.proofs.Sound.{Good, expression_sound}
 use Rattle.iv_conditions.proofs.Complete.{expression_whole}
+use Rattle.iv_conditions.proofs.ConditionSound.{ReadCondition, GoodItem, item_sound, ReadFrom, GoodFrom, from_sound}
+use Rattle.iv_conditions.proofs.ConditionComplete.{condition_whole, from_all_read, from_where_read}
 
 -- an expression no deeper than 64 is read whole, whatever follows that cannot go on with it
 pub expression_complete : (words rest : List Word) (e : Expression) → IsExpression words e → depth e ≤ 64 → EndsExpression rest
@@ -22,3 +33,52 @@ pub expression_front : (words rest : List Word) (e : Expression) → read_expres
 expression_front words rest e h =
     let g = good_at words (Some (e, rest)) h in
     (spelling e, record { formed = g.formed; spelled = refl }, g.shallow, g.front)
+
+-- a condition no deeper than 64 is read whole, whatever follows that cannot go on with it
+pub condition_complete : (words rest : List Word) (c : Condition) → IsCondition words c → condition_depth c ≤ 64 → EndsCondition rest
+    → read_condition 64 (words ++ rest) ≡ Some (c, rest)
+condition_complete words rest c i h a = ap (λ o. then_read o truth_alone) (condition_whole c i.formed words i.spelled 64 h rest a)
+
+pub truth_front : (words rest : List Word) (c : Condition) (o : FoundItem) → GoodItem expression condition 64 words o → then_read o truth_alone ≡ Some (c, rest)
+    → (front : List Word) × IsCondition front c × (condition_depth c ≤ 64) × (words ≡ front ++ rest)
+truth_front words rest c None g h = absurd (none-some (c, rest) h)
+truth_front words rest c (Some (Value e, left)) g h = absurd (none-some (c, rest) h)
+truth_front words rest c (Some (Truth b, left)) g h =
+    let r : ReadCondition condition 64 words c rest = subst (λ (p : Condition × List Word). ReadCondition condition 64 words p.0 p.1) (some_same (b, left) (c, rest) h) g in
+    (r.front, record { formed = r.formed; spelled = r.spelled }, r.shallow, r.whole)
+
+-- what is read stands at the front, is a condition of the grammar, and is no deeper than 64
+pub condition_front : (words rest : List Word) (c : Condition) → read_condition 64 words ≡ Some (c, rest)
+    → (front : List Word) × IsCondition front c × (condition_depth c ≤ 64) × (words ≡ front ++ rest)
+condition_front words rest c h = truth_front words rest c (read_item 64 words) (item_sound 64 words) h
+
+-- a FROM whose condition is no deeper than 64 is read whole, whatever follows that cannot go on with it
+pub from_complete : (words rest : List Word) (r : RangeName) (o : Option Condition) → IsFrom words r o → where_depth o ≤ 64 → EndsFrom rest
+    → read_from 64 (words ++ rest) ≡ Some ((r, o), rest)
+from_complete words rest r None i h a = from_all_read (read_item 64) r words i rest a
+from_complete words rest r (Some c) i h a =
+    ap (λ l. read_from 64 (l ++ rest)) i.4
+    ∙ from_where_read (read_item 64) r c i.0 i.1 i.2 rest (condition_whole c i.3.formed i.1 i.3.spelled 64 h rest a.0)
+
+-- what is read stands at the front, is a FROM of the grammar, and its condition is no deeper than 64
+pub from_front : (words rest : List Word) (r : RangeName) (o : Option Condition) → read_from 64 words ≡ Some ((r, o), rest)
+    → (front : List Word) × IsFrom front r o × (where_depth o ≤ 64) × (words ≡ front ++ rest)
+from_front words rest r o h =
+    let g : ReadFrom 64 words r o rest = subst (λ (f : Option ((RangeName × Option Condition) × List Word)). GoodFrom 64 words f) h (from_sound 64 words) in
+    (g.front, g.is_from, g.shallow, g.whole)
+
+-- words are at most one expression
+pub one_expression : (words : List Word) (a b : Expression) → IsExpression words a → IsExpression words b → a ≡ b
+one_expression words a b i j =
+    let d = max (depth a) (depth b) in
+    let left : read_expression d (words ++ []) ≡ Some (a, []) = ap (λ l. read_expression d (l ++ [])) i.spelled ∙ expression_whole a i.formed d (omega arith) [] ((refl, refl), refl, refl) in
+    let right : read_expression d (words ++ []) ≡ Some (b, []) = ap (λ l. read_expression d (l ++ [])) j.spelled ∙ expression_whole b j.formed d (omega arith) [] ((refl, refl), refl, refl) in
+    ap (λ (p : Expression × List Word). p.0) (some_same (a, []) (b, []) (sym left ∙ right))
+
+-- words are at most one condition
+pub one_condition : (words : List Word) (a b : Condition) → IsCondition words a → IsCondition words b → a ≡ b
+one_condition words a b i j =
+    let d = max (condition_depth a) (condition_depth b) in
+    let left = condition_whole a i.formed words i.spelled d (omega arith) [] ((((refl, refl), refl, refl), refl), refl) in
+    let right = condition_whole b j.formed words j.spelled d (omega arith) [] ((((refl, refl), refl, refl), refl), refl) in
+    ap (λ (p : Condition × List Word). p.0) (some_same (a, []) (b, []) (ap (λ o. then_read o truth_alone) (sym left ∙ right)))

@@ -1,11 +1,11 @@
 -- The condition at the front of words, read with one word of look-ahead and no deeper than a limit. What parentheses hold is read once, into
 -- an item: a value or a condition that is whole.
-use Rattle.std.specs.Prelude.{ℕ, zero, suc, Bool, true, false, nat_le, if◌then◌else◌, Option, Some, None, List, [], ◌∷◌}
+use Rattle.std.specs.Prelude.{ℕ, zero, suc, nat_le, if◌then◌else◌, Option, Some, None, List, ◌∷◌}
 use Rattle.iv_expr.specs.declared.tree.Comparison.{Comparison}
 use Rattle.iv_expr.specs.declared.tree.Comparison.TheVariants as comparison
 use Rattle.iv_lex.specs.declared.kind.Kind.{Kind}
 use Rattle.iv_lex.specs.declared.kind.Kind.TheVariants as kind
-use Rattle.iv_lex.specs.Words.{Word}
+use Rattle.iv_lex.specs.Words.{Word, plain}
 use Rattle.iv_syntax.specs.declared.tree.RangeName.{RangeName}
 use Rattle.iv_syntax.specs.declared.tree.Expression.{Expression}
 use Rattle.iv_syntax.specs.declared.tree.Condition.{Condition}
@@ -46,13 +46,13 @@ close_item limit i ws = if_some (after kind.RightParenthesis ws) (enclose limit 
 
 -- a comparison at the front, and the words after it
 abbrev pub after_comparison : List Word → Option (Comparison × List Word)
-after_comparison ws =
-    if_some (after kind.Equals ws) (λ rest. Some (comparison.Equal, rest))
-    (if_some (after kind.NotEquals ws) (λ rest. Some (comparison.NotEqual, rest))
-    (if_some (after kind.Less ws) (λ rest. Some (comparison.Less, rest))
-    (if_some (after kind.LessEquals ws) (λ rest. Some (comparison.LessEqual, rest))
-    (if_some (after kind.Greater ws) (λ rest. Some (comparison.Greater, rest))
-    (if_some (after kind.GreaterEquals ws) (λ rest. Some (comparison.GreaterEqual, rest)) None)))))
+after_comparison (plain kind.Equals ∷ ws) = Some (comparison.Equal, ws)
+after_comparison (plain kind.NotEquals ∷ ws) = Some (comparison.NotEqual, ws)
+after_comparison (plain kind.Less ∷ ws) = Some (comparison.Less, ws)
+after_comparison (plain kind.LessEquals ∷ ws) = Some (comparison.LessEqual, ws)
+after_comparison (plain kind.Greater ∷ ws) = Some (comparison.Greater, ws)
+after_comparison (plain kind.GreaterEquals ∷ ws) = Some (comparison.GreaterEqual, ws)
+after_comparison _ = None
 
 -- after IS: [NOT] NULL
 abbrev pub null_test : ℕ → Expression → List Word → FoundItem
@@ -171,26 +171,26 @@ unfoldable pub read_lead : ℕ → List Word → FoundItem
 read_lead zero ws = None
 read_lead (suc d) ws = lead_by (suc d) (item_over d (read_lead d)) ws
 
-abbrev pub lead_factor : ℕ → List Word → FoundItem
+unfoldable pub lead_factor : ℕ → List Word → FoundItem
 lead_factor d = lead_factor_by d (read_lead d)
 
-abbrev pub lead_term : ℕ → List Word → FoundItem
-lead_term d = lead_term_by d (lead_factor d)
+-- the test that begins with this factor, or the value alone
+unfoldable pub value_test : ℕ → Expression → List Word → FoundItem
+value_test d e ws =
+    then_read (then_read (as_item (more_factors d (read_factor d) d e ws)) (on_value (λ a rest. as_item (more_terms d (read_term d) d a rest))))
+    (on_value (tested d))
 
-abbrev pub lead_expression : ℕ → List Word → FoundItem
-lead_expression d = lead_expression_by d (lead_term d)
+unfoldable pub read_test : ℕ → List Word → FoundItem
+read_test d = test_by d (lead_expression_by d (lead_term_by d (lead_factor d)))
 
-abbrev pub read_test : ℕ → List Word → FoundItem
-read_test d = test_by d (lead_expression d)
-
-abbrev pub read_negation : ℕ → List Word → FoundItem
+unfoldable pub read_negation : ℕ → List Word → FoundItem
 read_negation d = negation_by d (read_test d)
 
-abbrev pub read_conjunction : ℕ → List Word → FoundItem
+unfoldable pub read_conjunction : ℕ → List Word → FoundItem
 read_conjunction d = chain_by And d (read_negation d)
 
 -- a value or a condition
-abbrev pub read_item : ℕ → List Word → FoundItem
+unfoldable pub read_item : ℕ → List Word → FoundItem
 read_item d = chain_by Or d (read_conjunction d)
 
 abbrev pub truth_alone : Item → List Word → Option (Condition × List Word)

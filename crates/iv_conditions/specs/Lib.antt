@@ -7,3 +7,5 @@ pub mod Conditions
 pub mod ItemDepth
 pub mod ConditionReader
 pub mod SeenItem
+pub mod SeenFrom
+pub mod Laws

@@ -13,7 +13,7 @@ use iv_lex::{Kind, Token, unquoted_text};
 use iv_syntax::{ColumnName, Expression, Name, Sign};
 use std::alloc::{AllocError, Global};
 
-fn make_group<'a>(
+pub fn make_group<'a>(
     alloc: Global,
     limit: u8,
     inside: ExpressionPart<'a>,
@@ -159,7 +159,7 @@ fn column<'a>(
 }
 
 /// A number, a text, NULL or a column.
-fn simple<'a>(
+pub fn simple<'a>(
     alloc: Global,
     text: &str,
     tokens: &'a [Token],

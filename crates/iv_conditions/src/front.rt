@@ -3,8 +3,10 @@ ghost use Rattle.std.specs.Prelude.{◌≡◌, ℕ, List, true, IfOk};
 ghost use Rattle.iv_lex.specs.Words.{words};
 ghost use Rattle.iv_conditions.specs.After.{after as words_after, after_name, is_plain, same};
 ghost use Rattle.iv_conditions.specs.ExpressionReader.{after_sign};
+ghost use Rattle.iv_conditions.specs.ConditionReader.{after_comparison, after_select};
 ghost use Rattle.iv_conditions.specs.Seen.{rest_words, with_words};
 
+use iv_expr::Comparison;
 use iv_lex::{Kind, Token, folded_text};
 use iv_syntax::{Name, Sign};
 use std::alloc::{AllocError, Global};
@@ -54,4 +56,35 @@ pub fn name<'a>(
         return Ok(None);
     }
     Ok(Some((Name::new(folded_text(alloc, text, *first)?), rest)))
+}
+
+/// A comparison at the front, and the tokens after it.
+pub fn comparison(tokens: &[Token]) -> Option<(Comparison, &[Token])>
+    ensures { (text : List ℕ) → with_words text result ≡ after_comparison (words text tokens.now) }
+{
+    let [first, rest @ ..] = tokens else {
+        return None;
+    };
+    match first.kind {
+        Kind::Equals => Some((Comparison::Equal, rest)),
+        Kind::NotEquals => Some((Comparison::NotEqual, rest)),
+        Kind::Less => Some((Comparison::Less, rest)),
+        Kind::LessEquals => Some((Comparison::LessEqual, rest)),
+        Kind::Greater => Some((Comparison::Greater, rest)),
+        Kind::GreaterEquals => Some((Comparison::GreaterEqual, rest)),
+        _ => None,
+    }
+}
+
+/// The tokens after `( SELECT *`.
+pub fn select(tokens: &[Token]) -> Option<&[Token]>
+    ensures { (text : List ℕ) → rest_words text result ≡ after_select (words text tokens.now) }
+{
+    let Some(rest) = after(Kind::LeftParenthesis, tokens) else {
+        return None;
+    };
+    match after(Kind::Select, rest) {
+        Some(rest) => after(Kind::Asterisk, rest),
+        None => None,
+    }
 }

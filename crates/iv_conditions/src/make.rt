@@ -1,8 +1,10 @@
 //! Trees made of trees.
 ghost use Rattle.std.specs.Prelude.{◌≡◌, IfOk};
-ghost use Rattle.iv_conditions.specs.Trees.{group, signed, product, sum};
+ghost use Rattle.iv_conditions.specs.Trees.{group, signed, product, sum, enclosed, negated, both, either, exists_where};
+ghost use Rattle.iv_conditions.specs.ConditionReader.{connected, exists_over};
 
-use iv_syntax::{Expression, Sign};
+use crate::item::Connective;
+use iv_syntax::{Condition, Expression, RangeName, Sign};
 use sqlite_items::Boxed;
 use std::alloc::{AllocError, Global};
 
@@ -37,4 +39,60 @@ pub fn sum_of(
     ensures { IfOk result (λ e. e ≡ sum sign a b) }
 {
     Ok(Expression::Sum(sign, Boxed::new(alloc, a)?, Boxed::new(alloc, b)?))
+}
+
+#[tactic(auto, using(crate::proofs::Bridges::enclosed_is))]
+pub fn enclosed_of(alloc: Global, a: Condition) -> Result<Condition, AllocError>
+    ensures { IfOk result (λ c. c ≡ enclosed a) }
+{
+    Ok(Condition::Group(Boxed::new(alloc, a)?))
+}
+
+#[tactic(auto, using(crate::proofs::Bridges::negated_is))]
+pub fn negated_of(alloc: Global, a: Condition) -> Result<Condition, AllocError>
+    ensures { IfOk result (λ c. c ≡ negated a) }
+{
+    Ok(Condition::Not(Boxed::new(alloc, a)?))
+}
+
+#[tactic(auto, using(crate::proofs::Bridges::both_is))]
+fn both_of(alloc: Global, a: Condition, b: Condition) -> Result<Condition, AllocError>
+    ensures { IfOk result (λ c. c ≡ both a b) }
+{
+    Ok(Condition::And(Boxed::new(alloc, a)?, Boxed::new(alloc, b)?))
+}
+
+#[tactic(auto, using(crate::proofs::Bridges::either_is))]
+fn either_of(alloc: Global, a: Condition, b: Condition) -> Result<Condition, AllocError>
+    ensures { IfOk result (λ c. c ≡ either a b) }
+{
+    Ok(Condition::Or(Boxed::new(alloc, a)?, Boxed::new(alloc, b)?))
+}
+
+pub fn connected_of(
+    alloc: Global,
+    connective: Connective,
+    a: Condition,
+    b: Condition,
+) -> Result<Condition, AllocError>
+    ensures { IfOk result (λ c. c ≡ connected connective a b) }
+{
+    match connective {
+        Connective::And => both_of(alloc, a, b),
+        Connective::Or => either_of(alloc, a, b),
+    }
+}
+
+#[tactic(auto, using(crate::proofs::Bridges::exists_where_is))]
+pub fn exists_of(
+    alloc: Global,
+    range: RangeName,
+    condition: Option<Condition>,
+) -> Result<Condition, AllocError>
+    ensures { IfOk result (λ c. c ≡ exists_over (range, condition)) }
+{
+    match condition {
+        Some(condition) => Ok(Condition::ExistsWhere(range, Boxed::new(alloc, condition)?)),
+        None => Ok(Condition::Exists(range)),
+    }
 }

@@ -3,7 +3,7 @@ use Rattle.std.proofs.Common.{◌≡◌, ℕ, zero, suc, ◌-◌, ◌<◌, Optio
 use Rattle.iv_lex.specs.declared.kind.Kind.TheVariants as kind
 use Rattle.iv_lex.specs.Words.{Word}
 use Rattle.iv_conditions.specs.After.{after, if_some, then_read}
-use Rattle.iv_parse.specs.Series.{read_more, read_series, with_first}
+use Rattle.iv_parse.specs.Series.{read_more, read_series, read_sequence, with_first}
 
 module _ {A : Type 0} where
   -- these parts before those that were found
@@ -61,4 +61,48 @@ module _ {A : Type 0} where
             ∙ ap (λ o. preceded items (then_read o (λ b others. then_read (read_more part n others) (with_first b)))) g
             ∙ ap (λ o. preceded items (if_some o (λ others. then_read (part others) (λ b more. then_read (read_more part n more) (with_first b))) (Some ([], ws)))) h
             ∙ along.is;
+      }
+
+module _ {A : Type 0} where
+  -- these are the first parts of all that is found one after the other, and the words that are left have the others
+  pub record Amid (part : List Word → Option (Option A × List Word)) (items : List A) (n : ℕ) (ws : List Word) (all : Option (List A × List Word)) : Type 0 where
+    pub is : preceded items (read_sequence part n ws) ≡ all
+
+  all_preceded : (o : Option (List A × List Word)) → preceded [] o ≡ o
+  all_preceded None = refl
+  all_preceded (Some p) = refl
+
+  pub amid_start : (part : List Word → Option (Option A × List Word)) (n : ℕ) (ws : List Word) → Amid part [] n ws (read_sequence part n ws)
+  amid_start part n ws = record { is = all_preceded (read_sequence part n ws) }
+
+  -- nothing is read
+  pub amid_none : (part : List Word → Option (Option A × List Word)) (items : List A) (n : ℕ) (ws : List Word) (all : Option (List A × List Word)) → Amid part items n ws all → None ≡ part ws → None ≡ all
+  amid_none part items zero ws all amid h = ap (λ o. preceded items (then_read o (λ o rest. if_some o (λ a. None) (Some ([], ws))))) h ∙ amid.is
+  amid_none part items (suc n) ws all amid h =
+      ap (λ o. preceded items (then_read o (λ o rest. if_some o (λ a. then_read (read_sequence part n rest) (with_first a)) (Some ([], ws))))) h ∙ amid.is
+
+  -- no further part begins
+  pub amid_end : (part : List Word → Option (Option A × List Word)) (items : List A) (n : ℕ) (ws rest : List Word) (all : Option (List A × List Word)) → Amid part items n ws all → Some (None, rest) ≡ part ws → Some (items, ws) ≡ all
+  amid_end part items zero ws rest all amid h =
+      ap (λ z. Some (z, ws)) (sym (append-nil items))
+      ∙ ap (λ o. preceded items (then_read o (λ o rest. if_some o (λ a. None) (Some ([], ws))))) h ∙ amid.is
+  amid_end part items (suc n) ws rest all amid h =
+      ap (λ z. Some (z, ws)) (sym (append-nil items))
+      ∙ ap (λ o. preceded items (then_read o (λ o rest. if_some o (λ a. then_read (read_sequence part n rest) (with_first a)) (Some ([], ws))))) h ∙ amid.is
+
+  -- there are more parts than words
+  pub amid_zero : (part : List Word → Option (Option A × List Word)) (items : List A) (n : ℕ) (ws rest : List Word) (a : A) (all : Option (List A × List Word)) → Amid part items n ws all → n ≡ 0 → Some (Some a, rest) ≡ part ws → None ≡ all
+  amid_zero part items zero ws rest a all amid z h = ap (λ o. preceded items (then_read o (λ o rest. if_some o (λ a. None) (Some ([], ws))))) h ∙ amid.is
+  amid_zero part items (suc n) ws rest a all amid z h = absurd (omega arith)
+
+  pub amid_more : (part : List Word → Option (Option A × List Word)) (items : List A) (n : ℕ) (ws left : List Word) (a : A) (all : Option (List A × List Word)) → Amid part items n ws all → 0 < n → Some (Some a, left) ≡ part ws
+      → Amid part (items ++ a ∷ []) (n - 1) left all
+  amid_more part items zero ws left a all amid z h = absurd (omega arith)
+  amid_more part items (suc n) ws left a all amid z h =
+      let e : suc n - 1 ≡ n = omega arith in
+      record {
+        is = ap (λ m. preceded (items ++ a ∷ []) (read_sequence part m left)) e
+          ∙ next_preceded items a (read_sequence part n left)
+          ∙ ap (λ o. preceded items (then_read o (λ o rest. if_some o (λ b. then_read (read_sequence part n rest) (with_first b)) (Some ([], ws))))) h
+          ∙ amid.is;
       }

@@ -12,8 +12,10 @@ use Rattle.iv_conditions.specs.After.{after, if_some, then_read}
 use Rattle.iv_parse.specs.Series.{read_series}
 use Rattle.iv_parse.specs.Data.{Names}
 use Rattle.iv_parse.specs.DataReaders.{Found, read_name}
-use Rattle.iv_parse.specs.Statements.{Optional, IsConstraintList, mode_kind}
-use Rattle.iv_parse.specs.Readers.{read_drop, read_start, read_commit, read_to, read_rollback, read_savepoint, read_release, read_mode, read_list, read_set, read_savepoint_rule, read_session_rule}
+use Rattle.iv_parse.specs.Tables.{mode_kind}
+use Rattle.iv_parse.specs.TableReaders.{read_mode}
+use Rattle.iv_parse.specs.Statements.{Optional, IsConstraintList}
+use Rattle.iv_parse.specs.Readers.{read_drop, read_start, read_commit, read_to, read_rollback, read_savepoint, read_release, read_list, read_set, read_savepoint_rule, read_session_rule}
 use Rattle.iv_parse.proofs.DataComplete.{names_complete}
 
 -- a rule reads these words of a statement, and leaves the semicolon
@@ -53,6 +55,7 @@ unfolding read_session_rule read_savepoint_rule read_release
 release_complete n rest = refl
 
 mode_complete : (m : ConstraintMode) (rest : List Word) → read_mode (plain (mode_kind m) ∷ rest) ≡ Some (m, rest)
+unfolding read_mode
 mode_complete Immediate rest = refl
 mode_complete Deferred rest = refl
 

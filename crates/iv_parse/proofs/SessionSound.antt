@@ -9,8 +9,10 @@ use Rattle.iv_syntax.specs.declared.statement.ConstraintList.TheVariants.{All, N
 use Rattle.iv_parse.specs.Series.{read_series}
 use Rattle.iv_parse.specs.Data.{Names}
 use Rattle.iv_parse.specs.DataReaders.{read_name}
-use Rattle.iv_parse.specs.Statements.{Optional, IsConstraintList, mode_kind, Reads}
-use Rattle.iv_parse.specs.Readers.{read_drop, read_start, read_commit, read_to, read_rollback_rest, read_rollback, read_savepoint, read_release, read_mode, read_list, read_set, read_savepoint_rule, read_session_rule}
+use Rattle.iv_parse.specs.Tables.{mode_kind}
+use Rattle.iv_parse.specs.TableReaders.{read_mode}
+use Rattle.iv_parse.specs.Statements.{Optional, IsConstraintList, Reads}
+use Rattle.iv_parse.specs.Readers.{read_drop, read_start, read_commit, read_to, read_rollback_rest, read_rollback, read_savepoint, read_release, read_list, read_set, read_savepoint_rule, read_session_rule}
 use Rattle.iv_parse.proofs.DataSound.{names_good}
 use Rattle.iv_parse.proofs.Fronts.{Good, nothing_good, done_good, after_good, name_good, then_good, skip_good}
 
@@ -67,6 +69,7 @@ abbrev pub IsMode : List Word → ConstraintMode → Type 0
 IsMode ws m = ws ≡ plain (mode_kind m) ∷ []
 
 pub mode_good : (ws : List Word) → Good IsMode ws (read_mode ws)
+unfolding read_mode
 mode_good ws =
     after_good _ kind.Deferred ws _ _
     (λ rest. done_good _ rest Deferred refl)

@@ -12,6 +12,8 @@ use Rattle.iv_syntax.specs.declared.statement.Insert.{Insert}
 use Rattle.iv_syntax.specs.declared.statement.Insert.TheVariants.{DefaultValues, Rows}
 use Rattle.iv_conditions.specs.After.{after, after_name, if_some, then_read}
 use Rattle.iv_conditions.specs.ExpressionReader.{read_expression}
+use Rattle.iv_conditions.specs.ConditionReader.{read_condition}
+use Rattle.iv_syntax.specs.declared.tree.Condition.{Condition}
 use Rattle.iv_parse.specs.Series.{read_series, read_closed, read_enclosed}
 
 -- what was found, and the words after it
@@ -27,6 +29,13 @@ read_name = after_name
 
 unfoldable pub read_shallow : List Word → Found Expression
 read_shallow = read_expression 64
+
+unfoldable pub read_shallow_condition : List Word → Found Condition
+read_shallow_condition = read_condition 64
+
+-- ( condition )
+unfoldable pub read_check : List Word → Found Condition
+read_check = read_enclosed read_shallow_condition
 
 unfoldable pub read_value : List Word → Found ValueOrDefault
 read_value ws =

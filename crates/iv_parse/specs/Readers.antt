@@ -12,6 +12,7 @@ use Rattle.iv_syntax.specs.declared.statement.ConstraintList.{ConstraintList}
 use Rattle.iv_syntax.specs.declared.statement.ConstraintList.TheVariants.{All, Named}
 use Rattle.iv_conditions.specs.After.{after, if_some, then_read}
 use Rattle.iv_parse.specs.Series.{read_series}
+use Rattle.iv_parse.specs.TableReaders.{read_mode, read_elements, read_table_constraint}
 use Rattle.iv_parse.specs.DataReaders.{Found, then_word, read_name, read_insert}
 
 -- the words after a word that may be left out
@@ -42,11 +43,6 @@ read_savepoint ws = then_read (read_name ws) (λ n rest. Some (Savepoint n, rest
 unfoldable pub read_release : List Word → Found Statement
 read_release ws = then_word kind.Savepoint ws (λ rest. then_read (read_name rest) (λ n more. Some (Release n, more)))
 
-abbrev pub read_mode : List Word → Found ConstraintMode
-read_mode ws =
-    if_some (after kind.Deferred ws) (λ rest. Some (Deferred, rest))
-    (if_some (after kind.Immediate ws) (λ rest. Some (Immediate, rest)) None)
-
 abbrev pub read_list : List Word → Found ConstraintList
 read_list ws =
     if_some (after kind.All ws) (λ rest. Some (All, rest))
@@ -69,6 +65,16 @@ read_session_rule ws =
     (if_some (after kind.Rollback ws) read_rollback
     (if_some (after kind.Start ws) read_start
     (read_savepoint_rule ws)))
+
+-- after CREATE TABLE
+unfoldable pub read_create_table : List Word → Found Statement
+read_create_table ws = then_read (read_name ws) (λ n rest. then_read (read_elements rest) (λ es more. Some (statement.CreateTable n es, more)))
+
+-- after ALTER
+unfoldable pub read_alter : List Word → Found Statement
+read_alter ws =
+    then_word kind.Table ws (λ rest. then_read (read_name rest) (λ n more. then_word kind.Add more
+      (λ left. then_read (read_table_constraint left) (λ c last. Some (statement.AlterTable n c, last)))))
 
 unfoldable pub read_insert_rule : List Word → Found Statement
 read_insert_rule ws = then_read (read_insert ws) (λ i rest. Some (statement.Insert i, rest))

@@ -10,6 +10,7 @@ use Rattle.iv_syntax.specs.declared.statement.ConstraintMode.{ConstraintMode}
 use Rattle.iv_syntax.specs.declared.statement.ConstraintMode.TheVariants.{Immediate, Deferred}
 use Rattle.iv_syntax.specs.declared.statement.ConstraintList.{ConstraintList}
 use Rattle.iv_syntax.specs.declared.statement.ConstraintList.TheVariants.{All, Named}
+use Rattle.iv_parse.specs.Tables.{mode_kind}
 use Rattle.iv_parse.specs.Data.{Names, IsInsert}
 
 -- a word that may be left out
@@ -20,10 +21,6 @@ Optional k ws = (ws ≡ []) ⊎ (ws ≡ plain k ∷ [])
 abbrev pub IsConstraintList : List Word → ConstraintList → Type 0
 IsConstraintList ws All = ws ≡ plain kind.All ∷ []
 IsConstraintList ws (Named ns) = Names ws ns
-
-abbrev pub mode_kind : ConstraintMode → Kind
-mode_kind Immediate = kind.Immediate
-mode_kind Deferred = kind.Deferred
 
 -- the words, without the semicolon, are the statement
 abbrev pub Reads : List Word → Statement → Type 0

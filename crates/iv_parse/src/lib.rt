@@ -1,11 +1,14 @@
 //! Statements and scripts.
 #![tactic(auto)]
 
+mod constraint;
 mod insert;
 mod parse;
 mod parser;
 mod series;
 mod session;
 mod statement;
+mod table;
+mod time;
 
 pub use parser::{Parsed, SyntaxFault, script};

@@ -36,3 +36,20 @@ impl Parse for Name {
         iv_conditions::name(alloc, text, tokens)
     }
 }
+
+/// A part of the grammar that stands any number of times, one after the other.
+pub trait ParseSome: Sized {
+    ghost use Rattle.std.specs.Prelude.{List, Option};
+    ghost use Rattle.iv_lex.specs.Words.{Word};
+
+    ghost found_some: { List Word → Option (Option Self × List Word) };
+
+    /// The part at the front, where one begins there, and the tokens after it; none where one begins that
+    /// is not whole.
+    fn parse_some<'a>(
+        alloc: Global,
+        text: &str,
+        tokens: &'a [Token],
+    ) -> Result<Option<(Option<Self>, &'a [Token])>, AllocError>
+        ensures { IfOk result (λ r. with_words text.now r ≡ found_some (words text.now tokens.now)) };
+}

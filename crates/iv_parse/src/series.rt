@@ -1,10 +1,10 @@
 //! Series of parts.
-ghost use Rattle.std.specs.Prelude.{◌≡◌, IfOk};
+ghost use Rattle.std.specs.Prelude.{◌≡◌, IfOk, length};
 ghost use Rattle.iv_lex.specs.Words.{words};
 ghost use Rattle.iv_conditions.specs.Seen.{with_words};
-ghost use Rattle.iv_parse.specs.Series.{read_series, read_closed, read_enclosed};
+ghost use Rattle.iv_parse.specs.Series.{read_series, read_closed, read_enclosed, read_sequence};
 
-use crate::parse::Parse;
+use crate::parse::{Parse, ParseSome};
 use iv_conditions::after;
 use iv_lex::{Kind, Token};
 use sqlite_items::Items;
@@ -67,5 +67,32 @@ pub fn enclosed_series<'a, T: Parse + Drop>(
     match after(Kind::LeftParenthesis, tokens) {
         Some(rest) => closed_series::<T>(alloc, text, rest),
         None => Ok(None),
+    }
+}
+
+/// Parts one after the other, up to where none begins.
+pub fn sequence<'a, T: ParseSome + Drop>(
+    alloc: Global,
+    text: &str,
+    tokens: &'a [Token],
+) -> Result<Option<(Items<T>, &'a [Token])>, AllocError>
+    ensures { IfOk result (λ r. with_words text.now r ≡ read_sequence T.found_some (length (words text.now tokens.now)) (words text.now tokens.now)) }
+{
+    let mut items = Items::new(alloc);
+    let mut rest = tokens;
+    let mut most = tokens.len();
+    loop {
+        let Some((found, others)) = T::parse_some(alloc, text, rest)? else {
+            return Ok(None);
+        };
+        let Some(item) = found else {
+            return Ok(Some((items, rest)));
+        };
+        if most == 0 {
+            return Ok(None);
+        }
+        items.push(item)?;
+        rest = others;
+        most -= 1;
     }
 }

@@ -3,12 +3,13 @@ ghost use Rattle.std.specs.Prelude.{◌≡◌, IfOk, ℕ, List, true, Some};
 ghost use Rattle.iv_conditions.specs.After.{is_plain};
 ghost use Rattle.iv_lex.specs.Words.{words};
 ghost use Rattle.iv_conditions.specs.Seen.{with_words};
-ghost use Rattle.iv_parse.specs.Readers.{skip, read_drop, read_start, read_commit, read_to, read_rollback_rest, read_rollback, read_savepoint, read_release, read_mode, read_list, read_set, read_savepoint_rule, read_session_rule};
+ghost use Rattle.iv_parse.specs.Readers.{skip, read_drop, read_start, read_commit, read_to, read_rollback_rest, read_rollback, read_savepoint, read_release, read_list, read_set, read_savepoint_rule, read_session_rule};
 
 use crate::series::series;
+use crate::time::mode;
 use iv_conditions::{after, name};
 use iv_lex::{Kind, Token};
-use iv_syntax::{ConstraintList, ConstraintMode, Name, Statement};
+use iv_syntax::{ConstraintList, Name, Statement};
 use std::alloc::{AllocError, Global};
 
 /// The tokens after a word that may be left out.
@@ -99,17 +100,6 @@ fn release<'a>(
         Some((name, rest)) => Ok(Some((Statement::Release(name), rest))),
         None => Ok(None),
     }
-}
-
-/// DEFERRED or IMMEDIATE.
-pub fn mode(tokens: &[Token]) -> Option<(ConstraintMode, &[Token])>
-    ensures { (text : List ℕ) → with_words text result ≡ read_mode (words text tokens.now) }
-{
-    if let Some(rest) = after(Kind::Deferred, tokens) {
-        return Some((ConstraintMode::Deferred, rest));
-    }
-    let rest = after(Kind::Immediate, tokens)?;
-    Some((ConstraintMode::Immediate, rest))
 }
 
 fn constraint_list<'a>(
