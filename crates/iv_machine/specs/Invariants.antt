@@ -1,12 +1,12 @@
 -- What holds in every state that a run reaches.
 use Rattle.std.specs.Prelude.{◌≡◌, ℕ, ◌<◌, List, [], ◌∷◌, length, unwrap_or}
-use Rattle.iv_machine.specs.declared.database.Stored.{Stored}
+use Rattle.iv_expr.specs.declared.row.StoredRow.{StoredRow}
 use Rattle.iv_machine.specs.declared.database.Which.TheVariants.{Immediate, All}
 use Rattle.iv_machine.specs.Databases.{Database, scan}
 use Rattle.iv_machine.specs.Machine.{State}
 
 -- the rows are of tables below this number
-abbrev pub Below : ℕ → List Stored → Type 0
+abbrev pub Below : ℕ → List StoredRow → Type 0
 Below n [] = Unit {0}
 Below n (r ∷ rows) = (r.table < n) × Below n rows
 

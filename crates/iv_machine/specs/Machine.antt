@@ -11,12 +11,13 @@ use Rattle.iv_catalogue.specs.declared.cause.Refusal.{Refusal}
 use Rattle.iv_catalogue.specs.declared.catalogue.Plan.{Plan}
 use Rattle.iv_catalogue.specs.declared.catalogue.Plan.TheVariants as plan
 use Rattle.iv_catalogue.specs.Resolution.{is_taken_up, resolution, refused, is_memory}
-use Rattle.iv_machine.specs.declared.database.Stored.{Stored}
+use Rattle.iv_expr.specs.declared.row.StoredRow.{StoredRow}
 use Rattle.iv_machine.specs.declared.database.Which.TheVariants.{Immediate, Deferred, All}
 use Rattle.iv_machine.specs.declared.answer.Answer.{Answer}
 use Rattle.iv_machine.specs.declared.answer.Answer.TheVariants.{Done, Changed, Rows}
 use Rattle.iv_machine.specs.Bounds.{Bounds}
-use Rattle.iv_machine.specs.Databases.{Database, table_rows, scan, first}
+use Rattle.iv_machine.specs.Databases.{Database, scan, first}
+use Rattle.iv_expr.specs.Scopes.{table_rows}
 
 -- A state: the catalogue, the limits, the database, and the database at the start of an open transaction. Each constraint has
 -- its initial mode: it is deferred where it is INITIALLY DEFERRED, and immediate otherwise.

@@ -8,7 +8,7 @@ mod limits;
 mod scan;
 
 pub use answer::Answer;
-pub use database::{Stored, Which};
+pub use database::Which;
 pub use laws::{reached_states_are_sound, worked_scripts};
 pub use limits::Limits;
 pub use scan::{count_faults, first_fault, list_faults};

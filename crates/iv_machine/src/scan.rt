@@ -3,14 +3,14 @@
 ghost use Rattle.std.specs.Prelude.{◌≡◌, ◌++◌, ◌≤◌, ◌+◌, ◌-◌, ◌^◌, ℕ, length, filter, map, min, option_map, find, if◌then◌else◌, IfOk, OnOk, OnErr};
 ghost use Rattle.iv_machine.specs.Databases.{violates, fault_at, violations, is_chosen, chosen_violations, scan, first};
 
-use crate::database::{Stored, Which};
+use crate::database::Which;
 use iv_catalogue::{Constraint, ConstraintId, Fault, Rule};
-use iv_expr::check_truth;
+use iv_expr::{StoredRow, check_truth};
 use iv_value::Truth;
 use std::alloc::{AllocError, Global};
 
 // Whether the row is one of the constraint's table and doesn't satisfy it.
-fn violates(constraint: &Constraint, row: &Stored) -> bool
+fn violates(constraint: &Constraint, row: &StoredRow) -> bool
     ensures { result ≡ violates constraint.now row.now }
 {
     if row.table != constraint.table {
@@ -35,7 +35,7 @@ fn is_chosen(which: Which, constraint: &Constraint) -> bool
 }
 
 // The number of the first row that violates the constraint.
-fn first_row(rows: &[Stored], constraint: &Constraint) -> Option<u64>
+fn first_row(rows: &[StoredRow], constraint: &Constraint) -> Option<u64>
     ensures { result ≡ option_map (λ r. r.number) (find (violates constraint.now) rows.now) }
 {
     rows.iter()
@@ -45,7 +45,7 @@ fn first_row(rows: &[Stored], constraint: &Constraint) -> Option<u64>
 
 // The first violation of a constraint, where it is one of those.
 #[tactic(auto, using(crate::proofs::Firsts::first_of_violations))]
-fn first_of(rows: &[Stored], which: Which, id: u32, constraint: &Constraint) -> Option<Fault>
+fn first_of(rows: &[StoredRow], which: Which, id: u32, constraint: &Constraint) -> Option<Fault>
     ensures { result ≡ first (chosen_violations rows.now which id constraint.now) }
 {
     if !is_chosen(which, constraint) {
@@ -61,7 +61,7 @@ fn first_of(rows: &[Stored], which: Which, id: u32, constraint: &Constraint) -> 
 }
 
 /// The first violation that the scan finds, by the constraint's creation, then by row.
-pub fn first_fault(rows: &[Stored], constraints: &[Constraint], which: Which) -> Option<Fault>
+pub fn first_fault(rows: &[StoredRow], constraints: &[Constraint], which: Which) -> Option<Fault>
     requires { length constraints.now ≤ 4096 }
     ensures { result ≡ first (scan rows.now constraints.now which) }
 {
@@ -76,7 +76,7 @@ pub fn first_fault(rows: &[Stored], constraints: &[Constraint], which: Which) ->
 }
 
 // How many rows violate the constraint.
-fn count_rows(rows: &[Stored], constraint: &Constraint) -> usize
+fn count_rows(rows: &[StoredRow], constraint: &Constraint) -> usize
     ensures { result ≡ length (filter (violates constraint.now) rows.now) }
 {
     let mut count = 0usize;
@@ -90,7 +90,7 @@ fn count_rows(rows: &[Stored], constraint: &Constraint) -> usize
 
 // How many violations of a constraint there are, where it is one of those.
 #[tactic(auto, using(crate::proofs::Firsts::count_of_violations))]
-fn count_of(rows: &[Stored], which: Which, id: u32, constraint: &Constraint) -> usize
+fn count_of(rows: &[StoredRow], which: Which, id: u32, constraint: &Constraint) -> usize
     ensures { result ≡ length (chosen_violations rows.now which id constraint.now) }
 {
     if is_chosen(which, constraint) {
@@ -101,7 +101,7 @@ fn count_of(rows: &[Stored], which: Which, id: u32, constraint: &Constraint) -> 
 }
 
 /// How many violations the scan finds; the count stays at 2^64 - 1 once it is there. It takes no memory.
-pub fn count_faults(rows: &[Stored], constraints: &[Constraint], which: Which) -> u64
+pub fn count_faults(rows: &[StoredRow], constraints: &[Constraint], which: Which) -> u64
     requires { length constraints.now ≤ 4096 }
     ensures { result ≡ min (length (scan rows.now constraints.now which)) (2 ^ 64 - 1) }
 {
@@ -117,7 +117,7 @@ pub fn count_faults(rows: &[Stored], constraints: &[Constraint], which: Which) -
 // Adds the violations of a constraint.
 fn push_rows(
     faults: &mut Vec<Fault>,
-    rows: &[Stored],
+    rows: &[StoredRow],
     id: u32,
     constraint: &Constraint,
 ) -> Result<(), AllocError>
@@ -137,7 +137,7 @@ fn push_rows(
 // Adds the violations of a constraint, where it is one of those.
 fn push_faults(
     faults: &mut Vec<Fault>,
-    rows: &[Stored],
+    rows: &[StoredRow],
     which: Which,
     id: u32,
     constraint: &Constraint,
@@ -154,7 +154,7 @@ fn push_faults(
 /// All violations that the scan finds, by the constraint's creation, then by row.
 pub fn list_faults(
     alloc: Global,
-    rows: &[Stored],
+    rows: &[StoredRow],
     constraints: &[Constraint],
     which: Which,
 ) -> Result<Vec<Fault>, AllocError>

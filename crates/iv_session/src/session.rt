@@ -6,14 +6,15 @@ ghost use Rattle.iv_catalogue.specs.declared.catalogue.Plan.TheVariants as plan;
 ghost use Rattle.iv_machine.proofs.Plans.{PlanFits};
 ghost use Rattle.iv_machine.specs.declared.database.Which.{Which as AnyWhich};
 ghost use Rattle.iv_machine.specs.declared.database.Which.TheVariants.{Immediate, Deferred, All};
-ghost use Rattle.iv_machine.specs.Databases.{scan, first, table_rows};
+ghost use Rattle.iv_expr.specs.Scopes.{table_rows};
+ghost use Rattle.iv_machine.specs.Databases.{scan, first};
 ghost use Rattle.iv_machine.specs.Machine.{State, Executes, takes_no_memory, is_barred, empty_state, commit_answer, commit_state, first_violation, rolled_back, selected, Performs, Follows};
 
 use iv_catalogue::{
     Catalogue, Cause, Constraints, Fault, Plan, Refusal, Table, is_taken_up, resolve,
 };
-use iv_expr::{Row, TableId};
-use iv_machine::{Answer, Limits, Stored, Which, count_faults, first_fault, list_faults};
+use iv_expr::{Row, StoredRow, TableId};
+use iv_machine::{Answer, Limits, Which, count_faults, first_fault, list_faults};
 use iv_syntax::Statement;
 use sqlite_items::Items;
 use std::alloc::{AllocError, Global};
@@ -39,7 +40,7 @@ pub struct Session {
     alloc: Global,
     limits: Limits,
     catalogue: Catalogue,
-    rows: Vec<Stored>,
+    rows: Vec<StoredRow>,
     next: u64,
     start: Option<Start>,
 }
@@ -102,7 +103,7 @@ impl Session {
 
 impl Session {
     // The rows that the transaction added: none outside one.
-    fn added_rows(&self) -> &[Stored]
+    fn added_rows(&self) -> &[StoredRow]
         ensures { (which : AnyWhich) → scan result.now self.now.schema.constraints which ≡ scan self.now.database.rows self.now.schema.constraints which }
     {
         match self.start {
@@ -178,7 +179,7 @@ fn refuse<T>(cause: Cause) -> Result<T, Refusal>
 }
 
 // The rows of a table, by number.
-fn rows_of(alloc: Global, rows: &[Stored], table: TableId) -> Result<Items<Row>, AllocError>
+fn rows_of(alloc: Global, rows: &[StoredRow], table: TableId) -> Result<Items<Row>, AllocError>
     ensures { IfOk result (λ found. found ≡ map (λ r. r.values) (table_rows rows.now table)) }
 {
     let mut found = Items::new(alloc);
@@ -212,7 +213,7 @@ impl Session {
         if self.next > LAST_ROW {
             return refuse(Cause::Limit);
         }
-        let row = Stored {
+        let row = StoredRow {
             number: self.next,
             table,
             values,

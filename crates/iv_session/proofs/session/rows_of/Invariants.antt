@@ -1,5 +1,5 @@
 use Rattle.std.proofs.Common.{◌≡◌, ◌++◌, drop, map}
-use Rattle.iv_machine.specs.Databases.{table_rows}
+use Rattle.iv_expr.specs.Scopes.{table_rows}
 use Rattle.iv_session.proofs.session.rows_of.Given as goal
 
 abbrev pub invariant-loop-row : goal.invariant-loop-row
