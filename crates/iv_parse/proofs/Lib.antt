@@ -3,6 +3,8 @@ pub mod Complete
 pub mod Loops
 pub mod DataSound
 pub mod DataComplete
+pub mod OptionalSound
+pub mod TableSound
 pub mod SessionSound
 pub mod SessionComplete
 pub mod Rules
