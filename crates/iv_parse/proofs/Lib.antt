@@ -4,6 +4,7 @@ pub mod Loops
 pub mod DataSound
 pub mod DataComplete
 pub mod OptionalSound
+pub mod OptionalComplete
 pub mod TableSound
 pub mod SessionSound
 pub mod SessionComplete
