@@ -6,6 +6,7 @@ pub mod DataComplete
 pub mod OptionalSound
 pub mod OptionalComplete
 pub mod TableSound
+pub mod TableComplete
 pub mod SessionSound
 pub mod SessionComplete
 pub mod Rules
