@@ -17,10 +17,11 @@ use Rattle.iv_conditions.specs.Trees.{group, signed, product, sum}
 use Rattle.iv_syntax.specs.declared.tree.Sign.{Sign}
 use Rattle.iv_syntax.specs.declared.tree.Sign.TheVariants as sign
 use Rattle.iv_syntax.specs.declared.tree.Expression.TheVariants.{Number, Text, Null, Column}
-use Rattle.iv_conditions.proofs.Theorems.{expression_complete}
-use Rattle.iv_parse.specs.Series.{Series, read_series, close, read_closed}
-use Rattle.iv_parse.specs.Data.{IsName, Names, IsShallow, IsValue, IsTuple, IsColumnList, IsSource, IsInsert}
-use Rattle.iv_parse.specs.DataReaders.{then_word, read_name, read_shallow, read_value, read_tuple, read_column_list, read_source, read_insert_rows, read_insert_into, read_insert}
+use Rattle.iv_conditions.proofs.Theorems.{expression_complete, condition_complete}
+use Rattle.iv_conditions.specs.Conditions.{EndsCondition}
+use Rattle.iv_parse.specs.Series.{Series, InParentheses, read_series, close, read_closed}
+use Rattle.iv_parse.specs.Data.{IsName, Names, IsShallow, IsShallowCondition, IsValue, IsTuple, IsColumnList, IsSource, IsInsert}
+use Rattle.iv_parse.specs.DataReaders.{then_word, read_name, read_shallow, read_shallow_condition, read_check, read_value, read_tuple, read_column_list, read_source, read_insert_rows, read_insert_into, read_insert}
 use Rattle.iv_parse.proofs.Complete.{Reads_all, Anything, series_complete, enclosed_complete}
 
 pub name_complete : Reads_all IsName Anything read_name
@@ -40,7 +41,7 @@ pub record Apart (k : Kind) : Type 0 where
   pub plus : same kind.Plus k ≡ false
   pub minus : same kind.Minus k ≡ false
 
-other_word : (k j : Kind) (ws : List Word) → same j k ≡ false → after k (plain j ∷ ws) ≡ None
+pub other_word : (k j : Kind) (ws : List Word) → same j k ≡ false → after k (plain j ∷ ws) ≡ None
 other_word k j ws h = ap (λ b. if b then Some ws else None) h
 
 column_begins : (k : Kind) (q : Option (List ℕ)) (n : List ℕ) (rest : List Word) → after k ((qualifier_spelling q ++ name n ∷ []) ++ rest) ≡ None
@@ -63,6 +64,14 @@ spelling_begins k a (sum s e f) rest = ap (after k) (append_assoc (spelling e) (
 
 pub expression_begins : (k : Kind) → Apart k → (e : Expression) (front rest : List Word) → IsShallow front e → after k (front ++ rest) ≡ None
 expression_begins k a e front rest p = ap (λ z. after k (z ++ rest)) p.0.spelled ∙ spelling_begins k a e rest
+
+condition_reads : Reads_all IsShallowCondition EndsCondition read_shallow_condition
+unfolding read_shallow_condition
+condition_reads = record { reads = λ c front rest p ends. condition_complete front rest c p.0 p.1 ends }
+
+pub check_complete : Reads_all (InParentheses IsShallowCondition) Anything read_check
+unfolding read_check
+check_complete = enclosed_complete IsShallowCondition EndsCondition read_shallow_condition condition_reads (λ ws. (((((refl, refl), refl, refl), refl), refl)))
 
 value_reads : (v : ValueOrDefault) (front rest : List Word) → IsValue front v → EndsExpression rest → read_value (front ++ rest) ≡ Some (v, rest)
 unfolding read_value
@@ -87,7 +96,7 @@ tuple_complete =
     enclosed_complete (Series IsValue) (λ rest. EndsExpression rest × (after kind.Comma rest ≡ None)) (read_series read_value)
     (series_complete IsValue EndsExpression read_value value_complete comma_ends) (λ ws. (close_ends ws, refl))
 
-column_list_reads : (cs : Option (List (List ℕ))) (front rest : List Word) → IsColumnList front cs → after kind.LeftParenthesis rest ≡ None → read_column_list (front ++ rest) ≡ Some (cs, rest)
+pub column_list_reads : (cs : Option (List (List ℕ))) (front rest : List Word) → IsColumnList front cs → after kind.LeftParenthesis rest ≡ None → read_column_list (front ++ rest) ≡ Some (cs, rest)
 unfolding read_column_list
 column_list_reads None front rest p e =
     ap (λ z. read_column_list (z ++ rest)) p

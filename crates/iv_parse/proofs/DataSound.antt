@@ -5,10 +5,10 @@ use Rattle.iv_lex.specs.Words.{Word, name, plain}
 use Rattle.iv_syntax.specs.declared.statement.ValueOrDefault.TheVariants.{Value, Default}
 use Rattle.iv_syntax.specs.declared.statement.InsertSource.TheVariants as source
 use Rattle.iv_syntax.specs.declared.statement.Insert.TheVariants.{DefaultValues, Rows}
-use Rattle.iv_conditions.proofs.Theorems.{expression_front}
+use Rattle.iv_conditions.proofs.Theorems.{expression_front, condition_front}
 use Rattle.iv_parse.specs.Series.{Series, InParentheses, read_series, read_closed}
-use Rattle.iv_parse.specs.Data.{IsName, Names, IsShallow, IsValue, IsTuple, IsColumnList, IsSource, IsInsert}
-use Rattle.iv_parse.specs.DataReaders.{read_name, read_shallow, read_value, read_tuple, read_column_list, read_source, read_insert_rows, read_insert_into, read_insert}
+use Rattle.iv_parse.specs.Data.{IsName, Names, IsShallow, IsShallowCondition, IsValue, IsTuple, IsColumnList, IsSource, IsInsert}
+use Rattle.iv_parse.specs.DataReaders.{read_name, read_shallow, read_shallow_condition, read_check, read_value, read_tuple, read_column_list, read_source, read_insert_rows, read_insert_into, read_insert}
 use Rattle.iv_parse.proofs.Fronts.{Good, nothing_good, done_good, after_good, name_good, then_good, series_good, closed_good, enclosed_good, made_good, name_is}
 
 pub one_name_good : (ws : List Word) → Good IsName ws (read_name ws)
@@ -22,6 +22,16 @@ unfolding read_shallow
 shallow_good ws = record {
   holds = λ e rest h. let (front, is, low, whole) = expression_front ws rest e h in record { front = front; part = (is, low); whole = whole };
 }
+
+condition_good : (ws : List Word) → Good IsShallowCondition ws (read_shallow_condition ws)
+unfolding read_shallow_condition
+condition_good ws = record {
+  holds = λ c rest h. let (front, is, low, whole) = condition_front ws rest c h in record { front = front; part = (is, low); whole = whole };
+}
+
+pub check_good : (ws : List Word) → Good (InParentheses IsShallowCondition) ws (read_check ws)
+unfolding read_check
+check_good ws = enclosed_good IsShallowCondition read_shallow_condition condition_good ws
 
 pub value_good : (ws : List Word) → Good IsValue ws (read_value ws)
 unfolding read_value

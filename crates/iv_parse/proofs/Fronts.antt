@@ -61,7 +61,7 @@ module _ {A : Type 0} where
   }
 
   -- a part of the rest, after these words
-  further : (Part : List Word → A → Type 0) (front ws rest : List Word) (found : Option (A × List Word))
+  pub further : (Part : List Word → A → Type 0) (front ws rest : List Word) (found : Option (A × List Word))
       → ws ≡ front ++ rest → Good (λ back a. Part (front ++ back) a) rest found → Good Part ws found
   further Part front ws rest found e g = record {
     holds = λ a left h.
@@ -150,3 +150,20 @@ module _ {A B : Type 0} where
   made_good Part Whole ws o make g h =
       then_good Part Whole ws o _ g
       (λ a front rest p. done_good _ rest (make a) (subst (λ z. Whole z (make a)) (sym (append-nil front)) (h a front p)))
+
+module _ {A : Type 0} where
+  ahead_second : (Part : List Word → A → Type 0) (j k : Kind) (ws rest : List Word) (o : Option (List Word)) (f : List Word → Option (A × List Word)) (other : Option (A × List Word))
+      → ws ≡ plain j ∷ rest → after k rest ≡ o → ((more : List Word) → Good (λ back a. Part (plain j ∷ plain k ∷ back) a) more (f more)) → Good Part ws other → Good Part ws (if_some o f other)
+  ahead_second Part j k ws rest None f other d e g h = h
+  ahead_second Part j k ws rest (Some more) f other d e g h =
+      further Part (plain j ∷ plain k ∷ []) ws more (f more) (d ∙ ap (λ z. plain j ∷ z) (after_is k rest more e)) (g more)
+
+  ahead_first : (Part : List Word → A → Type 0) (j k : Kind) (ws : List Word) (o : Option (List Word)) (f : List Word → Option (A × List Word)) (other : Option (A × List Word))
+      → after j ws ≡ o → ((more : List Word) → Good (λ back a. Part (plain j ∷ plain k ∷ back) a) more (f more)) → Good Part ws other → Good Part ws (if_some o (λ rest. if_some (after k rest) f other) other)
+  ahead_first Part j k ws None f other e g h = h
+  ahead_first Part j k ws (Some rest) f other e g h = ahead_second Part j k ws rest (after k rest) f other (after_is j ws rest e) refl g h
+
+  -- where these two words stand at the front, and where they don't
+  pub ahead_good : (Part : List Word → A → Type 0) (j k : Kind) (ws : List Word) (f : List Word → Option (A × List Word)) (other : Option (A × List Word))
+      → ((more : List Word) → Good (λ back a. Part (plain j ∷ plain k ∷ back) a) more (f more)) → Good Part ws other → Good Part ws (if_some (after j ws) (λ rest. if_some (after k rest) f other) other)
+  ahead_good Part j k ws f other g h = ahead_first Part j k ws (after j ws) f other refl g h

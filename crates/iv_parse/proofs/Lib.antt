@@ -3,6 +3,10 @@ pub mod Complete
 pub mod Loops
 pub mod DataSound
 pub mod DataComplete
+pub mod OptionalSound
+pub mod OptionalComplete
+pub mod TableSound
+pub mod TableComplete
 pub mod SessionSound
 pub mod SessionComplete
 pub mod Rules

@@ -14,6 +14,7 @@ use Rattle.iv_parse.specs.TableReaders.{read_mode}
 use Rattle.iv_parse.specs.Statements.{Optional, IsConstraintList, Reads}
 use Rattle.iv_parse.specs.Readers.{read_drop, read_start, read_commit, read_to, read_rollback_rest, read_rollback, read_savepoint, read_release, read_list, read_set, read_savepoint_rule, read_session_rule}
 use Rattle.iv_parse.proofs.DataSound.{names_good}
+use Rattle.iv_parse.proofs.TableSound.{IsMode, mode_good}
 use Rattle.iv_parse.proofs.Fronts.{Good, nothing_good, done_good, after_good, name_good, then_good, skip_good}
 
 pub drop_good : (ws : List Word) → Good (λ back s. Reads (plain kind.Drop ∷ back) s) ws (read_drop ws)
@@ -64,16 +65,6 @@ list_good ws =
     (λ rest. done_good _ rest All refl)
     (then_good Names IsConstraintList ws (read_series read_name ws) _ (names_good ws)
     (λ ns front rest p. done_good _ rest (Named ns) (subst (λ z. Names z ns) (sym (append-nil front)) p)))
-
-abbrev pub IsMode : List Word → ConstraintMode → Type 0
-IsMode ws m = ws ≡ plain (mode_kind m) ∷ []
-
-pub mode_good : (ws : List Word) → Good IsMode ws (read_mode ws)
-unfolding read_mode
-mode_good ws =
-    after_good _ kind.Deferred ws _ _
-    (λ rest. done_good _ rest Deferred refl)
-    (after_good _ kind.Immediate ws _ None (λ rest. done_good _ rest Immediate refl) (nothing_good _ ws))
 
 pub set_good : (ws : List Word) → Good (λ back s. Reads (plain kind.Set ∷ back) s) ws (read_set ws)
 unfolding read_set

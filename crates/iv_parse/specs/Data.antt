@@ -9,7 +9,9 @@ use Rattle.iv_syntax.specs.declared.statement.InsertSource.{InsertSource}
 use Rattle.iv_syntax.specs.declared.statement.InsertSource.TheVariants as source
 use Rattle.iv_syntax.specs.declared.statement.Insert.{Insert}
 use Rattle.iv_syntax.specs.declared.statement.Insert.TheVariants.{DefaultValues, Rows}
+use Rattle.iv_syntax.specs.declared.tree.Condition.{Condition}
 use Rattle.iv_conditions.specs.Expressions.{IsExpression, depth}
+use Rattle.iv_conditions.specs.Conditions.{IsCondition, condition_depth}
 use Rattle.iv_parse.specs.Series.{Series, InParentheses}
 
 abbrev pub IsName : List Word → List ℕ → Type 0
@@ -22,6 +24,10 @@ Names = Series IsName
 -- an expression whose tree is no deeper than 64
 abbrev pub IsShallow : List Word → Expression → Type 0
 IsShallow ws e = IsExpression ws e × (depth e ≤ 64)
+
+-- a condition whose tree is no deeper than 64
+abbrev pub IsShallowCondition : List Word → Condition → Type 0
+IsShallowCondition ws c = IsCondition ws c × (condition_depth c ≤ 64)
 
 -- expression | DEFAULT
 abbrev pub IsValue : List Word → ValueOrDefault → Type 0

@@ -24,11 +24,9 @@ use Rattle.iv_syntax.specs.declared.table.TableConstraint.{TableConstraint}
 use Rattle.iv_syntax.specs.declared.table.ColumnDefinition.{ColumnDefinition}
 use Rattle.iv_syntax.specs.declared.table.TableElement.{TableElement}
 use Rattle.iv_syntax.specs.declared.table.TableElement.TheVariants.{Column, Constraint}
-use Rattle.iv_syntax.specs.declared.tree.Condition.{Condition}
 use Rattle.iv_conditions.specs.Expressions.{sign_kind}
-use Rattle.iv_conditions.specs.Conditions.{IsCondition, condition_depth}
 use Rattle.iv_parse.specs.Series.{Series, Sequence, Maybe, InParentheses, InEitherOrder}
-use Rattle.iv_parse.specs.Data.{Names, IsColumnList}
+use Rattle.iv_parse.specs.Data.{Names, IsColumnList, IsShallowCondition}
 
 abbrev pub mode_kind : ConstraintMode → Kind
 mode_kind Immediate = kind.Immediate
@@ -109,7 +107,7 @@ abbrev pub IsColumnRule : List Word → ColumnRule → Type 0
 IsColumnRule ws column_rule.NotNull = ws ≡ plain kind.Not ∷ plain kind.Null ∷ []
 IsColumnRule ws column_rule.Unique = ws ≡ plain kind.Unique ∷ []
 IsColumnRule ws column_rule.PrimaryKey = ws ≡ plain kind.Primary ∷ plain kind.Key ∷ []
-IsColumnRule ws (column_rule.Check c) = ⊥
+IsColumnRule ws (column_rule.Check c) = (check : List Word) × InParentheses IsShallowCondition check c × (ws ≡ plain kind.Check ∷ check)
 IsColumnRule ws (column_rule.References r) = IsReferences ws r
 
 -- [ CONSTRAINT name ] rule [ time ]
@@ -130,7 +128,7 @@ abbrev pub IsTableRule : List Word → TableRule → Type 0
 IsTableRule ws (table_rule.Unique ns) = (key : List Word) × InParentheses Names key ns × (ws ≡ plain kind.Unique ∷ key)
 IsTableRule ws (table_rule.PrimaryKey ns) =
     (key : List Word) × InParentheses Names key ns × (ws ≡ plain kind.Primary ∷ plain kind.Key ∷ key)
-IsTableRule ws (table_rule.Check c) = ⊥
+IsTableRule ws (table_rule.Check c) = (check : List Word) × InParentheses IsShallowCondition check c × (ws ≡ plain kind.Check ∷ check)
 IsTableRule ws (table_rule.ForeignKey ns r) =
     (key : List Word) × (references : List Word) × InParentheses Names key ns × IsReferences references r
     × (ws ≡ plain kind.Foreign ∷ plain kind.Key ∷ (key ++ references))
