@@ -27,12 +27,13 @@ def read(*parts):
 
 def made(plan):
     """What a generator file makes: its lines are `repeat COUNT "TEXT"`, where {n} is the place from 1."""
-    parts = []
+    made_of = []
     for line in plan.decode().splitlines():
-        word, count, text = line.split(' ', 2)
-        assert word == 'repeat'
-        parts += [json.loads(text).replace('{n}', str(n)) for n in range(1, int(count) + 1)]
-    return ''.join(parts).encode()
+        count, text = line.removeprefix('repeat ').split(' ', 1)
+        text = json.loads(text)
+        numbers = range(1, int(count) + 1)
+        made_of += [text.replace('{n}', str(n)) for n in numbers] if '{n}' in text else [text * int(count)]
+    return ''.join(made_of).encode()
 
 
 def stored(directory, name):
@@ -62,18 +63,28 @@ def compare(what, want, got):
     return ['%s, line %d: expected %r, got %r' % (what, at + 1, lines[at:at + 1], found[at:at + 1])]
 
 
+def judge(program, script, want, err=b'', status=None):
+    out, got, errors = run(program, script)
+    expected = status_of(want) if status is None else int(status)
+    why = ['expected status %d, got %d' % (expected, got)] if got != expected else []
+    return compare('transcript', want, out) + compare('standard error', err, errors) + why
+
+
 def scripts(program):
-    """Whole scripts with their transcript, status and standard error."""
-    files = os.listdir(os.path.join(HERE, 'scripts'))
-    for name in sorted({file.split('.')[0] for file in files}):
-        script, want = stored('scripts', name + '.sql'), stored('scripts', name + '.out')
-        if script is None or want is None:
-            yield 'scripts/' + name, ['a script or a transcript is missing']
-            continue
-        out, status, err = run(program, script)
-        why = compare('transcript', want, out) + compare('standard error', read('scripts', name + '.err') or b'', err)
-        expected = int(read('scripts', name + '.status') or status_of(want))
-        yield 'scripts/' + name, why + (['expected status %d, got %d' % (expected, status)] if status != expected else [])
+    """Whole scripts with their transcript, status and standard error: of tests and of examples."""
+    for directory in ('scripts', '../examples'):
+        for name in sorted({file.split('.')[0] for file in os.listdir(os.path.join(HERE, directory))} - {'README'}):
+            script, want = stored(directory, name + '.sql'), stored(directory, name + '.out')
+            err, status = read(directory, name + '.err'), read(directory, name + '.status')
+            yield directory + '/' + name, judge(program, script, want, err or b'', status)
+
+
+def pages(program):
+    """Scripts on the pages of the language, each with its transcript directly after it."""
+    for file in sorted(os.listdir(os.path.join(HERE, '../docs/language'))):
+        pairs = re.findall(rb'```sql\n(.*?)```\n+```text\n(.*?)```', read('../docs/language', file), re.S)
+        for place, (script, want) in enumerate(pairs, 1):
+            yield 'docs/language/%s, script %d' % (file, place), judge(program, script, want)
 
 
 def statements(program):
@@ -137,7 +148,7 @@ def main():
     options = parser.parse_args()
     passed = failed = 0
     for program in options.program:
-        for part in (scripts, statements, prefixes):
+        for part in (scripts, pages, statements, prefixes):
             if options.only not in part.__name__:
                 continue
             for name, why in part(os.path.abspath(program)):
