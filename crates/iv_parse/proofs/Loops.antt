@@ -102,7 +102,7 @@ module _ {A : Type 0} where
       let e : suc n - 1 ≡ n = omega arith in
       record {
         is = ap (λ m. preceded (items ++ a ∷ []) (read_sequence part m left)) e
-          ∙ next_preceded items a (read_sequence part n left)
-          ∙ ap (λ o. preceded items (then_read o (λ o rest. if_some o (λ b. then_read (read_sequence part n rest) (with_first b)) (Some ([], ws))))) h
-          ∙ amid.is;
+            ∙ next_preceded items a (read_sequence part n left)
+            ∙ ap (λ o. preceded items (then_read o (λ o rest. if_some o (λ b. then_read (read_sequence part n rest) (with_first b)) (Some ([], ws))))) h
+            ∙ amid.is;
       }

@@ -44,7 +44,7 @@ quoted_good ws = record { holds = λ n rest h. record { front = quoted n ∷ [];
 pub sign_good : (ws : List Word) → Good IsSign ws (after_sign ws)
 sign_good ws =
     after_good IsSign kind.Plus ws _ _ (λ rest. done_good _ rest sign.Plus refl)
-      (after_good IsSign kind.Minus ws _ None (λ rest. done_good _ rest sign.Minus refl) (nothing_good IsSign ws))
+    (after_good IsSign kind.Minus ws _ None (λ rest. done_good _ rest sign.Minus refl) (nothing_good IsSign ws))
 
 module _ {A B : Type 0} where
   -- where a part of another rule stands at the front, and where none does
@@ -64,8 +64,8 @@ module _ {A : Type 0} where
   sequence_option Part part ws (Some (Some a, rest)) next g h =
       let fit = g.holds (Some a) rest refl in
       further (Sequence Part) fit.front ws rest (then_read (next rest) (with_first a)) fit.whole
-        (then_good (Sequence Part) (λ back bs. Sequence Part (fit.front ++ back) bs) rest (next rest) (with_first a) (h rest)
-          (λ bs back left q. done_good _ left (a ∷ bs) (fit.front, back, fit.part, q, ap (λ z. fit.front ++ z) (append-nil back))))
+      (then_good (Sequence Part) (λ back bs. Sequence Part (fit.front ++ back) bs) rest (next rest) (with_first a) (h rest)
+      (λ bs back left q. done_good _ left (a ∷ bs) (fit.front, back, fit.part, q, ap (λ z. fit.front ++ z) (append-nil back))))
 
   sequence_end : (Part : List Word → A → Type 0) (ws : List Word) (o : Option (Option A × List Word))
       → Good (Sequence Part) ws (then_read o (λ o rest. if_some o (λ a. None) (Some ([], ws))))
@@ -84,11 +84,11 @@ module _ {A B : Type 0} where
       → ((ws : List Word) → Good (Maybe First) ws (first ws))
       → (a : Option A) (b : Option B) (f g rest : List Word) → Maybe First f a → Maybe Second g b
       → Good (λ back p. InEitherOrder (Maybe First) (Maybe Second) (f ++ (g ++ back)) p) rest
-          (if_some a (λ x. Some ((Some x, b), rest)) (then_read (first rest) (λ c left. Some ((c, b), left))))
+      (if_some a (λ x. Some ((Some x, b), rest)) (then_read (first rest) (λ c left. Some ((c, b), left))))
   second_good First Second first good (Some x) b f g rest p q = done_good _ rest (Some x, b) (f, g, p, q, inl (ap (λ z. f ++ z) (append-nil g)))
   second_good First Second first good None b f g rest p q =
       then_good (Maybe First) _ rest (first rest) _ (good rest)
-        (λ c h left r. done_good _ left (c, b) (h, g, r, q, inr (ap (λ z. z ++ (g ++ (h ++ []))) p ∙ ap (λ z. g ++ z) (append-nil h))))
+      (λ c h left r. done_good _ left (c, b) (h, g, r, q, inr (ap (λ z. z ++ (g ++ (h ++ []))) p ∙ ap (λ z. g ++ z) (append-nil h))))
 
   -- two parts in either order
   pub either_order_good : (First : List Word → A → Type 0) (Second : List Word → B → Type 0) (first : List Word → Option (Option A × List Word)) (second : List Word → Option (Option B × List Word))
@@ -96,5 +96,5 @@ module _ {A B : Type 0} where
       → (ws : List Word) → Good (InEitherOrder (Maybe First) (Maybe Second)) ws (read_either_order first second ws)
   either_order_good First Second first second good other ws =
       then_good (Maybe First) _ ws (first ws) _ (good ws)
-        (λ a f rest p. then_good (Maybe Second) _ rest (second rest) _ (other rest)
-          (λ b g more q. second_good First Second first good a b f g more p q))
+      (λ a f rest p. then_good (Maybe Second) _ rest (second rest) _ (other rest)
+      (λ b g more q. second_good First Second first good a b f g more p q))

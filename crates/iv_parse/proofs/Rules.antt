@@ -5,14 +5,19 @@ use Rattle.iv_lex.specs.Words.{Word, plain}
 use Rattle.iv_syntax.specs.declared.statement.Statement.{Statement}
 use Rattle.iv_syntax.specs.declared.statement.Statement.TheVariants as statement
 use Rattle.iv_conditions.specs.After.{then_read}
-use Rattle.iv_parse.specs.Data.{IsInsert}
-use Rattle.iv_parse.specs.DataReaders.{then_word, read_insert}
+use Rattle.iv_parse.specs.Series.{Series, InParentheses}
+use Rattle.iv_parse.specs.Tables.{IsElement, IsTableConstraint}
+use Rattle.iv_parse.specs.TableReaders.{read_elements, read_table_constraint}
+use Rattle.iv_parse.specs.Data.{IsInsert, IsUpdate, IsDelete, IsSelect}
+use Rattle.iv_parse.specs.DataReaders.{then_word, read_insert, read_update, read_delete, read_select}
 use Rattle.iv_parse.specs.Statements.{Reads}
-use Rattle.iv_parse.specs.Readers.{read_drop, read_insert_rule, read_rule, read_statement}
+use Rattle.iv_parse.specs.Readers.{read_drop, read_session_rule, read_insert_rule, read_update_rule, read_delete_rule, read_select_rule, read_create_table, read_create, read_alter, read_definition_rule, read_rule, read_statement}
 use Rattle.iv_parse.specs.Script.{BeginsStatement}
-use Rattle.iv_parse.proofs.Fronts.{Good, nothing_good, done_good, after_good, then_good, made_good}
-use Rattle.iv_parse.proofs.DataSound.{insert_good}
-use Rattle.iv_parse.proofs.DataComplete.{insert_reads}
+use Rattle.iv_parse.proofs.Fronts.{Good, nothing_good, done_good, after_good, name_good, then_good, made_good}
+use Rattle.iv_parse.proofs.DataSound.{insert_good, update_good, delete_good, select_good}
+use Rattle.iv_parse.proofs.TableSound.{elements_good, table_constraint_good}
+use Rattle.iv_parse.proofs.TableComplete.{elements_complete, table_constraint_reads, statement_constraint}
+use Rattle.iv_parse.proofs.DataComplete.{insert_reads, update_reads, delete_reads, select_reads, EndsStatement, semicolon}
 use Rattle.iv_parse.proofs.SessionSound.{drop_good, session_good}
 use Rattle.iv_parse.proofs.SessionComplete.{start_complete, commit_complete, rollback_complete, to_complete, savepoint_complete, release_complete, set_complete}
 
@@ -21,11 +26,53 @@ unfolding read_insert_rule
 insert_rule_good ws =
     made_good (λ back i. IsInsert (plain kind.Insert ∷ back) i) _ ws (read_insert ws) statement.Insert (insert_good ws) (λ i front p. p)
 
+update_rule_good : (ws : List Word) → Good (λ back s. Reads (plain kind.Update ∷ back) s) ws (read_update_rule ws)
+unfolding read_update_rule
+update_rule_good ws =
+    made_good (λ back u. IsUpdate (plain kind.Update ∷ back) u) _ ws (read_update ws) statement.Update (update_good ws) (λ u front p. p)
+
+delete_rule_good : (ws : List Word) → Good (λ back s. Reads (plain kind.Delete ∷ back) s) ws (read_delete_rule ws)
+unfolding read_delete_rule
+delete_rule_good ws =
+    made_good (λ back d. IsDelete (plain kind.Delete ∷ back) d) _ ws (read_delete ws) statement.Delete (delete_good ws) (λ d front p. p)
+
+select_rule_good : (ws : List Word) → Good (λ back s. Reads (plain kind.Select ∷ back) s) ws (read_select_rule ws)
+unfolding read_select_rule
+select_rule_good ws =
+    made_good (λ back s. IsSelect (plain kind.Select ∷ back) s) _ ws (read_select ws) statement.Select (select_good ws) (λ s front p. p)
+
+create_good : (ws : List Word) → Good (λ back s. Reads (plain kind.Create ∷ back) s) ws (read_create ws)
+unfolding read_create read_create_table
+create_good ws =
+    after_good _ kind.Table ws read_create_table None
+    (λ rest. name_good _ rest _
+    (λ n more. made_good (InParentheses (Series IsElement)) _ more (read_elements more) (statement.CreateTable n) (elements_good more) (λ es front p. (front, p, refl))))
+    (nothing_good _ ws)
+
+alter_good : (ws : List Word) → Good (λ back s. Reads (plain kind.Alter ∷ back) s) ws (read_alter ws)
+unfolding read_alter
+alter_good ws =
+    after_good _ kind.Table ws _ None
+    (λ rest. name_good _ rest _
+    (λ n more. after_good _ kind.Add more _ None
+    (λ left. made_good IsTableConstraint _ left (read_table_constraint left) (statement.AlterTable n) (table_constraint_good left) (λ c front p. (front, p, refl)))
+    (nothing_good _ more)))
+    (nothing_good _ ws)
+
+definition_good : (ws : List Word) → Good Reads ws (read_definition_rule ws)
+unfolding read_definition_rule
+definition_good ws =
+    after_good Reads kind.Create ws read_create _ create_good
+    (after_good Reads kind.Alter ws read_alter _ alter_good
+    (after_good Reads kind.Drop ws read_drop _ drop_good (session_good ws)))
+
 rule_good : (ws : List Word) → Good Reads ws (read_rule ws)
 unfolding read_rule
 rule_good ws =
     after_good Reads kind.Insert ws read_insert_rule _ insert_rule_good
-    (after_good Reads kind.Drop ws read_drop _ drop_good (session_good ws))
+    (after_good Reads kind.Update ws read_update_rule _ update_rule_good
+    (after_good Reads kind.Delete ws read_delete_rule _ delete_rule_good
+    (after_good Reads kind.Select ws read_select_rule _ select_rule_good (definition_good ws))))
 
 -- a statement and its semicolon
 abbrev pub Ended : List Word → Statement → Type 0
@@ -40,17 +87,27 @@ statement_good ws =
     (nothing_good _ rest))
 
 rule_reads : (s : Statement) (front rest : List Word) → Reads front s → read_rule (front ++ plain kind.Semicolon ∷ rest) ≡ Some (s, plain kind.Semicolon ∷ rest)
-unfolding read_rule read_insert_rule read_drop
-rule_reads (statement.CreateTable n es) front rest p = absurd p
-rule_reads (statement.AlterTable n es) front rest p = absurd p
+unfolding read_rule read_definition_rule read_insert_rule read_update_rule read_delete_rule read_select_rule read_create read_create_table read_alter read_drop
+rule_reads (statement.CreateTable n es) front rest (body, p, w) =
+    ap (λ z. read_rule (z ++ plain kind.Semicolon ∷ rest)) w
+    ∙ ap (λ o. then_read o (λ es more. Some (statement.CreateTable n es, more))) (elements_complete.reads es body (plain kind.Semicolon ∷ rest) p tt)
+rule_reads (statement.AlterTable n c) front rest (body, p, w) =
+    ap (λ z. read_rule (z ++ plain kind.Semicolon ∷ rest)) w
+    ∙ ap (λ o. then_read o (λ c more. Some (statement.AlterTable n c, more))) (table_constraint_reads c body (plain kind.Semicolon ∷ rest) p (statement_constraint rest))
 rule_reads (statement.CreateTrigger t) front rest p = absurd p
 rule_reads (statement.DropTrigger n) front rest p = ap (λ z. read_rule (z ++ plain kind.Semicolon ∷ rest)) p
 rule_reads (statement.Insert i) front rest p =
-    let (back, w, h) = insert_reads i front (plain kind.Semicolon ∷ rest) p refl in
+    let (back, w, h) = insert_reads i front (plain kind.Semicolon ∷ rest) p (semicolon rest) in
     ap read_rule w ∙ ap (λ o. then_read o (λ i more. Some (statement.Insert i, more))) h
-rule_reads (statement.Update u) front rest p = absurd p
-rule_reads (statement.Delete d) front rest p = absurd p
-rule_reads (statement.Select s) front rest p = absurd p
+rule_reads (statement.Update u) front rest p =
+    let (back, w, h) = update_reads u front (plain kind.Semicolon ∷ rest) p (semicolon rest) in
+    ap read_rule w ∙ ap (λ o. then_read o (λ u more. Some (statement.Update u, more))) h
+rule_reads (statement.Delete d) front rest p =
+    let (back, w, h) = delete_reads d front (plain kind.Semicolon ∷ rest) p (semicolon rest) in
+    ap read_rule w ∙ ap (λ o. then_read o (λ d more. Some (statement.Delete d, more))) h
+rule_reads (statement.Select s) front rest p =
+    let (back, w, h) = select_reads s front (plain kind.Semicolon ∷ rest) p (semicolon rest) in
+    ap read_rule w ∙ ap (λ o. then_read o (λ s more. Some (statement.Select s, more))) h
 rule_reads statement.StartTransaction front rest p = ap (λ z. read_rule (z ++ plain kind.Semicolon ∷ rest)) p ∙ start_complete rest
 rule_reads statement.Commit front rest (work, o, w) = ap (λ z. read_rule (z ++ plain kind.Semicolon ∷ rest)) w ∙ commit_complete work o rest
 rule_reads statement.Rollback front rest (work, o, w) = ap (λ z. read_rule (z ++ plain kind.Semicolon ∷ rest)) w ∙ rollback_complete work o rest

@@ -114,8 +114,8 @@ time_reads : (t : ConstraintTime) (front rest : List Word) → IsTime front t �
 unfolding read_time
 time_reads t front rest p e =
     ap (λ o. then_read o (λ p left. Some (record { deferrable = p.0; initially = p.1 }, left)))
-      (either_order_complete IsDeferrable IsInitially read_deferrable read_initially
-        (record { firsts = deferrable_reads; seconds = initially_reads; apart = initially_apart }) rest e.deferrable (no_initially rest e.initially) t.deferrable t.initially front p)
+    (either_order_complete IsDeferrable IsInitially read_deferrable read_initially
+    (record { firsts = deferrable_reads; seconds = initially_reads; apart = initially_apart }) rest e.deferrable (no_initially rest e.initially) t.deferrable t.initially front p)
 
 match_type_reads : (m : MatchType) (rest : List Word) → read_match_type (plain (match_kind m) ∷ rest) ≡ Some (m, rest)
 unfolding read_match_type
@@ -158,12 +158,12 @@ actions_read : (a b : Option ReferentialAction) (front rest : List Word) → Are
 unfolding read_actions
 actions_read a b front rest p e =
     either_order_complete (IsOn kind.Delete) (IsOn kind.Update) (read_on kind.Delete) (read_on kind.Update)
-      (record { firsts = delete_reads; seconds = update_reads; apart = update_apart }) rest (no_on kind.Delete rest e) (no_on kind.Update rest e) a b front p
+    (record { firsts = delete_reads; seconds = update_reads; apart = update_apart }) rest (no_on kind.Delete rest e) (no_on kind.Update rest e) a b front p
 
 actions_after : (k : Kind) → same kind.On k ≡ false → (a b : Option ReferentialAction) (front ws : List Word) → AreActions front (a, b) → after k ws ≡ None → after k (front ++ ws) ≡ None
 actions_after k h a b front ws p e =
     either_after (IsOn kind.Delete) (IsOn kind.Update) k
-      (λ x f rest q. ap (λ z. after k (z ++ rest)) q ∙ other_word k kind.On _ h) (λ x f rest q. ap (λ z. after k (z ++ rest)) q ∙ other_word k kind.On _ h) a b front ws p e
+    (λ x f rest q. ap (λ z. after k (z ++ rest)) q ∙ other_word k kind.On _ h) (λ x f rest q. ap (λ z. after k (z ++ rest)) q ∙ other_word k kind.On _ h) a b front ws p e
 
 match_after : (k : Kind) → same kind.Match k ≡ false → (m : Option MatchType) (front ws : List Word) → Maybe IsMatch front m → after k ws ≡ None → after k (front ++ ws) ≡ None
 match_after k h m front ws p e = maybe_after IsMatch k (λ x f rest q. ap (λ z. after k (z ++ rest)) q ∙ other_word k kind.Match _ h) m front ws p e
@@ -177,19 +177,20 @@ pub record EndsReferences (ws : List Word) : Type 0 where
 references_read : (r : References) (front rest : List Word) → IsReferences front r → EndsReferences rest
     → (back : List Word) × (front ++ rest ≡ plain kind.References ∷ back) × (read_references back ≡ Some (r, rest))
 unfolding read_references read_reference_columns
-references_read r front rest (columns, matching, actions, p, q, s, w) e =
-    (name r.table ∷ (columns ++ (matching ++ (actions ++ rest))),
-     ap (λ z. z ++ rest) w
-     ∙ ap (λ z. plain kind.References ∷ name r.table ∷ z) (append_assoc columns (matching ++ actions) rest ∙ ap (λ z. columns ++ z) (append_assoc matching actions rest)),
-     ap (λ o. then_read o (λ cs left. then_read (read_match left) (λ m more. then_read (read_actions more)
-       (λ p last. Some (record { table = r.table; columns = cs; matching = m; on_delete = p.0; on_update = p.1 }, last)))))
-       (column_list_reads r.columns columns (matching ++ (actions ++ rest)) p
-         (match_after kind.LeftParenthesis refl r.matching matching (actions ++ rest) q (actions_after kind.LeftParenthesis refl r.on_delete r.on_update actions rest s e.columns)))
-     ∙ ap (λ o. then_read o (λ m more. then_read (read_actions more)
-       (λ p last. Some (record { table = r.table; columns = r.columns; matching = m; on_delete = p.0; on_update = p.1 }, last))))
-       (match_reads r.matching matching (actions ++ rest) q (actions_after kind.Match refl r.on_delete r.on_update actions rest s e.matching))
-     ∙ ap (λ o. then_read o (λ p last. Some (record { table = r.table; columns = r.columns; matching = r.matching; on_delete = p.0; on_update = p.1 }, last)))
-       (actions_read r.on_delete r.on_update actions rest s e.actions))
+references_read r front rest (columns, matching, actions, p, q, s, w) e = (
+  name r.table ∷ (columns ++ (matching ++ (actions ++ rest))),
+  ap (λ z. z ++ rest) w
+      ∙ ap (λ z. plain kind.References ∷ name r.table ∷ z) (append_assoc columns (matching ++ actions) rest ∙ ap (λ z. columns ++ z) (append_assoc matching actions rest)),
+  ap (λ o. then_read o (λ cs left. then_read (read_match left) (λ m more. then_read (read_actions more)
+      (λ p last. Some (record { table = r.table; columns = cs; matching = m; on_delete = p.0; on_update = p.1 }, last)))))
+      (column_list_reads r.columns columns (matching ++ (actions ++ rest)) p
+      (match_after kind.LeftParenthesis refl r.matching matching (actions ++ rest) q (actions_after kind.LeftParenthesis refl r.on_delete r.on_update actions rest s e.columns)))
+      ∙ ap (λ o. then_read o (λ m more. then_read (read_actions more)
+      (λ p last. Some (record { table = r.table; columns = r.columns; matching = m; on_delete = p.0; on_update = p.1 }, last))))
+      (match_reads r.matching matching (actions ++ rest) q (actions_after kind.Match refl r.on_delete r.on_update actions rest s e.matching))
+      ∙ ap (λ o. then_read o (λ p last. Some (record { table = r.table; columns = r.columns; matching = r.matching; on_delete = p.0; on_update = p.1 }, last)))
+      (actions_read r.on_delete r.on_update actions rest s e.actions),
+)
 
 deferrable_after : (k : Kind) → same kind.Deferrable k ≡ false → same kind.Not k ≡ false → (a : Bool) (f ws : List Word) → IsDeferrable f a → after k (f ++ ws) ≡ None
 deferrable_after k h i true f ws p = ap (λ z. after k (z ++ ws)) p ∙ other_word k kind.Deferrable _ h
@@ -237,7 +238,7 @@ column_constraint_reads c front rest (called, rule, time, p, q, s, w) e =
     ap (λ z. read_column_constraint (z ++ rest)) w
     ∙ ap read_column_constraint (append_assoc called (rule ++ time) rest ∙ ap (λ z. called ++ z) (append_assoc rule time rest))
     ∙ ap (λ o. then_read o (λ n left. then_read (read_column_rule left) (column_constraint_of n)))
-      (constraint_name_reads c.name called (rule ++ (time ++ rest)) p (column_rule_begins c.rule rule (time ++ rest) q))
+    (constraint_name_reads c.name called (rule ++ (time ++ rest)) p (column_rule_begins c.rule rule (time ++ rest) q))
     ∙ ap (λ o. then_read o (column_constraint_of c.name)) (column_rule_reads c.rule rule (time ++ rest) q (time_references c.time time rest s e.references))
     ∙ ap (λ o. then_read o (λ t left. Some (Some (record { name = c.name; rule = c.rule; time = t }), left))) (time_reads c.time time rest s e.time)
 
@@ -266,7 +267,11 @@ called_ends (Some n) r called rule rest p q = subst (λ z. EndsConstraint (z ++ 
 column_constraint_begins : (c : ColumnConstraint) (front rest : List Word) → IsColumnConstraint front c → EndsConstraint (front ++ rest)
 column_constraint_begins c front rest (called, rule, time, p, q, s, w) =
     subst EndsConstraint (sym (ap (λ z. z ++ rest) w ∙ append_assoc called (rule ++ time) rest ∙ ap (λ z. called ++ z) (append_assoc rule time rest)))
-      (called_ends c.name c.rule called rule (time ++ rest) p q)
+    (called_ends c.name c.rule called rule (time ++ rest) p q)
+
+pub statement_constraint : (ws : List Word) → EndsConstraint (plain kind.Semicolon ∷ ws)
+unfolding read_deferrable
+statement_constraint ws = record { references = record { columns = refl; matching = refl; actions = refl }; time = record { deferrable = refl; initially = refl } }
 
 constraint_parts : Parts IsColumnConstraint EndsConstraint read_column_constraint
 constraint_parts = record { reads = column_constraint_reads; begins = column_constraint_begins }
@@ -313,13 +318,13 @@ column_reads : (c : ColumnDefinition) (type default constraints rest : List Word
 unfolding read_column read_column_constraints
 column_reads c type default constraints rest p q s e =
     ap (λ o. then_read o (λ k left. then_read (read_default left) (λ d more. then_read (read_column_constraints more)
-      (λ cs last. Some (record { name = c.name; kind = k; default = d; constraints = cs }, last)))))
-      (type_reads c.kind type (default ++ (constraints ++ rest)) p)
+    (λ cs last. Some (record { name = c.name; kind = k; default = d; constraints = cs }, last)))))
+    (type_reads c.kind type (default ++ (constraints ++ rest)) p)
     ∙ ap (λ o. then_read o (λ d more. then_read (read_column_constraints more)
-      (λ cs last. Some (record { name = c.name; kind = c.kind; default = d; constraints = cs }, last))))
-      (default_reads c.default default (constraints ++ rest) q (constraints_default c.constraints constraints rest s (no_default rest e)))
+    (λ cs last. Some (record { name = c.name; kind = c.kind; default = d; constraints = cs }, last))))
+    (default_reads c.default default (constraints ++ rest) q (constraints_default c.constraints constraints rest s (no_default rest e)))
     ∙ ap (λ o. then_read o (λ cs last. Some (record { name = c.name; kind = c.kind; default = c.default; constraints = cs }, last)))
-      (sequence_complete IsColumnConstraint EndsConstraint read_column_constraint constraint_parts c.constraints constraints rest s (element_ends rest e) (no_constraint rest e))
+    (sequence_complete IsColumnConstraint EndsConstraint read_column_constraint constraint_parts c.constraints constraints rest s (element_ends rest e) (no_constraint rest e))
 
 key_complete : Reads_all (InParentheses Names) Anything read_key
 key_complete = enclosed_complete Names (λ rest. Anything rest × (after kind.Comma rest ≡ None)) (read_series read_name) names_complete (λ ws. (tt, refl))
@@ -336,9 +341,9 @@ table_rule_reads (table_rule.ForeignKey ns r) front rest (key, references, p, q,
     let (back, v, h) = references_read r references rest q e in
     ap (λ z. read_table_rule (z ++ rest)) w
     ∙ ap (λ z. then_read (read_key z) (λ ns more. then_word kind.References more (λ left. then_read (read_references left) (λ r last. Some (table_rule.ForeignKey ns r, last)))))
-      (append_assoc key references rest ∙ ap (λ z. key ++ z) v)
+    (append_assoc key references rest ∙ ap (λ z. key ++ z) v)
     ∙ ap (λ o. then_read o (λ ns more. then_word kind.References more (λ left. then_read (read_references left) (λ r last. Some (table_rule.ForeignKey ns r, last)))))
-      (key_complete.reads ns key (plain kind.References ∷ back) p tt)
+    (key_complete.reads ns key (plain kind.References ∷ back) p tt)
     ∙ ap (λ o. then_read o (λ r last. Some (table_rule.ForeignKey ns r, last))) h
 
 table_rule_begins : (r : TableRule) (front rest : List Word) → IsTableRule front r → after kind.Constraint (front ++ rest) ≡ None
@@ -353,9 +358,9 @@ table_constraint_reads c front rest (called, rule, time, p, q, s, w) e =
     ap (λ z. read_table_constraint (z ++ rest)) w
     ∙ ap read_table_constraint (append_assoc called (rule ++ time) rest ∙ ap (λ z. called ++ z) (append_assoc rule time rest))
     ∙ ap (λ o. then_read o (λ n left. then_read (read_table_rule left) (λ r more. then_read (read_time more) (λ t last. Some (record { name = n; rule = r; time = t }, last)))))
-      (constraint_name_reads c.name called (rule ++ (time ++ rest)) p (table_rule_begins c.rule rule (time ++ rest) q))
+    (constraint_name_reads c.name called (rule ++ (time ++ rest)) p (table_rule_begins c.rule rule (time ++ rest) q))
     ∙ ap (λ o. then_read o (λ r more. then_read (read_time more) (λ t last. Some (record { name = c.name; rule = r; time = t }, last))))
-      (table_rule_reads c.rule rule (time ++ rest) q (time_references c.time time rest s e.references))
+    (table_rule_reads c.rule rule (time ++ rest) q (time_references c.time time rest s e.references))
     ∙ ap (λ o. then_read o (λ t last. Some (record { name = c.name; rule = c.rule; time = t }, last))) (time_reads c.time time rest s e.time)
 
 -- a constraint of a table doesn't begin with a name
@@ -388,4 +393,4 @@ pub elements_complete : Reads_all (InParentheses (Series IsElement)) Anything re
 unfolding read_elements
 elements_complete =
     enclosed_complete (Series IsElement) (λ rest. EndsElement rest × (after kind.Comma rest ≡ None)) (read_series read_element)
-      (series_complete IsElement EndsElement read_element (record { reads = element_reads }) comma) (λ ws. (closes ws, refl))
+    (series_complete IsElement EndsElement read_element (record { reads = element_reads }) comma) (λ ws. (closes ws, refl))

@@ -13,7 +13,7 @@ use Rattle.iv_syntax.specs.declared.statement.ConstraintList.TheVariants.{All, N
 use Rattle.iv_conditions.specs.After.{after, if_some, then_read}
 use Rattle.iv_parse.specs.Series.{read_series}
 use Rattle.iv_parse.specs.TableReaders.{read_mode, read_elements, read_table_constraint}
-use Rattle.iv_parse.specs.DataReaders.{Found, then_word, read_name, read_insert}
+use Rattle.iv_parse.specs.DataReaders.{Found, then_word, read_name, read_insert, read_update, read_delete, read_select}
 
 -- the words after a word that may be left out
 abbrev pub skip : Kind → List Word → List Word
@@ -74,17 +74,39 @@ read_create_table ws = then_read (read_name ws) (λ n rest. then_read (read_elem
 unfoldable pub read_alter : List Word → Found Statement
 read_alter ws =
     then_word kind.Table ws (λ rest. then_read (read_name rest) (λ n more. then_word kind.Add more
-      (λ left. then_read (read_table_constraint left) (λ c last. Some (statement.AlterTable n c, last)))))
+    (λ left. then_read (read_table_constraint left) (λ c last. Some (statement.AlterTable n c, last)))))
 
 unfoldable pub read_insert_rule : List Word → Found Statement
 read_insert_rule ws = then_read (read_insert ws) (λ i rest. Some (statement.Insert i, rest))
+
+unfoldable pub read_update_rule : List Word → Found Statement
+read_update_rule ws = then_read (read_update ws) (λ u rest. Some (statement.Update u, rest))
+
+unfoldable pub read_delete_rule : List Word → Found Statement
+read_delete_rule ws = then_read (read_delete ws) (λ d rest. Some (statement.Delete d, rest))
+
+unfoldable pub read_select_rule : List Word → Found Statement
+read_select_rule ws = then_read (read_select ws) (λ s rest. Some (statement.Select s, rest))
+
+-- after CREATE
+unfoldable pub read_create : List Word → Found Statement
+read_create ws = then_word kind.Table ws read_create_table
+
+unfoldable pub read_definition_rule : List Word → Found Statement
+read_definition_rule ws =
+    if_some (after kind.Create ws) read_create
+    (if_some (after kind.Alter ws) read_alter
+    (if_some (after kind.Drop ws) read_drop
+    (read_session_rule ws)))
 
 -- a statement without its semicolon
 unfoldable pub read_rule : List Word → Found Statement
 read_rule ws =
     if_some (after kind.Insert ws) read_insert_rule
-    (if_some (after kind.Drop ws) read_drop
-    (read_session_rule ws))
+    (if_some (after kind.Update ws) read_update_rule
+    (if_some (after kind.Delete ws) read_delete_rule
+    (if_some (after kind.Select ws) read_select_rule
+    (read_definition_rule ws))))
 
 -- a statement with its semicolon
 unfoldable pub read_statement : List Word → Found Statement

@@ -72,4 +72,4 @@ module _ {A B : Type 0} where
   abbrev pub read_either_order : (List Word → Option (Option A × List Word)) → (List Word → Option (Option B × List Word)) → List Word → Option ((Option A × Option B) × List Word)
   read_either_order first second ws =
       then_read (first ws) (λ a rest. then_read (second rest) (λ b more.
-        if_some a (λ x. Some ((Some x, b), more)) (then_read (first more) (λ c left. Some ((c, b), left)))))
+      if_some a (λ x. Some ((Some x, b), more)) (then_read (first more) (λ c left. Some ((c, b), left)))))

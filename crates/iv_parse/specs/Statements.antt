@@ -10,8 +10,8 @@ use Rattle.iv_syntax.specs.declared.statement.ConstraintMode.{ConstraintMode}
 use Rattle.iv_syntax.specs.declared.statement.ConstraintMode.TheVariants.{Immediate, Deferred}
 use Rattle.iv_syntax.specs.declared.statement.ConstraintList.{ConstraintList}
 use Rattle.iv_syntax.specs.declared.statement.ConstraintList.TheVariants.{All, Named}
-use Rattle.iv_parse.specs.Tables.{mode_kind}
-use Rattle.iv_parse.specs.Data.{Names, IsInsert}
+use Rattle.iv_parse.specs.Tables.{mode_kind, IsCreateTable, IsAlterTable}
+use Rattle.iv_parse.specs.Data.{Names, IsInsert, IsUpdate, IsDelete, IsSelect}
 
 -- a word that may be left out
 abbrev pub Optional : Kind → List Word → Type 0
@@ -24,7 +24,12 @@ IsConstraintList ws (Named ns) = Names ws ns
 
 -- the words, without the semicolon, are the statement
 abbrev pub Reads : List Word → Statement → Type 0
+Reads ws (statement.CreateTable n es) = IsCreateTable ws n es
+Reads ws (statement.AlterTable n c) = IsAlterTable ws n c
 Reads ws (statement.Insert i) = IsInsert ws i
+Reads ws (statement.Update u) = IsUpdate ws u
+Reads ws (statement.Delete d) = IsDelete ws d
+Reads ws (statement.Select s) = IsSelect ws s
 Reads ws (DropTrigger n) = ws ≡ plain kind.Drop ∷ plain kind.Trigger ∷ name n ∷ []
 Reads ws StartTransaction = ws ≡ plain kind.Start ∷ plain kind.Transaction ∷ []
 Reads ws Commit = (work : List Word) × Optional kind.Work work × (ws ≡ plain kind.Commit ∷ work)

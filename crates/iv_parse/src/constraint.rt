@@ -97,7 +97,12 @@ fn on(event: Kind, tokens: &[Token]) -> Option<(Option<ReferentialAction>, &[Tok
 #[tactic(auto, unfolding(crate::specs::TableReaders::read_actions))]
 fn actions(
     tokens: &[Token],
-) -> Option<((Option<ReferentialAction>, Option<ReferentialAction>), &[Token])>
+) -> Option<
+    (
+        (Option<ReferentialAction>, Option<ReferentialAction>),
+        &[Token],
+    ),
+>
     ensures { (text : List ℕ) → with_words text result ≡ read_actions (words text tokens.now) }
 {
     let (before, rest) = on(Kind::Delete, tokens)?;

@@ -2,9 +2,10 @@
 ghost use Rattle.std.specs.Prelude.{◌≡◌, IfOk};
 ghost use Rattle.iv_lex.specs.Words.{words};
 ghost use Rattle.iv_conditions.specs.Seen.{with_words};
-ghost use Rattle.iv_parse.specs.DataReaders.{read_shallow, read_value, read_tuple, read_column_list, read_source, read_insert_rows, read_insert_into, read_insert};
+ghost use Rattle.iv_parse.specs.DataReaders.{read_shallow, read_value, read_tuple, read_column_list, read_select_source, read_source, read_insert_rows, read_insert_into, read_insert};
 
 use crate::parse::Parse;
+use crate::select::{from, select_list};
 use crate::series::{closed_series, enclosed_series, series};
 use iv_conditions::{after, name, read_expression};
 use iv_lex::{Kind, Token};
@@ -75,6 +76,26 @@ pub fn column_list<'a>(
     }
 }
 
+#[tactic(auto, unfolding(crate::specs::DataReaders::read_select_source))]
+fn select_source<'a>(
+    alloc: Global,
+    text: &str,
+    tokens: &'a [Token],
+) -> Result<Option<(InsertSource, &'a [Token])>, AllocError>
+    ensures { IfOk result (λ r. with_words text.now r ≡ read_select_source (words text.now tokens.now)) }
+{
+    let Some((list, rest)) = select_list(alloc, text, tokens)? else {
+        return Ok(None);
+    };
+    match from(alloc, text, rest)? {
+        Some(((range, filter), rest)) => Ok(Some((
+            InsertSource::Select(list, range, filter),
+            rest,
+        ))),
+        None => Ok(None),
+    }
+}
+
 #[tactic(auto, unfolding(crate::specs::DataReaders::read_source))]
 fn source<'a>(
     alloc: Global,
@@ -84,7 +105,10 @@ fn source<'a>(
     ensures { IfOk result (λ r. with_words text.now r ≡ read_source (words text.now tokens.now)) }
 {
     let Some(rest) = after(Kind::Values, tokens) else {
-        return Ok(None);
+        return match after(Kind::Select, tokens) {
+            Some(rest) => select_source(alloc, text, rest),
+            None => Ok(None),
+        };
     };
     match series::<Items<ValueOrDefault>>(alloc, text, rest)? {
         Some((tuples, rest)) => Ok(Some((InsertSource::Values(tuples), rest))),

@@ -5,6 +5,7 @@ mod constraint;
 mod insert;
 mod parse;
 mod parser;
+mod select;
 mod series;
 mod session;
 mod statement;

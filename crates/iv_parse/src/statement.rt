@@ -2,10 +2,12 @@
 ghost use Rattle.std.specs.Prelude.{◌≡◌, IfOk};
 ghost use Rattle.iv_lex.specs.Words.{words};
 ghost use Rattle.iv_conditions.specs.Seen.{with_words};
-ghost use Rattle.iv_parse.specs.Readers.{read_drop, read_insert_rule, read_rule, read_statement};
+ghost use Rattle.iv_parse.specs.Readers.{read_drop, read_insert_rule, read_update_rule, read_delete_rule, read_select_rule, read_create, read_definition_rule, read_rule, read_statement};
 
 use crate::insert::insert;
+use crate::select::{delete, select, update};
 use crate::session::session_statement;
+use crate::table::{alter_table, create_table};
 use iv_conditions::{after, name};
 use iv_lex::{Kind, Token};
 use iv_syntax::Statement;
@@ -42,6 +44,82 @@ fn insert_statement<'a>(
     }
 }
 
+#[tactic(auto, unfolding(crate::specs::Readers::read_update_rule))]
+fn update_statement<'a>(
+    alloc: Global,
+    text: &str,
+    tokens: &'a [Token],
+) -> Result<Option<(Statement, &'a [Token])>, AllocError>
+    ensures { IfOk result (λ r. with_words text.now r ≡ read_update_rule (words text.now tokens.now)) }
+{
+    match update(alloc, text, tokens)? {
+        Some((update, rest)) => Ok(Some((Statement::Update(update), rest))),
+        None => Ok(None),
+    }
+}
+
+#[tactic(auto, unfolding(crate::specs::Readers::read_delete_rule))]
+fn delete_statement<'a>(
+    alloc: Global,
+    text: &str,
+    tokens: &'a [Token],
+) -> Result<Option<(Statement, &'a [Token])>, AllocError>
+    ensures { IfOk result (λ r. with_words text.now r ≡ read_delete_rule (words text.now tokens.now)) }
+{
+    match delete(alloc, text, tokens)? {
+        Some((delete, rest)) => Ok(Some((Statement::Delete(delete), rest))),
+        None => Ok(None),
+    }
+}
+
+#[tactic(auto, unfolding(crate::specs::Readers::read_select_rule))]
+fn select_statement<'a>(
+    alloc: Global,
+    text: &str,
+    tokens: &'a [Token],
+) -> Result<Option<(Statement, &'a [Token])>, AllocError>
+    ensures { IfOk result (λ r. with_words text.now r ≡ read_select_rule (words text.now tokens.now)) }
+{
+    match select(alloc, text, tokens)? {
+        Some((select, rest)) => Ok(Some((Statement::Select(select), rest))),
+        None => Ok(None),
+    }
+}
+
+#[tactic(auto, unfolding(crate::specs::Readers::read_create))]
+fn create<'a>(
+    alloc: Global,
+    text: &str,
+    tokens: &'a [Token],
+) -> Result<Option<(Statement, &'a [Token])>, AllocError>
+    ensures { IfOk result (λ r. with_words text.now r ≡ read_create (words text.now tokens.now)) }
+{
+    match after(Kind::Table, tokens) {
+        Some(rest) => create_table(alloc, text, rest),
+        None => Ok(None),
+    }
+}
+
+// A statement that is none about data.
+fn definition<'a>(
+    alloc: Global,
+    text: &str,
+    tokens: &'a [Token],
+) -> Result<Option<(Statement, &'a [Token])>, AllocError>
+    ensures { IfOk result (λ r. with_words text.now r ≡ read_definition_rule (words text.now tokens.now)) }
+{
+    if let Some(rest) = after(Kind::Create, tokens) {
+        return create(alloc, text, rest);
+    }
+    if let Some(rest) = after(Kind::Alter, tokens) {
+        return alter_table(alloc, text, rest);
+    }
+    if let Some(rest) = after(Kind::Drop, tokens) {
+        return drop_trigger(alloc, text, rest);
+    }
+    session_statement(alloc, text, tokens)
+}
+
 // A statement without its semicolon.
 fn rule<'a>(
     alloc: Global,
@@ -53,10 +131,16 @@ fn rule<'a>(
     if let Some(rest) = after(Kind::Insert, tokens) {
         return insert_statement(alloc, text, rest);
     }
-    if let Some(rest) = after(Kind::Drop, tokens) {
-        return drop_trigger(alloc, text, rest);
+    if let Some(rest) = after(Kind::Update, tokens) {
+        return update_statement(alloc, text, rest);
     }
-    session_statement(alloc, text, tokens)
+    if let Some(rest) = after(Kind::Delete, tokens) {
+        return delete_statement(alloc, text, rest);
+    }
+    if let Some(rest) = after(Kind::Select, tokens) {
+        return select_statement(alloc, text, rest);
+    }
+    definition(alloc, text, tokens)
 }
 
 /// The statement at the front of the tokens of `text` and the tokens after its semicolon; none where no

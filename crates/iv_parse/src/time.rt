@@ -221,6 +221,9 @@ pub fn time(tokens: &[Token]) -> Option<(ConstraintTime, &[Token])>
     ensures { (text : List ℕ) → with_words text result ≡ read_time (words text tokens.now) }
 {
     let ((deferrable, initially), rest) = time_parts(tokens)?;
-    let time = ConstraintTime { deferrable, initially };
+    let time = ConstraintTime {
+        deferrable,
+        initially,
+    };
     Some((time, rest))
 }

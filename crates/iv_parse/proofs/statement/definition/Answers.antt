@@ -1,0 +1,18 @@
+use Rattle.iv_parse.specs.Readers.{read_definition_rule}
+use Rattle.iv_parse.proofs.statement.definition.Goals as goal
+
+pub returns-in-Some : goal.returns-in-Some
+unfolding read_definition_rule
+returns-in-Some c = rw (← c.in-Some.ensures c.args.text.now) c.create.ensures
+
+pub returns-in-Some-after : goal.returns-in-Some-after
+unfolding read_definition_rule
+returns-in-Some-after c = rw (← c.in_default.ensures c.args.text.now, ← c.in-Some-after.ensures c.args.text.now) c.alter_table.ensures
+
+pub returns-in-Some-after-2 : goal.returns-in-Some-after-2
+unfolding read_definition_rule
+returns-in-Some-after-2 c = rw (← c.in_default.ensures c.args.text.now, ← c.in_default-after.ensures c.args.text.now, ← c.in-Some-after-2.ensures c.args.text.now) c.drop_trigger.ensures
+
+pub returns : goal.returns
+unfolding read_definition_rule
+returns c = rw (← c.in_default.ensures c.args.text.now, ← c.in_default-after.ensures c.args.text.now, ← c.in_default-after-2.ensures c.args.text.now) c.session_statement.ensures
