@@ -1,0 +1,1 @@
+COMMIT; 'closed but its last quote is doubled''

@@ -1,0 +1,1 @@
+CREATE TABLE té (a INT);

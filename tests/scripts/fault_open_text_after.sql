@@ -1,0 +1,2 @@
+COMMIT; 
+ 'open; COMMIT;
