@@ -12,7 +12,11 @@ mod item_part;
 mod laws;
 mod make;
 mod part;
+#[cfg(test)]
+mod shown;
 mod test;
+#[cfg(test)]
+mod tests;
 
 pub use condition::{read_condition, read_from};
 pub use expression::read_expression;
