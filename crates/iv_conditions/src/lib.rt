@@ -4,6 +4,7 @@
 mod condition;
 mod condition_part;
 mod expression;
+mod expression_part;
 mod from;
 mod from_part;
 mod front;
@@ -11,7 +12,6 @@ mod item;
 mod item_part;
 mod laws;
 mod make;
-mod part;
 #[cfg(test)]
 mod shown;
 mod test;
