@@ -2,14 +2,12 @@
 """Runs the tests of this directory over each program given; see README.md beside this file.
 
   tests/run.py --program PATH [--program PATH]... [--only PART]
-
 The last line is `N passed, N failed`; the status is 1 where something failed."""
 import argparse
 import json
 import os
 import re
 import subprocess
-import sys
 
 HERE = os.path.dirname(os.path.abspath(__file__))
 # One statement that was read, its rows, and the end of an open transaction.
@@ -33,7 +31,7 @@ def stored(directory, name):
     """A stored file, or what its generator file makes: lines `repeat COUNT "TEXT"`, {n} is the place from 1."""
     plan, made = read(directory, name + '.gen'), []
     for line in (plan or b'').decode().splitlines():
-        _, count, text = line.split(' ', 2)
+        count, text = line.removeprefix('repeat ').split(' ', 1)
         text, numbers = json.loads(text), range(1, int(count) + 1)
         made += [text.replace('{n}', str(n)) for n in numbers] if '{n}' in text else [text * len(numbers)]
     return ''.join(made).encode() if plan is not None else read(directory, name)
@@ -60,9 +58,9 @@ def compare(what, want, got):
 
 def judge(program, script, want, err=b'', status=None):
     out, got, errors = run(program, script)
+    why = compare('transcript', want, out) + compare('standard error', err, errors)
     expected = status_of(want) if status is None else int(status)
-    why = ['expected status %d, got %d' % (expected, got)] if got != expected else []
-    return compare('transcript', want, out) + compare('standard error', err, errors) + why
+    return why + (['expected status %d, got %d' % (expected, got)] if got != expected else [])
 
 
 def scripts(program):
@@ -70,8 +68,8 @@ def scripts(program):
     for directory in ('scripts', '../examples'):
         for name in sorted({file.split('.')[0] for file in files(directory)}):
             script, want = stored(directory, name + '.sql'), stored(directory, name + '.out')
-            err, status = read(directory, name + '.err'), read(directory, name + '.status')
-            yield directory + '/' + name, judge(program, script, want, err or b'', status)
+            err, status = read(directory, name + '.err') or b'', read(directory, name + '.status')
+            yield directory + '/' + name, judge(program, script, want, err, status)
 
 
 def pages(program):
@@ -85,16 +83,13 @@ def pages(program):
 def statements(program):
     """Statements of the grammar, and their nearest neighbours that are none."""
     for place, line in enumerate(read('grammar/statements.txt').splitlines(), 1):
-        if not line or line.startswith(b'#'):
+        if line[:1] in (b'', b'#'):
             continue
         kind, text = line.split(b' | ', 1)
         out, status, err = run(program, text + b';')
-        if kind == b'read':
-            good = READ.fullmatch(out) is not None
-        else:
-            at = int(kind.removeprefix(b'fault') or 0)
-            good = re.search(rb'^\d+ fault %d\n(end rolled back\n)?\Z' % at, out, re.M) is not None
-            good = good and (at > 0 or out.startswith(b'1 fault 0\n'))
+        at = int(kind.lstrip(b'readfult ') or 0)
+        fault = rb'^%s fault %d\n(end rolled back\n)?\Z' % (rb'\d+' if at > 0 else rb'\A1', at)
+        good = READ.fullmatch(out) if kind == b'read' else re.search(fault, out, re.M)
         good = good and status == status_of(out) and err == b''
         yield 'grammar/statements.txt:%d' % place, [] if good else ['%s: got %r' % (line.decode()[:120], out[:80])]
 
@@ -103,7 +98,7 @@ def ends(script):
     """The offsets after each semicolon that ends a statement: outside texts and outside BEGIN .. END."""
     inside, found = 0, []
     for token in re.finditer(rb"'[^']*'|\w+|;", script):
-        word = token.group().upper()
+        word = token[0].upper()
         inside += (word == b'BEGIN') - (word == b'END')
         found += [token.end()] if word == b';' and inside == 0 else []
     return found
@@ -113,8 +108,8 @@ def groups(transcript):
     """The outcomes, each with its rows; the faults; and whether the transcript is made of these alone."""
     shape = rb'(\d+ (?:ok|rows|refused)[^\n]*\n(?:\| [^\n]*\n)*)|(\d+ fault \d+\n)|(end rolled back\n\Z)'
     found = list(re.finditer(shape, transcript))
-    whole = b''.join(f.group() for f in found) == transcript
-    return [f.group(1) for f in found if f.group(1)], [f.group(2) for f in found if f.group(2)], whole
+    outcomes, faults = ([f[part] for f in found if f[part]] for part in (1, 2))
+    return outcomes, faults, b''.join(f[0] for f in found) == transcript
 
 
 def prefixes(program):
@@ -137,17 +132,16 @@ def main():
     parser = argparse.ArgumentParser()
     parser.add_argument('--program', action='append', required=True)
     parser.add_argument('--only', choices=['scripts', 'pages', 'statements', 'prefixes'])
-    options = parser.parse_args()
-    passed = failed = 0
+    options, passed, failed = parser.parse_args(), 0, 0
     for program in options.program:
-        for part in (scripts, pages, statements, prefixes):
-            for name, why in part(os.path.abspath(program)) if options.only in (None, part.__name__) else []:
+        for part in [globals()[options.only]] if options.only else [scripts, pages, statements, prefixes]:
+            for name, why in part(os.path.abspath(program)):
                 passed, failed = passed + (not why), failed + bool(why)
                 if why:
                     print('FAILED %s over %s: %s' % (name, program, '; '.join(why)))
     print('%d passed, %d failed' % (passed, failed))
-    return int(failed > 0)
+    raise SystemExit(int(failed > 0))
 
 
 if __name__ == '__main__':
-    sys.exit(main())
+    main()
