@@ -3,7 +3,7 @@ use Rattle.std.specs.Prelude.{ℕ, Option, Some, None, List}
 use denote.Ref.{Bor}
 use Rattle.iv_lex.specs.declared.token.Token.{Token}
 use Rattle.iv_lex.specs.Words.{Word, words}
-use Rattle.iv_conditions.specs.declared.part.ExpressionPart.{ExpressionPart}
+use Rattle.iv_conditions.specs.declared.expression_part.ExpressionPart.{ExpressionPart}
 use Rattle.iv_conditions.specs.ExpressionReader.{Found}
 
 -- the words of the tokens that are left

@@ -6,9 +6,9 @@ ghost use Rattle.iv_conditions.specs.Expressions.{depth as depth_of};
 ghost use Rattle.iv_conditions.specs.ExpressionReader.{column_from, simple as simple_at, closed, fits, more_factors, more_terms, read_primary, read_factor, read_term, read_expression as read};
 ghost use Rattle.iv_conditions.specs.Seen.{expression_found, with_words};
 
+use crate::expression_part::ExpressionPart;
 use crate::front::{after, name, sign};
 use crate::make::{group_of, product_of, signed_of, sum_of};
-use crate::part::ExpressionPart;
 use iv_lex::{Kind, Token, unquoted_text};
 use iv_syntax::{ColumnName, Expression, Name, Sign};
 use std::alloc::{AllocError, Global};

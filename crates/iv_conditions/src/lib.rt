@@ -4,6 +4,7 @@
 mod condition;
 mod condition_part;
 mod expression;
+mod expression_part;
 mod from;
 mod from_part;
 mod front;
@@ -11,8 +12,11 @@ mod item;
 mod item_part;
 mod laws;
 mod make;
-mod part;
+#[cfg(test)]
+mod shown;
 mod test;
+#[cfg(test)]
+mod tests;
 
 pub use condition::{read_condition, read_from};
 pub use expression::read_expression;

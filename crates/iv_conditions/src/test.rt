@@ -11,11 +11,11 @@ ghost use Rattle.iv_conditions.specs.SeenItem.{condition_found, item_found};
 
 use crate::condition_part::ConditionPart;
 use crate::expression::{expression, factors, make_group, terms};
+use crate::expression_part::ExpressionPart;
 use crate::front::{after, comparison};
 use crate::item::{Connective, Item};
 use crate::item_part::ItemPart;
 use crate::make::{connected_of, enclosed_of, negated_of};
-use crate::part::ExpressionPart;
 use iv_expr::Comparison;
 use iv_lex::{Kind, Token};
 use iv_syntax::Condition;

@@ -5,6 +5,8 @@ mod read;
 mod running;
 mod statements;
 mod summary;
+#[cfg(test)]
+mod tests;
 
 pub use iv_parse::SyntaxFault;
 pub use iv_print::{DeviceFault, Sink, Source, Std};

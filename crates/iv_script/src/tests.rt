@@ -1,0 +1,214 @@
+//! Runs over devices that fail, and the session between statements.
+use crate::{DeviceFault, RunFault, Sink, Source, Std, Summary, run};
+use iv_catalogue::Fault;
+use iv_machine::Limits;
+use iv_parse::script;
+use iv_session::Session;
+use std::alloc::Global;
+use std::io;
+use std::test::Fail;
+
+const ONE_CHECK: &str =
+    "CREATE TABLE t (a INTEGER, CHECK (a > 0)); INSERT INTO t VALUES (1); COMMIT; SELECT * FROM t;";
+
+const TWO_CHECKS: &str =
+    "CREATE TABLE t (a INT, CONSTRAINT pos CHECK (a > 0) INITIALLY DEFERRED, CONSTRAINT big CHECK (a < 9)); INSERT INTO t VALUES (0); INSERT INTO t VALUES (9); COMMIT;";
+
+// A source that gives so many bytes at a call, and fails at one of its calls.
+#[derive(Drop)]
+struct ChunkedSource<'a> {
+    text: &'a [u8],
+    at_once: usize,
+    fails_at: u64,
+    calls: u64,
+    failed: u64,
+    given: u64,
+    asked: u64,
+}
+
+impl<'a> Source for ChunkedSource<'a> {
+    ghost failed = { λ s. s.failed };
+
+    ghost given = { λ s. s.given };
+
+    ghost asked = { λ s. s.asked };
+
+    fn read(&mut self, buffer: &mut [u8]) -> Result<usize, DeviceFault> {
+        self.asked = self
+            .asked
+            .max(self.given.saturating_add(buffer.len() as u64));
+        self.calls = self.calls.saturating_add(1);
+        if self.calls == self.fails_at {
+            self.failed = self.failed.saturating_add(1);
+            return Err(DeviceFault);
+        }
+        let count = buffer.len().min(self.text.len()).min(self.at_once);
+        buffer[..count].copy_from_slice(&self.text[..count]);
+        self.text = &self.text[count..];
+        self.given = self.given.saturating_add(count as u64);
+        Ok(count)
+    }
+}
+
+fn chunks(text: &[u8], fails_at: u64) -> ChunkedSource<'_> {
+    ChunkedSource {
+        text,
+        at_once: 40,
+        fails_at,
+        calls: 0,
+        failed: 0,
+        given: 0,
+        asked: 0,
+    }
+}
+
+// A sink that takes one byte at a call, and fails at one of its calls.
+#[derive(Drop)]
+struct ByteSink {
+    fails_at: u64,
+    calls: u64,
+    failed: u64,
+}
+
+impl Sink for ByteSink {
+    ghost failed = { λ s. s.failed };
+
+    fn write(&mut self, bytes: &[u8]) -> Result<usize, DeviceFault> {
+        self.calls = self.calls.saturating_add(1);
+        if self.calls == self.fails_at {
+            self.failed = self.failed.saturating_add(1);
+            return Err(DeviceFault);
+        }
+        Ok(bytes.len().min(1))
+    }
+}
+
+fn drops(fails_at: u64) -> ByteSink {
+    ByteSink {
+        fails_at,
+        calls: 0,
+        failed: 0,
+    }
+}
+
+fn usual_limits() -> Option<Limits> {
+    Limits::new(16, 65_536)
+}
+
+// What a run over this source answers and writes.
+fn ran<R: Source>(
+    alloc: Global,
+    source: &mut R,
+) -> Result<(Result<Summary, RunFault>, Vec<u8>), Fail> {
+    let mut sink = Std::new(Vec::new(alloc));
+    let Some(limits) = usual_limits() else {
+        return Ok((Err(RunFault::NoMemory), sink.into_inner()));
+    };
+    let done = run(alloc, source, &mut sink, limits);
+    Ok((done, sink.into_inner()))
+}
+
+#[test]
+fn counts_what_it_ran(rt: HostRuntime) -> Result<(), Fail> {
+    let (done, text) = ran(rt.alloc(), &mut Std::new(ONE_CHECK.as_bytes()))?;
+    let wanted = Summary {
+        accepted: 4,
+        refused: 0,
+        starved: 0,
+        fault: None,
+    };
+    assert_eq!(rt; done, Ok(wanted));
+    assert_eq!(rt;
+        text.as_slice(),
+        b"1 ok\n2 ok 1\n3 ok\n4 rows 1\n| 1\n".as_slice()
+    );
+    Ok(())
+}
+
+#[test]
+fn tells_a_read_that_fails(rt: HostRuntime) -> Result<(), Fail> {
+    // Three calls give the text's 94 bytes, and a fourth tells its end.
+    for fails_at in [1u64, 2, 4] {
+        let (done, text) = ran(rt.alloc(), &mut chunks(ONE_CHECK.as_bytes(), fails_at))?;
+        assert_eq!(rt; done, Err(RunFault::Read), "at {fails_at}");
+        assert_eq!(rt; text.len(), 0);
+    }
+    let (done, _) = ran(rt.alloc(), &mut chunks(ONE_CHECK.as_bytes(), 5))?;
+    assert_eq!(rt; done.is_ok(), true);
+    Ok(())
+}
+
+#[test]
+fn stops_a_reader_without_end(rt: HostRuntime) -> Result<(), Fail> {
+    let (done, text) = ran(rt.alloc(), &mut Std::new(io::repeat(b' ')))?;
+    assert_eq!(rt; done, Err(RunFault::TooLong));
+    assert_eq!(rt; text.len(), 0);
+    Ok(())
+}
+
+#[test]
+fn refuses_what_is_not_utf8(rt: HostRuntime) -> Result<(), Fail> {
+    let (done, text) = ran(rt.alloc(), &mut Std::new(b"\xff".as_slice()))?;
+    assert_eq!(rt; done, Err(RunFault::NotUtf8));
+    assert_eq!(rt; text.len(), 0);
+    Ok(())
+}
+
+#[test]
+fn tells_each_write_that_fails(rt: HostRuntime) -> Result<(), Fail> {
+    // The transcript has 30 bytes, each of which is a write of its own.
+    let Some(limits) = usual_limits() else {
+        return Ok(());
+    };
+    for fails_at in 1..31u64 {
+        let mut source = Std::new(ONE_CHECK.as_bytes());
+        let done = run(rt.alloc(), &mut source, &mut drops(fails_at), limits);
+        assert_eq!(rt; done, Err(RunFault::Write), "at {fails_at}");
+    }
+    let mut source = Std::new(ONE_CHECK.as_bytes());
+    let done = run(rt.alloc(), &mut source, &mut drops(31), limits);
+    assert_eq!(rt; done.is_ok(), true);
+    Ok(())
+}
+
+#[test]
+fn tells_what_is_pending(rt: HostRuntime) -> Result<(), Fail> {
+    let parsed = script(rt.alloc(), TWO_CHECKS)?;
+    let Some(limits) = usual_limits() else {
+        return Ok(());
+    };
+    let mut session = Session::new(rt.alloc(), limits)?;
+    let wanted = [0usize, 1, 1, 0];
+    for (statement, count) in parsed.statements.as_slice().iter().zip(wanted) {
+        let _ = session.execute(statement);
+        let pending = session.pending()?;
+        assert_eq!(rt; pending.len(), count);
+        assert_eq!(rt; session.pending_count(), count as u64);
+        assert_eq!(rt; pending.iter().all(|fault| is_first(fault)), true);
+    }
+    assert_eq!(rt; session.in_transaction(), false);
+    assert_eq!(rt; session.catalogue().constraints().len(), 2);
+    Ok(())
+}
+
+// The constraint POS, which was made first, and row 1.
+fn is_first(fault: &Fault) -> bool {
+    fault.constraint.place() == 0 && fault.row == 1
+}
+
+#[test]
+fn commits_and_rolls_back(rt: HostRuntime) -> Result<(), Fail> {
+    let parsed = script(rt.alloc(), TWO_CHECKS)?;
+    let Some(limits) = usual_limits() else {
+        return Ok(());
+    };
+    let mut session = Session::new(rt.alloc(), limits)?;
+    for statement in parsed.statements.as_slice().iter().take(2) {
+        let _ = session.execute(statement);
+    }
+    assert_eq!(rt; session.commit().is_err(), true);
+    assert_eq!(rt; session.commit(), Ok(()));
+    session.rollback();
+    assert_eq!(rt; session.in_transaction(), false);
+    Ok(())
+}
