@@ -1,53 +1,48 @@
 #!/usr/bin/env python3
 """Runs the tests of this directory over each program given; see README.md beside this file.
 
-  tests/run.py --program PATH [--program PATH]... [--only WORD]
-
+  tests/run.py --program PATH [--program PATH]... [--only PART]
 The last line is `N passed, N failed`; the status is 1 where something failed."""
 import argparse
 import json
 import os
 import re
 import subprocess
-import sys
 
 HERE = os.path.dirname(os.path.abspath(__file__))
 # One statement that was read, its rows, and the end of an open transaction.
 READ = re.compile(rb'1 (ok( \d+)?|rows \d+|refused \d+ [^\n]*)\n(\| [^\n]*\n)*(end rolled back\n)?')
 
 
-def read(*parts):
+def files(directory):
+    return sorted(os.listdir(os.path.join(HERE, directory)))
+
+
+def read(*path):
     """The bytes of a file, or None where there is none."""
     try:
-        with open(os.path.join(HERE, *parts), 'rb') as file:
+        with open(os.path.join(HERE, *path), 'rb') as file:
             return file.read()
     except FileNotFoundError:
         return None
 
 
-def made(plan):
-    """What a generator file makes: its lines are `repeat COUNT "TEXT"`, where {n} is the place from 1."""
-    made_of = []
-    for line in plan.decode().splitlines():
-        count, text = line.removeprefix('repeat ').split(' ', 1)
-        text = json.loads(text)
-        numbers = range(1, int(count) + 1)
-        made_of += [text.replace('{n}', str(n)) for n in numbers] if '{n}' in text else [text * int(count)]
-    return ''.join(made_of).encode()
-
-
 def stored(directory, name):
-    """A stored file, or what its generator file makes, or None."""
-    plan = read(directory, name + '.gen')
-    return made(plan) if plan is not None else read(directory, name)
+    """A stored file, or what its generator file makes: lines `repeat COUNT "TEXT"`, {n} is the place from 1."""
+    plan, made = read(directory, name + '.gen'), []
+    for line in (plan or b'').decode().splitlines():
+        count, text = line.removeprefix('repeat ').split(' ', 1)
+        text, numbers = json.loads(text), range(1, int(count) + 1)
+        made += [text.replace('{n}', str(n)) for n in numbers] if '{n}' in text else [text * len(numbers)]
+    return ''.join(made).encode() if plan is not None else read(directory, name)
 
 
 def run(program, script):
     try:
         done = subprocess.run([program], input=script, capture_output=True, timeout=300)
+        return done.stdout, done.returncode, done.stderr
     except subprocess.TimeoutExpired:
         return b'no answer in 300 s', -1, b''
-    return done.stdout, done.returncode, done.stderr
 
 
 def status_of(transcript):
@@ -56,32 +51,30 @@ def status_of(transcript):
 
 def compare(what, want, got):
     """Nothing, or the first place where two texts differ."""
-    if want == got:
-        return []
     lines, found = want.split(b'\n'), got.split(b'\n')
     at = next((i for i, (a, b) in enumerate(zip(lines, found)) if a != b), min(len(lines), len(found)))
-    return ['%s, line %d: expected %r, got %r' % (what, at + 1, lines[at:at + 1], found[at:at + 1])]
+    return [] if want == got else ['%s, line %d: expected %r, got %r' % (what, at + 1, lines[at:at + 1], found[at:at + 1])]
 
 
 def judge(program, script, want, err=b'', status=None):
     out, got, errors = run(program, script)
+    why = compare('transcript', want, out) + compare('standard error', err, errors)
     expected = status_of(want) if status is None else int(status)
-    why = ['expected status %d, got %d' % (expected, got)] if got != expected else []
-    return compare('transcript', want, out) + compare('standard error', err, errors) + why
+    return why + (['expected status %d, got %d' % (expected, got)] if got != expected else [])
 
 
 def scripts(program):
-    """Whole scripts with their transcript, status and standard error: of tests and of examples."""
+    """Whole scripts with their transcript, status and standard error: those of tests and of examples."""
     for directory in ('scripts', '../examples'):
-        for name in sorted({file.split('.')[0] for file in os.listdir(os.path.join(HERE, directory))} - {'README'}):
+        for name in sorted({file.split('.')[0] for file in files(directory)}):
             script, want = stored(directory, name + '.sql'), stored(directory, name + '.out')
-            err, status = read(directory, name + '.err'), read(directory, name + '.status')
-            yield directory + '/' + name, judge(program, script, want, err or b'', status)
+            err, status = read(directory, name + '.err') or b'', read(directory, name + '.status')
+            yield directory + '/' + name, judge(program, script, want, err, status)
 
 
 def pages(program):
     """Scripts on the pages of the language, each with its transcript directly after it."""
-    for file in sorted(os.listdir(os.path.join(HERE, '../docs/language'))):
+    for file in files('../docs/language'):
         pairs = re.findall(rb'```sql\n(.*?)```\n+```text\n(.*?)```', read('../docs/language', file), re.S)
         for place, (script, want) in enumerate(pairs, 1):
             yield 'docs/language/%s, script %d' % (file, place), judge(program, script, want)
@@ -89,17 +82,14 @@ def pages(program):
 
 def statements(program):
     """Statements of the grammar, and their nearest neighbours that are none."""
-    for place, line in enumerate(read('grammar', 'statements.txt').splitlines(), 1):
-        if not line or line.startswith(b'#'):
+    for place, line in enumerate(read('grammar/statements.txt').splitlines(), 1):
+        if line[:1] in (b'', b'#'):
             continue
         kind, text = line.split(b' | ', 1)
         out, status, err = run(program, text + b';')
-        if kind == b'read':
-            good = READ.fullmatch(out) is not None
-        else:
-            at = int(kind[len(b'fault'):] or 0)
-            good = re.search(rb'^\d+ fault %d\n(end rolled back\n)?\Z' % at, out, re.M) is not None
-            good = good and (at > 0 or out.startswith(b'1 fault 0\n'))
+        at = int(kind.lstrip(b'readfult ') or 0)
+        fault = rb'^%s fault %d\n(end rolled back\n)?\Z' % (rb'\d+' if at > 0 else rb'\A1', at)
+        good = READ.fullmatch(out) if kind == b'read' else re.search(fault, out, re.M)
         good = good and status == status_of(out) and err == b''
         yield 'grammar/statements.txt:%d' % place, [] if good else ['%s: got %r' % (line.decode()[:120], out[:80])]
 
@@ -108,35 +98,32 @@ def ends(script):
     """The offsets after each semicolon that ends a statement: outside texts and outside BEGIN .. END."""
     inside, found = 0, []
     for token in re.finditer(rb"'[^']*'|\w+|;", script):
-        word = token.group().upper()
+        word = token[0].upper()
         inside += (word == b'BEGIN') - (word == b'END')
-        if word == b';' and inside == 0:
-            found.append(token.end())
+        found += [token.end()] if word == b';' and inside == 0 else []
     return found
 
 
 def groups(transcript):
     """The outcomes, each with its rows; the faults; and whether the transcript is made of these alone."""
-    shape = rb"(\d+ (?:ok|rows|refused)[^\n]*\n(?:\| [^\n]*\n)*)|(\d+ fault \d+\n)|(end rolled back\n\Z)"
+    shape = rb'(\d+ (?:ok|rows|refused)[^\n]*\n(?:\| [^\n]*\n)*)|(\d+ fault \d+\n)|(end rolled back\n\Z)'
     found = list(re.finditer(shape, transcript))
-    whole = b''.join(f.group() for f in found) == transcript
-    return [f.group(1) for f in found if f.group(1)], [f.group(2) for f in found if f.group(2)], whole
+    outcomes, faults = ([f[part] for f in found if f[part]] for part in (1, 2))
+    return outcomes, faults, b''.join(f[0] for f in found) == transcript
 
 
 def prefixes(program):
     """Each prefix of a script runs the statements that are whole in it, and has a fault at the rest."""
-    directory = os.path.join(HERE, 'prefixes')
-    for file in sorted(os.listdir(directory)):
+    for file in files('prefixes'):
         script = read('prefixes', file)
         stops, (all_outcomes, _, _) = ends(script), groups(run(program, script)[0])
         for length in range(len(script) + 1):
             whole = [stop for stop in stops if stop <= length]
-            start = whole[-1] if whole else 0
-            rest = script[start:length].lstrip()
+            rest = script[([0] + whole)[-1]:length].lstrip()
             want = [b'%d fault %d\n' % (len(whole) + 1, length - len(rest))] if rest else []
             out, status, err = run(program, script[:length])
             outcomes, faults, good = groups(out)
-            good = good and outcomes == all_outcomes[:len(whole)] and len(outcomes) == len(whole)
+            good = good and len(outcomes) == len(whole) and outcomes == all_outcomes[:len(whole)]
             good = good and faults == want and status == status_of(out) and err == b''
             yield 'prefixes/%s:%d' % (file, length), [] if good else ['got %r' % out[-200:]]
 
@@ -144,20 +131,17 @@ def prefixes(program):
 def main():
     parser = argparse.ArgumentParser()
     parser.add_argument('--program', action='append', required=True)
-    parser.add_argument('--only', default='', help='only the parts whose name holds this word')
-    options = parser.parse_args()
-    passed = failed = 0
+    parser.add_argument('--only', choices=['scripts', 'pages', 'statements', 'prefixes'])
+    options, passed, failed = parser.parse_args(), 0, 0
     for program in options.program:
-        for part in (scripts, pages, statements, prefixes):
-            if options.only not in part.__name__:
-                continue
+        for part in [globals()[options.only]] if options.only else [scripts, pages, statements, prefixes]:
             for name, why in part(os.path.abspath(program)):
                 passed, failed = passed + (not why), failed + bool(why)
                 if why:
                     print('FAILED %s over %s: %s' % (name, program, '; '.join(why)))
     print('%d passed, %d failed' % (passed, failed))
-    return int(failed > 0)
+    raise SystemExit(int(failed > 0))
 
 
 if __name__ == '__main__':
-    sys.exit(main())
+    main()
