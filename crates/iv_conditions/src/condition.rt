@@ -14,7 +14,7 @@ use crate::from_part::FromPart;
 use crate::front::{after, select, sign};
 use crate::item::Connective;
 use crate::item_part::ItemPart;
-use crate::test::{
+use crate::predicate::{
     close_item, connective_after, discard, go_on, join_found, negate, truth, value_item,
 };
 use iv_lex::{Kind, Token};

@@ -12,7 +12,7 @@ use crate::from_part::FromPart;
 use crate::front::{after, name};
 use crate::item_part::ItemPart;
 use crate::make::exists_of;
-use crate::test::{fit, truth};
+use crate::predicate::{fit, truth};
 use iv_lex::{Kind, Token};
 use iv_syntax::{Name, RangeName};
 use std::alloc::{AllocError, Global};

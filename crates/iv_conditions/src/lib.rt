@@ -12,9 +12,9 @@ mod item;
 mod item_part;
 mod laws;
 mod make;
+mod predicate;
 #[cfg(test)]
 mod shown;
-mod test;
 #[cfg(test)]
 mod tests;
 

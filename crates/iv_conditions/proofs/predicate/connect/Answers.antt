@@ -1,7 +1,7 @@
 use Rattle.std.proofs.Common.{◌+◌, sym, ◌∙◌, ap}
 use Rattle.iv_conditions.specs.Conditions.{condition_depth}
 use Rattle.iv_conditions.proofs.ConditionSteps.{connected_depth}
-use Rattle.iv_conditions.proofs.test.connect.Goals as goal
+use Rattle.iv_conditions.proofs.predicate.connect.Goals as goal
 
 pub fit-requires : goal.fit-requires
 fit-requires c =

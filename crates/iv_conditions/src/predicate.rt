@@ -1,4 +1,4 @@
-//! Tests made of what was found.
+//! Predicates, parentheses, NOT, AND and OR over what was found.
 ghost use Rattle.std.specs.Prelude.{◌≡◌, ℕ, ◌+◌, ◌≤◌, List, IfOk, None};
 ghost use Rattle.iv_conditions.specs.declared.item.Item.TheVariants.{Truth};
 ghost use Rattle.iv_conditions.specs.After.{then_read};

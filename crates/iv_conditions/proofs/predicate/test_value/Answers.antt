@@ -2,7 +2,7 @@ use Rattle.std.proofs.Common.{sym, ◌∙◌, ap}
 use Rattle.iv_lex.specs.Words.{words}
 use Rattle.iv_conditions.specs.Seen.{expression_found}
 use Rattle.iv_conditions.proofs.ConditionSteps.{value_none, value_term, value_whole}
-use Rattle.iv_conditions.proofs.test.test_value.Goals as goal
+use Rattle.iv_conditions.proofs.predicate.test_value.Goals as goal
 
 pub returns-in-Some-2 : goal.returns-in-Some-2
 returns-in-Some-2 c =

@@ -2,7 +2,7 @@ use Rattle.std.proofs.Common.{◌∙◌, ap}
 use Rattle.iv_lex.specs.Words.{words}
 use Rattle.iv_conditions.specs.SeenItem.{item_found}
 use Rattle.iv_conditions.proofs.ConditionSteps.{joined_truth, joined_value}
-use Rattle.iv_conditions.proofs.test.join_right.Goals as goal
+use Rattle.iv_conditions.proofs.predicate.join_right.Goals as goal
 
 pub returns-in-Some : goal.returns-in-Some
 returns-in-Some c = λ text. rw (← joined_truth c.args.connective c.args.limit c.args.left.tree c.in-Some.right.tree c.args.right.item (words text c.args.right.rest.now) (words text c.in-Some.right.rest.now) (c.in-Some.ensures text)) (c.connect.ensures text)

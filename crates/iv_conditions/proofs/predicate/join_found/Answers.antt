@@ -1,7 +1,7 @@
 use Rattle.std.proofs.Common.{◌≡◌, Some, sym, ◌∙◌, ap, subst}
 use Rattle.std.specs.Prelude.{IfOk}
 use Rattle.iv_conditions.specs.SeenItem.{item_found}
-use Rattle.iv_conditions.proofs.test.join_found.Goals as goal
+use Rattle.iv_conditions.proofs.predicate.join_found.Goals as goal
 
 pub returns-in-Ok-Some : goal.returns-in-Ok-Some
 returns-in-Ok-Some c = λ text found h.
