@@ -20,4 +20,3 @@ product_is a b = refl
 pub sum_is : (s : Sign) (a b : Expression) → Sum s a b ≡ sum s a b
 unfolding Rattle.iv_syntax.specs.declared.tree.Expression.TheBlock.shape-the_row-Expression-0 Rattle.iv_syntax.specs.declared.tree.Expression.TheBlock.hidden-the_row-Expression-0 denote.Hole.Carrier.hidden
 sum_is s a b = refl
-
