@@ -1,4 +1,4 @@
--- The machine: its states, and what a statement answers and leaves (4.35 "SQL-transactions", 16 "transaction management").
+-- The machine: its states, and what a statement answers and leaves (4.32 "SQL-transactions", 16 "transaction management").
 use Rattle.std.specs.Prelude.{◌≡◌, ℕ, ◌+◌, ◌^◌, Bool, true, false, not, if◌then◌else◌, nat_lt, List, [], ◌∷◌, ◌++◌, map, Option, Some, None, is_some, unwrap_or, Result, Ok, Err, MatchBool}
 use Rattle.iv_value.specs.declared.value.Value.{Value}
 use Rattle.iv_syntax.specs.declared.statement.Statement.{Statement}

@@ -40,7 +40,7 @@ pub struct RangeName {
     pub alias: Option<Name>,
 }
 
-/// A search condition (8.12).
+/// A search condition (8.15).
 #[derive(Drop)]
 pub enum Condition {
     Compare(Comparison, Expression, Expression),
