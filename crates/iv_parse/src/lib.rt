@@ -3,6 +3,7 @@
 
 mod constraint;
 mod insert;
+pub mod laws;
 mod parse;
 mod parser;
 mod select;
