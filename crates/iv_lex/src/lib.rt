@@ -6,6 +6,8 @@ mod lexer;
 mod reserved;
 mod scan;
 mod spelling;
+#[cfg(test)]
+mod tests;
 mod token;
 
 pub use kind::Kind;

@@ -86,8 +86,11 @@ read_action ws =
     if_some (after kind.Insert ws) (λ rest. then_read (read_insert rest) (λ i more. Some (action.Insert i, more)))
     (read_update_action ws)
 
+abbrev pub end_action : TriggerAction → List Word → Found (Option TriggerAction)
+end_action a ws = then_word kind.Semicolon ws (λ rest. Some (Some a, rest))
+
 unfoldable pub read_with_semicolon : List Word → Found (Option TriggerAction)
-read_with_semicolon ws = then_read (read_action ws) (λ a rest. then_word kind.Semicolon rest (λ more. Some (Some a, more)))
+read_with_semicolon ws = then_read (read_action ws) end_action
 
 -- an action and its semicolon, up to END
 unfoldable pub read_ended_action : List Word → Found (Option TriggerAction)

@@ -11,6 +11,8 @@ mod series;
 mod session;
 mod statement;
 mod table;
+#[cfg(test)]
+mod tests;
 mod time;
 
 pub use parser::{Parsed, SyntaxFault, script};
