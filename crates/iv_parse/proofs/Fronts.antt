@@ -6,9 +6,7 @@ use Rattle.iv_lex.specs.declared.kind.Kind.TheVariants as kind
 use Rattle.iv_lex.specs.Words.{Word, name, number, quoted, plain}
 use Rattle.iv_conditions.specs.After.{after, after_name, if_some, then_read, is_word}
 use Rattle.iv_conditions.proofs.Exact.{exact}
-use Rattle.iv_parse.specs.Series.{More, Series, read_more, read_series, with_first, InParentheses, close, read_closed, read_enclosed}
-use Rattle.iv_parse.specs.Statements.{Optional}
-use Rattle.iv_parse.specs.Readers.{skip}
+use Rattle.iv_parse.specs.Series.{Optional, skip, More, Series, read_more, read_series, with_first, InParentheses, close, read_closed, read_enclosed}
 
 -- the words begin with a part of the rule, which is this tree
 pub record Fits {A : Type 0} (Part : List Word → A → Type 0) (ws : List Word) (a : A) (rest : List Word) : Type 0 where

@@ -11,3 +11,5 @@ pub mod SessionSound
 pub mod SessionComplete
 pub mod Rules
 pub mod Runs
+pub mod OneReading
+pub mod TriggerSound

@@ -1,7 +1,7 @@
 -- Parts that may be left out, parts in either order and sequences of parts are read.
-use Rattle.std.proofs.Common.{◌≡◌, ◌⊎◌, inl, inr, ℕ, zero, suc, ◌+◌, ◌≤◌, Option, Some, None, List, [], ◌∷◌, ◌++◌, length, refl, sym, ◌∙◌, ap, subst, arith, append_assoc, append-nil, length-append}
+use Rattle.std.proofs.Common.{◌≡◌, inl, inr, ℕ, zero, suc, ◌+◌, ◌≤◌, Option, Some, None, List, [], ◌∷◌, ◌++◌, length, sym, ◌∙◌, ap, subst, arith, append_assoc, append-nil, length-append}
 use Rattle.iv_lex.specs.declared.kind.Kind.{Kind}
-use Rattle.iv_lex.specs.Words.{Word, plain}
+use Rattle.iv_lex.specs.Words.{Word}
 use Rattle.iv_conditions.specs.After.{after, if_some, then_read}
 use Rattle.iv_parse.proofs.Fronts.{same_found}
 use Rattle.iv_parse.specs.Series.{Sequence, Maybe, InEitherOrder, read_sequence, read_either_order, with_first}

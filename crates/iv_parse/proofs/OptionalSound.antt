@@ -1,16 +1,15 @@
 -- What is read of numbers, texts, signs and parts that may be left out stands at the front.
-use Rattle.std.proofs.Common.{◌≡◌, inl, inr, ℕ, zero, suc, Option, Some, None, List, [], ◌∷◌, ◌++◌, length, refl, sym, ◌∙◌, ap, subst, append_assoc, append-nil}
-use Rattle.iv_lex.specs.declared.kind.Kind.{Kind}
+use Rattle.std.proofs.Common.{◌≡◌, inl, inr, ℕ, zero, suc, Option, Some, None, List, [], ◌∷◌, ◌++◌, refl, ◌∙◌, ap, append-nil}
 use Rattle.iv_lex.specs.declared.kind.Kind.TheVariants as kind
 use Rattle.iv_lex.specs.Words.{Word, name, number, quoted, plain}
 use Rattle.iv_syntax.specs.declared.tree.Sign.{Sign}
 use Rattle.iv_syntax.specs.declared.tree.Sign.TheVariants as sign
-use Rattle.iv_conditions.specs.After.{after, after_name, if_some, then_read}
+use Rattle.iv_conditions.specs.After.{if_some, then_read}
 use Rattle.iv_conditions.specs.Expressions.{sign_kind}
 use Rattle.iv_conditions.specs.ExpressionReader.{after_sign}
 use Rattle.iv_parse.specs.Series.{Sequence, Maybe, InEitherOrder, read_sequence, read_either_order, with_first}
 use Rattle.iv_parse.specs.TableReaders.{read_number, read_quoted}
-use Rattle.iv_parse.proofs.Fronts.{Fits, Good, nothing_good, done_good, after_good, then_good, further, same_found}
+use Rattle.iv_parse.proofs.Fronts.{Good, nothing_good, done_good, after_good, then_good, further, same_found}
 
 abbrev pub IsNumber : List Word → ℕ → Type 0
 IsNumber ws n = ws ≡ number n ∷ []

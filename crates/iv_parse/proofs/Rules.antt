@@ -11,13 +11,13 @@ use Rattle.iv_parse.specs.TableReaders.{read_elements, read_table_constraint}
 use Rattle.iv_parse.specs.Data.{IsInsert, IsUpdate, IsDelete, IsSelect}
 use Rattle.iv_parse.specs.DataReaders.{then_word, read_insert, read_update, read_delete, read_select}
 use Rattle.iv_parse.specs.Statements.{Reads}
-use Rattle.iv_parse.specs.Readers.{read_drop, read_session_rule, read_insert_rule, read_update_rule, read_delete_rule, read_select_rule, read_create_table, read_create, read_alter, read_definition_rule, read_rule, read_statement}
+use Rattle.iv_parse.specs.Readers.{read_drop, read_insert_rule, read_update_rule, read_delete_rule, read_select_rule, read_create_table, read_create, read_alter, read_definition_rule, read_rule, read_statement}
 use Rattle.iv_parse.specs.Script.{BeginsStatement}
 use Rattle.iv_parse.proofs.Fronts.{Good, nothing_good, done_good, after_good, name_good, then_good, made_good}
 use Rattle.iv_parse.proofs.DataSound.{insert_good, update_good, delete_good, select_good}
 use Rattle.iv_parse.proofs.TableSound.{elements_good, table_constraint_good}
 use Rattle.iv_parse.proofs.TableComplete.{elements_complete, table_constraint_reads, statement_constraint}
-use Rattle.iv_parse.proofs.DataComplete.{insert_reads, update_reads, delete_reads, select_reads, EndsStatement, semicolon}
+use Rattle.iv_parse.proofs.DataComplete.{insert_reads, update_reads, delete_reads, select_reads, semicolon}
 use Rattle.iv_parse.proofs.SessionSound.{drop_good, session_good}
 use Rattle.iv_parse.proofs.SessionComplete.{start_complete, commit_complete, rollback_complete, to_complete, savepoint_complete, release_complete, set_complete}
 

@@ -9,12 +9,12 @@ use Rattle.iv_syntax.specs.declared.statement.ConstraintMode.TheVariants.{Immedi
 use Rattle.iv_syntax.specs.declared.statement.ConstraintList.{ConstraintList}
 use Rattle.iv_syntax.specs.declared.statement.ConstraintList.TheVariants.{All, Named}
 use Rattle.iv_conditions.specs.After.{after, if_some, then_read}
-use Rattle.iv_parse.specs.Series.{read_series}
+use Rattle.iv_parse.specs.Series.{Optional, read_series}
 use Rattle.iv_parse.specs.Data.{Names}
 use Rattle.iv_parse.specs.DataReaders.{Found, read_name}
 use Rattle.iv_parse.specs.Tables.{mode_kind}
 use Rattle.iv_parse.specs.TableReaders.{read_mode}
-use Rattle.iv_parse.specs.Statements.{Optional, IsConstraintList}
+use Rattle.iv_parse.specs.Statements.{IsConstraintList}
 use Rattle.iv_parse.specs.Readers.{read_drop, read_start, read_commit, read_to, read_rollback, read_savepoint, read_release, read_list, read_set, read_savepoint_rule, read_session_rule}
 use Rattle.iv_parse.proofs.DataComplete.{names_complete}
 

@@ -1,17 +1,14 @@
 -- What is read of statements about transactions, savepoints and constraint modes is in the grammar.
-use Rattle.std.proofs.Common.{◌≡◌, Some, None, List, [], ◌∷◌, ◌++◌, refl, sym, ◌∙◌, ap, subst, append-nil}
+use Rattle.std.proofs.Common.{Some, None, List, ◌∷◌, ◌++◌, refl, sym, ◌∙◌, ap, subst, append-nil}
 use Rattle.iv_lex.specs.declared.kind.Kind.TheVariants as kind
 use Rattle.iv_lex.specs.Words.{Word, plain}
 use Rattle.iv_syntax.specs.declared.statement.Statement.TheVariants.{DropTrigger, StartTransaction, Commit, Rollback, Savepoint, Release, RollbackTo, SetConstraints}
-use Rattle.iv_syntax.specs.declared.statement.ConstraintMode.{ConstraintMode}
-use Rattle.iv_syntax.specs.declared.statement.ConstraintMode.TheVariants.{Immediate, Deferred}
 use Rattle.iv_syntax.specs.declared.statement.ConstraintList.TheVariants.{All, Named}
-use Rattle.iv_parse.specs.Series.{read_series}
+use Rattle.iv_parse.specs.Series.{Optional, read_series}
 use Rattle.iv_parse.specs.Data.{Names}
 use Rattle.iv_parse.specs.DataReaders.{read_name}
-use Rattle.iv_parse.specs.Tables.{mode_kind}
 use Rattle.iv_parse.specs.TableReaders.{read_mode}
-use Rattle.iv_parse.specs.Statements.{Optional, IsConstraintList, Reads}
+use Rattle.iv_parse.specs.Statements.{IsConstraintList, Reads}
 use Rattle.iv_parse.specs.Readers.{read_drop, read_start, read_commit, read_to, read_rollback_rest, read_rollback, read_savepoint, read_release, read_list, read_set, read_savepoint_rule, read_session_rule}
 use Rattle.iv_parse.proofs.DataSound.{names_good}
 use Rattle.iv_parse.proofs.TableSound.{IsMode, mode_good}

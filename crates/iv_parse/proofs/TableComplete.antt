@@ -1,12 +1,10 @@
 -- What is in the grammar of CREATE TABLE and ALTER TABLE is read.
-use Rattle.std.specs.Prelude.{if◌then◌else◌}
-use Rattle.std.proofs.Common.{◌≡◌, ◌⊎◌, inl, inr, ℕ, Bool, true, false, Option, Some, None, List, [], ◌∷◌, ◌++◌, length, refl, sym, ◌∙◌, ap, subst, append_assoc, append-nil}
+use Rattle.std.proofs.Common.{◌≡◌, inl, inr, ℕ, Bool, true, false, Option, Some, None, List, [], ◌∷◌, ◌++◌, refl, sym, ◌∙◌, ap, subst, append_assoc}
 use Rattle.iv_lex.specs.declared.kind.Kind.{Kind}
 use Rattle.iv_lex.specs.declared.kind.Kind.TheVariants as kind
-use Rattle.iv_lex.specs.Words.{Word, name, number, quoted, plain}
+use Rattle.iv_lex.specs.Words.{Word, name, number, plain}
 use Rattle.iv_syntax.specs.declared.tree.Sign.{Sign}
 use Rattle.iv_syntax.specs.declared.tree.Sign.TheVariants as sign
-use Rattle.iv_syntax.specs.declared.tree.Condition.{Condition}
 use Rattle.iv_syntax.specs.declared.statement.ConstraintMode.{ConstraintMode}
 use Rattle.iv_syntax.specs.declared.statement.ConstraintMode.TheVariants.{Immediate, Deferred}
 use Rattle.iv_syntax.specs.declared.table.Literal.{Literal}
@@ -30,14 +28,13 @@ use Rattle.iv_syntax.specs.declared.table.TableElement.{TableElement}
 use Rattle.iv_syntax.specs.declared.table.TableElement.TheVariants.{Column, Constraint}
 use Rattle.iv_conditions.specs.After.{after, after_name, if_some, then_read, same}
 use Rattle.iv_conditions.specs.Expressions.{sign_kind}
-use Rattle.iv_conditions.specs.ExpressionReader.{after_sign}
-use Rattle.iv_parse.specs.Series.{Series, Sequence, Maybe, InParentheses, InEitherOrder, read_series, read_enclosed, read_sequence, read_either_order}
-use Rattle.iv_parse.specs.Data.{IsName, Names, IsColumnList, IsShallowCondition}
-use Rattle.iv_parse.specs.DataReaders.{then_word, read_name, read_column_list, read_check}
-use Rattle.iv_parse.specs.Tables.{mode_kind, IsVarchar, IsType, IsLiteral, IsDefault, IsConstraintName, IsDeferrable, IsInitially, IsTime, match_kind, IsMatch, action_words, IsOn, AreActions, IsReferences, IsColumnRule, IsColumnConstraint, IsColumn, IsTableRule, IsTableConstraint, IsElement}
-use Rattle.iv_parse.specs.TableReaders.{read_number, read_quoted, read_length, read_varying, read_varchar, read_type, text_or_null, read_literal, read_default, read_constraint_name, read_deferrable, read_mode, read_initially, read_time, read_match_type, read_match, read_set_action, read_strict_action, read_action, read_on, read_actions, read_reference_columns, read_references, read_null_rule, read_primary_rule, read_plain_rule, read_condition_rule, read_column_rule, column_constraint_of, read_column_constraint, read_column_constraints, read_column, read_key, read_primary_key, read_foreign_key, read_check_rule, read_unique_rule, read_table_rule, read_table_constraint, read_column_element, read_element, read_elements}
+use Rattle.iv_parse.specs.Series.{Series, Sequence, Maybe, InParentheses, read_series}
+use Rattle.iv_parse.specs.Data.{Names}
+use Rattle.iv_parse.specs.DataReaders.{then_word, read_name}
+use Rattle.iv_parse.specs.Tables.{mode_kind, IsVarchar, IsType, IsLiteral, IsDefault, IsConstraintName, IsDeferrable, IsInitially, IsTime, match_kind, IsMatch, action_words, IsOn, AreActions, IsReferences, IsColumnRule, IsColumnConstraint, IsTableRule, IsTableConstraint, IsElement}
+use Rattle.iv_parse.specs.TableReaders.{read_length, read_varchar, read_type, read_literal, read_default, read_constraint_name, read_deferrable, read_mode, read_initially, read_time, read_match_type, read_match, read_strict_action, read_action, read_on, read_actions, read_reference_columns, read_references, read_null_rule, read_primary_rule, read_plain_rule, read_condition_rule, read_column_rule, column_constraint_of, read_column_constraint, read_column_constraints, read_column, read_key, read_primary_key, read_foreign_key, read_check_rule, read_unique_rule, read_table_rule, read_table_constraint, read_column_element, read_element, read_elements}
 use Rattle.iv_parse.proofs.Complete.{Reads_all, Anything, series_complete, enclosed_complete}
-use Rattle.iv_parse.proofs.OptionalComplete.{maybe_after, either_after, Orders, either_order_complete, Parts, sequence_complete, sequence_begins}
+use Rattle.iv_parse.proofs.OptionalComplete.{maybe_after, either_after, either_order_complete, Parts, sequence_complete}
 use Rattle.iv_parse.proofs.DataComplete.{names_complete, column_list_reads, check_complete, other_word}
 
 varchar_reads : (n : ℕ) (head rest : List Word) → IsVarchar head

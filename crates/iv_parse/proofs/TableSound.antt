@@ -1,32 +1,27 @@
 -- What is read of the parts of CREATE TABLE and ALTER TABLE is in the grammar.
-use Rattle.std.proofs.Common.{◌≡◌, inl, inr, ℕ, Bool, true, false, Option, Some, None, List, [], ◌∷◌, ◌++◌, length, refl, sym, ◌∙◌, ap, subst, append_assoc, append-nil}
+use Rattle.std.proofs.Common.{◌≡◌, inl, inr, ℕ, true, false, Option, Some, None, List, [], ◌∷◌, ◌++◌, length, refl, sym, ◌∙◌, ap, subst, append-nil}
 use Rattle.iv_lex.specs.declared.kind.Kind.{Kind}
 use Rattle.iv_lex.specs.declared.kind.Kind.TheVariants as kind
-use Rattle.iv_lex.specs.Words.{Word, name, number, quoted, plain}
+use Rattle.iv_lex.specs.Words.{Word, name, plain}
 use Rattle.iv_syntax.specs.declared.statement.ConstraintMode.{ConstraintMode}
 use Rattle.iv_syntax.specs.declared.statement.ConstraintMode.TheVariants.{Immediate, Deferred}
-use Rattle.iv_syntax.specs.declared.table.Literal.{Literal}
 use Rattle.iv_syntax.specs.declared.table.Literal.TheVariants as literal
-use Rattle.iv_syntax.specs.declared.table.ColumnType.{ColumnType}
 use Rattle.iv_syntax.specs.declared.table.ColumnType.TheVariants.{Integer, Varchar}
 use Rattle.iv_syntax.specs.declared.table.MatchType.{MatchType}
 use Rattle.iv_syntax.specs.declared.table.MatchType.TheVariants.{Simple, Full}
 use Rattle.iv_syntax.specs.declared.table.ReferentialAction.{ReferentialAction}
 use Rattle.iv_syntax.specs.declared.table.ReferentialAction.TheVariants.{NoAction, Restrict, Cascade, SetNull, SetDefault}
-use Rattle.iv_syntax.specs.declared.table.References.{References}
 use Rattle.iv_syntax.specs.declared.table.ColumnRule.{ColumnRule}
 use Rattle.iv_syntax.specs.declared.table.ColumnRule.TheVariants as column_rule
-use Rattle.iv_syntax.specs.declared.table.TableRule.{TableRule}
 use Rattle.iv_syntax.specs.declared.table.TableRule.TheVariants as table_rule
 use Rattle.iv_syntax.specs.declared.table.TableElement.TheVariants.{Column, Constraint}
-use Rattle.iv_conditions.specs.After.{after, after_name, if_some, then_read}
 use Rattle.iv_conditions.specs.Expressions.{sign_kind}
 use Rattle.iv_conditions.specs.ExpressionReader.{after_sign}
-use Rattle.iv_parse.specs.Series.{Series, Sequence, Maybe, InParentheses, InEitherOrder, read_series, read_enclosed, read_sequence, read_either_order}
+use Rattle.iv_parse.specs.Series.{Series, Sequence, Maybe, InParentheses, InEitherOrder, read_series, read_either_order}
 use Rattle.iv_parse.specs.Data.{IsName, Names, IsColumnList, IsShallowCondition}
 use Rattle.iv_parse.specs.DataReaders.{read_name, read_column_list, read_check}
 use Rattle.iv_parse.specs.Tables.{mode_kind, IsVarchar, IsType, IsLiteral, IsDefault, IsConstraintName, IsDeferrable, IsInitially, IsTime, match_kind, IsMatch, action_words, IsOn, AreActions, IsReferences, IsColumnRule, IsColumnConstraint, IsColumn, IsTableRule, IsTableConstraint, IsElement}
-use Rattle.iv_parse.specs.TableReaders.{read_number, read_quoted, read_length, read_varying, read_varchar, read_type, text_or_null, read_literal, read_default, read_constraint_name, read_deferrable, read_mode, read_initially, read_time, read_match_type, read_match, read_set_action, read_strict_action, read_action, read_on, read_actions, read_reference_columns, read_references, read_null_rule, read_primary_rule, read_plain_rule, read_condition_rule, read_column_rule, column_constraint_of, read_column_constraint, read_column_constraints, read_column, read_key, read_primary_key, read_foreign_key, read_check_rule, read_unique_rule, read_table_rule, read_table_constraint, read_column_element, read_element, read_elements}
+use Rattle.iv_parse.specs.TableReaders.{read_number, read_quoted, read_length, read_varying, read_varchar, read_type, read_literal, read_default, read_constraint_name, read_deferrable, read_mode, read_initially, read_time, read_match_type, read_match, read_set_action, read_strict_action, read_action, read_on, read_actions, read_reference_columns, read_references, read_null_rule, read_primary_rule, read_plain_rule, read_condition_rule, read_column_rule, column_constraint_of, read_column_constraint, read_column_constraints, read_column, read_key, read_primary_key, read_foreign_key, read_check_rule, read_unique_rule, read_table_rule, read_table_constraint, read_column_element, read_element, read_elements}
 use Rattle.iv_parse.proofs.Fronts.{Good, nothing_good, done_good, after_good, name_good, then_good, made_good, series_good, enclosed_good, ahead_good}
 use Rattle.iv_parse.proofs.OptionalSound.{IsNumber, IsQuoted, IsSign, number_good, quoted_good, sign_good, found_good, sequence_good, either_order_good}
 use Rattle.iv_parse.proofs.DataSound.{one_name_good, names_good, column_list_good, check_good}

@@ -3,6 +3,9 @@ pub mod Data
 pub mod DataReaders
 pub mod Tables
 pub mod TableReaders
+pub mod Triggers
+pub mod TriggerReaders
 pub mod Statements
 pub mod Readers
 pub mod Script
+pub mod Laws

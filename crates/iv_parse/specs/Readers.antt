@@ -1,23 +1,16 @@
 -- Statements as they are found at the front of words, with one word of look-ahead.
-use Rattle.std.specs.Prelude.{Some, None, List}
-use Rattle.iv_lex.specs.declared.kind.Kind.{Kind}
+use Rattle.std.specs.Prelude.{Some, List}
 use Rattle.iv_lex.specs.declared.kind.Kind.TheVariants as kind
 use Rattle.iv_lex.specs.Words.{Word}
 use Rattle.iv_syntax.specs.declared.statement.Statement.{Statement}
 use Rattle.iv_syntax.specs.declared.statement.Statement.TheVariants.{DropTrigger, StartTransaction, Commit, Rollback, Savepoint, Release, RollbackTo, SetConstraints}
 use Rattle.iv_syntax.specs.declared.statement.Statement.TheVariants as statement
-use Rattle.iv_syntax.specs.declared.statement.ConstraintMode.{ConstraintMode}
-use Rattle.iv_syntax.specs.declared.statement.ConstraintMode.TheVariants.{Immediate, Deferred}
 use Rattle.iv_syntax.specs.declared.statement.ConstraintList.{ConstraintList}
 use Rattle.iv_syntax.specs.declared.statement.ConstraintList.TheVariants.{All, Named}
 use Rattle.iv_conditions.specs.After.{after, if_some, then_read}
-use Rattle.iv_parse.specs.Series.{read_series}
+use Rattle.iv_parse.specs.Series.{read_series, skip}
 use Rattle.iv_parse.specs.TableReaders.{read_mode, read_elements, read_table_constraint}
 use Rattle.iv_parse.specs.DataReaders.{Found, then_word, read_name, read_insert, read_update, read_delete, read_select}
-
--- the words after a word that may be left out
-abbrev pub skip : Kind → List Word → List Word
-skip k ws = if_some (after k ws) (λ rest. rest) ws
 
 unfoldable pub read_drop : List Word → Found Statement
 read_drop ws = then_word kind.Trigger ws (λ rest. then_read (read_name rest) (λ n more. Some (DropTrigger n, more)))

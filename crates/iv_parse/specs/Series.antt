@@ -1,5 +1,6 @@
 -- Series: parts of one rule with commas between them.
 use Rattle.std.specs.Prelude.{◌≡◌, ◌⊎◌, ℕ, zero, suc, Option, Some, None, List, [], ◌∷◌, ◌++◌, length}
+use Rattle.iv_lex.specs.declared.kind.Kind.{Kind}
 use Rattle.iv_lex.specs.declared.kind.Kind.TheVariants as kind
 use Rattle.iv_lex.specs.Words.{Word, plain}
 use Rattle.iv_conditions.specs.After.{after, if_some, then_read}
@@ -73,3 +74,11 @@ module _ {A B : Type 0} where
   read_either_order first second ws =
       then_read (first ws) (λ a rest. then_read (second rest) (λ b more.
       if_some a (λ x. Some ((Some x, b), more)) (then_read (first more) (λ c left. Some ((c, b), left)))))
+
+-- a word that may be left out
+abbrev pub Optional : Kind → List Word → Type 0
+Optional k ws = (ws ≡ []) ⊎ (ws ≡ plain k ∷ [])
+
+-- the words after a word that may be left out
+abbrev pub skip : Kind → List Word → List Word
+skip k ws = if_some (after k ws) (λ rest. rest) ws

@@ -1,21 +1,15 @@
 -- Statements: which words are which statement.
-use Rattle.std.specs.Prelude.{◌≡◌, ◌⊎◌, List, [], ◌∷◌, ◌++◌}
-use Rattle.iv_lex.specs.declared.kind.Kind.{Kind}
+use Rattle.std.specs.Prelude.{◌≡◌, List, [], ◌∷◌, ◌++◌}
 use Rattle.iv_lex.specs.declared.kind.Kind.TheVariants as kind
 use Rattle.iv_lex.specs.Words.{Word, name, plain}
 use Rattle.iv_syntax.specs.declared.statement.Statement.{Statement}
 use Rattle.iv_syntax.specs.declared.statement.Statement.TheVariants.{DropTrigger, StartTransaction, Commit, Rollback, Savepoint, Release, RollbackTo, SetConstraints}
 use Rattle.iv_syntax.specs.declared.statement.Statement.TheVariants as statement
-use Rattle.iv_syntax.specs.declared.statement.ConstraintMode.{ConstraintMode}
-use Rattle.iv_syntax.specs.declared.statement.ConstraintMode.TheVariants.{Immediate, Deferred}
 use Rattle.iv_syntax.specs.declared.statement.ConstraintList.{ConstraintList}
 use Rattle.iv_syntax.specs.declared.statement.ConstraintList.TheVariants.{All, Named}
+use Rattle.iv_parse.specs.Series.{Optional}
 use Rattle.iv_parse.specs.Tables.{mode_kind, IsCreateTable, IsAlterTable}
 use Rattle.iv_parse.specs.Data.{Names, IsInsert, IsUpdate, IsDelete, IsSelect}
-
--- a word that may be left out
-abbrev pub Optional : Kind → List Word → Type 0
-Optional k ws = (ws ≡ []) ⊎ (ws ≡ plain k ∷ [])
 
 -- ALL | names
 abbrev pub IsConstraintList : List Word → ConstraintList → Type 0

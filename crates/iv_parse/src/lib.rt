@@ -3,6 +3,7 @@
 
 mod constraint;
 mod insert;
+pub mod laws;
 mod parse;
 mod parser;
 mod select;
@@ -10,6 +11,8 @@ mod series;
 mod session;
 mod statement;
 mod table;
+#[cfg(test)]
+mod tests;
 mod time;
 
 pub use parser::{Parsed, SyntaxFault, script};

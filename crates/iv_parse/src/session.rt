@@ -3,7 +3,8 @@ ghost use Rattle.std.specs.Prelude.{◌≡◌, IfOk, ℕ, List, true, Some};
 ghost use Rattle.iv_conditions.specs.After.{is_plain};
 ghost use Rattle.iv_lex.specs.Words.{words};
 ghost use Rattle.iv_conditions.specs.Seen.{with_words};
-ghost use Rattle.iv_parse.specs.Readers.{skip, read_drop, read_start, read_commit, read_to, read_rollback_rest, read_rollback, read_savepoint, read_release, read_list, read_set, read_savepoint_rule, read_session_rule};
+ghost use Rattle.iv_parse.specs.Series.{skip};
+ghost use Rattle.iv_parse.specs.Readers.{read_drop, read_start, read_commit, read_to, read_rollback_rest, read_rollback, read_savepoint, read_release, read_list, read_set, read_savepoint_rule, read_session_rule};
 
 use crate::series::series;
 use crate::time::mode;

@@ -1,5 +1,5 @@
-use Rattle.std.proofs.Common.{◌≡◌, Option, Some, None, List, arith, ap, sym, ◌∙◌}
-use Rattle.iv_lex.specs.Words.{Word, words}
+use Rattle.std.proofs.Common.{Some, arith, ap, sym, ◌∙◌}
+use Rattle.iv_lex.specs.Words.{words}
 use Rattle.iv_conditions.specs.Seen.{with_words}
 use Rattle.iv_parse.proofs.Loops.{amid_more, amid_end}
 use Rattle.iv_parse.proofs.series.sequence.Goals as goal

@@ -1,0 +1,139 @@
+-- The parts of CREATE TRIGGER as they are found at the front of words.
+use Rattle.std.specs.Prelude.{ℕ, Option, Some, None, List, [], ◌∷◌, length}
+use Rattle.iv_lex.specs.declared.kind.Kind.TheVariants as kind
+use Rattle.iv_lex.specs.Words.{Word}
+use Rattle.iv_expr.specs.declared.tree.Side.{Side}
+use Rattle.iv_expr.specs.declared.tree.Side.TheVariants as side
+use Rattle.iv_syntax.specs.declared.tree.Condition.{Condition}
+use Rattle.iv_syntax.specs.declared.trigger.ActionTime.{ActionTime}
+use Rattle.iv_syntax.specs.declared.trigger.ActionTime.TheVariants as action_time
+use Rattle.iv_syntax.specs.declared.trigger.TriggerEvent.{TriggerEvent}
+use Rattle.iv_syntax.specs.declared.trigger.TriggerEvent.TheVariants as event
+use Rattle.iv_syntax.specs.declared.trigger.Granularity.{Granularity}
+use Rattle.iv_syntax.specs.declared.trigger.Granularity.TheVariants as granularity
+use Rattle.iv_syntax.specs.declared.trigger.TransitionName.{TransitionName}
+use Rattle.iv_syntax.specs.declared.trigger.TransitionName.TheVariants as transition
+use Rattle.iv_syntax.specs.declared.trigger.Referencing.{Referencing}
+use Rattle.iv_syntax.specs.declared.trigger.TriggerAction.{TriggerAction}
+use Rattle.iv_syntax.specs.declared.trigger.TriggerAction.TheVariants as action
+use Rattle.iv_syntax.specs.declared.trigger.TriggerDefinition.{TriggerDefinition}
+use Rattle.iv_conditions.specs.After.{after, if_some, then_read}
+use Rattle.iv_parse.specs.Series.{read_sequence, skip}
+use Rattle.iv_parse.specs.DataReaders.{Found, then_word, read_name, read_shallow, read_check, read_insert, read_update, read_delete}
+use Rattle.iv_parse.specs.TableReaders.{read_quoted}
+
+unfoldable pub read_transition : List Word → Found TransitionName
+read_transition ws = if_some (after kind.Table ws) (λ rest. Some (transition.Table, rest)) (Some (transition.Row, skip kind.Row ws))
+
+-- after OLD or NEW
+unfoldable pub read_item_of : Side → List Word → Found (Option Referencing)
+read_item_of s ws =
+    then_read (read_transition ws) (λ w rest. then_read (read_name (skip kind.As rest)) (λ n more. Some (Some (record { side = s; what = w; name = n }), more)))
+
+-- an item, where one begins
+unfoldable pub read_item : List Word → Found (Option Referencing)
+read_item ws =
+    if_some (after kind.Old ws) (read_item_of side.Old)
+    (if_some (after kind.New ws) (read_item_of side.New) (Some (None, ws)))
+
+-- there is one at least
+abbrev pub some_items : List Referencing → List Word → Found (List Referencing)
+some_items [] ws = None
+some_items (r ∷ rs) ws = Some (r ∷ rs, ws)
+
+unfoldable pub read_referencing : List Word → Found (List Referencing)
+read_referencing ws =
+    if_some (after kind.Referencing ws) (λ rest. then_read (read_sequence read_item (length rest) rest) some_items) (Some ([], ws))
+
+-- after FOR EACH
+unfoldable pub read_each : List Word → Found Granularity
+read_each ws =
+    if_some (after kind.Row ws) (λ rest. Some (granularity.Row, rest))
+    (if_some (after kind.Statement ws) (λ rest. Some (granularity.Statement, rest)) None)
+
+unfoldable pub read_granularity : List Word → Found Granularity
+read_granularity ws = if_some (after kind.For ws) (λ rest. then_word kind.Each rest read_each) (Some (granularity.Statement, ws))
+
+unfoldable pub read_when : List Word → Found (Option Condition)
+read_when ws = if_some (after kind.When ws) (λ rest. then_read (read_check rest) (λ c more. Some (Some c, more))) (Some (None, ws))
+
+-- after SET
+unfoldable pub read_set_variable : List Word → Found TriggerAction
+read_set_variable ws =
+    then_read (read_name ws) (λ r a. then_word kind.Period a (λ b. then_read (read_name b) (λ c d. then_word kind.Equals d
+    (λ rest. then_read (read_shallow rest) (λ e more. Some (action.Set r c e, more))))))
+
+unfoldable pub read_signal : List Word → Found TriggerAction
+read_signal ws = then_read (read_quoted ws) (λ t rest. Some (action.Signal t, rest))
+
+unfoldable pub read_other_action : List Word → Found TriggerAction
+read_other_action ws =
+    if_some (after kind.Signal ws) read_signal
+    (if_some (after kind.Set ws) read_set_variable None)
+
+unfoldable pub read_delete_action : List Word → Found TriggerAction
+read_delete_action ws =
+    if_some (after kind.Delete ws) (λ rest. then_read (read_delete rest) (λ d more. Some (action.Delete d, more)))
+    (read_other_action ws)
+
+unfoldable pub read_update_action : List Word → Found TriggerAction
+read_update_action ws =
+    if_some (after kind.Update ws) (λ rest. then_read (read_update rest) (λ u more. Some (action.Update u, more)))
+    (read_delete_action ws)
+
+unfoldable pub read_action : List Word → Found TriggerAction
+read_action ws =
+    if_some (after kind.Insert ws) (λ rest. then_read (read_insert rest) (λ i more. Some (action.Insert i, more)))
+    (read_update_action ws)
+
+abbrev pub end_action : TriggerAction → List Word → Found (Option TriggerAction)
+end_action a ws = then_word kind.Semicolon ws (λ rest. Some (Some a, rest))
+
+unfoldable pub read_with_semicolon : List Word → Found (Option TriggerAction)
+read_with_semicolon ws = then_read (read_action ws) end_action
+
+-- an action and its semicolon, up to END
+unfoldable pub read_ended_action : List Word → Found (Option TriggerAction)
+read_ended_action ws = if_some (after kind.End ws) (λ rest. Some (None, ws)) (read_with_semicolon ws)
+
+abbrev pub some_actions : List TriggerAction → List Word → Found (List TriggerAction)
+some_actions [] ws = None
+some_actions (a ∷ bs) ws = then_word kind.End ws (λ rest. Some (a ∷ bs, rest))
+
+-- after BEGIN
+unfoldable pub read_block : List Word → Found (List TriggerAction)
+read_block ws = then_word kind.Atomic ws (λ rest. then_read (read_sequence read_ended_action (length rest) rest) some_actions)
+
+unfoldable pub read_single : List Word → Found (List TriggerAction)
+read_single ws = then_read (read_action ws) (λ a rest. Some (a ∷ [], rest))
+
+unfoldable pub read_body : List Word → Found (List TriggerAction)
+read_body ws = if_some (after kind.Begin ws) read_block (read_single ws)
+
+unfoldable pub read_action_time : List Word → Found ActionTime
+read_action_time ws =
+    if_some (after kind.Before ws) (λ rest. Some (action_time.Before, rest))
+    (if_some (after kind.After ws) (λ rest. Some (action_time.After, rest)) None)
+
+unfoldable pub read_other_event : List Word → Found TriggerEvent
+read_other_event ws =
+    if_some (after kind.Update ws) (λ rest. Some (event.Update, rest))
+    (if_some (after kind.Delete ws) (λ rest. Some (event.Delete, rest)) None)
+
+unfoldable pub read_event : List Word → Found TriggerEvent
+read_event ws = if_some (after kind.Insert ws) (λ rest. Some (event.Insert, rest)) (read_other_event ws)
+
+-- the time, the event and ON
+unfoldable pub read_occasion : List Word → Found (ActionTime × TriggerEvent)
+read_occasion ws = then_read (read_action_time ws) (λ t rest. then_read (read_event rest) (λ e more. then_word kind.On more (λ left. Some ((t, e), left))))
+
+-- from what follows the table on
+unfoldable pub read_trigger_rest : List ℕ → ActionTime → TriggerEvent → List ℕ → List Word → Found TriggerDefinition
+read_trigger_rest n t e table ws =
+    then_read (read_referencing ws) (λ rs a. then_read (read_granularity a) (λ g b. then_read (read_when b) (λ w c. then_read (read_body c)
+    (λ body rest. Some (record { name = n; time = t; event = e; table = table; referencing = rs; granularity = g; when = w; body = body }, rest)))))
+
+-- after TRIGGER
+unfoldable pub read_trigger : List Word → Found TriggerDefinition
+read_trigger ws =
+    then_read (read_name ws) (λ n a. then_read (read_occasion a) (λ o b. then_read (read_name b) (λ t rest. read_trigger_rest n o.0 o.1 t rest)))

@@ -1,0 +1,66 @@
+//! Scripts, at values from outside.
+use crate::laws::{no_other_begins, one_script, one_statement};
+use crate::script;
+use std::alloc::{AllocError, Global};
+use std::test::Fail;
+
+/// How many statements a text begins with, and the fault.
+fn shown(alloc: Global, text: &str) -> Result<String, AllocError> {
+    let parsed = script(alloc, text)?;
+    let count = parsed.statements.len();
+    match parsed.fault {
+        Some(fault) => format!(in alloc; "{count} fault {}", fault.at),
+        None => format!(in alloc; "{count}"),
+    }
+}
+
+#[test]
+fn scripts_are_the_longest_run(rt: HostRuntime) -> Result<(), Fail> {
+    for (text, wanted) in [
+        ("COMMIT; x", "1 fault 8"),
+        ("", "0"),
+        (" -- nothing", "0"),
+        ("COMMIT", "0 fault 0"),
+        ("commit work; rollback to savepoint s;", "2"),
+        (
+            "CREATE TABLE t (a VARCHAR(3)); INSERT INTO t VALUES ('x'); INSERT INTO t VALUES ('y",
+            "2 fault 59",
+        ),
+        (
+            "CREATE TABLE p (k INT PRIMARY KEY); CREATE TABLE c (x INT REFERENCES p ON DELETE CASCADE);",
+            "2",
+        ),
+        (
+            "CREATE TABLE t (a INT UNIQUE NOT NULL, b INT UNIQUE NOT DEFERRABLE NOT NULL);",
+            "1",
+        ),
+        ("CREATE TABLE t (a INT INITIALLY DEFERRED);", "0 fault 0"),
+        (
+            "SELECT COUNT(*) FROM u x; SELECT * FROM t WHERE a = 1 AND b IS NOT NULL;",
+            "2",
+        ),
+        (
+            "UPDATE t SET a = a + 1, b = DEFAULT WHERE a < 18; DELETE FROM t;",
+            "2",
+        ),
+        (
+            "ALTER TABLE a ADD CONSTRAINT ring FOREIGN KEY (x) REFERENCES b INITIALLY DEFERRED;",
+            "1",
+        ),
+        (
+            "SET CONSTRAINTS q, r DEFERRED; SET CONSTRAINTS ALL IMMEDIATE;",
+            "2",
+        ),
+    ] {
+        let found = shown(rt.alloc(), text)?;
+        assert_eq!(rt; found.as_str(), wanted);
+    }
+    Ok(())
+}
+
+#[test]
+fn laws_are_called(rt: HostRuntime) {
+    one_statement();
+    no_other_begins();
+    one_script();
+}
