@@ -128,6 +128,9 @@ statement_ends _ (semicolon ws) = (((((refl, refl), refl, refl), refl), refl), r
 no_comma : (ws : List Word) → EndsStatement ws → after kind.Comma ws ≡ None
 no_comma _ (semicolon ws) = refl
 
+pub statement_expression : (ws : List Word) → EndsStatement ws → EndsExpression ws
+statement_expression ws e = (statement_ends ws e).0.0.0
+
 from_reads : (r : RangeName) (c : Option Condition) (front rest : List Word) → IsShallowFrom front (r, c) → EndsStatement rest → read_shallow_from (front ++ rest) ≡ Some ((r, c), rest)
 unfolding read_shallow_from
 from_reads r c front rest p e = from_complete front rest r c p.0 p.1 (statement_ends rest e)

@@ -13,3 +13,5 @@ pub mod Rules
 pub mod Runs
 pub mod OneReading
 pub mod TriggerSound
+pub mod Actions
+pub mod TriggerComplete

@@ -18,6 +18,10 @@ use Rattle.iv_parse.proofs.DataSound.{insert_good, update_good, delete_good, sel
 use Rattle.iv_parse.proofs.TableSound.{elements_good, table_constraint_good}
 use Rattle.iv_parse.proofs.TableComplete.{elements_complete, table_constraint_reads, statement_constraint}
 use Rattle.iv_parse.proofs.DataComplete.{insert_reads, update_reads, delete_reads, select_reads, semicolon}
+use Rattle.iv_parse.specs.Triggers.{IsTrigger}
+use Rattle.iv_parse.specs.TriggerReaders.{read_trigger}
+use Rattle.iv_parse.proofs.TriggerSound.{trigger_good}
+use Rattle.iv_parse.proofs.TriggerComplete.{trigger_reads}
 use Rattle.iv_parse.proofs.SessionSound.{drop_good, session_good}
 use Rattle.iv_parse.proofs.SessionComplete.{start_complete, commit_complete, rollback_complete, to_complete, savepoint_complete, release_complete, set_complete}
 
@@ -44,10 +48,12 @@ select_rule_good ws =
 create_good : (ws : List Word) → Good (λ back s. Reads (plain kind.Create ∷ back) s) ws (read_create ws)
 unfolding read_create read_create_table
 create_good ws =
-    after_good _ kind.Table ws read_create_table None
+    after_good _ kind.Table ws read_create_table _
     (λ rest. name_good _ rest _
     (λ n more. made_good (InParentheses (Series IsElement)) _ more (read_elements more) (statement.CreateTable n) (elements_good more) (λ es front p. (front, p, refl))))
-    (nothing_good _ ws)
+    (after_good _ kind.Trigger ws _ None
+    (λ rest. made_good (λ back t. IsTrigger (plain kind.Create ∷ plain kind.Trigger ∷ back) t) _ rest (read_trigger rest) statement.CreateTrigger (trigger_good rest) (λ t front p. p))
+    (nothing_good _ ws))
 
 alter_good : (ws : List Word) → Good (λ back s. Reads (plain kind.Alter ∷ back) s) ws (read_alter ws)
 unfolding read_alter
@@ -94,7 +100,9 @@ rule_reads (statement.CreateTable n es) front rest (body, p, w) =
 rule_reads (statement.AlterTable n c) front rest (body, p, w) =
     ap (λ z. read_rule (z ++ plain kind.Semicolon ∷ rest)) w
     ∙ ap (λ o. then_read o (λ c more. Some (statement.AlterTable n c, more))) (table_constraint_reads c body (plain kind.Semicolon ∷ rest) p (statement_constraint rest))
-rule_reads (statement.CreateTrigger t) front rest p = absurd p
+rule_reads (statement.CreateTrigger t) front rest p =
+    let (back, w, h) = trigger_reads t front (plain kind.Semicolon ∷ rest) p (semicolon rest) in
+    ap read_rule w ∙ ap (λ o. then_read o (λ t more. Some (statement.CreateTrigger t, more))) h
 rule_reads (statement.DropTrigger n) front rest p = ap (λ z. read_rule (z ++ plain kind.Semicolon ∷ rest)) p
 rule_reads (statement.Insert i) front rest p =
     let (back, w, h) = insert_reads i front (plain kind.Semicolon ∷ rest) p (semicolon rest) in

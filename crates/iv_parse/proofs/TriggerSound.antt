@@ -1,5 +1,5 @@
 -- What is read of CREATE TRIGGER is in the grammar.
-use Rattle.std.proofs.Common.{◌≡◌, inl, inr, ℕ, Option, Some, None, List, [], ◌∷◌, ◌++◌, length, refl, sym, ◌∙◌, ap, subst, append-nil}
+use Rattle.std.proofs.Common.{◌≡◌, inl, inr, ℕ, Option, Some, None, List, [], ◌∷◌, ◌++◌, length, refl, sym, ◌∙◌, ap, subst, append-nil, append_assoc}
 use Rattle.iv_lex.specs.declared.kind.Kind.TheVariants as kind
 use Rattle.iv_lex.specs.Words.{Word, name, plain}
 use Rattle.iv_expr.specs.declared.tree.Side.{Side}
@@ -8,6 +8,8 @@ use Rattle.iv_syntax.specs.declared.trigger.ActionTime.{ActionTime}
 use Rattle.iv_syntax.specs.declared.trigger.ActionTime.TheVariants as action_time
 use Rattle.iv_syntax.specs.declared.trigger.TriggerEvent.{TriggerEvent}
 use Rattle.iv_syntax.specs.declared.trigger.TriggerEvent.TheVariants as event
+use Rattle.iv_syntax.specs.declared.trigger.Granularity.{Granularity}
+use Rattle.iv_syntax.specs.declared.tree.Condition.{Condition}
 use Rattle.iv_syntax.specs.declared.trigger.Granularity.TheVariants as granularity
 use Rattle.iv_syntax.specs.declared.trigger.TransitionName.TheVariants as transition
 use Rattle.iv_syntax.specs.declared.trigger.Referencing.{Referencing}
@@ -19,7 +21,7 @@ use Rattle.iv_parse.specs.Data.{IsShallow, IsShallowCondition, IsInsert, IsUpdat
 use Rattle.iv_parse.specs.DataReaders.{read_name, read_shallow, read_check, read_insert, read_update, read_delete}
 use Rattle.iv_parse.specs.TableReaders.{read_quoted}
 use Rattle.iv_parse.specs.Triggers.{side_kind, IsTransition, IsItem, IsReferencing, IsGranularity, IsWhen, IsAction, IsEndedAction, IsBody, time_kind, event_kind, IsTrigger}
-use Rattle.iv_parse.specs.TriggerReaders.{read_transition, read_item_of, read_item, some_items, read_referencing, read_each, read_granularity, read_when, read_set_variable, read_signal, read_other_action, read_delete_action, read_update_action, read_action, read_with_semicolon, read_ended_action, some_actions, read_block, read_single, read_body, read_action_time, read_other_event, read_event, read_occasion, read_trigger_rest, read_trigger}
+use Rattle.iv_parse.specs.TriggerReaders.{read_middle, trigger_of, read_transition, read_item_of, read_item, some_items, read_referencing, read_each, read_granularity, read_when, read_set_variable, read_signal, read_other_action, read_delete_action, read_update_action, read_action, read_with_semicolon, read_ended_action, some_actions, read_block, read_single, read_body, read_action_time, read_other_event, read_event, read_occasion, read_trigger_rest, read_trigger}
 use Rattle.iv_parse.proofs.Fronts.{Good, nothing_good, done_good, after_good, name_good, then_good, made_good, skip_good}
 use Rattle.iv_parse.proofs.OptionalSound.{IsQuoted, quoted_good, sequence_good}
 use Rattle.iv_parse.proofs.DataSound.{shallow_good, check_good, insert_good, update_good, delete_good}
@@ -100,13 +102,16 @@ action_good ws =
     (after_good IsAction kind.Signal ws read_signal _ signal_good
     (after_good IsAction kind.Set ws read_set_variable None set_variable_good (nothing_good IsAction ws)))))
 
--- END is looked at, and left
-end_option : (ws : List Word) (o : Option (List Word)) → Good (Maybe IsEndedAction) ws (if_some o (λ rest. Some (None, ws)) (read_with_semicolon ws))
+with_semicolon_good : (ws : List Word) → Good IsEndedAction ws (read_with_semicolon ws)
 unfolding read_with_semicolon
-end_option ws (Some rest) = done_good (Maybe IsEndedAction) ws None refl
-end_option ws None =
+with_semicolon_good ws =
     then_good IsAction _ ws (read_action ws) _ (action_good ws)
-    (λ a front rest p. after_good _ kind.Semicolon rest _ None (λ more. done_good _ more (Some a) (front, p, refl)) (nothing_good _ rest))
+    (λ a front rest p. after_good _ kind.Semicolon rest _ None (λ more. done_good _ more a (front, p, refl)) (nothing_good _ rest))
+
+-- END is looked at, and left
+end_option : (ws : List Word) (o : Option (List Word)) → Good (Maybe IsEndedAction) ws (if_some o (λ rest. Some (None, ws)) (then_read (read_with_semicolon ws) (λ a rest. Some (Some a, rest))))
+end_option ws (Some rest) = done_good (Maybe IsEndedAction) ws None refl
+end_option ws None = made_good IsEndedAction (Maybe IsEndedAction) ws (read_with_semicolon ws) Some (with_semicolon_good ws) (λ a front p. p)
 
 ended_action_good : (ws : List Word) → Good (Maybe IsEndedAction) ws (read_ended_action ws)
 unfolding read_ended_action
@@ -162,15 +167,36 @@ occasion_good ws =
     (λ left. done_good _ left (t, e) (ap (λ z. z ++ (back ++ plain kind.On ∷ [])) p ∙ ap (λ z. plain (time_kind t) ∷ (z ++ plain kind.On ∷ [])) q))
     (nothing_good _ more)))
 
-trigger_rest_good : (n : List ℕ) (t : ActionTime) (e : TriggerEvent) (table : List ℕ) (ws : List Word)
-    → Good (λ back x. IsTrigger (plain kind.Create ∷ plain kind.Trigger ∷ name n ∷ plain (time_kind t) ∷ plain (event_kind e) ∷ plain kind.On ∷ name table ∷ back) x) ws (read_trigger_rest n t e table ws)
-unfolding read_trigger_rest
-trigger_rest_good n t e table ws =
+-- what stands between the table and the body
+abbrev pub IsMiddle : List Word → List Referencing × Granularity × Option Condition → Type 0
+IsMiddle ws m =
+    (items : List Word) × (each : List Word) × (when : List Word) × IsReferencing items m.0 × IsGranularity each m.1 × Maybe IsWhen when m.2 × (ws ≡ items ++ (each ++ when))
+
+middle_good : (ws : List Word) → Good IsMiddle ws (read_middle ws)
+unfolding read_middle
+middle_good ws =
     then_good IsReferencing _ ws (read_referencing ws) _ (referencing_good ws)
     (λ rs items a p. then_good IsGranularity _ a (read_granularity a) _ (granularity_good a)
-    (λ g each b q. then_good (Maybe IsWhen) _ b (read_when b) _ (when_good b)
-    (λ w when c r. made_good IsBody _ c (read_body c) (λ body. record { name = n; time = t; event = e; table = table; referencing = rs; granularity = g; when = w; body = body })
-    (body_good c) (λ x body s. (items, each, when, body, p, q, r, s, refl)))))
+    (λ g each b q. made_good (Maybe IsWhen) _ b (read_when b) (λ w. (rs, g, w)) (when_good b) (λ w when r. (items, each, when, p, q, r, refl))))
+
+trigger_rest_good : (n : List ℕ) (o : ActionTime × TriggerEvent) (table : List ℕ) (ws : List Word)
+    → Good (λ back x. IsTrigger (plain kind.Create ∷ plain kind.Trigger ∷ name n ∷ plain (time_kind o.0) ∷ plain (event_kind o.1) ∷ plain kind.On ∷ name table ∷ back) x) ws (read_trigger_rest n o table ws)
+unfolding read_trigger_rest
+trigger_rest_good n o table ws =
+    then_good IsMiddle _ ws (read_middle ws) _ (middle_good ws)
+    (λ m front a (items, each, when, p, q, r, w). made_good IsBody _ a (read_body a) (trigger_of n o table m) (body_good a)
+    (λ xs body s. (
+      items,
+      each,
+      when,
+      body,
+      p,
+      q,
+      r,
+      s,
+      ap (λ z. plain kind.Create ∷ plain kind.Trigger ∷ name n ∷ plain (time_kind o.0) ∷ plain (event_kind o.1) ∷ plain kind.On ∷ name table ∷ z)
+          (ap (λ z. z ++ body) w ∙ append_assoc items (each ++ when) body ∙ ap (λ z. items ++ z) (append_assoc each when body)),
+    )))
 
 pub trigger_good : (ws : List Word) → Good (λ back t. IsTrigger (plain kind.Create ∷ plain kind.Trigger ∷ back) t) ws (read_trigger ws)
 unfolding read_trigger
@@ -178,5 +204,5 @@ trigger_good ws =
     name_good _ ws _
     (λ n a. then_good IsOccasion _ a (read_occasion a) _ (occasion_good a)
     (λ o front b p. name_good _ b _
-    (λ t rest. subst (λ z. Good (λ back x. IsTrigger (plain kind.Create ∷ plain kind.Trigger ∷ name n ∷ (z ++ name t ∷ back)) x) rest (read_trigger_rest n o.0 o.1 t rest)) (sym p)
-    (trigger_rest_good n o.0 o.1 t rest))))
+    (λ t rest. subst (λ z. Good (λ back x. IsTrigger (plain kind.Create ∷ plain kind.Trigger ∷ name n ∷ (z ++ name t ∷ back)) x) rest (read_trigger_rest n o t rest)) (sym p)
+    (trigger_rest_good n o t rest))))

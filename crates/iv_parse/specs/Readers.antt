@@ -9,6 +9,7 @@ use Rattle.iv_syntax.specs.declared.statement.ConstraintList.{ConstraintList}
 use Rattle.iv_syntax.specs.declared.statement.ConstraintList.TheVariants.{All, Named}
 use Rattle.iv_conditions.specs.After.{after, if_some, then_read}
 use Rattle.iv_parse.specs.Series.{read_series, skip}
+use Rattle.iv_parse.specs.TriggerReaders.{read_trigger}
 use Rattle.iv_parse.specs.TableReaders.{read_mode, read_elements, read_table_constraint}
 use Rattle.iv_parse.specs.DataReaders.{Found, then_word, read_name, read_insert, read_update, read_delete, read_select}
 
@@ -83,7 +84,9 @@ read_select_rule ws = then_read (read_select ws) (λ s rest. Some (statement.Sel
 
 -- after CREATE
 unfoldable pub read_create : List Word → Found Statement
-read_create ws = then_word kind.Table ws read_create_table
+read_create ws =
+    if_some (after kind.Table ws) read_create_table
+    (then_word kind.Trigger ws (λ rest. then_read (read_trigger rest) (λ t more. Some (statement.CreateTrigger t, more))))
 
 unfoldable pub read_definition_rule : List Word → Found Statement
 read_definition_rule ws =

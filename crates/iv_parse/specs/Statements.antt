@@ -8,6 +8,7 @@ use Rattle.iv_syntax.specs.declared.statement.Statement.TheVariants as statement
 use Rattle.iv_syntax.specs.declared.statement.ConstraintList.{ConstraintList}
 use Rattle.iv_syntax.specs.declared.statement.ConstraintList.TheVariants.{All, Named}
 use Rattle.iv_parse.specs.Series.{Optional}
+use Rattle.iv_parse.specs.Triggers.{IsTrigger}
 use Rattle.iv_parse.specs.Tables.{mode_kind, IsCreateTable, IsAlterTable}
 use Rattle.iv_parse.specs.Data.{Names, IsInsert, IsUpdate, IsDelete, IsSelect}
 
@@ -20,6 +21,7 @@ IsConstraintList ws (Named ns) = Names ws ns
 abbrev pub Reads : List Word → Statement → Type 0
 Reads ws (statement.CreateTable n es) = IsCreateTable ws n es
 Reads ws (statement.AlterTable n c) = IsAlterTable ws n c
+Reads ws (statement.CreateTrigger t) = IsTrigger ws t
 Reads ws (statement.Insert i) = IsInsert ws i
 Reads ws (statement.Update u) = IsUpdate ws u
 Reads ws (statement.Delete d) = IsDelete ws d
@@ -34,4 +36,3 @@ Reads ws (Savepoint n) = ws ≡ plain kind.Savepoint ∷ name n ∷ []
 Reads ws (Release n) = ws ≡ plain kind.Release ∷ plain kind.Savepoint ∷ name n ∷ []
 Reads ws (SetConstraints l m) =
     (list : List Word) × IsConstraintList list l × (ws ≡ plain kind.Set ∷ plain kind.Constraints ∷ (list ++ plain (mode_kind m) ∷ []))
-Reads ws _ = ⊥

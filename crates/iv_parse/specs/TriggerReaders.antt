@@ -86,15 +86,14 @@ read_action ws =
     if_some (after kind.Insert ws) (λ rest. then_read (read_insert rest) (λ i more. Some (action.Insert i, more)))
     (read_update_action ws)
 
-abbrev pub end_action : TriggerAction → List Word → Found (Option TriggerAction)
-end_action a ws = then_word kind.Semicolon ws (λ rest. Some (Some a, rest))
-
-unfoldable pub read_with_semicolon : List Word → Found (Option TriggerAction)
-read_with_semicolon ws = then_read (read_action ws) end_action
+-- an action and its semicolon
+unfoldable pub read_with_semicolon : List Word → Found TriggerAction
+read_with_semicolon ws = then_read (read_action ws) (λ a rest. then_word kind.Semicolon rest (λ more. Some (a, more)))
 
 -- an action and its semicolon, up to END
 unfoldable pub read_ended_action : List Word → Found (Option TriggerAction)
-read_ended_action ws = if_some (after kind.End ws) (λ rest. Some (None, ws)) (read_with_semicolon ws)
+read_ended_action ws =
+    if_some (after kind.End ws) (λ rest. Some (None, ws)) (then_read (read_with_semicolon ws) (λ a rest. Some (Some a, rest)))
 
 abbrev pub some_actions : List TriggerAction → List Word → Found (List TriggerAction)
 some_actions [] ws = None
@@ -127,13 +126,21 @@ read_event ws = if_some (after kind.Insert ws) (λ rest. Some (event.Insert, res
 unfoldable pub read_occasion : List Word → Found (ActionTime × TriggerEvent)
 read_occasion ws = then_read (read_action_time ws) (λ t rest. then_read (read_event rest) (λ e more. then_word kind.On more (λ left. Some ((t, e), left))))
 
+-- what stands between the table and the body
+unfoldable pub read_middle : List Word → Found (List Referencing × Granularity × Option Condition)
+read_middle ws =
+    then_read (read_referencing ws) (λ rs a. then_read (read_granularity a) (λ g b. then_read (read_when b) (λ w rest. Some ((rs, g, w), rest))))
+
+abbrev pub trigger_of : List ℕ → ActionTime × TriggerEvent → List ℕ → List Referencing × Granularity × Option Condition → List TriggerAction → TriggerDefinition
+trigger_of n o table m body =
+    record { name = n; time = o.0; event = o.1; table = table; referencing = m.0; granularity = m.1; when = m.2; body = body }
+
 -- from what follows the table on
-unfoldable pub read_trigger_rest : List ℕ → ActionTime → TriggerEvent → List ℕ → List Word → Found TriggerDefinition
-read_trigger_rest n t e table ws =
-    then_read (read_referencing ws) (λ rs a. then_read (read_granularity a) (λ g b. then_read (read_when b) (λ w c. then_read (read_body c)
-    (λ body rest. Some (record { name = n; time = t; event = e; table = table; referencing = rs; granularity = g; when = w; body = body }, rest)))))
+unfoldable pub read_trigger_rest : List ℕ → ActionTime × TriggerEvent → List ℕ → List Word → Found TriggerDefinition
+read_trigger_rest n o table ws =
+    then_read (read_middle ws) (λ m a. then_read (read_body a) (λ body rest. Some (trigger_of n o table m body, rest)))
 
 -- after TRIGGER
 unfoldable pub read_trigger : List Word → Found TriggerDefinition
 read_trigger ws =
-    then_read (read_name ws) (λ n a. then_read (read_occasion a) (λ o b. then_read (read_name b) (λ t rest. read_trigger_rest n o.0 o.1 t rest)))
+    then_read (read_name ws) (λ n a. then_read (read_occasion a) (λ o b. then_read (read_name b) (λ t rest. read_trigger_rest n o t rest)))

@@ -1,6 +1,7 @@
 //! Statements and scripts.
 #![tactic(auto)]
 
+mod action;
 mod constraint;
 mod insert;
 pub mod laws;
@@ -14,5 +15,6 @@ mod table;
 #[cfg(test)]
 mod tests;
 mod time;
+mod trigger;
 
 pub use parser::{Parsed, SyntaxFault, script};

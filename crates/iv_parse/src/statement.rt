@@ -8,6 +8,7 @@ use crate::insert::insert;
 use crate::select::{delete, select, update};
 use crate::session::session_statement;
 use crate::table::{alter_table, create_table};
+use crate::trigger::trigger;
 use iv_conditions::{after, name};
 use iv_lex::{Kind, Token};
 use iv_syntax::Statement;
@@ -94,8 +95,14 @@ fn create<'a>(
 ) -> Result<Option<(Statement, &'a [Token])>, AllocError>
     ensures { IfOk result (λ r. with_words text.now r ≡ read_create (words text.now tokens.now)) }
 {
-    match after(Kind::Table, tokens) {
-        Some(rest) => create_table(alloc, text, rest),
+    if let Some(rest) = after(Kind::Table, tokens) {
+        return create_table(alloc, text, rest);
+    }
+    let Some(rest) = after(Kind::Trigger, tokens) else {
+        return Ok(None);
+    };
+    match trigger(alloc, text, rest)? {
+        Some((trigger, rest)) => Ok(Some((Statement::CreateTrigger(trigger), rest))),
         None => Ok(None),
     }
 }

@@ -51,6 +51,18 @@ fn scripts_are_the_longest_run(rt: HostRuntime) -> Result<(), Fail> {
             "SET CONSTRAINTS q, r DEFERRED; SET CONSTRAINTS ALL IMMEDIATE;",
             "2",
         ),
+        (
+            "CREATE TRIGGER s AFTER UPDATE ON t REFERENCING NEW TABLE AS nt WHEN (NOT EXISTS (SELECT * FROM nt)) INSERT INTO log VALUES ('empty');",
+            "1",
+        ),
+        (
+            "CREATE TRIGGER r BEFORE INSERT ON t REFERENCING NEW AS n FOR EACH ROW BEGIN ATOMIC SET n.a = 1; SIGNAL 'no'; END;",
+            "1",
+        ),
+        (
+            "CREATE TABLE t (a INT); CREATE TRIGGER r AFTER INSERT ON t BEGIN ATOMIC INSERT INTO t VALUES (1);",
+            "1 fault 24",
+        ),
     ] {
         let found = shown(rt.alloc(), text)?;
         assert_eq!(rt; found.as_str(), wanted);

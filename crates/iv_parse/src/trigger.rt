@@ -1,0 +1,274 @@
+//! CREATE TRIGGER.
+ghost use Rattle.std.specs.Prelude.{◌≡◌, IfOk, ℕ, List, Some};
+ghost use Rattle.iv_lex.specs.Words.{words};
+ghost use Rattle.iv_conditions.specs.Seen.{with_words};
+ghost use Rattle.iv_parse.specs.TriggerReaders.{read_transition, read_item_of, read_item, some_items, read_referencing, read_each, read_granularity, read_when, read_action_time, read_other_event, read_event, read_occasion, read_middle, trigger_of, read_trigger_rest, read_trigger};
+
+use crate::action::body;
+use crate::constraint::check;
+use crate::parse::ParseSome;
+use crate::series::sequence;
+use crate::session::skip;
+use iv_conditions::{after, name};
+use iv_expr::Side;
+use iv_lex::{Kind, Token};
+use iv_syntax::{
+    ActionTime, Condition, Granularity, Name, Referencing, TransitionName, TriggerAction,
+    TriggerDefinition, TriggerEvent,
+};
+use sqlite_items::Items;
+use std::alloc::{AllocError, Global};
+
+// [ ROW | TABLE ]
+#[tactic(auto, unfolding(crate::specs::TriggerReaders::read_transition))]
+fn transition(tokens: &[Token]) -> (TransitionName, &[Token])
+    ensures { (text : List ℕ) → with_words text (Some result) ≡ read_transition (words text tokens.now) }
+{
+    match after(Kind::Table, tokens) {
+        Some(rest) => (TransitionName::Table, rest),
+        None => (TransitionName::Row, skip(Kind::Row, tokens)),
+    }
+}
+
+// An item, after OLD or NEW.
+#[tactic(auto, unfolding(crate::specs::TriggerReaders::read_item_of))]
+fn item_of<'a>(
+    alloc: Global,
+    text: &str,
+    side: Side,
+    tokens: &'a [Token],
+) -> Result<Option<(Option<Referencing>, &'a [Token])>, AllocError>
+    ensures { IfOk result (λ r. with_words text.now r ≡ read_item_of side (words text.now tokens.now)) }
+{
+    let (what, rest) = transition(tokens);
+    match name(alloc, text, skip(Kind::As, rest))? {
+        Some((name, rest)) => Ok(Some((Some(Referencing { side, what, name }), rest))),
+        None => Ok(None),
+    }
+}
+
+impl ParseSome for Referencing {
+    ghost found_some = { read_item };
+
+    #[tactic(auto, unfolding(crate::specs::TriggerReaders::read_item))]
+    fn parse_some<'a>(
+        alloc: Global,
+        text: &str,
+        tokens: &'a [Token],
+    ) -> Result<Option<(Option<Referencing>, &'a [Token])>, AllocError> {
+        if let Some(rest) = after(Kind::Old, tokens) {
+            return item_of(alloc, text, Side::Old, rest);
+        }
+        match after(Kind::New, tokens) {
+            Some(rest) => item_of(alloc, text, Side::New, rest),
+            None => Ok(Some((None, tokens))),
+        }
+    }
+}
+
+fn some_items<'a>(
+    items: Items<Referencing>,
+    tokens: &'a [Token],
+) -> Option<(Items<Referencing>, &'a [Token])>
+    ensures { (text : List ℕ) → with_words text result ≡ some_items items (words text tokens.now) }
+{
+    if items.is_empty() {
+        None
+    } else {
+        Some((items, tokens))
+    }
+}
+
+#[tactic(auto, unfolding(crate::specs::TriggerReaders::read_referencing))]
+fn referencing<'a>(
+    alloc: Global,
+    text: &str,
+    tokens: &'a [Token],
+) -> Result<Option<(Items<Referencing>, &'a [Token])>, AllocError>
+    ensures { IfOk result (λ r. with_words text.now r ≡ read_referencing (words text.now tokens.now)) }
+{
+    let Some(rest) = after(Kind::Referencing, tokens) else {
+        return Ok(Some((Items::new(alloc), tokens)));
+    };
+    match sequence::<Referencing>(alloc, text, rest)? {
+        Some((items, rest)) => Ok(some_items(items, rest)),
+        None => Ok(None),
+    }
+}
+
+#[tactic(auto, unfolding(crate::specs::TriggerReaders::read_each))]
+fn each(tokens: &[Token]) -> Option<(Granularity, &[Token])>
+    ensures { (text : List ℕ) → with_words text result ≡ read_each (words text tokens.now) }
+{
+    if let Some(rest) = after(Kind::Row, tokens) {
+        return Some((Granularity::Row, rest));
+    }
+    let rest = after(Kind::Statement, tokens)?;
+    Some((Granularity::Statement, rest))
+}
+
+// FOR EACH and a granularity; STATEMENT where they are left out.
+#[tactic(auto, unfolding(crate::specs::TriggerReaders::read_granularity))]
+fn granularity(tokens: &[Token]) -> Option<(Granularity, &[Token])>
+    ensures { (text : List ℕ) → with_words text result ≡ read_granularity (words text tokens.now) }
+{
+    let Some(rest) = after(Kind::For, tokens) else {
+        return Some((Granularity::Statement, tokens));
+    };
+    let rest = after(Kind::Each, rest)?;
+    each(rest)
+}
+
+#[tactic(auto, unfolding(crate::specs::TriggerReaders::read_when))]
+fn when<'a>(
+    alloc: Global,
+    text: &str,
+    tokens: &'a [Token],
+) -> Result<Option<(Option<Condition>, &'a [Token])>, AllocError>
+    ensures { IfOk result (λ r. with_words text.now r ≡ read_when (words text.now tokens.now)) }
+{
+    let Some(rest) = after(Kind::When, tokens) else {
+        return Ok(Some((None, tokens)));
+    };
+    match check(alloc, text, rest)? {
+        Some((condition, rest)) => Ok(Some((Some(condition), rest))),
+        None => Ok(None),
+    }
+}
+
+#[tactic(auto, unfolding(crate::specs::TriggerReaders::read_action_time))]
+fn action_time(tokens: &[Token]) -> Option<(ActionTime, &[Token])>
+    ensures { (text : List ℕ) → with_words text result ≡ read_action_time (words text tokens.now) }
+{
+    if let Some(rest) = after(Kind::Before, tokens) {
+        return Some((ActionTime::Before, rest));
+    }
+    let rest = after(Kind::After, tokens)?;
+    Some((ActionTime::After, rest))
+}
+
+#[tactic(auto, unfolding(crate::specs::TriggerReaders::read_other_event))]
+fn other_event(tokens: &[Token]) -> Option<(TriggerEvent, &[Token])>
+    ensures { (text : List ℕ) → with_words text result ≡ read_other_event (words text tokens.now) }
+{
+    if let Some(rest) = after(Kind::Update, tokens) {
+        return Some((TriggerEvent::Update, rest));
+    }
+    let rest = after(Kind::Delete, tokens)?;
+    Some((TriggerEvent::Delete, rest))
+}
+
+#[tactic(auto, unfolding(crate::specs::TriggerReaders::read_event))]
+fn event(tokens: &[Token]) -> Option<(TriggerEvent, &[Token])>
+    ensures { (text : List ℕ) → with_words text result ≡ read_event (words text tokens.now) }
+{
+    if let Some(rest) = after(Kind::Insert, tokens) {
+        return Some((TriggerEvent::Insert, rest));
+    }
+    other_event(tokens)
+}
+
+// The time, the event and ON.
+#[tactic(auto, unfolding(crate::specs::TriggerReaders::read_occasion))]
+fn occasion(tokens: &[Token]) -> Option<((ActionTime, TriggerEvent), &[Token])>
+    ensures { (text : List ℕ) → with_words text result ≡ read_occasion (words text tokens.now) }
+{
+    let (time, rest) = action_time(tokens)?;
+    let (event, rest) = event(rest)?;
+    let rest = after(Kind::On, rest)?;
+    Some(((time, event), rest))
+}
+
+// What stands between the table and the body.
+#[tactic(auto, unfolding(crate::specs::TriggerReaders::read_middle))]
+fn middle<'a>(
+    alloc: Global,
+    text: &str,
+    tokens: &'a [Token],
+) -> Result<
+    Option<
+        (
+            (Items<Referencing>, Granularity, Option<Condition>),
+            &'a [Token],
+        ),
+    >,
+    AllocError,
+>
+    ensures { IfOk result (λ r. with_words text.now r ≡ read_middle (words text.now tokens.now)) }
+{
+    let Some((referencing, rest)) = referencing(alloc, text, tokens)? else {
+        return Ok(None);
+    };
+    let Some((granularity, rest)) = granularity(rest) else {
+        return Ok(None);
+    };
+    match when(alloc, text, rest)? {
+        Some((when, rest)) => Ok(Some(((referencing, granularity, when), rest))),
+        None => Ok(None),
+    }
+}
+
+fn trigger_of(
+    name: Name,
+    occasion: (ActionTime, TriggerEvent),
+    table: Name,
+    middle: (Items<Referencing>, Granularity, Option<Condition>),
+    body: Items<TriggerAction>,
+) -> TriggerDefinition
+    ensures { result ≡ trigger_of name occasion table middle body }
+{
+    let (time, event) = occasion;
+    let (referencing, granularity, when) = middle;
+    TriggerDefinition {
+        name,
+        time,
+        event,
+        table,
+        referencing,
+        granularity,
+        when,
+        body,
+    }
+}
+
+// CREATE TRIGGER, from what follows the table on.
+#[tactic(auto, unfolding(crate::specs::TriggerReaders::read_trigger_rest))]
+fn trigger_rest<'a>(
+    alloc: Global,
+    text: &str,
+    name: Name,
+    occasion: (ActionTime, TriggerEvent),
+    table: Name,
+    tokens: &'a [Token],
+) -> Result<Option<(TriggerDefinition, &'a [Token])>, AllocError>
+    ensures { IfOk result (λ r. with_words text.now r ≡ read_trigger_rest name occasion table (words text.now tokens.now)) }
+{
+    let Some((found, rest)) = middle(alloc, text, tokens)? else {
+        return Ok(None);
+    };
+    match body(alloc, text, rest)? {
+        Some((body, rest)) => Ok(Some((trigger_of(name, occasion, table, found, body), rest))),
+        None => Ok(None),
+    }
+}
+
+/// CREATE TRIGGER, from the name on.
+#[tactic(auto, unfolding(crate::specs::TriggerReaders::read_trigger))]
+pub fn trigger<'a>(
+    alloc: Global,
+    text: &str,
+    tokens: &'a [Token],
+) -> Result<Option<(TriggerDefinition, &'a [Token])>, AllocError>
+    ensures { IfOk result (λ r. with_words text.now r ≡ read_trigger (words text.now tokens.now)) }
+{
+    let Some((trigger, rest)) = name(alloc, text, tokens)? else {
+        return Ok(None);
+    };
+    let Some((occasion, rest)) = occasion(rest) else {
+        return Ok(None);
+    };
+    match name(alloc, text, rest)? {
+        Some((table, rest)) => trigger_rest(alloc, text, trigger, occasion, table, rest),
+        None => Ok(None),
+    }
+}
