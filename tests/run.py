@@ -114,7 +114,7 @@ def groups(transcript):
 
 def prefixes(program):
     """Each prefix of a script runs the statements that are whole in it, and has a fault at the rest."""
-    for file in [file for file in files('prefixes') if file.endswith('.sql')]:
+    for file in files('prefixes'):
         script = read('prefixes', file)
         stops, (all_outcomes, _, _) = ends(script), groups(run(program, script)[0])
         for length in range(len(script) + 1):
