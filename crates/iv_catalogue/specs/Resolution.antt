@@ -1,5 +1,5 @@
 -- Resolution: which statements are taken up, what a statement is refused for, and its plan once its names are resolved.
-use Rattle.std.specs.Prelude.{◌≡◌, ℕ, ◌+◌, ◌-◌, Bool, true, false, not, ◌&&◌, ◌||◌, if◌then◌else◌, ◌==◌, nat_le, nat_lt, ℤ, pos, ◌-ℤ◌, List, [], ◌∷◌, ◌++◌, length, map, filter_map, position, slice_get, unwrap_or, Option, Some, None, is_some, is_none, Result, Ok, Err, MatchBool}
+use Rattle.std.specs.Prelude.{◌≡◌, ℕ, ◌+◌, ◌-◌, Bool, true, false, not, ◌&&◌, ◌||◌, if◌then◌else◌, ◌==◌, nat_le, nat_lt, pos, ◌-ℤ◌, List, [], ◌∷◌, length, map, filter_map, position, slice_get, unwrap_or, Option, Some, None, is_some, is_none, Result, Ok, Err, MatchBool}
 use Rattle.std.specs.List.{list_any, list_all}
 use Rattle.std.specs.Str.{bytes_eq}
 use Rattle.iv_value.specs.declared.value.Value.{Value}
@@ -19,7 +19,6 @@ use Rattle.iv_syntax.specs.declared.table.TableElement.TheVariants as element
 use Rattle.iv_syntax.specs.declared.table.TableConstraint.{TableConstraint}
 use Rattle.iv_syntax.specs.declared.table.TableRule.{TableRule}
 use Rattle.iv_syntax.specs.declared.table.TableRule.TheVariants as rule
-use Rattle.iv_syntax.specs.declared.table.ColumnDefinition.{ColumnDefinition}
 use Rattle.iv_syntax.specs.declared.table.ColumnType.{ColumnType}
 use Rattle.iv_syntax.specs.declared.table.ColumnType.TheVariants as kind
 use Rattle.iv_syntax.specs.declared.table.ConstraintTime.{ConstraintTime}
@@ -39,10 +38,18 @@ use Rattle.iv_syntax.specs.Trees.{signed}
 use Rattle.iv_catalogue.specs.Catalogues.{Schema}
 use Rattle.iv_catalogue.specs.declared.catalogue.Table.{Table}
 use Rattle.iv_catalogue.specs.declared.catalogue.Column.{Column}
-use Rattle.iv_catalogue.specs.declared.catalogue.Constraint.{Constraint}
-use Rattle.iv_catalogue.specs.declared.catalogue.Rule.TheVariants.{Check}
-use Rattle.iv_catalogue.specs.declared.catalogue.Plan.{Plan}
-use Rattle.iv_catalogue.specs.declared.catalogue.Plan.TheVariants as plan
+use Rattle.iv_catalogue.specs.declared.constraint.Constraint.{Constraint}
+use Rattle.iv_catalogue.specs.declared.constraint.Rule.TheVariants.{Check}
+use Rattle.iv_catalogue.specs.declared.plan.Plan.{Plan}
+use Rattle.iv_catalogue.specs.declared.plan.Plan.TheVariants as plan
+use Rattle.iv_catalogue.specs.declared.plan.SchemaPlan.TheVariants.{CreateTable}
+use Rattle.iv_catalogue.specs.declared.plan.QueryPlan.TheVariants.{Rows}
+use Rattle.iv_catalogue.specs.declared.plan.TransactionPlan.TheVariants as transaction
+use Rattle.iv_catalogue.specs.declared.plan.DataStatement.TheVariants as data_statement
+use Rattle.iv_catalogue.specs.declared.plan.InsertColumns.TheVariants as columns
+use Rattle.iv_catalogue.specs.declared.plan.InsertRows.TheVariants as rows
+use Rattle.iv_catalogue.specs.declared.plan.Outputs.TheVariants as outputs
+use Rattle.iv_value.specs.declared.value.Kind.TheVariants as column_kind
 use Rattle.iv_catalogue.specs.declared.cause.Cause.{Cause}
 use Rattle.iv_catalogue.specs.declared.cause.Cause.TheVariants.{Unknown, Duplicate, SchemaFault, WrongShape, Limit, OutOfMemory}
 use Rattle.iv_catalogue.specs.declared.cause.Refusal.{Refusal}
@@ -195,7 +202,7 @@ resolved_rule columns (rule.Check c) = resolved_condition columns c
 resolved_rule columns _ = cond.Always
 
 abbrev pub column_of : List ℕ → Column
-column_of name = record { name = name }
+column_of name = record { name = name; kind = column_kind.Integer; default = Null }
 
 -- the constraint that is written at this place among those of the table
 abbrev pub constraint_of : ℕ → List ℕ → List (List ℕ) → ℕ → TableConstraint → Constraint
@@ -203,7 +210,8 @@ constraint_of table name columns place k = record {
   name = name_or_generated name place k.name;
   table = table;
   rule = Check (resolved_rule columns k.rule);
-  deferred = is_deferred_mode k.time.initially;
+  deferrable = is_deferred_mode k.time.initially;
+  initially = if is_deferred_mode k.time.initially then Deferred else Immediate;
 }
 
 -- the constraints of the table that gets this place in the catalogue
@@ -215,9 +223,9 @@ constraints_of table name columns place (element.Constraint k ∷ elements) =
 
 abbrev pub created : Schema → List ℕ → List TableElement → Plan
 created c name elements =
-    plan.CreateTable
+    plan.Schema (CreateTable
     (record { name = name; columns = map column_of (column_names elements) })
-    (constraints_of (length c.tables) name (column_names elements) 1 elements)
+    (constraints_of (length c.tables) name (column_names elements) 1 elements))
 
 -- ---- INSERT and SELECT (14.8, 7.11)
 
@@ -232,9 +240,15 @@ literal_or_null value.Default = Null
 abbrev pub refused : {A : Type 0} → Cause → Result A Refusal
 refused c = Err (record { cause = c; trigger = None })
 
--- a tuple for the table's columns
+abbrev pub literal_expr : ValueOrDefault → Expr
+literal_expr v = expr.Literal (literal_or_null v)
+
+-- a tuple for the table's columns, all of them in their order
 abbrev pub insert_into : ℕ → Table → List ValueOrDefault → Result Plan Refusal
-insert_into t table tuple = if length tuple == length table.columns then Ok (plan.Insert t (map literal_or_null tuple)) else refused WrongShape
+insert_into t table tuple =
+    if length tuple == length table.columns
+    then Ok (plan.Change (data_statement.Insert t columns.All (rows.Values (map literal_expr tuple ∷ []))))
+    else refused WrongShape
 
 abbrev pub insert_plan : List Table → Option ℕ → List ValueOrDefault → Result Plan Refusal
 insert_plan tables None tuple = refused Unknown
@@ -246,7 +260,7 @@ insert_plan tables (Some t) tuple =
 
 abbrev pub select_plan : Option ℕ → Result Plan Refusal
 select_plan None = refused Unknown
-select_plan (Some t) = Ok (plan.Select t)
+select_plan (Some t) = Ok (plan.Query (Rows t outputs.Star cond.Always))
 
 abbrev pub insert_tuples : Schema → List ℕ → List (List ValueOrDefault) → Result Plan Refusal
 insert_tuples c name (tuple ∷ []) = insert_plan c.tables (table_named c name) tuple
@@ -269,8 +283,8 @@ abbrev pub resolution : Schema → Statement → Result Plan Refusal
 resolution c (statement.CreateTable name elements) = resolved_create c name elements (create_cause c name elements)
 resolution c (statement.Insert i) = resolved_insert c i
 resolution c (statement.Select s) = resolved_select c s
-resolution c statement.Commit = Ok plan.Commit
-resolution c statement.Rollback = Ok plan.Rollback
+resolution c statement.Commit = Ok (plan.Transaction transaction.Commit)
+resolution c statement.Rollback = Ok (plan.Transaction transaction.Rollback)
 resolution c _ = refused SchemaFault
 
 -- ---- want of memory

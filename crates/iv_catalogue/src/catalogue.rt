@@ -1,17 +1,22 @@
-//! Tables, constraints and the plans of statements.
+//! Tables, and the catalogue of a database.
 ghost use Rattle.std.specs.Prelude.{◌≡◌, ◌≤◌, ◌<◌, length, OnOk, OnErr};
 ghost use Rattle.iv_catalogue.specs.Catalogues.{empty_schema, with_table};
 
-use iv_expr::{Cond, Row, TableId};
+use crate::constraint::{Constraint, Constraints};
+use crate::plan::Trigger;
 use iv_syntax::Name;
+use iv_value::{Kind, Value};
 use sqlite_items::Items;
 use std::alloc::{AllocError, Global};
 use std::marker::Model;
 
-/// A column of INTEGER.
+/// A column.
 #[derive(Drop)]
 pub struct Column {
     pub name: Name,
+    pub kind: Kind,
+    /// The value of DEFAULT; NULL where there is none.
+    pub default: Value,
 }
 
 /// A table and its columns, in the order of their text.
@@ -21,89 +26,43 @@ pub struct Table {
     pub columns: Items<Column>,
 }
 
-/// What a constraint asks of a row.
-#[derive(Drop)]
-pub enum Rule {
-    /// CHECK (ISO/IEC 9075-2:1999, 11.9).
-    Check(Cond),
-}
-
-/// A constraint of a table. Its mode is deferred where `deferred`, and immediate otherwise.
-#[derive(Drop)]
-pub struct Constraint {
-    pub name: Name,
-    pub table: TableId,
-    pub rule: Rule,
-    pub deferred: bool,
-}
-
-/// The constraints of a new table, in the order of their text. Contracts see it as the list.
-#[derive(Drop)]
-pub struct Constraints {
-    items: Vec<Constraint>,
-}
-
-impl Model for Constraints {
-    ghost use Rattle.std.specs.Prelude.{List};
-    ghost use Rattle.iv_catalogue.specs.declared.catalogue.Constraint.{Constraint};
-    ghost use Rattle.iv_expr.specs.contracts.tree.Cond as cond;
-    ghost use Rattle.std.specs.Coded.{codes};
-
-    ghost Value = { List Constraint };
-
-    ghost coded = { Prim.hlevel (codes, cond.the_row.coded) };
-
-    ghost view = { λ c. c.items.items };
-}
-
-impl Constraints {
-    /// These constraints.
-    pub fn from_vec(items: Vec<Constraint>) -> Constraints
-        ensures { result ≡ items.items }
-    {
-        Constraints { items }
-    }
-
-    /// The constraints. It takes no memory.
-    pub fn into_vec(self) -> Vec<Constraint>
-        ensures { result.items ≡ self }
-    {
-        let Constraints { items } = self;
-        items
-    }
-}
-
-/// All tables and all constraints, each in the order of creation: at most 64 tables, and 64 constraints
-/// for each. Contracts see it as its schema.
+/// All tables, constraints and triggers, each in the order of creation: at most 64 tables, and 64
+/// constraints for each. Contracts see it as its schema.
 #[derive(Drop)]
 pub struct Catalogue {
     tables: Vec<Table>,
     constraints: Vec<Constraint>,
+    triggers: Vec<Trigger>,
+    // How many triggers were ever created.
+    created: u32,
 }
 
 impl Model for Catalogue {
     ghost use Rattle.std.specs.Prelude.{◌≤◌, ◌*◌, length};
     ghost use Rattle.iv_catalogue.specs.Catalogues.{Schema};
     ghost use Rattle.iv_expr.specs.contracts.tree.Cond as cond;
+    ghost use Rattle.iv_expr.specs.contracts.tree.Expr as expr;
     ghost use Rattle.std.specs.Coded.{codes};
 
     ghost Value = { Schema };
 
-    ghost coded = { Prim.hlevel (codes, cond.the_row.coded) };
+    ghost coded = { Prim.hlevel (codes, cond.the_row.coded, expr.the_row.coded) };
 
-    ghost view = { λ c. record { tables = c.tables.items; constraints = c.constraints.items } };
+    ghost view = { λ c. record { tables = c.tables.items; constraints = c.constraints.items; triggers = c.triggers.items; created = c.created } };
 
     ghost invariant = { λ c. (length c.tables.items ≤ 64) × (length c.constraints.items ≤ 64 * length c.tables.items) };
 }
 
 impl Catalogue {
-    /// A catalogue of no table. It takes no memory.
+    /// A catalogue of nothing. It takes no memory.
     pub fn new(alloc: Global) -> Catalogue
         ensures { result ≡ empty_schema }
     {
         Catalogue {
             tables: Vec::new(alloc),
             constraints: Vec::new(alloc),
+            triggers: Vec::new(alloc),
+            created: 0,
         }
     }
 
@@ -123,6 +82,13 @@ impl Catalogue {
         self.constraints.as_slice()
     }
 
+    /// The triggers.
+    pub fn triggers(&self) -> &[Trigger]
+        ensures { result.now ≡ self.now.triggers }
+    {
+        self.triggers.as_slice()
+    }
+
     /// Adds a table with its constraints. Where memory is refused the catalogue is as before.
     pub fn add_table(&mut self, table: Table, constraints: Constraints) -> Result<(), AllocError>
         requires room { length self.old.tables < 64 }
@@ -138,14 +104,4 @@ impl Catalogue {
             Err(_) => unreachable!(),
         }
     }
-}
-
-/// A statement with its names resolved.
-#[derive(Drop)]
-pub enum Plan {
-    CreateTable(Table, Constraints),
-    Insert(TableId, Row),
-    Select(TableId),
-    Commit,
-    Rollback,
 }

@@ -6,14 +6,18 @@ ghost use Rattle.iv_catalogue.specs.Names.{is_among, has_repeated, generated};
 ghost use Rattle.iv_catalogue.specs.Resolution.{literal_value, column_name, column_names, name_or_generated, constraint_names, unknown_side, unknown_condition, unknown_rule, unknown_element, has_unknown, has_duplicate, is_beyond_limits, create_cause, resolved_side, resolved_condition, resolved_rule, column_of, constraint_of, constraints_of, created, resolved_create};
 ghost use Rattle.iv_value.specs.declared.value.Value.TheVariants as value;
 
-use crate::catalogue::{Catalogue, Column, Constraint, Constraints, Plan, Rule, Table};
+use crate::catalogue::{Catalogue, Column, Table};
 use crate::cause::{Cause, Refusal};
+use crate::constraint::{Constraint, Constraints, Rule};
 use crate::literal::literal_value;
 use crate::names::Names;
+use crate::plan::{Plan, SchemaPlan};
 use crate::taken_up::is_deferred_mode;
 use iv_expr::{Cond, Expr, TableId};
-use iv_syntax::{Condition, Expression, Name, TableConstraint, TableElement, TableRule};
-use iv_value::{Text, Value};
+use iv_syntax::{
+    Condition, ConstraintMode, Expression, Name, TableConstraint, TableElement, TableRule,
+};
+use iv_value::{Kind, Text, Value};
 use sqlite_items::Items;
 use std::alloc::{AllocError, Global};
 
@@ -289,11 +293,17 @@ fn constraint_of(
     requires { length columns.now ≤ 32 }
     ensures { IfOk result (λ k. k ≡ constraint_of table name.now columns.now place written.now) }
 {
+    let deferred = is_deferred_mode(written.time.initially);
     Ok(Constraint {
         name: name_or_generated(alloc, name, place, &written.name)?,
         table,
         rule: Rule::Check(resolved_rule(columns, &written.rule)),
-        deferred: is_deferred_mode(written.time.initially),
+        deferrable: deferred,
+        initially: if deferred {
+            ConstraintMode::Deferred
+        } else {
+            ConstraintMode::Immediate
+        },
     })
 }
 
@@ -326,6 +336,8 @@ fn columns_of(alloc: Global, names: &[Name]) -> Result<Items<Column>, AllocError
     for name in names {
         columns.push(Column {
             name: name.clone()?,
+            kind: Kind::Integer,
+            default: Value::Null,
         })?;
     }
     Ok(columns)
@@ -349,7 +361,7 @@ fn created(
         name: name.clone()?,
         columns: columns_of(alloc, columns)?,
     };
-    Ok(Plan::CreateTable(table, Constraints::from_vec(constraints)))
+    Ok(Plan::Schema(SchemaPlan::CreateTable(table, Constraints::from_vec(constraints))))
 }
 
 /// The plan of CREATE TABLE, or the least cause that it deserves.

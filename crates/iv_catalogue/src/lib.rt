@@ -1,19 +1,26 @@
-//! The catalogue: tables and constraints by their creation, why a statement is refused, and what a
+//! The catalogue: tables, constraints and triggers by their creation, why a statement is refused, and what a
 //! statement means once its names are resolved.
 #![tactic(auto)]
 
 mod catalogue;
 mod cause;
+mod constraint;
 mod create;
 mod literal;
 mod meaning;
 mod names;
 mod number;
+mod plan;
 mod taken_up;
 
-pub use catalogue::{Catalogue, Column, Constraint, Constraints, Plan, Rule, Table};
+pub use catalogue::{Catalogue, Column, Table};
 pub use cause::{Cause, Fault, Refusal};
+pub use constraint::{Constraint, Constraints, ForeignKey, Rule};
 pub use meaning::resolve;
 pub use names::Names;
 pub use number::{ConstraintId, TriggerId};
+pub use plan::{
+    BodyStatement, ConstraintSet, DataStatement, InsertColumns, InsertRows, Outputs, Plan,
+    QueryPlan, SchemaPlan, Setting, TransactionPlan, Trigger,
+};
 pub use taken_up::is_taken_up;

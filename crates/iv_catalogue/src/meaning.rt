@@ -1,15 +1,17 @@
 //! What a statement means in a catalogue.
 ghost use Rattle.std.specs.Prelude.{◌≡◌, position, map, Option, IfOk, option_copied, IfSome, ◌<◌, ◌≤◌, length, ◌^◌};
 ghost use Rattle.std.specs.Str.{bytes_eq};
-ghost use Rattle.iv_catalogue.specs.Resolution.{table_named, refused, literal_or_null, insert_into, insert_plan, insert_tuples, select_plan, resolved_insert, resolved_select, resolution, Resolves};
+ghost use Rattle.iv_catalogue.specs.Resolution.{table_named, refused, literal_expr, insert_into, insert_plan, insert_tuples, select_plan, resolved_insert, resolved_select, resolution, Resolves};
 
-use crate::catalogue::{Catalogue, Plan, Table};
+use crate::catalogue::{Catalogue, Table};
 use crate::cause::{Cause, Refusal};
 use crate::create::create;
 use crate::literal::literal_or_null;
-use iv_expr::{Row, TableId};
+use crate::plan::{
+    DataStatement, InsertColumns, InsertRows, Outputs, Plan, QueryPlan, TransactionPlan,
+};
+use iv_expr::{Cond, Expr, TableId};
 use iv_syntax::{Insert, InsertSource, Select, Statement, ValueOrDefault};
-use iv_value::Value;
 use sqlite_items::Items;
 use std::alloc::{AllocError, Global};
 
@@ -29,12 +31,12 @@ fn refuse<T>(cause: Cause) -> Result<T, Refusal>
     })
 }
 
-fn literals(alloc: Global, tuple: &[ValueOrDefault]) -> Result<Vec<Value>, AllocError>
-    ensures { IfOk result (λ values. values.items ≡ map literal_or_null tuple.now) }
+fn literals(alloc: Global, tuple: &[ValueOrDefault]) -> Result<Items<Expr>, AllocError>
+    ensures { IfOk result (λ values. values ≡ map literal_expr tuple.now) }
 {
-    let mut values = Vec::new(alloc);
+    let mut values = Items::new(alloc);
     for value in tuple {
-        values.push(literal_or_null(value))?;
+        values.push(Expr::Literal(literal_or_null(value)))?;
     }
     Ok(values)
 }
@@ -51,8 +53,13 @@ fn insert_at(
     if tuple.len() != table.columns.len() {
         return Ok(refuse(Cause::WrongShape));
     }
-    let row = Row::new(literals(alloc, tuple)?)?;
-    Ok(Ok(Plan::Insert(TableId::new(place), row)))
+    let mut tuples = Items::new(alloc);
+    tuples.push(literals(alloc, tuple)?)?;
+    Ok(Ok(Plan::Change(DataStatement::Insert {
+        table: TableId::new(place),
+        columns: InsertColumns::All,
+        rows: InsertRows::Values(tuples),
+    })))
 }
 
 fn insert(
@@ -118,7 +125,11 @@ fn select_from(tables: &[Table], name: &str) -> Result<Plan, Refusal>
     ensures { result ≡ select_plan (position (λ t. bytes_eq name.now t.name) tables.now) }
 {
     match place_of(tables, name) {
-        Some(place) => Ok(Plan::Select(TableId::new(place as u32))),
+        Some(place) => Ok(Plan::Query(QueryPlan::Rows {
+            table: TableId::new(place as u32),
+            outputs: Outputs::Star,
+            filter: Cond::Always,
+        })),
         None => refuse(Cause::Unknown),
     }
 }
@@ -136,8 +147,8 @@ fn resolved(
         }
         Statement::Insert(written) => insert(alloc, catalogue, written),
         Statement::Select(written) => Ok(select(catalogue, written)),
-        Statement::Commit => Ok(Ok(Plan::Commit)),
-        Statement::Rollback => Ok(Ok(Plan::Rollback)),
+        Statement::Commit => Ok(Ok(Plan::Transaction(TransactionPlan::Commit))),
+        Statement::Rollback => Ok(Ok(Plan::Transaction(TransactionPlan::Rollback))),
         _ => Ok(refuse(Cause::SchemaFault)),
     }
 }

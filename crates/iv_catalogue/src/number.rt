@@ -63,6 +63,7 @@ impl TriggerId {
     pub fn place(self) -> u32
         ensures { result ≡ self }
     {
-        self.place
+        let TriggerId { place } = self;
+        place
     }
 }

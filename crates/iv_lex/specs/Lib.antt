@@ -1,3 +1,4 @@
 pub mod Words
 pub mod Reserved
 pub mod Tokens
+pub mod Longest

@@ -2,6 +2,7 @@
 #![tactic(auto)]
 
 mod kind;
+pub mod laws;
 mod lexer;
 mod reserved;
 mod scan;

@@ -1,4 +1,5 @@
 //! Tokens and their places.
+use crate::laws::the_longest_first;
 use crate::{Kind, folded_text, tokens, unquoted_text};
 use std::test::Fail;
 
@@ -55,4 +56,9 @@ fn names_and_texts(rt: HostRuntime) -> Result<(), Fail> {
     let unquoted = unquoted_text(rt.alloc(), text, *quoted)?;
     assert_eq!(rt; unquoted.as_str(), "it's");
     Ok(())
+}
+
+#[test]
+fn law_is_called(rt: HostRuntime) {
+    the_longest_first();
 }

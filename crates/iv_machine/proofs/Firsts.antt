@@ -1,7 +1,6 @@
 -- The first violation.
-use Rattle.std.proofs.Common.{◌≡◌, ℕ, ◌+◌, Bool, true, false, not, if◌then◌else◌, List, [], ◌∷◌, ◌++◌, ◌∙◌, refl, sym, ap, cond, map, filter, find, option_map, length, suc, Option, Some, None}
-use Rattle.iv_catalogue.specs.declared.catalogue.Constraint.{Constraint}
-use Rattle.iv_catalogue.specs.declared.cause.Fault.{Fault}
+use Rattle.std.proofs.Common.{◌≡◌, ℕ, Bool, true, false, List, [], ◌∷◌, ◌++◌, refl, ap, cond, map, filter, find, option_map, length, suc, Some, None}
+use Rattle.iv_catalogue.specs.declared.constraint.Constraint.{Constraint}
 use Rattle.iv_expr.specs.declared.row.StoredRow.{StoredRow}
 use Rattle.iv_machine.specs.Databases.{violates, fault_at, violations, first}
 
@@ -14,8 +13,8 @@ first_found p f (x ∷ xs) =
       | false ↦ first_found p f xs
     ]
 
-pub first_of_violations : (rows : List StoredRow) (id : ℕ) (c : Constraint) → first (violations rows id c) ≡ option_map (fault_at id) (find (violates c) rows)
-first_of_violations rows id c = first_found (violates c) (fault_at id) rows
+pub first_of_violations : (rows : List StoredRow) (id : ℕ) (c : Constraint) → first (violations rows id c) ≡ option_map (fault_at id) (find (violates rows c) rows)
+first_of_violations rows id c = first_found (violates rows c) (fault_at id) rows
 
 -- the first of two lists one after the other
 pub first_in_left : {A : Type 0} (xs ys : List A) (x : A) → first xs ≡ Some x → first (xs ++ ys) ≡ Some x
@@ -30,5 +29,5 @@ counted : {A B : Type 0} (f : A → B) (xs : List A) → length (map f xs) ≡ l
 counted f [] = refl
 counted f (x ∷ xs) = ap suc (counted f xs)
 
-pub count_of_violations : (rows : List StoredRow) (id : ℕ) (c : Constraint) → length (violations rows id c) ≡ length (filter (violates c) rows)
-count_of_violations rows id c = counted (fault_at id) (filter (violates c) rows)
+pub count_of_violations : (rows : List StoredRow) (id : ℕ) (c : Constraint) → length (violations rows id c) ≡ length (filter (violates rows c) rows)
+count_of_violations rows id c = counted (fault_at id) (filter (violates rows c) rows)

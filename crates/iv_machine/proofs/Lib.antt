@@ -1,5 +1,9 @@
-pub mod Scans
+pub mod Worked
 pub mod Firsts
+pub mod Scans
+pub mod Orders
+pub mod Plain
 pub mod Plans
 pub mod Sound
-pub mod Worked
+pub mod Selected
+pub mod Puts

@@ -1,10 +1,9 @@
--- The tables that a resolved plan speaks of.
-use Rattle.std.proofs.Common.{◌≡◌, ℕ, ◌+◌, ◌-◌, ◌<◌, ◌≤◌, ◌||◌, nat_le, nat_lt, arith, Bool, true, false, if◌then◌else◌, ◌==◌, List, [], ◌∷◌, ◌∙◌, refl, sym, ap, cond, length, map, Option, Some, None, Result, Ok, Err, position, slice_get}
-use Rattle.std.specs.Str.{bytes_eq}
+-- What a resolved plan is like, as long as few statements are taken up.
+use Rattle.std.proofs.Common.{◌≡◌, ℕ, ◌+◌, ◌-◌, ◌<◌, ◌≤◌, ◌||◌, nat_le, nat_lt, arith, Bool, true, false, if◌then◌else◌, ◌==◌, List, [], ◌∷◌, ◌∙◌, refl, ap, cond, length, map, Option, Some, None, is_some, unwrap_or, Result, Ok, Err, slice_get, pos, ◌-ℤ◌, zero, suc, subst}
 use Rattle.iv_syntax.specs.declared.table.TableElement.{TableElement}
 use Rattle.iv_syntax.specs.declared.table.TableElement.TheVariants as element
 use Rattle.iv_syntax.specs.declared.statement.ValueOrDefault.{ValueOrDefault}
-use Rattle.iv_syntax.specs.declared.statement.Insert.{Insert}
+use Rattle.iv_syntax.specs.declared.statement.Insert.{Insert as WrittenInsert}
 use Rattle.iv_syntax.specs.declared.statement.Insert.TheVariants as insert
 use Rattle.iv_syntax.specs.declared.statement.InsertSource.TheVariants as source
 use Rattle.iv_syntax.specs.declared.statement.Select.{Select}
@@ -15,24 +14,83 @@ use Rattle.iv_catalogue.specs.Catalogues.{Schema}
 use Rattle.iv_catalogue.specs.declared.cause.Cause.{Cause}
 use Rattle.iv_catalogue.specs.declared.cause.Refusal.{Refusal}
 use Rattle.iv_catalogue.specs.declared.catalogue.Table.{Table}
-use Rattle.iv_catalogue.specs.declared.catalogue.Constraint.{Constraint}
+use Rattle.iv_catalogue.specs.declared.constraint.Constraint.{Constraint}
 use Rattle.std.proofs.lemmas.Bool.Decides.{nat_tests}
-use Rattle.iv_catalogue.specs.declared.catalogue.Plan.{Plan}
-use Rattle.iv_catalogue.specs.declared.catalogue.Plan.TheVariants as plan
-use Rattle.iv_catalogue.specs.Resolution.{resolution, resolved_create, create_cause, constraints_of, insert_into, insert_plan, insert_tuples, resolved_insert, resolved_select, select_plan, table_named, literal_or_null, refused, column_names, is_beyond_limits, has_unknown, has_duplicate}
+use Rattle.iv_catalogue.specs.declared.plan.Plan.{Plan}
+use Rattle.iv_catalogue.specs.declared.plan.Plan.TheVariants as plan
+use Rattle.iv_catalogue.specs.declared.plan.SchemaPlan.{SchemaPlan}
+use Rattle.iv_catalogue.specs.declared.plan.SchemaPlan.TheVariants as schema
+use Rattle.iv_catalogue.specs.declared.plan.QueryPlan.{QueryPlan}
+use Rattle.iv_catalogue.specs.declared.plan.QueryPlan.TheVariants as query
+use Rattle.iv_catalogue.specs.declared.plan.TransactionPlan.{TransactionPlan}
+use Rattle.iv_catalogue.specs.declared.plan.TransactionPlan.TheVariants as transaction
+use Rattle.iv_catalogue.specs.Resolution.{resolution, resolved_create, create_cause, constraints_of, insert_into, insert_plan, insert_tuples, resolved_insert, resolved_select, select_plan, table_named, literal_or_null, literal_expr, literal_value, signed_number, integer, column_of, refused, column_names, is_beyond_limits, has_unknown, has_duplicate}
 use Rattle.iv_machine.proofs.Scans.{Upon}
-use Rattle.std.proofs.lemmas.Option.{slice_get_within}
 use Rattle.iv_catalogue.specs.declared.cause.Cause.TheVariants.{Unknown, Duplicate, SchemaFault, WrongShape, Limit}
+use Rattle.iv_value.specs.declared.value.Value.{Value}
+use Rattle.iv_value.specs.declared.value.Value.TheVariants.{Null, Int}
+use Rattle.iv_expr.specs.declared.tree.Expr.TheVariants.{Literal}
+use Rattle.iv_expr.specs.declared.tree.Cond.{Cond}
+use Rattle.iv_expr.specs.declared.tree.Cond.TheVariants.{Always}
+use Rattle.iv_syntax.specs.declared.tree.Sign.{Sign}
+use Rattle.iv_syntax.specs.declared.tree.Sign.TheVariants as sign
+use Rattle.iv_syntax.specs.declared.tree.Expression.{Expression}
+use Rattle.iv_syntax.specs.declared.tree.Expression.TheVariants as expression
+use Rattle.iv_syntax.specs.declared.statement.ValueOrDefault.TheVariants as value
+use Rattle.iv_syntax.specs.Trees.{signed}
+use Rattle.iv_catalogue.specs.declared.catalogue.Column.{Column}
+use Rattle.iv_catalogue.specs.declared.plan.DataStatement.{DataStatement}
+use Rattle.iv_catalogue.specs.declared.plan.DataStatement.TheVariants.{Insert}
+use Rattle.iv_catalogue.specs.declared.plan.InsertColumns.TheVariants as columns
+use Rattle.iv_catalogue.specs.declared.plan.InsertRows.TheVariants as rows
+use Rattle.iv_catalogue.specs.declared.plan.Outputs.{Outputs}
+use Rattle.iv_catalogue.specs.declared.plan.Outputs.TheVariants.{Star}
+use Rattle.iv_machine.specs.declared.database.Database.{Database}
+use Rattle.iv_machine.specs.Machine.{State, is_open, outside, transaction_cause, occasion_of}
+use Rattle.iv_machine.specs.Invariants.{AllChecks, AllIntegers, TablesOfIntegers, Plain}
+use Rattle.iv_machine.proofs.Plain.{is_plain, AllPlain, literals, Suits}
 
--- there is room for a new table, and its constraints are its own; rows go into a table that is there
-abbrev pub PlanFits : Schema → Plan → Type 0
-PlanFits c (plan.CreateTable table constraints) = (length c.tables < 64) × (length constraints ≤ 64) × Upon (length c.tables) constraints
-PlanFits c (plan.Insert table row) = table < length c.tables
-PlanFits c _ = Unit {0}
+-- an INSERT of one tuple of integers and nulls, which suits its table
+abbrev pub ChangeFits : Schema → DataStatement → Type 0
+ChangeFits c (Insert t columns.All (rows.Values (tuple ∷ []))) = (values : List Value) × (tuple ≡ literals values) × Suits c t values
+ChangeFits c _ = ⊥
 
-abbrev pub AnswerFits : Schema → Result Plan Refusal → Type 0
-AnswerFits c (Ok p) = PlanFits c p
-AnswerFits c (Err r) = Unit {0}
+-- SELECT * FROM a table
+abbrev pub SelectFits : Outputs → Cond → Type 0
+SelectFits Star Always = Unit {0}
+SelectFits _ _ = ⊥
+
+-- there is room for a new table, its constraints are its own, and no transaction is open
+pub record TableFits (s : State) (table : Table) (constraints : List Constraint) : Type 0 where
+  pub outside : s.start ≡ None
+  pub room : length s.schema.tables < 64
+  pub few : length constraints ≤ 64
+  pub own : Upon (length s.schema.tables) constraints
+  pub checks : AllChecks constraints
+  pub integers : AllIntegers table.columns
+
+abbrev pub SchemaFits : State → SchemaPlan → Type 0
+SchemaFits s (schema.CreateTable table constraints) = TableFits s table constraints
+SchemaFits s _ = ⊥
+
+abbrev pub QueryFits : QueryPlan → Type 0
+QueryFits (query.Rows table outputs filter) = SelectFits outputs filter
+QueryFits _ = ⊥
+
+abbrev pub TransactionFits : TransactionPlan → Type 0
+TransactionFits transaction.Commit = Unit {0}
+TransactionFits transaction.Rollback = Unit {0}
+TransactionFits _ = ⊥
+
+abbrev pub PlanFits : State → Plan → Type 0
+PlanFits s (plan.Schema p) = SchemaFits s p
+PlanFits s (plan.Change d) = ChangeFits s.schema d
+PlanFits s (plan.Query p) = QueryFits p
+PlanFits s (plan.Transaction p) = TransactionFits p
+
+abbrev pub AnswerFits : State → Result Plan Refusal → Type 0
+AnswerFits s (Ok p) = PlanFits s p
+AnswerFits s (Err r) = Unit {0}
 
 own_constraints : (table : ℕ) (name : List ℕ) (columns : List (List ℕ)) (place : ℕ) (elements : List TableElement) → Upon table (constraints_of table name columns place elements)
 own_constraints table name columns place [] = tt
@@ -74,48 +132,132 @@ no_limit : (c : Schema) (name : List ℕ) (elements : List TableElement) → cre
 no_limit c name elements h =
     last_test (has_unknown elements) (has_duplicate c name elements) (length (column_names elements) == 0) (is_beyond_limits c elements) Unknown Duplicate SchemaFault Limit h
 
-create_fits : (c : Schema) (name : List ℕ) (elements : List TableElement) (cause : Option Cause) → create_cause c name elements ≡ cause → AnswerFits c (resolved_create c name elements cause)
-create_fits c name elements (Some cause) e = tt
-create_fits c name elements None e =
-    let ks : List Constraint = constraints_of (length c.tables) name (column_names elements) 1 elements in
-    let few = within_limits c elements ks (all_elements (length c.tables) name (column_names elements) 1 elements) (no_limit c name elements e) in
-    (few.0, few.1, own_constraints (length c.tables) name (column_names elements) 1 elements)
+all_checks : (table : ℕ) (name : List ℕ) (columns : List (List ℕ)) (place : ℕ) (elements : List TableElement) → AllChecks (constraints_of table name columns place elements)
+all_checks table name columns place [] = tt
+all_checks table name columns place (element.Column c ∷ elements) = all_checks table name columns place elements
+all_checks table name columns place (element.Constraint k ∷ elements) = (refl, all_checks table name columns (place + 1) elements)
 
-shaped_fits : (c : Schema) (t : ℕ) (table : Table) (tuple : List ValueOrDefault) → t < length c.tables → AnswerFits c (insert_into t table tuple)
-shaped_fits c t table tuple h =
-    elim (length tuple == length table.columns) as (λ b. AnswerFits c (if b then Ok (plan.Insert t (map literal_or_null tuple)) else refused WrongShape)) [ true ↦ h | false ↦ tt ]
+all_integers : (names : List (List ℕ)) → AllIntegers (map column_of names)
+all_integers [] = tt
+all_integers (name ∷ names) = (refl, all_integers names)
 
-placed_fits : (c : Schema) (t : ℕ) (tuple : List ValueOrDefault) (got : Option Table) → slice_get c.tables t ≡ got
-    → AnswerFits c (elim got [ Some table ↦ insert_into t table tuple | None ↦ refused Unknown ])
-placed_fits c t tuple None h = tt
-placed_fits c t tuple (Some table) h = shaped_fits c t table tuple (slice_get_within c.tables t table h)
+create_fits : (s : State) (name : List ℕ) (elements : List TableElement) (cause : Option Cause) → s.start ≡ None → create_cause s.schema name elements ≡ cause
+    → AnswerFits s (resolved_create s.schema name elements cause)
+create_fits s name elements (Some cause) o e = tt
+create_fits s name elements None o e =
+    let ks : List Constraint = constraints_of (length s.schema.tables) name (column_names elements) 1 elements in
+    let few = within_limits s.schema elements ks (all_elements (length s.schema.tables) name (column_names elements) 1 elements) (no_limit s.schema name elements e) in
+    record {
+      outside = o;
+      room = few.0;
+      few = few.1;
+      own = own_constraints (length s.schema.tables) name (column_names elements) 1 elements;
+      checks = all_checks (length s.schema.tables) name (column_names elements) 1 elements;
+      integers = all_integers (column_names elements);
+    }
 
-tuple_fits : (c : Schema) (place : Option ℕ) (tuple : List ValueOrDefault) → AnswerFits c (insert_plan c.tables place tuple)
-tuple_fits c None tuple = tt
-tuple_fits c (Some t) tuple = placed_fits c t tuple (slice_get c.tables t) refl
+-- ---- INSERT
 
-tuples_fit : (c : Schema) (name : List ℕ) (tuples : List (List ValueOrDefault)) → AnswerFits c (insert_tuples c name tuples)
-tuples_fit c name [] = tt
-tuples_fit c name (tuple ∷ []) = tuple_fits c (table_named c name) tuple
-tuples_fit c name (tuple ∷ other ∷ more) = tt
+integer_plain : (s : Sign) (n : ℕ) → is_plain (unwrap_or (integer s n) Null) ≡ true
+integer_plain s n = elim (nat_le n 9223372036854775807) as (λ b. is_plain (unwrap_or (cond b (Some (Int (elim s [ sign.Plus ↦ pos n | sign.Minus ↦ pos 0 -ℤ pos n ]))) None) Null) ≡ true) [ true ↦ refl | false ↦ refl ]
 
-insert_fits : (c : Schema) (i : Insert) → AnswerFits c (resolved_insert c i)
-insert_fits c (insert.DefaultValues t) = tt
-insert_fits c (insert.Rows t (Some l) x) = tt
-insert_fits c (insert.Rows t None (source.Values tuples)) = tuples_fit c t tuples
-insert_fits c (insert.Rows t None (source.Select l r f)) = tt
+signed_plain : (s : Sign) (e : Expression) → is_plain (unwrap_or (signed_number s e) Null) ≡ true
+signed_plain s (expression.Number n) = integer_plain s n
+signed_plain s _ = refl
 
-place_fits : (c : Schema) (place : Option ℕ) → AnswerFits c (select_plan place)
-place_fits c None = tt
-place_fits c (Some t) = tt
+literal_plain : (e : Expression) → is_plain (unwrap_or (literal_value e) Null) ≡ true
+literal_plain (expression.Number n) = integer_plain sign.Plus n
+literal_plain expression.Null = refl
+literal_plain (signed s a) = signed_plain s a
+literal_plain _ = refl
 
-select_fits : (c : Schema) (s : Select) → AnswerFits c (resolved_select c s)
-select_fits c (select.Count r f) = tt
-select_fits c (select.Rows l r f) = place_fits c (table_named c r.table)
+value_plain : (v : ValueOrDefault) → is_plain (literal_or_null v) ≡ true
+value_plain (value.Value e) = literal_plain e
+value_plain value.Default = refl
 
--- every plan that a catalogue gives fits it
-pub resolution_fits : (c : Schema) (st : Statement) → AnswerFits c (resolution c st)
-resolution_fits c (statement.CreateTable name elements) = create_fits c name elements (create_cause c name elements) refl
-resolution_fits c (statement.Insert i) = insert_fits c i
-resolution_fits c (statement.Select s) = select_fits c s
-resolution_fits c _ = tt
+all_plain : (tuple : List ValueOrDefault) → AllPlain (map literal_or_null tuple)
+all_plain [] = tt
+all_plain (v ∷ vs) = (value_plain v, all_plain vs)
+
+same_literals : (tuple : List ValueOrDefault) → map literal_expr tuple ≡ literals (map literal_or_null tuple)
+same_literals [] = refl
+same_literals (v ∷ vs) = ap (λ l. Literal (literal_or_null v) ∷ l) (same_literals vs)
+
+as_many : (tuple : List ValueOrDefault) → length (map literal_or_null tuple) ≡ length tuple
+as_many [] = refl
+as_many (v ∷ vs) = ap suc (as_many vs)
+
+pub no_table : (t : ℕ) (table : Table) → slice_get {X = Table} [] t ≡ Some table → ⊥
+no_table t table h = cc
+
+of_integers : (ts : List Table) (t : ℕ) (table : Table) → TablesOfIntegers ts → slice_get ts t ≡ Some table → AllIntegers table.columns
+of_integers [] t table h e = absurd (no_table t table e)
+of_integers (x ∷ ts) zero table h e = let same : x ≡ table = cc in subst (λ y. AllIntegers y.columns) same h.0
+of_integers (x ∷ ts) (suc t) table h e = of_integers ts t table h.1 e
+
+equal : (n m : ℕ) → (n == m) ≡ true → n ≡ m
+equal n m h = grind (arith, nat_tests)
+
+same_length : (tuple : List ValueOrDefault) (columns : List Column) → (length tuple == length columns) ≡ true → length (map literal_or_null tuple) ≡ length columns
+same_length tuple columns h = as_many tuple ∙ equal (length tuple) (length columns) h
+
+shaped_fits : (s : State) (t : ℕ) (table : Table) (tuple : List ValueOrDefault) → Plain s.schema → slice_get s.schema.tables t ≡ Some table → AnswerFits s (insert_into t table tuple)
+shaped_fits s t table tuple p h =
+    elim (length tuple == length table.columns) as (λ b. (length tuple == length table.columns) ≡ b
+    → AnswerFits s (if b then Ok (plan.Change (Insert t columns.All (rows.Values (map literal_expr tuple ∷ [])))) else refused WrongShape)) [
+      | true ↦ λ wide. (
+        map literal_or_null tuple,
+        same_literals tuple,
+        record {
+          table = table;
+          there = h;
+          integers = of_integers s.schema.tables t table p.integers h;
+          plain = all_plain tuple;
+          wide = same_length tuple table.columns wide;
+        },
+      )
+      | false ↦ λ wide. tt
+    ] refl
+
+placed_fits : (s : State) (t : ℕ) (tuple : List ValueOrDefault) (got : Option Table) → Plain s.schema → slice_get s.schema.tables t ≡ got
+    → AnswerFits s (elim got [ Some table ↦ insert_into t table tuple | None ↦ refused Unknown ])
+placed_fits s t tuple None p h = tt
+placed_fits s t tuple (Some table) p h = shaped_fits s t table tuple p h
+
+tuple_fits : (s : State) (place : Option ℕ) (tuple : List ValueOrDefault) → Plain s.schema → AnswerFits s (insert_plan s.schema.tables place tuple)
+tuple_fits s None tuple p = tt
+tuple_fits s (Some t) tuple p = placed_fits s t tuple (slice_get s.schema.tables t) p refl
+
+tuples_fit : (s : State) (name : List ℕ) (tuples : List (List ValueOrDefault)) → Plain s.schema → AnswerFits s (insert_tuples s.schema name tuples)
+tuples_fit s name [] p = tt
+tuples_fit s name (tuple ∷ []) p = tuple_fits s (table_named s.schema name) tuple p
+tuples_fit s name (tuple ∷ other ∷ more) p = tt
+
+insert_fits : (s : State) (i : WrittenInsert) → Plain s.schema → AnswerFits s (resolved_insert s.schema i)
+insert_fits s (insert.DefaultValues t) p = tt
+insert_fits s (insert.Rows t (Some l) x) p = tt
+insert_fits s (insert.Rows t None (source.Values tuples)) p = tuples_fit s t tuples p
+insert_fits s (insert.Rows t None (source.Select l r f)) p = tt
+
+-- ---- SELECT
+
+place_fits : (s : State) (place : Option ℕ) → AnswerFits s (select_plan place)
+place_fits s None = tt
+place_fits s (Some t) = tt
+
+select_fits : (s : State) (q : Select) → AnswerFits s (resolved_select s.schema q)
+select_fits s (select.Count r f) = tt
+select_fits s (select.Rows l r f) = place_fits s (table_named s.schema r.table)
+
+-- ---- any statement
+
+none_open : (o : Option Database) → transaction_cause (is_some o) outside ≡ None → o ≡ None
+none_open None h = refl
+none_open (Some d) h = cc
+
+-- every plan that resolution gives fits, where the statement may run
+pub resolution_fits : (s : State) (st : Statement) → Plain s.schema → transaction_cause (is_open s) (occasion_of st) ≡ None → AnswerFits s (resolution s.schema st)
+resolution_fits s (statement.CreateTable name elements) p o = create_fits s name elements (create_cause s.schema name elements) (none_open s.start o) refl
+resolution_fits s (statement.Insert i) p o = insert_fits s i p
+resolution_fits s (statement.Select q) p o = select_fits s q
+resolution_fits s _ p o = tt

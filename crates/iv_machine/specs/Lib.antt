@@ -1,6 +1,16 @@
 pub mod Bounds
 pub mod Databases
+pub mod Context
+pub mod Proposals
+pub mod BeforeTriggers
+pub mod ReferentialActions
+pub mod Waves
+pub mod Levels
 pub mod Machine
-pub mod Laws
 pub mod Invariants
+pub mod Laws
+pub mod WorkedPlans
 pub mod WorkedScripts
+pub mod WorkedConstraints
+pub mod WorkedActions
+pub mod WorkedTriggers

@@ -1,73 +1,165 @@
--- The machine: its states, and what a statement answers and leaves (4.32 "SQL-transactions", 16 "transaction management").
-use Rattle.std.specs.Prelude.{◌≡◌, ℕ, ◌+◌, ◌^◌, Bool, true, false, not, if◌then◌else◌, nat_lt, List, [], ◌∷◌, ◌++◌, map, Option, Some, None, is_some, unwrap_or, Result, Ok, Err, MatchBool}
+-- The machine: its states, and what a statement answers and leaves (4.32 "SQL-transactions", 16 "Transaction management").
+use Rattle.std.specs.Prelude.{◌≡◌, ℕ, ◌-◌, Bool, true, false, not, ◌&&◌, if◌then◌else◌, ◌==◌, List, [], ◌∷◌, length, map, filter, find, fold, pos, slice_get, slice_set, Option, Some, None, is_some, unwrap_or, Result, Ok, Err, MatchBool}
+use Rattle.std.specs.List.{enumerate_from}
+use Rattle.std.specs.Str.{bytes_eq}
 use Rattle.iv_value.specs.declared.value.Value.{Value}
+use Rattle.iv_value.specs.declared.value.Value.TheVariants.{Int}
+use Rattle.iv_expr.specs.declared.row.StoredRow.{StoredRow}
+use Rattle.iv_expr.specs.declared.tree.Cond.{Cond}
+use Rattle.iv_expr.specs.Scopes.{Scope, scope_of, no_frame, table_rows}
+use Rattle.iv_expr.specs.Evaluation.{and_then}
+use Rattle.iv_syntax.specs.declared.statement.ConstraintMode.{ConstraintMode}
 use Rattle.iv_syntax.specs.declared.statement.Statement.{Statement}
 use Rattle.iv_syntax.specs.declared.statement.Statement.TheVariants as statement
-use Rattle.iv_catalogue.specs.Catalogues.{Schema, empty_schema, with_table}
+use Rattle.iv_catalogue.specs.Catalogues.{Schema, empty_schema, with_table, with_constraint, with_trigger, without_trigger}
+use Rattle.iv_catalogue.specs.declared.constraint.Constraint.{Constraint}
 use Rattle.iv_catalogue.specs.declared.cause.Cause.{Cause}
-use Rattle.iv_catalogue.specs.declared.cause.Cause.TheVariants.{SchemaFault, InTransaction, Violation, CommitRefused, Limit}
+use Rattle.iv_catalogue.specs.declared.cause.Cause.TheVariants.{SchemaFault, InTransaction, NoTransaction, ActiveTransaction, UnknownSavepoint, NotDeferrable, Violation, CommitRefused, AddRefused}
 use Rattle.iv_catalogue.specs.declared.cause.Fault.{Fault}
 use Rattle.iv_catalogue.specs.declared.cause.Refusal.{Refusal}
-use Rattle.iv_catalogue.specs.declared.catalogue.Plan.{Plan}
-use Rattle.iv_catalogue.specs.declared.catalogue.Plan.TheVariants as plan
+use Rattle.iv_catalogue.specs.declared.plan.ConstraintSet.{ConstraintSet}
+use Rattle.iv_catalogue.specs.declared.plan.ConstraintSet.TheVariants as set
+use Rattle.iv_catalogue.specs.declared.plan.DataStatement.{DataStatement}
+use Rattle.iv_catalogue.specs.declared.plan.Outputs.{Outputs}
+use Rattle.iv_catalogue.specs.declared.plan.Plan.{Plan}
+use Rattle.iv_catalogue.specs.declared.plan.Plan.TheVariants as plan
+use Rattle.iv_catalogue.specs.declared.plan.SchemaPlan.{SchemaPlan}
+use Rattle.iv_catalogue.specs.declared.plan.SchemaPlan.TheVariants as schema
+use Rattle.iv_catalogue.specs.declared.plan.QueryPlan.{QueryPlan}
+use Rattle.iv_catalogue.specs.declared.plan.QueryPlan.TheVariants as query
+use Rattle.iv_catalogue.specs.declared.plan.TransactionPlan.{TransactionPlan}
+use Rattle.iv_catalogue.specs.declared.plan.TransactionPlan.TheVariants as transaction
 use Rattle.iv_catalogue.specs.Resolution.{is_taken_up, resolution, refused, is_memory}
-use Rattle.iv_expr.specs.declared.row.StoredRow.{StoredRow}
-use Rattle.iv_machine.specs.declared.database.Which.TheVariants.{Immediate, Deferred, All}
+use Rattle.iv_machine.specs.declared.database.Database.{Database}
+use Rattle.iv_machine.specs.declared.database.Which.TheVariants.{All}
 use Rattle.iv_machine.specs.declared.answer.Answer.{Answer}
 use Rattle.iv_machine.specs.declared.answer.Answer.TheVariants.{Done, Changed, Rows}
 use Rattle.iv_machine.specs.Bounds.{Bounds}
-use Rattle.iv_machine.specs.Databases.{Database, scan, first}
-use Rattle.iv_expr.specs.Scopes.{table_rows}
+use Rattle.iv_machine.specs.Databases.{no_rows, scan, is_chosen, is_deferred, initial_modes, first}
+use Rattle.iv_machine.specs.Context.{Context, Failure, each}
+use Rattle.iv_machine.specs.Proposals.{with_cause, matching, outputs_of}
+use Rattle.iv_machine.specs.Levels.{Finished, level}
 
--- A state: the catalogue, the limits, the database, and the database at the start of an open transaction. Each constraint has
--- its initial mode: it is deferred where it is INITIALLY DEFERRED, and immediate otherwise.
+-- ---- states
+
+-- a savepoint: what ROLLBACK TO SAVEPOINT brings back
+pub record Savepoint : Type 0 where
+  pub name : List ℕ
+  pub database : Database
+  pub modes : List ConstraintMode
+
+-- A state: the catalogue, the limits, the database, the mode of each constraint, the database at the start of an open
+-- transaction, and its savepoints, the newest first.
 pub record State : Type 0 where
   pub schema : Schema
   pub limits : Bounds
   pub database : Database
+  pub modes : List ConstraintMode
   pub start : Option Database
+  pub savepoints : List Savepoint
 
 -- the state of a new session
 abbrev pub empty_state : Bounds → State
-empty_state limits = record { schema = empty_schema; limits = limits; database = record { rows = []; next = 1 }; start = None }
+empty_state limits = record { schema = empty_schema; limits = limits; database = no_rows; modes = []; start = None; savepoints = [] }
 
--- the answer to a statement, and the state after it
+-- a transaction is open
+abbrev pub is_open : State → Bool
+is_open s = is_some s.start
+
+-- the database at the start of the transaction, or the database where none is open
+abbrev pub starting : State → Database
+starting s = unwrap_or s.start s.database
+
+-- ---- outcomes
+
+-- How many row changes a statement made, at all levels, and how many it undid.
+pub record Work : Type 0 where
+  pub changes : ℕ
+  pub undone : ℕ
+
+abbrev pub no_work : Work
+no_work = record { changes = 0; undone = 0 }
+
+-- the answer to a statement, the state after it, and its work
 pub record Outcome : Type 0 where
   pub answer : Result Answer Refusal
   pub state : State
+  pub work : Work
+
+abbrev pub accept : State → Answer → Outcome
+accept s a = record { answer = Ok a; state = s; work = no_work }
 
 -- a refusal leaves the state
 abbrev pub refuse : State → Cause → Outcome
-refuse s c = record { answer = refused c; state = s }
+refuse s c = record { answer = refused c; state = s; work = no_work }
 
-abbrev pub accept : State → Answer → Outcome
-accept s a = record { answer = Ok a; state = s }
+-- refused for the first fault, where there is one
+abbrev pub refuse_first : State → (Fault → Cause) → Option Fault → Outcome → Outcome
+refuse_first s cause (Some f) o = refuse s (cause f)
+refuse_first s cause None o = o
 
--- ---- INSERT
+-- ---- INSERT, UPDATE and DELETE
 
--- the database with one row more, which takes the next number
-abbrev pub with_row : Database → ℕ → List Value → Database
-with_row d table values = record { rows = d.rows ++ record { number = d.next; table = table; values = values } ∷ []; next = d.next + 1 }
+abbrev pub context_of : State → Context
+context_of s = record { schema = s.schema; modes = s.modes }
 
--- the database at the start of the transaction, which a data statement outside one begins
-abbrev pub begun : State → Option Database
-begun s = Some (unwrap_or s.start s.database)
+-- a data statement outside a transaction begins one (4.32)
+abbrev pub begun : State → State
+begun s = record s { start = Some (starting s) }
 
--- the new database stands where no immediate constraint is violated
-abbrev pub checked : State → Database → Option Fault → Outcome
-checked s d None = accept (record s { database = d; start = begun s }) (Changed 1)
-checked s d (Some f) = refuse s (Violation f)
+-- the row changes that stand in the one count and not in the other are those that the statement made
+abbrev pub changed : State → Result Finished Failure → Outcome
+changed s (Ok l) = record {
+  answer = Ok (Changed l.size);
+  state = record (begun s) { database = l.database };
+  work = record { changes = l.database.count - s.database.count; undone = 0 };
+}
+changed s (Err f) = record {
+  answer = Err (record { cause = f.cause; trigger = f.trigger });
+  state = s;
+  work = record { changes = f.count - s.database.count; undone = f.count - s.database.count };
+}
 
-abbrev pub inserted : State → ℕ → List Value → Outcome
-inserted s table values =
-    if nat_lt 9223372036854775807 s.database.next then refuse s Limit
-    else checked s (with_row s.database table values) (first (scan (with_row s.database table values).rows s.schema.constraints Immediate))
+-- The statement is at depth 1, and has the whole budget.
+abbrev pub data_changed : State → DataStatement → Outcome
+data_changed s d = changed s (level (s.limits.depth - 1) (context_of s) d no_frame s.database s.limits.changes)
 
--- ---- COMMIT and ROLLBACK
+-- ---- SELECT (7.12 "query specification")
+
+abbrev pub answered : State → Result Answer Cause → Outcome
+answered s (Ok a) = accept s a
+answered s (Err cause) = refuse s cause
+
+-- the rows of a table where the condition is true, by number
+abbrev pub found : State → ℕ → Cond → Result (List StoredRow) Cause
+found s table filter = matching (scope_of no_frame s.database.rows) filter (table_rows s.database.rows table)
+
+-- what is selected of a row
+abbrev pub output_row : Scope → Outputs → List Value → Result (List Value) Cause
+output_row s outputs row = each with_cause (outputs_of s outputs row)
+
+abbrev pub selected : State → ℕ → Outputs → Cond → Result Answer Cause
+selected s table outputs filter =
+    and_then (found s table filter) (λ rows.
+    and_then (each (λ r. output_row (scope_of no_frame s.database.rows) outputs r.values) rows) (λ values. Ok (Rows values)))
+
+-- COUNT(*) gives one row of one integer
+abbrev pub counted : State → ℕ → Cond → Result Answer Cause
+counted s table filter = and_then (found s table filter) (λ rows. Ok (Rows ((Int (pos (length rows)) ∷ []) ∷ [])))
+
+-- ---- the ends of a transaction (16.6 "commit statement", 16.7 "rollback statement")
+
+-- The transaction is ended with this database: no change stands, the modes are initial, and there is no savepoint.
+abbrev pub ended : State → Database → State
+ended s db = record s { database = record db { count = 0 }; modes = initial_modes s.schema.constraints; start = None; savepoints = [] }
 
 -- the state as it was at the start of the transaction, where one is open
 abbrev pub rolled_back : State → State
-rolled_back s = elim s.start [ Some d ↦ record s { database = d; start = None } | None ↦ s ]
+rolled_back s = elim s.start [ Some d ↦ ended s d | None ↦ s ]
+
+-- the first violation of any constraint, by creation, then by row
+abbrev pub first_violation : State → Option Fault
+first_violation s = first (scan s.database.rows s.schema.constraints (is_chosen s.modes All))
 
 -- the answer of COMMIT, from the first violation of any constraint: outside a transaction it is accepted
 abbrev pub commit_answer : Option Database → Option Fault → Result (Unit {0}) Fault
@@ -77,49 +169,167 @@ commit_answer (Some d) (Some f) = Err f
 
 -- the state after COMMIT: the database stays, or is the one at the transaction's start
 abbrev pub commit_state : State → Option Fault → State
-commit_state s None = record s { start = None }
+commit_state s None = elim s.start [ Some d ↦ ended s s.database | None ↦ s ]
 commit_state s (Some f) = rolled_back s
-
--- the first violation of any constraint, by creation, then by row
-abbrev pub first_violation : State → Option Fault
-first_violation s = first (scan s.database.rows s.schema.constraints All)
 
 abbrev pub commit_reply : Result (Unit {0}) Fault → Result Answer Refusal
 commit_reply (Ok u) = Ok Done
 commit_reply (Err f) = refused (CommitRefused f)
 
+-- what is undone of the transaction: all changes that stand in it, where it is open
+abbrev pub standing : State → ℕ
+standing s = if is_open s then s.database.count else 0
+
+abbrev pub commit_work : State → Result (Unit {0}) Fault → Work
+commit_work s (Ok u) = no_work
+commit_work s (Err f) = record { changes = 0; undone = standing s }
+
 abbrev pub committed : State → Option Fault → Outcome
-committed s f = record { answer = commit_reply (commit_answer s.start f); state = commit_state s f }
+committed s f = record { answer = commit_reply (commit_answer s.start f); state = commit_state s f; work = commit_work s (commit_answer s.start f) }
+
+abbrev pub given_up : State → Outcome
+given_up s = record { answer = Ok Done; state = rolled_back s; work = record { changes = 0; undone = standing s } }
+
+-- ---- savepoints (16.4 "savepoint statement", 16.5 "release savepoint statement")
+
+-- a savepoint of that name, and those before it
+pub record Found : Type 0 where
+  pub savepoint : Savepoint
+  pub older : List Savepoint
+
+abbrev pub savepoint_named : List ℕ → List Savepoint → Option Found
+savepoint_named name [] = None
+savepoint_named name (x ∷ xs) = if bytes_eq name x.name then Some (record { savepoint = x; older = xs }) else savepoint_named name xs
+
+abbrev pub without_name : List ℕ → List Savepoint → List Savepoint
+without_name name saves = filter (λ x. not (bytes_eq name x.name)) saves
+
+-- a savepoint takes the place of an older one of its name
+abbrev pub saved : State → List ℕ → State
+saved s name = record s { savepoints = record { name = name; database = s.database; modes = s.modes } ∷ without_name name s.savepoints }
+
+-- the named savepoint and the later ones go
+abbrev pub released : State → Option Found → Outcome
+released s None = refuse s UnknownSavepoint
+released s (Some x) = accept (record s { savepoints = x.older }) Done
+
+-- the named savepoint stays and the later ones go
+abbrev pub returned : State → Option Found → Outcome
+returned s None = refuse s UnknownSavepoint
+returned s (Some x) = record {
+  answer = Ok Done;
+  state = record s { database = x.savepoint.database; modes = x.savepoint.modes; savepoints = x.savepoint ∷ x.older };
+  work = record { changes = 0; undone = s.database.count - x.savepoint.database.count };
+}
+
+-- ---- SET CONSTRAINTS (16.3 "set constraints mode statement")
+
+abbrev pub is_deferrable : Schema → ℕ → Bool
+is_deferrable c id = elim (slice_get c.constraints id) [ Some k ↦ k.deferrable | None ↦ false ]
+
+-- the constraints that are meant, in the order of the list
+abbrev pub members : Schema → ConstraintSet → List ℕ
+members c set.All = filter (is_deferrable c) (map (λ k. k.0) (enumerate_from 0 c.constraints))
+members c (set.Named ids) = ids
+
+abbrev pub with_modes : List ConstraintMode → List ℕ → ConstraintMode → List ConstraintMode
+with_modes modes ids m = fold (λ ms id. slice_set ms id m) modes ids
+
+-- the first violation of a constraint that these modes make immediate
+abbrev pub made_immediate : State → List ConstraintMode → Option Fault
+made_immediate s modes = first (scan s.database.rows s.schema.constraints (λ id. is_deferred s.modes id && not (is_deferred modes id)))
+
+abbrev pub modes_set : State → List ConstraintMode → Outcome
+modes_set s modes = refuse_first s Violation (made_immediate s modes) (accept (record s { modes = modes }) Done)
+
+-- the first that isn't deferrable is told before any violation
+abbrev pub constraints_set : State → List ℕ → ConstraintMode → Outcome
+constraints_set s ids m =
+    elim (find (λ id. not (is_deferrable s.schema id)) ids) [
+      | Some id ↦ refuse s (NotDeferrable id)
+      | None ↦ modes_set s (with_modes s.modes ids m)
+    ]
+
+-- ---- the schema
+
+-- another catalogue; no transaction is open, so the modes are initial
+abbrev pub with_schema : State → Schema → State
+with_schema s c = record s { schema = c; modes = initial_modes c.constraints }
+
+-- a constraint is refused where a row violates it, deferrable or not (11.12 "add table constraint definition")
+abbrev pub added : State → Constraint → Outcome
+added s k =
+    refuse_first s (λ f. AddRefused f.row)
+    (first (scan s.database.rows (with_constraint s.schema k).constraints (λ id. id == length s.schema.constraints)))
+    (accept (with_schema s (with_constraint s.schema k)) Done)
 
 -- ---- statements
 
--- the rows of a table, by number
-abbrev pub selected : State → ℕ → Answer
-selected s table = Rows (map (λ r. r.values) (table_rows s.database.rows table))
+abbrev pub defined : State → SchemaPlan → Outcome
+defined s (schema.CreateTable table constraints) = accept (with_schema s (with_table s.schema table constraints)) Done
+defined s (schema.AddConstraint k) = added s k
+defined s (schema.CreateTrigger t) = accept (with_schema s (with_trigger s.schema t)) Done
+defined s (schema.DropTrigger id) = accept (with_schema s (without_trigger s.schema id)) Done
 
--- what a resolved statement does
+abbrev pub queried : State → QueryPlan → Outcome
+queried s (query.Rows table outputs filter) = answered s (selected s table outputs filter)
+queried s (query.Count table filter) = answered s (counted s table filter)
+
+abbrev pub transacted : State → TransactionPlan → Outcome
+transacted s transaction.Start = accept (begun s) Done
+transacted s transaction.Commit = committed s (first_violation s)
+transacted s transaction.Rollback = given_up s
+transacted s (transaction.Savepoint name) = accept (saved s name) Done
+transacted s (transaction.Release name) = released s (savepoint_named name s.savepoints)
+transacted s (transaction.RollbackTo name) = returned s (savepoint_named name s.savepoints)
+transacted s (transaction.SetConstraints ids m) = constraints_set s (members s.schema ids) m
+
+-- What a resolved statement does.
 abbrev pub performed : State → Plan → Outcome
-performed s (plan.CreateTable table constraints) = accept (record s { schema = with_table s.schema table constraints }) Done
-performed s (plan.Insert table row) = inserted s table row
-performed s (plan.Select table) = accept s (selected s table)
-performed s plan.Commit = committed s (first_violation s)
-performed s plan.Rollback = accept (rolled_back s) Done
+performed s (plan.Schema p) = defined s p
+performed s (plan.Change d) = data_changed s d
+performed s (plan.Query p) = queried s p
+performed s (plan.Transaction p) = transacted s p
 
 abbrev pub performed_where : State → Result Plan Refusal → Outcome
 performed_where s (Ok p) = performed s p
-performed_where s (Err r) = record { answer = Err r; state = s }
+performed_where s (Err r) = record { answer = Err r; state = s; work = no_work }
 
--- CREATE TABLE is refused inside a transaction, before anything else
-abbrev pub is_barred : State → Statement → Bool
-is_barred s (statement.CreateTable name elements) = is_some s.start
-is_barred s _ = false
+-- Whether a statement runs outside a transaction alone, inside one alone, only to begin one, or always.
+pub data Occasion : Type 0 where
+  outside : Occasion
+  inside : Occasion
+  beginning : Occasion
+  always : Occasion
 
--- What a statement answers, and the state after it.
+abbrev pub occasion_of : Statement → Occasion
+occasion_of (statement.CreateTable _ _) = outside
+occasion_of (statement.AlterTable _ _) = outside
+occasion_of (statement.CreateTrigger _) = outside
+occasion_of (statement.DropTrigger _) = outside
+occasion_of statement.StartTransaction = beginning
+occasion_of (statement.Savepoint _) = inside
+occasion_of (statement.Release _) = inside
+occasion_of (statement.RollbackTo _) = inside
+occasion_of (statement.SetConstraints _ _) = inside
+occasion_of _ = always
+
+-- why a statement is refused before anything else
+abbrev pub transaction_cause : Bool → Occasion → Option Cause
+transaction_cause true outside = Some InTransaction
+transaction_cause false inside = Some NoTransaction
+transaction_cause true beginning = Some ActiveTransaction
+transaction_cause _ _ = None
+
+abbrev pub unless : State → Option Cause → Outcome → Outcome
+unless s (Some cause) o = refuse s cause
+unless s None o = o
+
+-- What a statement answers, and the state after it. A statement that isn't taken up yet is a SchemaFault before all else.
 abbrev pub step : State → Statement → Outcome
 step s st =
     if not (is_taken_up st) then refuse s SchemaFault
-    else (if is_barred s st then refuse s InTransaction
-    else performed_where s (resolution s.schema st))
+    else unless s (transaction_cause (is_open s) (occasion_of st)) (performed_where s (resolution s.schema st))
 
 -- The answers to a list of statements, in their order, and the state after them.
 abbrev pub run : State → List Statement → List (Result Answer Refusal) × State
@@ -140,8 +350,8 @@ Performs old p r new = MatchBool (is_memory r) (new ≡ old) ((r ≡ (performed 
 abbrev pub Follows : State → Result Plan Refusal → Result Answer Refusal → State → Type 0
 Follows old p r new = MatchBool (is_memory r) (new ≡ old) ((r ≡ (performed_where old p).answer) × (new ≡ (performed_where old p).state))
 
--- the statement takes no memory: COMMIT, ROLLBACK, and one that is refused for the open transaction
+-- the statement takes no memory: COMMIT, ROLLBACK, and one that is refused for the transaction that is open or isn't
 abbrev pub takes_no_memory : State → Statement → Bool
 takes_no_memory s statement.Commit = true
 takes_no_memory s statement.Rollback = true
-takes_no_memory s st = is_barred s st
+takes_no_memory s st = is_some (transaction_cause (is_open s) (occasion_of st))

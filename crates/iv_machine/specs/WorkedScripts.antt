@@ -1,5 +1,5 @@
 -- Worked scripts: what the machine answers to two lists of statements.
-use Rattle.std.specs.Prelude.{◌≡◌, ℕ, pos, List, [], ◌∷◌, Option, Some, None, Result, Ok, Err, codes}
+use Rattle.std.specs.Prelude.{◌≡◌, ℕ, pos, List, [], ◌∷◌, Option, Some, None, Result, Ok, codes}
 use Rattle.iv_value.specs.declared.value.Value.TheVariants.{Null, Int}
 use Rattle.iv_expr.specs.declared.tree.Comparison.{Comparison}
 use Rattle.iv_expr.specs.declared.tree.Comparison.TheVariants.{Less, Greater}

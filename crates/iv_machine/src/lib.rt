@@ -6,9 +6,13 @@ mod database;
 mod laws;
 mod limits;
 mod scan;
+#[cfg(test)]
+mod tests;
+mod wave;
 
 pub use answer::Answer;
-pub use database::Which;
+pub use database::{Database, Which};
 pub use laws::{reached_states_are_sound, worked_scripts};
 pub use limits::Limits;
-pub use scan::{count_faults, first_fault, list_faults};
+pub use scan::{count_faults, first_fault, list_faults, satisfies};
+pub use wave::applied;

@@ -1,54 +1,188 @@
-//! The scan of a list of rows: its first violation, its length, and the whole of it. Each takes time in
-//! proportion to the rows times the constraints that are chosen.
-ghost use Rattle.std.specs.Prelude.{◌≡◌, ◌++◌, ◌≤◌, ◌+◌, ◌-◌, ◌^◌, ℕ, length, filter, map, min, option_map, find, if◌then◌else◌, IfOk, OnOk, OnErr};
-ghost use Rattle.iv_machine.specs.Databases.{violates, fault_at, violations, is_chosen, chosen_violations, scan, first};
+//! The plain program of the scan: whether a row satisfies a constraint, the first violation, how many
+//! there are, and all of them. It looks at whole lists: `satisfies` takes time in proportion to the rows,
+//! and a scan to the square of the rows of each table times the constraints that are chosen; for CHECK and
+//! NOT NULL to the rows alone.
+ghost use Rattle.std.specs.Prelude.{◌≡◌, ◌++◌, ◌≤◌, ◌+◌, ◌-◌, ◌^◌, ◌&&◌, ◌||◌, ℕ, not, length, filter, map, min, option_map, find, if◌then◌else◌, [], IfOk, OnOk, OnErr, ◌==◌, slice_get};
+ghost use Rattle.std.specs.List.{list_any};
+ghost use Rattle.iv_value.specs.References.{value_of};
+ghost use Rattle.iv_value.specs.Truths.{is_false};
+ghost use Rattle.iv_value.specs.Values.{all_same, is_null};
+ghost use Rattle.iv_expr.specs.Scopes.{table_rows};
+ghost use Rattle.iv_machine.specs.Databases.{value_at, key_of, none_null, all_null, holds_key, is_unique, has_referenced, matches, obeys, satisfies, violates, fault_at, violations, chosen_violations, is_deferred, is_chosen, scan, first};
 
 use crate::database::Which;
-use iv_catalogue::{Constraint, ConstraintId, Fault, Rule};
-use iv_expr::{StoredRow, check_truth};
-use iv_value::Truth;
+use iv_catalogue::{Constraint, ConstraintId, Fault, ForeignKey, Rule};
+use iv_expr::{StoredRow, TableId, check_truth};
+use iv_syntax::{ConstraintMode, MatchType};
+use iv_value::{Truth, Value, ValueRef};
 use std::alloc::{AllocError, Global};
 
-// Whether the row is one of the constraint's table and doesn't satisfy it.
-fn violates(constraint: &Constraint, row: &StoredRow) -> bool
-    ensures { result ≡ violates constraint.now row.now }
+// The value of a column, null where there is none.
+fn value_at(row: &[Value], column: u32) -> ValueRef<'_>
+    ensures { value_of result ≡ value_at row.now column }
 {
-    if row.table != constraint.table {
-        return false;
+    match row.get(column as usize) {
+        Some(value) => value.as_ref(),
+        None => ValueRef::Null,
     }
-    match &constraint.rule {
-        Rule::Check(condition) => {
-            matches!(check_truth(condition, row.values.values()), Truth::False)
+}
+
+// Whether no column of a key is null.
+fn none_null(columns: &[u32], row: &[Value]) -> bool
+    ensures { result ≡ none_null (key_of columns.now row.now) }
+{
+    match columns {
+        [] => true,
+        [column, rest @ ..] => !value_at(row, *column).is_null() && none_null(rest, row),
+    }
+}
+
+// Whether all columns of a key are null.
+fn all_null(columns: &[u32], row: &[Value]) -> bool
+    ensures { result ≡ all_null (key_of columns.now row.now) }
+{
+    match columns {
+        [] => true,
+        [column, rest @ ..] => value_at(row, *column).is_null() && all_null(rest, row),
+    }
+}
+
+// Whether two rows have the same key, each in its own columns.
+fn same_key(columns: &[u32], row: &[Value], others: &[u32], other: &[Value]) -> bool
+    ensures { result ≡ all_same (key_of columns.now row.now) (key_of others.now other.now) }
+{
+    match columns {
+        [] => others.is_empty(),
+        [column, rest @ ..] => match others {
+            [] => false,
+            [other_column, more @ ..] => {
+                value_at(row, *column).same(value_at(other, *other_column))
+                    && same_key(rest, row, more, other)
+            }
+        },
+    }
+}
+
+// Whether another row holds this row's key.
+fn is_equal(columns: &[u32], row: &StoredRow, other: &StoredRow) -> bool
+    ensures { result ≡ (not (other.now.number == row.now.number) && holds_key columns.now (key_of columns.now row.now.values) other.now.values) }
+{
+    other.number != row.number
+        && none_null(columns, other.values.values())
+        && same_key(columns, other.values.values(), columns, row.values.values())
+}
+
+fn is_unique(rows: &[StoredRow], table: TableId, columns: &[u32], row: &StoredRow) -> bool
+    ensures { result ≡ is_unique rows.now table columns.now row.now }
+{
+    for other in rows {
+        if other.table == table && is_equal(columns, row, other) {
+            return false;
+        }
+    }
+    true
+}
+
+// Whether the key of a referencing row is that of a referenced one.
+fn has_referenced(rows: &[StoredRow], key: &ForeignKey, row: &[Value]) -> bool
+    ensures { result ≡ has_referenced rows.now key.now (key_of key.now.columns row.now) }
+{
+    for other in rows {
+        if other.table == key.referenced
+            && same_key(
+                key.key.as_slice(),
+                other.values.values(),
+                key.columns.as_slice(),
+                row,
+            )
+        {
+            return true;
+        }
+    }
+    false
+}
+
+fn matches(rows: &[StoredRow], key: &ForeignKey, row: &[Value]) -> bool
+    ensures { result ≡ matches key.now.matching rows.now key.now (key_of key.now.columns row.now) }
+{
+    let given = none_null(key.columns.as_slice(), row);
+    match key.matching {
+        MatchType::Simple => !given || has_referenced(rows, key, row),
+        MatchType::Full => {
+            all_null(key.columns.as_slice(), row) || (given && has_referenced(rows, key, row))
         }
     }
 }
 
-// Whether the constraint is one of those.
-fn is_chosen(which: Which, constraint: &Constraint) -> bool
-    ensures { result ≡ is_chosen which constraint.now }
+fn passes_check(truth: Truth) -> bool
+    ensures { result ≡ not (is_false truth) }
 {
+    !matches!(truth, Truth::False)
+}
+
+// Whether a row of a table obeys a rule on it.
+fn obeys(rows: &[StoredRow], table: TableId, rule: &Rule, row: &StoredRow) -> bool
+    ensures { result ≡ obeys rows.now table rule.now row.now }
+{
+    match rule {
+        Rule::NotNull(column) => !value_at(row.values.values(), *column).is_null(),
+        Rule::Check(condition) => passes_check(check_truth(condition, row.values.values())),
+        Rule::Unique(columns) => is_unique(rows, table, columns.as_slice(), row),
+        Rule::PrimaryKey(columns) => {
+            none_null(columns.as_slice(), row.values.values())
+                && is_unique(rows, table, columns.as_slice(), row)
+        }
+        Rule::ForeignKey(key) => matches(rows, key, row.values.values()),
+    }
+}
+
+/// Whether a row of a constraint's table satisfies it, among these rows.
+pub fn satisfies(rows: &[StoredRow], constraint: &Constraint, row: &StoredRow) -> bool
+    ensures { result ≡ satisfies rows.now constraint.now row.now }
+{
+    obeys(rows, constraint.table, &constraint.rule, row)
+}
+
+// Whether the constraint of this number is one of those.
+fn is_chosen(modes: &[ConstraintMode], which: Which, id: u32) -> bool
+    ensures { result ≡ is_chosen modes.now which id }
+{
+    let deferred = matches!(modes.get(id as usize), Some(ConstraintMode::Deferred));
     match which {
-        Which::Immediate => !constraint.deferred,
-        Which::Deferred => constraint.deferred,
+        Which::Immediate => !deferred,
+        Which::Deferred => deferred,
         Which::All => true,
     }
 }
 
+// Whether a row is one of the constraint's table and violates it.
+fn violates(rows: &[StoredRow], constraint: &Constraint, row: &StoredRow) -> bool
+    ensures { result ≡ violates rows.now constraint.now row.now }
+{
+    row.table == constraint.table && !satisfies(rows, constraint, row)
+}
+
 // The number of the first row that violates the constraint.
 fn first_row(rows: &[StoredRow], constraint: &Constraint) -> Option<u64>
-    ensures { result ≡ option_map (λ r. r.number) (find (violates constraint.now) rows.now) }
+    ensures { result ≡ option_map (λ r. r.number) (find (violates rows.now constraint.now) rows.now) }
 {
     rows.iter()
-        .find(|row| violates(constraint, row))
+        .find(|row| violates(rows, constraint, row))
         .map(|row| row.number)
 }
 
-// The first violation of a constraint, where it is one of those.
+// The first violation of a constraint, where it is chosen.
 #[tactic(auto, using(crate::proofs::Firsts::first_of_violations))]
-fn first_of(rows: &[StoredRow], which: Which, id: u32, constraint: &Constraint) -> Option<Fault>
-    ensures { result ≡ first (chosen_violations rows.now which id constraint.now) }
+fn first_of(
+    rows: &[StoredRow],
+    modes: &[ConstraintMode],
+    which: Which,
+    id: u32,
+    constraint: &Constraint,
+) -> Option<Fault>
+    ensures { result ≡ first (chosen_violations rows.now (is_chosen modes.now which) id constraint.now) }
 {
-    if !is_chosen(which, constraint) {
+    if !is_chosen(modes, which, id) {
         return None;
     }
     match first_row(rows, constraint) {
@@ -61,13 +195,18 @@ fn first_of(rows: &[StoredRow], which: Which, id: u32, constraint: &Constraint) 
 }
 
 /// The first violation that the scan finds, by the constraint's creation, then by row.
-pub fn first_fault(rows: &[StoredRow], constraints: &[Constraint], which: Which) -> Option<Fault>
+pub fn first_fault(
+    rows: &[StoredRow],
+    constraints: &[Constraint],
+    modes: &[ConstraintMode],
+    which: Which,
+) -> Option<Fault>
     requires { length constraints.now ≤ 4096 }
-    ensures { result ≡ first (scan rows.now constraints.now which) }
+    ensures { result ≡ first (scan rows.now constraints.now (is_chosen modes.now which)) }
 {
     let mut id = 0u32;
     for constraint in constraints {
-        if let Some(fault) = first_of(rows, which, id, constraint) {
+        if let Some(fault) = first_of(rows, modes, which, id, constraint) {
             return Some(fault);
         }
         id += 1;
@@ -77,23 +216,29 @@ pub fn first_fault(rows: &[StoredRow], constraints: &[Constraint], which: Which)
 
 // How many rows violate the constraint.
 fn count_rows(rows: &[StoredRow], constraint: &Constraint) -> usize
-    ensures { result ≡ length (filter (violates constraint.now) rows.now) }
+    ensures { result ≡ length (filter (violates rows.now constraint.now) rows.now) }
 {
     let mut count = 0usize;
     for row in rows {
-        if violates(constraint, row) {
+        if violates(rows, constraint, row) {
             count += 1;
         }
     }
     count
 }
 
-// How many violations of a constraint there are, where it is one of those.
+// How many violations of a constraint there are, where it is chosen.
 #[tactic(auto, using(crate::proofs::Firsts::count_of_violations))]
-fn count_of(rows: &[StoredRow], which: Which, id: u32, constraint: &Constraint) -> usize
-    ensures { result ≡ length (chosen_violations rows.now which id constraint.now) }
+fn count_of(
+    rows: &[StoredRow],
+    modes: &[ConstraintMode],
+    which: Which,
+    id: u32,
+    constraint: &Constraint,
+) -> usize
+    ensures { result ≡ length (chosen_violations rows.now (is_chosen modes.now which) id constraint.now) }
 {
-    if is_chosen(which, constraint) {
+    if is_chosen(modes, which, id) {
         count_rows(rows, constraint)
     } else {
         0
@@ -101,14 +246,19 @@ fn count_of(rows: &[StoredRow], which: Which, id: u32, constraint: &Constraint) 
 }
 
 /// How many violations the scan finds; the count stays at 2^64 - 1 once it is there. It takes no memory.
-pub fn count_faults(rows: &[StoredRow], constraints: &[Constraint], which: Which) -> u64
+pub fn count_faults(
+    rows: &[StoredRow],
+    constraints: &[Constraint],
+    modes: &[ConstraintMode],
+    which: Which,
+) -> u64
     requires { length constraints.now ≤ 4096 }
-    ensures { result ≡ min (length (scan rows.now constraints.now which)) (2 ^ 64 - 1) }
+    ensures { result ≡ min (length (scan rows.now constraints.now (is_chosen modes.now which))) (2 ^ 64 - 1) }
 {
     let mut id = 0u32;
     let mut count = 0u64;
     for constraint in constraints {
-        count = count.saturating_add(count_of(rows, which, id, constraint) as u64);
+        count = count.saturating_add(count_of(rows, modes, which, id, constraint) as u64);
         id += 1;
     }
     count
@@ -124,7 +274,7 @@ fn push_rows(
     ensures { OnOk result (faults.new.items ≡ faults.old.items ++ violations rows.now id constraint.now) }
 {
     for row in rows {
-        if violates(constraint, row) {
+        if violates(rows, constraint, row) {
             faults.push(Fault {
                 constraint: ConstraintId::new(id),
                 row: row.number,
@@ -134,17 +284,18 @@ fn push_rows(
     Ok(())
 }
 
-// Adds the violations of a constraint, where it is one of those.
+// Adds the violations of a constraint, where it is chosen.
 fn push_faults(
     faults: &mut Vec<Fault>,
     rows: &[StoredRow],
+    modes: &[ConstraintMode],
     which: Which,
     id: u32,
     constraint: &Constraint,
 ) -> Result<(), AllocError>
-    ensures { OnOk result (faults.new.items ≡ faults.old.items ++ chosen_violations rows.now which id constraint.now) }
+    ensures { OnOk result (faults.new.items ≡ faults.old.items ++ chosen_violations rows.now (is_chosen modes.now which) id constraint.now) }
 {
-    if is_chosen(which, constraint) {
+    if is_chosen(modes, which, id) {
         push_rows(faults, rows, id, constraint)
     } else {
         Ok(())
@@ -156,15 +307,16 @@ pub fn list_faults(
     alloc: Global,
     rows: &[StoredRow],
     constraints: &[Constraint],
+    modes: &[ConstraintMode],
     which: Which,
 ) -> Result<Vec<Fault>, AllocError>
     requires { length constraints.now ≤ 4096 }
-    ensures { IfOk result (λ faults. faults.items ≡ scan rows.now constraints.now which) }
+    ensures { IfOk result (λ faults. faults.items ≡ scan rows.now constraints.now (is_chosen modes.now which)) }
 {
     let mut faults = Vec::new(alloc);
     let mut id = 0u32;
     for constraint in constraints {
-        push_faults(&mut faults, rows, which, id, constraint)?;
+        push_faults(&mut faults, rows, modes, which, id, constraint)?;
         id += 1;
     }
     Ok(faults)

@@ -9,14 +9,14 @@ use Rattle.iv_syntax.specs.declared.statement.ConstraintMode.TheVariants.{Immedi
 use Rattle.iv_syntax.specs.declared.statement.ConstraintList.{ConstraintList}
 use Rattle.iv_syntax.specs.declared.statement.ConstraintList.TheVariants.{All, Named}
 use Rattle.iv_conditions.specs.After.{after, if_some, then_read}
-use Rattle.iv_parse.specs.Series.{Optional, read_series}
-use Rattle.iv_parse.specs.Data.{Names}
-use Rattle.iv_parse.specs.DataReaders.{Found, read_name}
-use Rattle.iv_parse.specs.Tables.{mode_kind}
-use Rattle.iv_parse.specs.TableReaders.{read_mode}
+use Rattle.iv_tables.specs.Series.{Optional, read_series}
+use Rattle.iv_tables.specs.Data.{Names}
+use Rattle.iv_tables.specs.DataReaders.{Found, read_name}
+use Rattle.iv_tables.specs.Tables.{mode_kind}
+use Rattle.iv_tables.specs.TableReaders.{read_mode}
 use Rattle.iv_parse.specs.Statements.{IsConstraintList}
 use Rattle.iv_parse.specs.Readers.{read_drop, read_start, read_commit, read_to, read_rollback, read_savepoint, read_release, read_list, read_set, read_savepoint_rule, read_session_rule}
-use Rattle.iv_parse.proofs.DataComplete.{names_complete}
+use Rattle.iv_tables.proofs.DataComplete.{names_complete}
 
 -- a rule reads these words of a statement, and leaves the semicolon
 abbrev pub Reads_to_end : (List Word → Found Statement) → List Word → Statement → Type 0

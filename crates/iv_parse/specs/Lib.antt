@@ -1,8 +1,3 @@
-pub mod Series
-pub mod Data
-pub mod DataReaders
-pub mod Tables
-pub mod TableReaders
 pub mod Triggers
 pub mod TriggerReaders
 pub mod Statements

@@ -8,10 +8,10 @@ use Rattle.iv_syntax.specs.declared.statement.Statement.TheVariants as statement
 use Rattle.iv_syntax.specs.declared.statement.ConstraintList.{ConstraintList}
 use Rattle.iv_syntax.specs.declared.statement.ConstraintList.TheVariants.{All, Named}
 use Rattle.iv_conditions.specs.After.{after, if_some, then_read}
-use Rattle.iv_parse.specs.Series.{read_series, skip}
+use Rattle.iv_tables.specs.Series.{read_series, skip}
 use Rattle.iv_parse.specs.TriggerReaders.{read_trigger}
-use Rattle.iv_parse.specs.TableReaders.{read_mode, read_elements, read_table_constraint}
-use Rattle.iv_parse.specs.DataReaders.{Found, then_word, read_name, read_insert, read_update, read_delete, read_select}
+use Rattle.iv_tables.specs.TableReaders.{read_mode, read_create_table, read_alter}
+use Rattle.iv_tables.specs.DataReaders.{Found, then_word, read_name, read_insert, read_update, read_delete, read_select}
 
 unfoldable pub read_drop : List Word → Found Statement
 read_drop ws = then_word kind.Trigger ws (λ rest. then_read (read_name rest) (λ n more. Some (DropTrigger n, more)))
@@ -59,16 +59,6 @@ read_session_rule ws =
     (if_some (after kind.Rollback ws) read_rollback
     (if_some (after kind.Start ws) read_start
     (read_savepoint_rule ws)))
-
--- after CREATE TABLE
-unfoldable pub read_create_table : List Word → Found Statement
-read_create_table ws = then_read (read_name ws) (λ n rest. then_read (read_elements rest) (λ es more. Some (statement.CreateTable n es, more)))
-
--- after ALTER
-unfoldable pub read_alter : List Word → Found Statement
-read_alter ws =
-    then_word kind.Table ws (λ rest. then_read (read_name rest) (λ n more. then_word kind.Add more
-    (λ left. then_read (read_table_constraint left) (λ c last. Some (statement.AlterTable n c, last)))))
 
 unfoldable pub read_insert_rule : List Word → Found Statement
 read_insert_rule ws = then_read (read_insert ws) (λ i rest. Some (statement.Insert i, rest))

@@ -2,8 +2,6 @@
 use Rattle.std.specs.Prelude.{ℕ, Option, Some, None, List, [], ◌∷◌, length}
 use Rattle.iv_lex.specs.declared.kind.Kind.TheVariants as kind
 use Rattle.iv_lex.specs.Words.{Word}
-use Rattle.iv_expr.specs.declared.tree.Side.{Side}
-use Rattle.iv_expr.specs.declared.tree.Side.TheVariants as side
 use Rattle.iv_syntax.specs.declared.tree.Condition.{Condition}
 use Rattle.iv_syntax.specs.declared.trigger.ActionTime.{ActionTime}
 use Rattle.iv_syntax.specs.declared.trigger.ActionTime.TheVariants as action_time
@@ -11,30 +9,15 @@ use Rattle.iv_syntax.specs.declared.trigger.TriggerEvent.{TriggerEvent}
 use Rattle.iv_syntax.specs.declared.trigger.TriggerEvent.TheVariants as event
 use Rattle.iv_syntax.specs.declared.trigger.Granularity.{Granularity}
 use Rattle.iv_syntax.specs.declared.trigger.Granularity.TheVariants as granularity
-use Rattle.iv_syntax.specs.declared.trigger.TransitionName.{TransitionName}
-use Rattle.iv_syntax.specs.declared.trigger.TransitionName.TheVariants as transition
 use Rattle.iv_syntax.specs.declared.trigger.Referencing.{Referencing}
 use Rattle.iv_syntax.specs.declared.trigger.TriggerAction.{TriggerAction}
 use Rattle.iv_syntax.specs.declared.trigger.TriggerAction.TheVariants as action
 use Rattle.iv_syntax.specs.declared.trigger.TriggerDefinition.{TriggerDefinition}
 use Rattle.iv_conditions.specs.After.{after, if_some, then_read}
-use Rattle.iv_parse.specs.Series.{read_sequence, skip}
-use Rattle.iv_parse.specs.DataReaders.{Found, then_word, read_name, read_shallow, read_check, read_insert, read_update, read_delete}
-use Rattle.iv_parse.specs.TableReaders.{read_quoted}
-
-unfoldable pub read_transition : List Word → Found TransitionName
-read_transition ws = if_some (after kind.Table ws) (λ rest. Some (transition.Table, rest)) (Some (transition.Row, skip kind.Row ws))
-
--- after OLD or NEW
-unfoldable pub read_item_of : Side → List Word → Found (Option Referencing)
-read_item_of s ws =
-    then_read (read_transition ws) (λ w rest. then_read (read_name (skip kind.As rest)) (λ n more. Some (Some (record { side = s; what = w; name = n }), more)))
-
--- an item, where one begins
-unfoldable pub read_item : List Word → Found (Option Referencing)
-read_item ws =
-    if_some (after kind.Old ws) (read_item_of side.Old)
-    (if_some (after kind.New ws) (read_item_of side.New) (Some (None, ws)))
+use Rattle.iv_tables.specs.Series.{read_sequence}
+use Rattle.iv_tables.specs.DataReaders.{Found, then_word, read_name, read_shallow, read_check, read_insert, read_update, read_delete}
+use Rattle.iv_tables.specs.TableReaders.{read_quoted}
+use Rattle.iv_tables.specs.ItemReaders.{read_item}
 
 -- there is one at least
 abbrev pub some_items : List Referencing → List Word → Found (List Referencing)

@@ -2,16 +2,13 @@
 ghost use Rattle.std.specs.Prelude.{◌≡◌, IfOk, ℕ, List, Some, length};
 ghost use Rattle.iv_lex.specs.Words.{words};
 ghost use Rattle.iv_conditions.specs.Seen.{with_words};
-ghost use Rattle.iv_parse.specs.Series.{read_sequence};
+ghost use Rattle.iv_tables.specs.Series.{read_sequence};
 ghost use Rattle.iv_parse.specs.TriggerReaders.{read_set_variable, read_signal, read_other_action, read_delete_action, read_update_action, read_action, read_ended_action, some_actions, read_block, read_single, read_body};
 
-use crate::insert::insert;
-use crate::parse::Parse;
-use crate::select::{delete, update};
-use crate::time::quoted;
 use iv_conditions::{after, name};
 use iv_lex::{Kind, Token};
 use iv_syntax::{Expression, TriggerAction};
+use iv_tables::{Parse, delete, insert, quoted, update};
 use sqlite_items::Items;
 use std::alloc::{AllocError, Global};
 

@@ -1,28 +1,14 @@
 //! Statements about transactions, savepoints and constraint modes.
-ghost use Rattle.std.specs.Prelude.{◌≡◌, IfOk, ℕ, List, true, Some};
-ghost use Rattle.iv_conditions.specs.After.{is_plain};
+ghost use Rattle.std.specs.Prelude.{◌≡◌, IfOk, ℕ, List, Some};
 ghost use Rattle.iv_lex.specs.Words.{words};
 ghost use Rattle.iv_conditions.specs.Seen.{with_words};
-ghost use Rattle.iv_parse.specs.Series.{skip};
 ghost use Rattle.iv_parse.specs.Readers.{read_drop, read_start, read_commit, read_to, read_rollback_rest, read_rollback, read_savepoint, read_release, read_list, read_set, read_savepoint_rule, read_session_rule};
 
-use crate::series::series;
-use crate::time::mode;
 use iv_conditions::{after, name};
 use iv_lex::{Kind, Token};
 use iv_syntax::{ConstraintList, Name, Statement};
+use iv_tables::{mode, series, skip};
 use std::alloc::{AllocError, Global};
-
-/// The tokens after a word that may be left out.
-pub fn skip(kind: Kind, tokens: &[Token]) -> &[Token]
-    requires { is_plain kind ≡ true }
-    ensures { (text : List ℕ) → words text result.now ≡ skip kind (words text tokens.now) }
-{
-    match after(kind, tokens) {
-        Some(rest) => rest,
-        None => tokens,
-    }
-}
 
 #[tactic(auto, unfolding(crate::specs::Readers::read_start))]
 fn start(tokens: &[Token]) -> Option<(Statement, &[Token])>

@@ -4,14 +4,12 @@ ghost use Rattle.iv_lex.specs.Words.{words};
 ghost use Rattle.iv_conditions.specs.Seen.{with_words};
 ghost use Rattle.iv_parse.specs.Readers.{read_drop, read_insert_rule, read_update_rule, read_delete_rule, read_select_rule, read_create, read_definition_rule, read_rule, read_statement};
 
-use crate::insert::insert;
-use crate::select::{delete, select, update};
 use crate::session::session_statement;
-use crate::table::{alter_table, create_table};
-use crate::trigger::trigger;
+use crate::trigger::create_trigger;
 use iv_conditions::{after, name};
 use iv_lex::{Kind, Token};
 use iv_syntax::Statement;
+use iv_tables::{alter_table, create_table, delete, insert, select, update};
 use std::alloc::{AllocError, Global};
 
 #[tactic(auto, unfolding(crate::specs::Readers::read_drop))]
@@ -101,7 +99,7 @@ fn create<'a>(
     let Some(rest) = after(Kind::Trigger, tokens) else {
         return Ok(None);
     };
-    match trigger(alloc, text, rest)? {
+    match create_trigger(alloc, text, rest)? {
         Some((trigger, rest)) => Ok(Some((Statement::CreateTrigger(trigger), rest))),
         None => Ok(None),
     }

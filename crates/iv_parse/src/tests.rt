@@ -1,6 +1,9 @@
 //! Scripts, at values from outside.
 use crate::laws::{no_other_begins, one_script, one_statement};
 use crate::script;
+use crate::trigger::create_trigger;
+use iv_lex::{Token, tokens};
+use iv_syntax::TriggerDefinition;
 use std::alloc::{AllocError, Global};
 use std::test::Fail;
 
@@ -66,6 +69,62 @@ fn scripts_are_the_longest_run(rt: HostRuntime) -> Result<(), Fail> {
     ] {
         let found = shown(rt.alloc(), text)?;
         assert_eq!(rt; found.as_str(), wanted);
+    }
+    Ok(())
+}
+
+fn shown_trigger(
+    alloc: Global,
+    found: &TriggerDefinition,
+    left: usize,
+) -> Result<String, AllocError> {
+    let items = found.referencing.len();
+    let when = found.when.is_some();
+    let actions = found.body.len();
+    let name = found.name.as_str();
+    format!(in alloc;
+        "{name} {:?} {:?} {} {items} {:?} {when} {actions}, {left}",
+        found.time,
+        found.event,
+        found.table.as_str(),
+        found.granularity
+    )
+}
+
+fn trigger_in(alloc: Global, source: &str, tokens: &[Token]) -> Result<String, AllocError> {
+    match create_trigger(alloc, source, tokens)? {
+        Some((found, rest)) => shown_trigger(alloc, &found, rest.len()),
+        None => format!(in alloc; "none"),
+    }
+}
+
+/// Name, time, event, table, how many items of REFERENCING, granularity, whether it has WHEN, how many
+/// actions, and how many tokens are left.
+fn trigger_of(alloc: Global, source: &str) -> Result<String, AllocError> {
+    let lexed = tokens(alloc, source)?;
+    trigger_in(alloc, source, lexed.tokens.as_slice())
+}
+
+#[test]
+fn a_trigger_has_a_body(rt: HostRuntime) -> Result<(), Fail> {
+    for (source, wanted) in [
+        (
+            "s AFTER UPDATE ON t REFERENCING NEW TABLE AS nt WHEN (NOT EXISTS (SELECT * FROM nt)) INSERT INTO log VALUES ('empty');",
+            "S After Update T 1 Statement true 1, 1",
+        ),
+        (
+            "r BEFORE INSERT ON t REFERENCING OLD o NEW ROW AS n FOR EACH ROW BEGIN ATOMIC SET n.a = 1; SIGNAL 'no'; END",
+            "R Before Insert T 2 Row false 2, 0",
+        ),
+        ("r AFTER INSERT ON t BEGIN ATOMIC END", "none"),
+        (
+            "r AFTER INSERT ON t BEGIN ATOMIC INSERT INTO t VALUES (1);",
+            "none",
+        ),
+        ("r AFTER INSERT ON t SELECT * FROM t", "none"),
+    ] {
+        let found = trigger_of(rt.alloc(), source)?;
+        assert_eq!(rt; found.as_str(), wanted, "{source}");
     }
     Ok(())
 }

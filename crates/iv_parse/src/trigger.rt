@@ -1,70 +1,19 @@
 //! CREATE TRIGGER.
-ghost use Rattle.std.specs.Prelude.{◌≡◌, IfOk, ℕ, List, Some};
+ghost use Rattle.std.specs.Prelude.{◌≡◌, IfOk, ℕ, List};
 ghost use Rattle.iv_lex.specs.Words.{words};
 ghost use Rattle.iv_conditions.specs.Seen.{with_words};
-ghost use Rattle.iv_parse.specs.TriggerReaders.{read_transition, read_item_of, read_item, some_items, read_referencing, read_each, read_granularity, read_when, read_action_time, read_other_event, read_event, read_occasion, read_middle, trigger_of, read_trigger_rest, read_trigger};
+ghost use Rattle.iv_parse.specs.TriggerReaders.{some_items, read_referencing, read_each, read_granularity, read_when, read_action_time, read_other_event, read_event, read_occasion, read_middle, trigger_of, read_trigger_rest, read_trigger};
 
 use crate::action::body;
-use crate::constraint::check;
-use crate::parse::ParseSome;
-use crate::series::sequence;
-use crate::session::skip;
 use iv_conditions::{after, name};
-use iv_expr::Side;
 use iv_lex::{Kind, Token};
 use iv_syntax::{
-    ActionTime, Condition, Granularity, Name, Referencing, TransitionName, TriggerAction,
-    TriggerDefinition, TriggerEvent,
+    ActionTime, Condition, Granularity, Name, Referencing, TriggerAction, TriggerDefinition,
+    TriggerEvent,
 };
+use iv_tables::{enclosed_condition, sequence};
 use sqlite_items::Items;
 use std::alloc::{AllocError, Global};
-
-// [ ROW | TABLE ]
-#[tactic(auto, unfolding(crate::specs::TriggerReaders::read_transition))]
-fn transition(tokens: &[Token]) -> (TransitionName, &[Token])
-    ensures { (text : List ℕ) → with_words text (Some result) ≡ read_transition (words text tokens.now) }
-{
-    match after(Kind::Table, tokens) {
-        Some(rest) => (TransitionName::Table, rest),
-        None => (TransitionName::Row, skip(Kind::Row, tokens)),
-    }
-}
-
-// An item, after OLD or NEW.
-#[tactic(auto, unfolding(crate::specs::TriggerReaders::read_item_of))]
-fn item_of<'a>(
-    alloc: Global,
-    text: &str,
-    side: Side,
-    tokens: &'a [Token],
-) -> Result<Option<(Option<Referencing>, &'a [Token])>, AllocError>
-    ensures { IfOk result (λ r. with_words text.now r ≡ read_item_of side (words text.now tokens.now)) }
-{
-    let (what, rest) = transition(tokens);
-    match name(alloc, text, skip(Kind::As, rest))? {
-        Some((name, rest)) => Ok(Some((Some(Referencing { side, what, name }), rest))),
-        None => Ok(None),
-    }
-}
-
-impl ParseSome for Referencing {
-    ghost found_some = { read_item };
-
-    #[tactic(auto, unfolding(crate::specs::TriggerReaders::read_item))]
-    fn parse_some<'a>(
-        alloc: Global,
-        text: &str,
-        tokens: &'a [Token],
-    ) -> Result<Option<(Option<Referencing>, &'a [Token])>, AllocError> {
-        if let Some(rest) = after(Kind::Old, tokens) {
-            return item_of(alloc, text, Side::Old, rest);
-        }
-        match after(Kind::New, tokens) {
-            Some(rest) => item_of(alloc, text, Side::New, rest),
-            None => Ok(Some((None, tokens))),
-        }
-    }
-}
 
 fn some_items<'a>(
     items: Items<Referencing>,
@@ -130,7 +79,7 @@ fn when<'a>(
     let Some(rest) = after(Kind::When, tokens) else {
         return Ok(Some((None, tokens)));
     };
-    match check(alloc, text, rest)? {
+    match enclosed_condition(alloc, text, rest)? {
         Some((condition, rest)) => Ok(Some((Some(condition), rest))),
         None => Ok(None),
     }
@@ -254,7 +203,7 @@ fn trigger_rest<'a>(
 
 /// CREATE TRIGGER, from the name on.
 #[tactic(auto, unfolding(crate::specs::TriggerReaders::read_trigger))]
-pub fn trigger<'a>(
+pub fn create_trigger<'a>(
     alloc: Global,
     text: &str,
     tokens: &'a [Token],

@@ -1,3 +1,4 @@
 pub mod Counts
+pub mod Devices
 pub mod Writing
 pub mod Lines

@@ -3,6 +3,7 @@ ghost use Rattle.std.specs.Prelude.{◌≡◌, ℕ, ◌+◌, ◌<◌, ◌≤◌,
 ghost use Rattle.std.specs.Io.{ReadsAtMost, WritesAtMost};
 ghost use Rattle.std.specs.Io.KnownBytes.{ReadConsumes, WriteAppends};
 ghost use Rattle.iv_print.specs.Counts.{counted};
+ghost use Rattle.iv_print.specs.Devices.{inner_of, failed_count, given_count, asked_count};
 
 use std::io::{Read, Write};
 
@@ -65,7 +66,12 @@ pub struct Std<T> {
 
 impl<T> Std<T> {
     /// The device over this reader or writer, of which nothing was asked yet.
-    pub fn new(inner: T) -> Self {
+    pub fn new(inner: T) -> Self
+        ensures inner { inner_of result ≡ inner }
+        ensures failed { failed_count result ≡ 0 }
+        ensures given { given_count result ≡ 0 }
+        ensures asked { asked_count result ≡ 0 }
+    {
         Std {
             inner,
             failed: 0,
@@ -75,20 +81,22 @@ impl<T> Std<T> {
     }
 
     /// The reader or the writer.
-    pub fn into_inner(self) -> T {
+    pub fn into_inner(self) -> T
+        ensures { result ≡ inner_of self }
+    {
         let Std { inner, .. } = self;
         inner
     }
 }
 
 impl<R: Read> Source for Std<R> {
-    ghost failed = { λ s. s.failed };
+    ghost failed = { failed_count };
 
-    ghost given = { λ s. s.given };
+    ghost given = { given_count };
 
-    ghost asked = { λ s. s.asked };
+    ghost asked = { asked_count };
 
-    ghost remaining = { λ s. R.remaining s.inner };
+    ghost remaining = { λ device. R.remaining (inner_of device) };
 
     fn read(&mut self, buffer: &mut [u8]) -> Result<usize, DeviceFault> {
         self.asked = self
@@ -108,9 +116,9 @@ impl<R: Read> Source for Std<R> {
 }
 
 impl<W: Write> Sink for Std<W> {
-    ghost failed = { λ s. s.failed };
+    ghost failed = { failed_count };
 
-    ghost contents = { λ s. W.contents s.inner };
+    ghost contents = { λ device. W.contents (inner_of device) };
 
     fn write(&mut self, bytes: &[u8]) -> Result<usize, DeviceFault> {
         match self.inner.write(bytes) {

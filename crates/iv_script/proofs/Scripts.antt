@@ -13,7 +13,7 @@ use Rattle.iv_script.specs.Running.{RanAll, RanParsed}
 
 pub ran_parsed : (old new : State) (sts : List Statement) (fault : Option ℕ) (tally : Tally) (b0 b1 b2 b3 : Option (List ℕ)) (m0 m1 m2 m3 : ℕ)
     → RanAll old new sts tally b0 b1 m0 m1 → Writes b1 b2 m1 m2 (Ok tt) (fault_line (length sts) fault) → Writes b2 b3 m2 m3 (Ok tt) (end_line (is_some new.start))
-    → RanParsed old sts fault tally b0 b3
+    → RanParsed old sts fault tally b0 b3 m0 m3
 ran_parsed old new sts fault tally b0 b1 b2 b3 m0 m1 m2 m3 r p q = record {
   starves = r.starves;
   starved_is = r.starved_is;
@@ -22,11 +22,12 @@ ran_parsed old new sts fault tally b0 b1 b2 b3 m0 m1 m2 m3 r p q = record {
   appended = Appends-trans b0 b1 b3 _ _ r.appended
       (Appends-trans b1 b2 b3 (fault_line (length sts) fault) _ p.0
       (subst (λ s. Appends b2 b3 (end_line (is_some s.start))) r.state_is q.0));
+  works = q.1 ∙ p.1 ∙ r.works;
 }
 
-pub ran_script : (bytes : List ℕ) (limits : Bounds) (sts : List Statement) (fault : Option ℕ) (tally : Tally) (a b : Option (List ℕ))
-    → IsScript bytes sts fault → RanParsed (empty_state limits) sts fault tally a b → RanScript bytes limits fault tally.accepted tally.refused tally.starved a b
-ran_script bytes limits sts fault tally a b s r = record {
+pub ran_script : (bytes : List ℕ) (limits : Bounds) (sts : List Statement) (fault : Option ℕ) (tally : Tally) (a b : Option (List ℕ)) (m n : ℕ)
+    → IsScript bytes sts fault → RanParsed (empty_state limits) sts fault tally a b m n → RanScript bytes limits fault tally.accepted tally.refused tally.starved a b
+ran_script bytes limits sts fault tally a b m n s r = record {
   statements = sts;
   starves = r.starves;
   is_script = s;

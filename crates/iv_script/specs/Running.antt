@@ -27,9 +27,10 @@ pub record RanAll (old new : State) (sts : List Statement) (tally : Tally) (befo
   pub works : failed_then ≡ failed
 
 -- the statements ran, and the lines of the script's end were written
-pub record RanParsed (old : State) (sts : List Statement) (fault : Option ℕ) (tally : Tally) (before after : Option (List ℕ)) : Type 0 where
+pub record RanParsed (old : State) (sts : List Statement) (fault : Option ℕ) (tally : Tally) (before after : Option (List ℕ)) (failed failed_then : ℕ) : Type 0 where
   pub starves : List Bool
   pub starved_is : starved_count starves ≡ tally.starved
   pub accepted_is : (run_from old 0 sts starves).accepted ≡ tally.accepted
   pub refused_is : (run_from old 0 sts starves).refused ≡ tally.refused
   pub appended : Appends before after ((run_from old 0 sts starves).text ++ closing_lines (length sts) fault (run_from old 0 sts starves).state)
+  pub works : failed_then ≡ failed

@@ -59,7 +59,7 @@ fn run_parsed<W: Sink>(
 ) -> Result<Tally, DeviceFault>
     requires { length statements.now < 2 ^ 63 }
     ensures { MatchResult result
-        (λ t. RanParsed session.old statements.now (option_map (λ f. f.at) fault) t (W.contents writer.old) (W.contents writer.new))
+        (λ t. RanParsed session.old statements.now (option_map (λ f. f.at) fault) t (W.contents writer.old) (W.contents writer.new) (W.failed writer.old) (W.failed writer.new))
         (λ _. W.failed writer.new ≡ counted (W.failed writer.old) 1) }
 {
     let tally = run_statements(session, statements, writer)?;
@@ -82,6 +82,7 @@ fn run_text<W: Sink>(
     ensures kinds { IfErr result (λ e. (e ≢ RunFault.Read) × (e ≢ RunFault.TooLong) × (e ≢ RunFault.NotUtf8)) }
     ensures write { IsErrOf result RunFault.Write → W.failed writer.new ≡ counted (W.failed writer.old) 1 }
     ensures silent { IfErr result (λ e. e ≢ RunFault.Write → writer.new ≡ writer.old) }
+    ensures works { OnOk result (W.failed writer.new ≡ W.failed writer.old) }
 {
     let Ok(Parsed { statements, fault }) = script(alloc, text) else {
         return Err(RunFault::NoMemory);
@@ -115,6 +116,7 @@ fn run_bytes<W: Sink>(
     ensures kinds { IfErr result (λ e. (e ≢ RunFault.Read) × (e ≢ RunFault.TooLong)) }
     ensures write { IsErrOf result RunFault.Write → W.failed writer.new ≡ counted (W.failed writer.old) 1 }
     ensures silent { IfErr result (λ e. e ≢ RunFault.Write → writer.new ≡ writer.old) }
+    ensures works { OnOk result (W.failed writer.new ≡ W.failed writer.old) }
 {
     match from_utf8(bytes) {
         Ok(text) => run_text(alloc, text, writer, limits),
@@ -146,6 +148,9 @@ pub fn run<R: Source, W: Sink>(
     ensures read { IsErrOf result RunFault.Read → R.failed reader.new ≡ counted (R.failed reader.old) 1 }
     ensures write { IsErrOf result RunFault.Write → W.failed writer.new ≡ counted (W.failed writer.old) 1 }
     ensures silent { IfErr result (λ e. e ≢ RunFault.Write → writer.new ≡ writer.old) }
+    // With any other answer no call of that device has failed: after a failed call none is made again.
+    ensures no_read_failed { ¬ (IsErrOf result RunFault.Read) → R.failed reader.new ≡ R.failed reader.old }
+    ensures no_write_failed { ¬ (IsErrOf result RunFault.Write) → W.failed writer.new ≡ W.failed writer.old }
     // No byte is asked for beyond one more than a script may have.
     ensures asked { R.asked reader.new ≤ max (R.asked reader.old) (R.given reader.old + (LONGEST + 1)) }
 {

@@ -8,6 +8,8 @@ use std::alloc::Global;
 use std::io;
 use std::test::Fail;
 
+mod outcomes;
+
 const ONE_CHECK: &str =
     "CREATE TABLE t (a INTEGER, CHECK (a > 0)); INSERT INTO t VALUES (1); COMMIT; SELECT * FROM t;";
 
@@ -211,4 +213,18 @@ fn commits_and_rolls_back(rt: HostRuntime) -> Result<(), Fail> {
     session.rollback();
     assert_eq!(rt; session.in_transaction(), false);
     Ok(())
+}
+
+#[test]
+fn limits_end_where_they_should(rt: HostRuntime) {
+    for (depth, changes) in [(1u8, 1u32), (32, 65_536)] {
+        let shown = Limits::new(depth, changes).map(|limits| (limits.depth(), limits.changes()));
+        assert_eq!(rt; shown, Some((depth, changes)));
+    }
+    for (depth, changes) in [(0u8, 1u32), (33, 1), (1, 0), (1, 65_537)] {
+        assert!(rt;
+            Limits::new(depth, changes).is_none(),
+            "{depth} and {changes}"
+        );
+    }
 }

@@ -1,149 +1,280 @@
--- What a session keeps stays a sound state.
-use Rattle.std.proofs.Common.{◌≡◌, ℕ, ◌+◌, ◌<◌, ◌≤◌, List, [], ◌∷◌, ◌++◌, ◌∙◌, refl, sym, ap, subst, cond, true, false, length, take, drop, Option, Some, None, Result, Ok, Err, arith, IfSome, take-append-drop, length-append, unwrap_or, option_map, nat_lt}
-use Rattle.iv_value.specs.declared.value.Value.{Value}
-use Rattle.iv_catalogue.specs.Catalogues.{Schema, with_table}
-use Rattle.iv_catalogue.specs.declared.catalogue.Table.{Table}
-use Rattle.iv_catalogue.specs.declared.catalogue.Constraint.{Constraint}
-use Rattle.iv_expr.specs.declared.row.StoredRow.{StoredRow}
-use Rattle.iv_machine.specs.declared.database.Which.{Which}
-use Rattle.iv_machine.specs.declared.database.Which.TheVariants.{Immediate, Deferred, All}
-use Rattle.iv_machine.specs.Bounds.{Bounds}
-use Rattle.iv_machine.specs.Databases.{scan, scan_from, chosen_violations, violations, is_chosen, first}
-use Rattle.iv_machine.specs.Machine.{State, first_violation, commit_state, inserted, checked, refuse, with_row, Performs}
-use Rattle.iv_machine.specs.Invariants.{Sound}
-use Rattle.iv_machine.proofs.Plans.{PlanFits}
-use Rattle.iv_catalogue.specs.declared.catalogue.Plan.TheVariants as plan
-use Rattle.iv_catalogue.specs.declared.cause.Cause.TheVariants.{Limit}
-use Rattle.iv_catalogue.specs.declared.cause.Fault.{Fault}
-use Rattle.std.proofs.lemmas.Bool.Decides.{nat_tests}
+-- What a session keeps stays a sound state, and is the state that the machine says.
+use Rattle.std.proofs.Common.{◌≡◌, ℕ, ◌+◌, ◌-◌, ◌≤◌, Bool, List, [], ◌∷◌, ◌++◌, ◌∙◌, refl, sym, ap, subst, cond, if◌then◌else◌, true, false, map, length, take, drop, Option, Some, None, Result, Ok, arith, IfSome, MatchBool, take-append-drop, length-append, unwrap_or, option_map, nat_lt}
 use Rattle.std.proofs.lemmas.List.{take-append-le}
 use Rattle.std.proofs.Math.Seq.{take-length}
+use Rattle.iv_value.specs.declared.value.Value.{Value}
+use Rattle.iv_expr.specs.declared.row.StoredRow.{StoredRow}
+use Rattle.iv_expr.specs.declared.tree.Cond.{Cond}
+use Rattle.iv_expr.specs.declared.tree.Cond.TheVariants.{Always}
+use Rattle.iv_expr.specs.Scopes.{table_rows}
+use Rattle.iv_catalogue.specs.Catalogues.{with_table}
+use Rattle.iv_catalogue.specs.declared.catalogue.Table.{Table}
+use Rattle.iv_catalogue.specs.declared.constraint.Constraint.{Constraint}
+use Rattle.iv_catalogue.specs.declared.plan.Outputs.{Outputs}
+use Rattle.iv_catalogue.specs.declared.plan.Outputs.TheVariants.{Star}
+use Rattle.iv_catalogue.specs.declared.plan.Plan.TheVariants as plan
+use Rattle.iv_catalogue.specs.declared.plan.SchemaPlan.TheVariants as schema
+use Rattle.iv_catalogue.specs.declared.plan.QueryPlan.TheVariants as query
+use Rattle.iv_catalogue.specs.declared.cause.Cause.{Cause}
+use Rattle.iv_catalogue.specs.declared.cause.Cause.TheVariants.{TooManyChanges, TransactionTooLarge, Limit, Violation}
+use Rattle.iv_catalogue.specs.declared.cause.Fault.{Fault}
 use Rattle.iv_catalogue.specs.declared.cause.Refusal.{Refusal}
-use Rattle.iv_catalogue.specs.declared.cause.Cause.TheVariants.{Violation}
-use Rattle.iv_catalogue.specs.Resolution.{refused}
+use Rattle.iv_catalogue.specs.Resolution.{refused, is_memory, is_memory_cause}
 use Rattle.iv_machine.specs.declared.answer.Answer.{Answer}
-use Rattle.iv_machine.specs.declared.answer.Answer.TheVariants.{Changed}
-use Rattle.iv_machine.proofs.Sound.{rolled_back_sound, committed_sound, performed_sound}
+use Rattle.iv_machine.specs.declared.answer.Answer.TheVariants.{Changed, Rows}
+use Rattle.iv_machine.specs.declared.database.Database.{Database}
+use Rattle.iv_machine.specs.declared.database.Which.TheVariants.{Immediate}
+use Rattle.iv_machine.specs.Context.{Failure, fails}
+use Rattle.iv_machine.specs.Databases.{scan, scan_from, chosen_violations, violations, is_chosen, initial_modes, first}
+use Rattle.iv_machine.specs.Levels.{Finished}
+use Rattle.iv_machine.specs.Machine.{State, changed, answered, selected, first_violation, commit_state, rolled_back, ended, performed, Performs}
+use Rattle.iv_machine.specs.Invariants.{Sound}
+use Rattle.iv_machine.proofs.Orders.{with_row, new_row_of}
+use Rattle.iv_machine.proofs.Plain.{Suits, literals, insert_one, plain_checked}
+use Rattle.iv_machine.proofs.Plans.{TableFits, SelectFits}
 use Rattle.iv_machine.proofs.Scans.{more_rows, none_of_some}
+use Rattle.iv_machine.proofs.Selected.{all_selected}
+use Rattle.iv_machine.proofs.Sound.{created_sound, rolled_back_sound, committed_sound, performed_sound, insert_is_plain}
 use Rattle.iv_session.specs.declared.session.Start.{Start}
-use Rattle.iv_session.specs.States.{state_of, database_at, Kept}
+use Rattle.iv_session.specs.Inserts.{early, literal_of}
+use Rattle.iv_session.specs.States.{Held, state_of, database_at, Kept}
 
--- the rows as they were at the start are kept
-pub rolled_back_kept : (schema : Schema) (limits : Bounds) (rows cut : List StoredRow) (next : ℕ) (start : Start) (old new : Option Start)
-    → old ≡ Some start → new ≡ None → cut ≡ take start.rows rows → Kept schema limits rows next old → Kept schema limits cut start.next new
-rolled_back_kept schema limits rows cut next start old new o n c k =
-    let was : Kept schema limits rows next (Some start) = subst (Kept schema limits rows next) o k in
-    rw (n, c) (record { within = tt; sound = rolled_back_sound (state_of schema limits rows next (Some start)) was.sound })
+-- ---- the transaction's rows
+
+nothing_chosen : (chosen : ℕ → Bool) (id : ℕ) (c : Constraint) → chosen_violations [] chosen id c ≡ []
+nothing_chosen chosen id c = elim (chosen id) as (λ b. cond b (violations [] id c) [] ≡ []) [ true ↦ refl | false ↦ refl ]
+
+nothing_from : (chosen : ℕ → Bool) (id : ℕ) (cs : List Constraint) → scan_from [] chosen id cs ≡ []
+nothing_from chosen id [] = refl
+nothing_from chosen id (c ∷ cs) = ap (λ l. l ++ scan_from [] chosen (id + 1) cs) (nothing_chosen chosen id c) ∙ nothing_from chosen (id + 1) cs
 
 -- the transaction's rows alone can violate a constraint
-pub later_rows : (schema : Schema) (limits : Bounds) (rows : List StoredRow) (next : ℕ) (start : Start) (w : Which) → Kept schema limits rows next (Some start)
-    → scan rows schema.constraints w ≡ scan (drop start.rows rows) schema.constraints w
-later_rows schema limits rows next start w k =
-    ap (λ l. scan l schema.constraints w) (sym (take-append-drop start.rows rows))
-    ∙ more_rows (take start.rows rows) (drop start.rows rows) w schema.constraints (none_of_some (take start.rows rows) w schema.constraints k.sound.clean)
-
-none_chosen : (w : Which) (id : ℕ) (c : Constraint) → chosen_violations [] w id c ≡ []
-none_chosen w id c = elim (is_chosen w c) as (λ b. cond b (violations [] id c) [] ≡ []) [ true ↦ refl | false ↦ refl ]
-
-nothing_from : (w : Which) (id : ℕ) (cs : List Constraint) → scan_from [] w id cs ≡ []
-nothing_from w id [] = refl
-nothing_from w id (c ∷ cs) = ap (λ l. l ++ scan_from [] w (id + 1) cs) (none_chosen w id c) ∙ nothing_from w (id + 1) cs
+pub later_rows : (h : Held) (start : Start) (chosen : ℕ → Bool) → h.start ≡ Some start → Kept h → scan h.rows h.schema.constraints chosen ≡ scan (drop start.rows h.rows) h.schema.constraints chosen
+later_rows h start chosen e k =
+    let clean : scan (take start.rows h.rows) h.schema.constraints (λ _. true) ≡ [] =
+    subst (λ o. scan (unwrap_or (option_map (database_at h.rows) o) (record { rows = h.rows; next = h.next; count = h.count })).rows h.schema.constraints (λ _. true) ≡ []) e k.sound.clean in
+    ap (λ l. scan l h.schema.constraints chosen) (sym (take-append-drop start.rows h.rows))
+    ∙ more_rows (take start.rows h.rows) (drop start.rows h.rows) chosen h.schema.constraints k.sound.plain.checks (none_of_some (take start.rows h.rows) chosen h.schema.constraints clean)
 
 -- outside a transaction no row violates one
-pub no_rows : (schema : Schema) (limits : Bounds) (rows : List StoredRow) (next : ℕ) (w : Which) → Kept schema limits rows next None → scan [] schema.constraints w ≡ scan rows schema.constraints w
-no_rows schema limits rows next w k = nothing_from w 0 schema.constraints ∙ sym (none_of_some rows w schema.constraints k.sound.clean)
+pub no_rows : (h : Held) (chosen : ℕ → Bool) → h.start ≡ None → Kept h → scan [] h.schema.constraints chosen ≡ scan h.rows h.schema.constraints chosen
+no_rows h chosen e k =
+    let clean : scan h.rows h.schema.constraints (λ _. true) ≡ [] =
+    subst (λ o. scan (unwrap_or (option_map (database_at h.rows) o) (record { rows = h.rows; next = h.next; count = h.count })).rows h.schema.constraints (λ _. true) ≡ []) e k.sound.clean in
+    nothing_from chosen 0 h.schema.constraints ∙ sym (none_of_some h.rows chosen h.schema.constraints clean)
 
--- the transaction's end
-pub committed_kept : (schema : Schema) (limits : Bounds) (rows : List StoredRow) (next : ℕ) (start : Start) → first (scan (drop start.rows rows) schema.constraints All) ≡ None
-    → Kept schema limits rows next (Some start) → Kept schema limits rows next None
-committed_kept schema limits rows next start e k =
-    record { within = tt; sound = committed_sound (state_of schema limits rows next (Some start)) None (ap first (later_rows schema limits rows next start All k) ∙ e) k.sound }
+-- ---- the transaction's end
+
+-- the parts after the end, with the database from the start
+abbrev pub undone : Held → Start → Held
+undone h start = record { schema = h.schema; limits = h.limits; rows = take start.rows h.rows; next = start.next; count = 0; modes = h.modes; start = None }
+
+-- and with the database as it is
+abbrev pub done : Held → Held
+done h = record { schema = h.schema; limits = h.limits; rows = h.rows; next = h.next; count = 0; modes = h.modes; start = None }
+
+ended_as : (h : Held) (d : Database) → Kept h → state_of (record { schema = h.schema; limits = h.limits; rows = d.rows; next = d.next; count = 0; modes = h.modes; start = None }) ≡ ended (state_of h) d
+ended_as h d k = λ i. record {
+  schema = h.schema;
+  limits = h.limits;
+  database = record { rows = d.rows; next = d.next; count = 0 };
+  modes = k.sound.initial i;
+  start = None;
+  savepoints = [];
+}
+
+pub undone_as : (h : Held) (start : Start) → h.start ≡ Some start → Kept h → state_of (undone h start) ≡ rolled_back (state_of h)
+undone_as h start e k =
+    ended_as h (database_at h.rows start) k
+    ∙ ap (λ o. elim (option_map (database_at h.rows) o) [ Some d ↦ ended (state_of h) d | None ↦ state_of h ]) (sym e)
+
+pub stays_as : (h : Held) → h.start ≡ None → state_of h ≡ rolled_back (state_of h)
+stays_as h e = ap (λ o. elim (option_map (database_at h.rows) o) [ Some d ↦ ended (state_of h) d | None ↦ state_of h ]) (sym e)
+
+pub undone_kept : (h : Held) (start : Start) → h.start ≡ Some start → Kept h → Kept (undone h start)
+undone_kept h start e k = record { within = tt; sound = subst Sound (sym (undone_as h start e k)) (rolled_back_sound (state_of h) k.sound) }
+
+uncounted : (h : Held) → h.start ≡ None → Kept h → h.count ≡ 0
+uncounted h e k = subst (λ o. (unwrap_or (option_map (database_at h.rows) o) (record { rows = h.rows; next = h.next; count = h.count })).count ≡ 0) e k.sound.uncounted
+
+done_as_from : (h : Held) (o : Option Start) → h.start ≡ o → Kept h → state_of (done h) ≡ commit_state (state_of h) None
+done_as_from h (Some start) e k =
+    ended_as h (record { rows = h.rows; next = h.next; count = h.count }) k
+    ∙ ap (λ o. elim (option_map (database_at h.rows) o) [ Some d ↦ ended (state_of h) (record { rows = h.rows; next = h.next; count = h.count }) | None ↦ state_of h ]) (sym e)
+done_as_from h None e k =
+    (λ i. record {
+      schema = h.schema;
+      limits = h.limits;
+      database = record { rows = h.rows; next = h.next; count = sym (uncounted h e k) i };
+      modes = h.modes;
+      start = option_map (database_at h.rows) (sym e i);
+      savepoints = [];
+    })
+    ∙ ap (λ o. elim (option_map (database_at h.rows) o) [ Some d ↦ ended (state_of h) (record { rows = h.rows; next = h.next; count = h.count }) | None ↦ state_of h ]) (sym e)
+
+pub done_as : (h : Held) → Kept h → state_of (done h) ≡ commit_state (state_of h) None
+done_as h k = done_as_from h h.start refl k
+
+pub done_kept : (h : Held) → first_violation (state_of h) ≡ None → Kept h → Kept (done h)
+done_kept h e k = record { within = tt; sound = subst Sound (sym (done_as h k)) (committed_sound (state_of h) None e k.sound) }
 
 -- ---- CREATE TABLE
 
-pub created_kept : (schema new : Schema) (limits : Bounds) (rows : List StoredRow) (next : ℕ) (start : Option Start) (t : Table) (ks : List Constraint)
-    → PlanFits schema (plan.CreateTable t ks) → new ≡ with_table schema t ks → Kept schema limits rows next start → Kept new limits rows next start
-created_kept schema new limits rows next start t ks fits e k =
-    rw e (record { within = k.within; sound = performed_sound (state_of schema limits rows next start) (plan.CreateTable t ks) fits k.sound })
+map_both : {A B : Type 0} (f : A → B) (xs ys : List A) → map f (xs ++ ys) ≡ map f xs ++ map f ys
+map_both f [] ys = refl
+map_both f (x ∷ xs) ys = ap (λ l. f x ∷ l) (map_both f xs ys)
 
-pub unchanged_kept : (schema new : Schema) (limits : Bounds) (rows : List StoredRow) (next : ℕ) (start : Option Start) → new ≡ schema → Kept schema limits rows next start → Kept new limits rows next start
-unchanged_kept schema new limits rows next start e k = subst (λ c. Kept c limits rows next start) (sym e) k
+-- the parts with a table more
+abbrev pub created : Held → Table → List Constraint → Held
+created h t ks = record { schema = with_table h.schema t ks; limits = h.limits; rows = h.rows; next = h.next; count = h.count; modes = h.modes ++ initial_modes ks; start = h.start }
+
+pub created_as : (h : Held) (t : Table) (ks : List Constraint) → Kept h → state_of (created h t ks) ≡ (performed (state_of h) (plan.Schema (schema.CreateTable t ks))).state
+created_as h t ks k = λ i. record {
+  schema = with_table h.schema t ks;
+  limits = h.limits;
+  database = record { rows = h.rows; next = h.next; count = h.count };
+  modes = (ap (λ m. m ++ initial_modes ks) k.sound.initial ∙ sym (map_both (λ c. c.initially) h.schema.constraints ks)) i;
+  start = option_map (database_at h.rows) h.start;
+  savepoints = [];
+}
+
+pub created_kept : (h : Held) (t : Table) (ks : List Constraint) → TableFits (state_of h) t ks → Kept h → Kept (created h t ks)
+created_kept h t ks fits k = record { within = k.within; sound = subst Sound (sym (created_as h t ks k)) (created_sound (state_of h) t ks fits k.sound) }
+
+-- ---- SELECT
+
+-- the rows of a table, or want of memory
+abbrev pub Selects : State → ℕ → Result Answer Refusal → Type 0
+Selects s t r = MatchBool (is_memory r) (Unit {0}) (r ≡ Ok (Rows (map (λ x. x.values) (table_rows s.database.rows t))))
+
+pub selects : (s : State) (t : ℕ) (outputs : Outputs) (filter : Cond) → SelectFits outputs filter → (r : Result Answer Refusal) → Selects s t r
+    → Performs s (plan.Query (query.Rows t outputs filter)) r s
+selects s t Star Always u r e =
+    elim (is_memory r) as (λ b. MatchBool b (Unit {0}) (r ≡ Ok (Rows (map (λ x. x.values) (table_rows s.database.rows t))))
+    → MatchBool b (s ≡ s) ((r ≡ (answered s (selected s t Star Always)).answer) × (s ≡ (answered s (selected s t Star Always)).state))) [
+      | true ↦ λ m. refl
+      | false ↦ λ m. (m ∙ sym (ap (λ a. (answered s a).answer) (all_selected s t)), sym (ap (λ a. (answered s a).state) (all_selected s t)))
+    ] e
+selects s t _ _ u r e = absurd u
 
 -- ---- INSERT
 
-abbrev pub new_row : ℕ → ℕ → List Value → StoredRow
-new_row next table values = record { number = next; table = table; values = values }
-
 -- where the open transaction began, or begins
-abbrev pub start_after : List StoredRow → ℕ → Option Start → Start
-start_after rows next start = unwrap_or start (record { rows = length rows; next = next })
+abbrev pub start_after : Held → Start
+start_after h = unwrap_or h.start (record { rows = length h.rows; next = h.next })
 
--- the new row alone can violate an immediate constraint
-pub new_row_alone : (schema : Schema) (limits : Bounds) (rows : List StoredRow) (next : ℕ) (start : Option Start) (r : StoredRow) → Kept schema limits rows next start
-    → scan (rows ++ r ∷ []) schema.constraints Immediate ≡ scan (r ∷ []) schema.constraints Immediate
-new_row_alone schema limits rows next start r k = more_rows rows (r ∷ []) Immediate schema.constraints k.sound.immediate
+-- the parts with a row more
+abbrev pub lengthened : Held → ℕ → List Value → Held
+lengthened h t values = record {
+  schema = h.schema;
+  limits = h.limits;
+  rows = h.rows ++ new_row_of t h.next values ∷ [];
+  next = h.next + 1;
+  count = h.count + 1;
+  modes = h.modes;
+  start = Some (start_after h);
+}
 
-is_not_above : (n : ℕ) → n ≤ 9223372036854775807 → nat_lt 9223372036854775807 n ≡ false
-is_not_above n h = grind (arith, nat_tests)
-
-inserted_as : (s : State) (table : ℕ) (values : List Value) (f : Option Fault) → s.database.next ≤ 9223372036854775807
-    → first (scan (with_row s.database table values).rows s.schema.constraints Immediate) ≡ f → inserted s table values ≡ checked s (with_row s.database table values) f
-inserted_as s table values f h e =
-    ap (λ b. cond b (refuse s Limit) (checked s (with_row s.database table values) (first (scan (with_row s.database table values).rows s.schema.constraints Immediate)))) (is_not_above s.database.next h)
-    ∙ ap (checked s (with_row s.database table values)) e
-
-pub inserted_as_told : (schema : Schema) (limits : Bounds) (rows : List StoredRow) (next : ℕ) (start : Option Start) (table : ℕ) (values : List Value) (f : Option Fault)
-    → next ≤ 9223372036854775807 → f ≡ first (scan (new_row next table values ∷ []) schema.constraints Immediate) → Kept schema limits rows next start
-    → inserted (state_of schema limits rows next start) table values
-    ≡ checked (state_of schema limits rows next start) (with_row (state_of schema limits rows next start).database table values) f
-inserted_as_told schema limits rows next start table values f h e k =
-    inserted_as (state_of schema limits rows next start) table values f h
-    (ap first (new_row_alone schema limits rows next start (new_row next table values) k) ∙ sym e)
-
-cut_longer : (n : ℕ) (xs ys : List StoredRow) → n ≤ length xs → take n (xs ++ ys) ≡ take n xs
-cut_longer n xs ys h = take-append-le n xs ys h
-
-started : (rows : List StoredRow) (next : ℕ) (start : Option Start) (r : StoredRow) → IfSome start (λ s. s.rows ≤ length rows)
-    → database_at (rows ++ r ∷ []) (start_after rows next start) ≡ unwrap_or (option_map (database_at rows) start) (record { rows = rows; next = next })
-started rows next (Some m) r h = ap (λ l. record { rows = l; next = m.next }) (cut_longer m.rows rows (r ∷ []) h)
-started rows next None r h = ap (λ l. record { rows = l; next = next }) (cut_longer (length rows) rows (r ∷ []) (omega arith) ∙ take-length rows)
+-- the database from which the transaction started, or starts
+started : (h : Held) (r : StoredRow) (o : Option Start) → IfSome o (λ s. s.rows ≤ length h.rows) → (o ≡ None → h.count ≡ 0)
+    → database_at (h.rows ++ r ∷ []) (unwrap_or o (record { rows = length h.rows; next = h.next })) ≡ unwrap_or (option_map (database_at h.rows) o) (record { rows = h.rows; next = h.next; count = h.count })
+started h r (Some m) w z = ap (λ l. record { rows = l; next = m.next; count = 0 }) (take-append-le m.rows h.rows (r ∷ []) w)
+started h r None w z =
+    let rows : take (length h.rows) (h.rows ++ r ∷ []) ≡ h.rows = take-append-le (length h.rows) h.rows (r ∷ []) (omega arith) ∙ take-length h.rows in
+    λ i. record { rows = rows i; next = h.next; count = sym (z refl) i }
 
 -- the state with the new row is the one that the machine says
-pub lengthened : (schema : Schema) (limits : Bounds) (rows : List StoredRow) (next : ℕ) (start : Option Start) (table : ℕ) (values : List Value) → Kept schema limits rows next start
-    → state_of schema limits (rows ++ new_row next table values ∷ []) (next + 1) (Some (start_after rows next start))
-    ≡ (checked (state_of schema limits rows next start) (with_row (state_of schema limits rows next start).database table values) None).state
-lengthened schema limits rows next start table values k =
-    ap (λ d. record { schema = schema; limits = limits; database = record { rows = rows ++ new_row next table values ∷ []; next = next + 1 }; start = Some d })
-    (started rows next start (new_row next table values) k.within)
+lengthened_as : (h : Held) (t : ℕ) (values : List Value) (rest : ℕ) → Kept h
+    → state_of (lengthened h t values) ≡ (changed (state_of h) (plain_checked (with_row (state_of h).database t values) rest None)).state
+lengthened_as h t values rest k =
+    ap (λ d. record {
+      schema = h.schema;
+      limits = h.limits;
+      database = record { rows = h.rows ++ new_row_of t h.next values ∷ []; next = h.next + 1; count = h.count + 1 };
+      modes = h.modes;
+      start = Some d;
+      savepoints = [];
+    }) (started h (new_row_of t h.next values) h.start k.within (λ e. uncounted h e k))
 
-longer : (rows : List StoredRow) (next : ℕ) (start : Option Start) (r : StoredRow) → IfSome start (λ s. s.rows ≤ length rows) → (start_after rows next start).rows ≤ length (rows ++ r ∷ [])
-longer rows next (Some m) r h = omega (arith, h, length-append rows (r ∷ []))
-longer rows next None r h = omega (arith, length-append rows (r ∷ []))
+longer : (h : Held) (r : StoredRow) (o : Option Start) → IfSome o (λ s. s.rows ≤ length h.rows) → (unwrap_or o (record { rows = length h.rows; next = h.next })).rows ≤ length (h.rows ++ r ∷ [])
+longer h r (Some m) w = omega (arith, w, length-append h.rows (r ∷ []))
+longer h r None w = omega (arith, length-append h.rows (r ∷ []))
 
-pub inserted_kept : (schema : Schema) (limits : Bounds) (rows : List StoredRow) (next : ℕ) (start : Option Start) (table : ℕ) (values : List Value)
-    → next ≤ 9223372036854775807 → table < length schema.tables → None ≡ first (scan (new_row next table values ∷ []) schema.constraints Immediate) → Kept schema limits rows next start
-    → Kept schema limits (rows ++ new_row next table values ∷ []) (next + 1) (Some (start_after rows next start))
-inserted_kept schema limits rows next start table values h t e k =
-    let s : State = state_of schema limits rows next start in
-    let sound : Sound (inserted s table values).state = performed_sound s (plan.Insert table values) t k.sound in
-    record {
-      within = longer rows next start (new_row next table values) k.within;
-      sound = subst Sound (ap (λ o. o.state) (inserted_as_told schema limits rows next start table values None h e k) ∙ sym (lengthened schema limits rows next start table values k)) sound;
-    }
+-- the new row alone can violate an immediate constraint
+alone : (h : Held) (r : StoredRow) → Kept h → scan (h.rows ++ r ∷ []) h.schema.constraints (is_chosen h.modes Immediate) ≡ scan (r ∷ []) h.schema.constraints (is_chosen h.modes Immediate)
+alone h r k = more_rows h.rows (r ∷ []) (is_chosen h.modes Immediate) h.schema.constraints k.sound.plain.checks k.sound.immediate
 
--- a refused INSERT is the machine's
-pub refused_performs : (schema : Schema) (limits : Bounds) (rows : List StoredRow) (next : ℕ) (start : Option Start) (table : ℕ) (values : List Value) (f : Fault) (r : Result Answer Refusal)
-    → next ≤ 9223372036854775807 → Some f ≡ first (scan (new_row next table values ∷ []) schema.constraints Immediate) → r ≡ refused (Violation f) → Kept schema limits rows next start
-    → Performs (state_of schema limits rows next start) (plan.Insert table values) r (state_of schema limits rows next start)
-refused_performs schema limits rows next start table values f r h e q k =
-    let told = inserted_as_told schema limits rows next start table values (Some f) h e k in
+-- the first violation of the new row
+abbrev pub first_of : Held → ℕ → List Value → Option Fault
+first_of h t values = first (scan (new_row_of t h.next values ∷ []) h.schema.constraints (is_chosen h.modes Immediate))
+
+abbrev leveled : Held → ℕ → List Value → Option Cause → Option Fault → Result Finished Failure
+leveled h t values (Some cause) f = fails (state_of h).database cause
+leveled h t values None f = plain_checked (with_row (state_of h).database t values) (h.limits.changes - 2) f
+
+level_from : (h : Held) (t : ℕ) (values : List Value) (few large last : Bool)
+    → (if few then fails (state_of h).database TooManyChanges else (if large then fails (state_of h).database TransactionTooLarge else (if last then fails (state_of h).database Limit
+    else plain_checked (with_row (state_of h).database t values) (h.limits.changes - 2) (first_of h t values))))
+    ≡ leveled h t values (if few then Some TooManyChanges else (if large then Some TransactionTooLarge else (if last then Some Limit else None))) (first_of h t values)
+level_from h t values true large last = refl
+level_from h t values false true last = refl
+level_from h t values false false true = refl
+level_from h t values false false false = refl
+
+-- what the machine makes of the INSERT
+insert_as : (h : Held) (t : ℕ) (values : List Value) → Suits h.schema t values → Kept h
+    → performed (state_of h) (plan.Change (insert_one t values)) ≡ changed (state_of h) (leveled h t values (early (state_of h)) (first_of h t values))
+insert_as h t values u k =
+    ap (changed (state_of h)) (insert_is_plain (state_of h) t values u k.sound
+    ∙ ap (λ l. if nat_lt h.limits.changes 2 then fails (state_of h).database TooManyChanges else (if nat_lt 1048576 (h.count + 1) then fails (state_of h).database TransactionTooLarge
+    else (if nat_lt 9223372036854775807 h.next then fails (state_of h).database Limit else plain_checked (with_row (state_of h).database t values) (h.limits.changes - 2) (first l))))
+    (alone h (new_row_of t h.next values) k)
+    ∙ level_from h t values (nat_lt h.limits.changes 2) (nat_lt 1048576 (h.count + 1)) (nat_lt 9223372036854775807 h.next))
+
+insert_told : (h : Held) (t : ℕ) (values : List Value) (cause : Option Cause) (f : Option Fault) → early (state_of h) ≡ cause → first_of h t values ≡ f → Suits h.schema t values → Kept h
+    → performed (state_of h) (plan.Change (insert_one t values)) ≡ changed (state_of h) (leveled h t values cause f)
+insert_told h t values cause f e q u k =
+    insert_as h t values u k ∙ ap (λ x. changed (state_of h) (leveled h t values x (first_of h t values))) e ∙ ap (λ x. changed (state_of h) (leveled h t values cause x)) q
+
+early_from : (few large last : Bool) (cause : Cause) → (if few then Some TooManyChanges else (if large then Some TransactionTooLarge else (if last then Some Limit else None))) ≡ Some cause → is_memory_cause cause ≡ false
+early_from true large last cause e = let same : TooManyChanges ≡ cause = cc in subst (λ x. is_memory_cause x ≡ false) same refl
+early_from false true last cause e = let same : TransactionTooLarge ≡ cause = cc in subst (λ x. is_memory_cause x ≡ false) same refl
+early_from false false true cause e = let same : Limit ≡ cause = cc in subst (λ x. is_memory_cause x ≡ false) same refl
+early_from false false false cause e = absurd cc
+
+-- an INSERT that is refused early is the machine's
+pub early_performs : (h : Held) (t : ℕ) (values : List Value) (cause : Cause) (r : Result Answer Refusal) → early (state_of h) ≡ Some cause → r ≡ refused cause
+    → Suits h.schema t values → Kept h → Performs (state_of h) (plan.Change (insert_one t values)) r (state_of h)
+early_performs h t values cause r e q u k =
+    let m : is_memory_cause cause ≡ false = early_from (nat_lt h.limits.changes 2) (nat_lt 1048576 (h.count + 1)) (nat_lt 9223372036854775807 h.next) cause e in
+    let told = insert_told h t values (Some cause) (first_of h t values) e refl u k in
+    rw (q, m) (sym (ap (λ o. o.answer) told), sym (ap (λ o. o.state) told))
+
+-- so is one that violates a constraint
+pub refused_performs : (h : Held) (t : ℕ) (values : List Value) (f : Fault) (r : Result Answer Refusal) → early (state_of h) ≡ None → first_of h t values ≡ Some f → r ≡ refused (Violation f)
+    → Suits h.schema t values → Kept h → Performs (state_of h) (plan.Change (insert_one t values)) r (state_of h)
+refused_performs h t values f r e g q u k =
+    let told = insert_told h t values None (Some f) e g u k in
     rw q (sym (ap (λ o. o.answer) told), sym (ap (λ o. o.state) told))
 
--- an accepted INSERT is the machine's
-pub accepted_performs : (schema : Schema) (limits : Bounds) (rows : List StoredRow) (next : ℕ) (start : Option Start) (table : ℕ) (values : List Value)
-    → next ≤ 9223372036854775807 → None ≡ first (scan (new_row next table values ∷ []) schema.constraints Immediate) → Kept schema limits rows next start
-    → Performs (state_of schema limits rows next start) (plan.Insert table values) (Ok (Changed 1))
-    (state_of schema limits (rows ++ new_row next table values ∷ []) (next + 1) (Some (start_after rows next start)))
-accepted_performs schema limits rows next start table values h e k =
-    let told = inserted_as_told schema limits rows next start table values None h e k in
-    (sym (ap (λ o. o.answer) told), lengthened schema limits rows next start table values k ∙ sym (ap (λ o. o.state) told))
+-- and one that is accepted
+pub accepted_performs : (h : Held) (t : ℕ) (values : List Value) → early (state_of h) ≡ None → first_of h t values ≡ None
+    → Suits h.schema t values → Kept h → Performs (state_of h) (plan.Change (insert_one t values)) (Ok (Changed 1)) (state_of (lengthened h t values))
+accepted_performs h t values e g u k =
+    let told = insert_told h t values None None e g u k in
+    (sym (ap (λ o. o.answer) told), lengthened_as h t values (h.limits.changes - 2) k ∙ sym (ap (λ o. o.state) told))
+
+pub lengthened_kept : (h : Held) (t : ℕ) (values : List Value) → early (state_of h) ≡ None → first_of h t values ≡ None → Suits h.schema t values → Kept h → Kept (lengthened h t values)
+lengthened_kept h t values e g u k =
+    let told = insert_told h t values None None e g u k in
+    let sound : Sound (performed (state_of h) (plan.Change (insert_one t values))).state =
+    performed_sound (state_of h) (plan.Change (insert_one t values)) (values, refl, u) k.sound in
+    record {
+      within = longer h (new_row_of t h.next values) h.start k.within;
+      sound = subst Sound (ap (λ o. o.state) told ∙ sym (lengthened_as h t values (h.limits.changes - 2) k)) sound;
+    }
+
+-- the row of the literals of a tuple
+pub literal_rows : (values : List Value) → map literal_of (literals values) ≡ values
+literal_rows [] = refl
+literal_rows (v ∷ values) = ap (λ l. v ∷ l) (literal_rows values)

@@ -1,21 +1,30 @@
 //! Statements on one database in memory.
-ghost use Rattle.std.specs.Prelude.{◌≡◌, ◌≢◌, ◌<◌, ◌^◌, ◌-◌, ◌≤◌, [], IfOk, OnOk, OnErr, IfSome, MatchBool, Some, None, is_some, true, false, min, map, length, not};
+ghost use Rattle.std.specs.Prelude.{Ok, ◌≡◌, ◌≢◌, ◌<◌, ◌^◌, ◌-◌, ◌≤◌, ℕ, Bool, [], ◌∷◌, IfOk, OnOk, OnErr, IfSome, MatchBool, Some, None, is_some, true, false, min, map, length, not};
 ghost use Rattle.iv_catalogue.specs.Resolution.{is_memory, refused, resolution};
 ghost use Rattle.iv_catalogue.specs.Catalogues.{Schema};
-ghost use Rattle.iv_catalogue.specs.declared.catalogue.Plan.TheVariants as plan;
-ghost use Rattle.iv_machine.proofs.Plans.{PlanFits};
-ghost use Rattle.iv_machine.specs.declared.database.Which.{Which as AnyWhich};
+ghost use Rattle.iv_catalogue.specs.declared.plan.Plan.TheVariants as planned;
+ghost use Rattle.iv_catalogue.specs.declared.plan.SchemaPlan.TheVariants as schema_plan;
+ghost use Rattle.iv_catalogue.specs.declared.plan.TransactionPlan.TheVariants as transaction_plan;
+ghost use Rattle.iv_machine.proofs.Plans.{PlanFits, SchemaFits, QueryFits, TransactionFits, ChangeFits, TableFits};
+ghost use Rattle.iv_machine.proofs.Plain.{Suits, insert_one};
 ghost use Rattle.iv_machine.specs.declared.database.Which.TheVariants.{Immediate, Deferred, All};
 ghost use Rattle.iv_expr.specs.Scopes.{table_rows};
-ghost use Rattle.iv_machine.specs.Databases.{scan, first};
-ghost use Rattle.iv_machine.specs.Machine.{State, Executes, takes_no_memory, is_barred, empty_state, commit_answer, commit_state, first_violation, rolled_back, selected, Performs, Follows};
+ghost use Rattle.iv_machine.specs.Databases.{scan, is_chosen, first, initial_modes};
+ghost use Rattle.iv_machine.specs.Machine.{State, Executes, takes_no_memory, transaction_cause, occasion_of, is_open, empty_state, commit_answer, commit_state, first_violation, rolled_back, Performs, Follows};
+ghost use Rattle.iv_machine.specs.declared.answer.Answer.TheVariants as answer;
+ghost use Rattle.iv_catalogue.specs.declared.plan.DataStatement.TheVariants as data_statement;
+ghost use Rattle.iv_catalogue.specs.declared.plan.InsertColumns.TheVariants as columns;
+ghost use Rattle.iv_catalogue.specs.declared.plan.InsertRows.TheVariants as rows;
+ghost use Rattle.iv_session.specs.Inserts.{literal_of, early};
 
 use iv_catalogue::{
-    Catalogue, Cause, Constraints, Fault, Plan, Refusal, Table, is_taken_up, resolve,
+    Catalogue, Cause, Constraint, Constraints, DataStatement, Fault, InsertColumns, InsertRows,
+    Plan, QueryPlan, Refusal, SchemaPlan, Table, TransactionPlan, is_taken_up, resolve,
 };
-use iv_expr::{Row, StoredRow, TableId};
+use iv_expr::{Expr, Row, StoredRow, TableId};
 use iv_machine::{Answer, Limits, Which, count_faults, first_fault, list_faults};
-use iv_syntax::Statement;
+use iv_syntax::{ConstraintMode, Statement};
+use iv_value::Value;
 use sqlite_items::Items;
 use std::alloc::{AllocError, Global};
 use std::marker::Model;
@@ -42,6 +51,9 @@ pub struct Session {
     catalogue: Catalogue,
     rows: Vec<StoredRow>,
     next: u64,
+    // How many row changes stand in the transaction.
+    count: u64,
+    modes: Vec<ConstraintMode>,
     start: Option<Start>,
 }
 
@@ -49,15 +61,16 @@ impl Model for Session {
     ghost use Rattle.iv_machine.specs.Machine.{State};
     ghost use Rattle.iv_session.specs.States.{state_of, Kept};
     ghost use Rattle.iv_expr.specs.contracts.tree.Cond as cond;
+    ghost use Rattle.iv_expr.specs.contracts.tree.Expr as expr;
     ghost use Rattle.std.specs.Coded.{codes};
 
     ghost Value = { State };
 
-    ghost coded = { Prim.hlevel (codes, cond.the_row.coded) };
+    ghost coded = { Prim.hlevel (codes, cond.the_row.coded, expr.the_row.coded) };
 
-    ghost view = { λ s. state_of s.catalogue s.limits s.rows.items s.next s.start };
+    ghost view = { λ s. state_of (record { schema = s.catalogue; limits = s.limits; rows = s.rows.items; next = s.next; count = s.count; modes = s.modes.items; start = s.start }) };
 
-    ghost invariant = { λ s. Kept s.catalogue s.limits s.rows.items s.next s.start };
+    ghost invariant = { λ s. Kept (record { schema = s.catalogue; limits = s.limits; rows = s.rows.items; next = s.next; count = s.count; modes = s.modes.items; start = s.start }) };
 }
 
 impl Session {
@@ -71,6 +84,8 @@ impl Session {
             catalogue: Catalogue::new(alloc),
             rows: Vec::new(alloc),
             next: 1,
+            count: 0,
+            modes: Vec::new(alloc),
             start: None,
         })
     }
@@ -97,6 +112,7 @@ impl Session {
         if let Some(start) = self.start.take() {
             self.rows.truncate(start.rows);
             self.next = start.next;
+            self.count = 0;
         }
     }
 }
@@ -104,7 +120,7 @@ impl Session {
 impl Session {
     // The rows that the transaction added: none outside one.
     fn added_rows(&self) -> &[StoredRow]
-        ensures { (which : AnyWhich) → scan result.now self.now.schema.constraints which ≡ scan self.now.database.rows self.now.schema.constraints which }
+        ensures { (chosen : ℕ → Bool) → scan result.now self.now.schema.constraints chosen ≡ scan self.now.database.rows self.now.schema.constraints chosen }
     {
         match self.start {
             Some(start) => &self.rows[start.rows..],
@@ -115,12 +131,13 @@ impl Session {
     /// The violations of deferred constraints, by the constraint's creation, then by row. It looks at the
     /// rows that the open transaction added.
     pub fn pending(&self) -> Result<Vec<Fault>, AllocError>
-        ensures { IfOk result (λ faults. faults.items ≡ scan self.now.database.rows self.now.schema.constraints Deferred) }
+        ensures { IfOk result (λ faults. faults.items ≡ scan self.now.database.rows self.now.schema.constraints (is_chosen self.now.modes Deferred)) }
     {
         list_faults(
             self.alloc,
             self.added_rows(),
             self.catalogue.constraints(),
+            self.modes.as_slice(),
             Which::Deferred,
         )
     }
@@ -128,11 +145,12 @@ impl Session {
     /// How many violations of deferred constraints there are; the count stays at 2^64 - 1 once it is
     /// there. It takes no memory.
     pub fn pending_count(&self) -> u64
-        ensures { result ≡ min (length (scan self.now.database.rows self.now.schema.constraints Deferred)) (2 ^ 64 - 1) }
+        ensures { result ≡ min (length (scan self.now.database.rows self.now.schema.constraints (is_chosen self.now.modes Deferred))) (2 ^ 64 - 1) }
     {
         count_faults(
             self.added_rows(),
             self.catalogue.constraints(),
+            self.modes.as_slice(),
             Which::Deferred,
         )
     }
@@ -141,7 +159,9 @@ impl Session {
     fn first_violation(&self) -> Option<Fault>
         ensures { result ≡ first_violation self.now }
     {
-        first_fault(self.added_rows(), self.catalogue.constraints(), Which::All)
+        let rows = self.added_rows();
+        let modes = self.modes.as_slice();
+        first_fault(rows, self.catalogue.constraints(), modes, Which::All)
     }
 
     /// Ends the transaction: the database stays where no constraint is violated, and is otherwise the one
@@ -150,12 +170,13 @@ impl Session {
     pub fn commit(&mut self) -> Result<(), Fault>
         ensures answer { result ≡ commit_answer self.old.start (first_violation self.old) }
         ensures state { self.new ≡ commit_state self.old (first_violation self.old) }
-        ensures accepted { OnOk result (scan self.old.database.rows self.old.schema.constraints All ≡ []) }
-        ensures refused { OnErr result (scan self.old.database.rows self.old.schema.constraints All ≢ []) }
+        ensures accepted { OnOk result (scan self.old.database.rows self.old.schema.constraints (is_chosen self.old.modes All) ≡ []) }
+        ensures refused { OnErr result (scan self.old.database.rows self.old.schema.constraints (is_chosen self.old.modes All) ≢ []) }
     {
         match self.first_violation() {
             None => {
                 self.start = None;
+                self.count = 0;
                 Ok(())
             }
             Some(fault) => {
@@ -165,6 +186,9 @@ impl Session {
         }
     }
 }
+
+// How many row changes may stand in a transaction.
+const CHANGES: u64 = 1_048_576;
 
 // The greatest row number.
 const LAST_ROW: u64 = 9_223_372_036_854_775_807;
@@ -191,27 +215,101 @@ fn rows_of(alloc: Global, rows: &[StoredRow], table: TableId) -> Result<Items<Ro
     Ok(found)
 }
 
+// A list of one value. A plan that stands in a list is dropped by its list, and not variant by variant
+// where it is used.
+fn one_of<T: Drop>(alloc: Global, value: T) -> Result<Items<T>, AllocError>
+    ensures { IfOk result (λ values. values ≡ value ∷ []) }
+{
+    let mut values = Items::new(alloc);
+    values.push(value)?;
+    Ok(values)
+}
+
+// The modes of constraints at the start of a transaction.
+fn initial_modes(
+    alloc: Global,
+    constraints: &[Constraint],
+) -> Result<Vec<ConstraintMode>, AllocError>
+    ensures { IfOk result (λ modes. modes.items ≡ initial_modes constraints.now) }
+{
+    let mut modes = Vec::new(alloc);
+    for constraint in constraints {
+        modes.push(constraint.initially)?;
+    }
+    Ok(modes)
+}
+
+// The value of a literal, NULL for all else.
+fn literal_of(expression: &Expr) -> Result<Value, AllocError>
+    ensures { IfOk result (λ value. value ≡ literal_of expression.now) }
+{
+    match expression {
+        Expr::Literal(value) => value.clone(),
+        Expr::Column(_, _) | Expr::Variable(_, _) => Ok(Value::Null),
+        Expr::Plus(_, _) => Ok(Value::Null),
+        Expr::Minus(_, _) => Ok(Value::Null),
+        Expr::Times(_, _) => Ok(Value::Null),
+    }
+}
+
+// The row of a tuple of literals.
+fn row_of(alloc: Global, tuple: &[Expr]) -> Result<Row, AllocError>
+    ensures { IfOk result (λ row. row ≡ map literal_of tuple.now) }
+{
+    let mut values = Vec::new(alloc);
+    for expression in tuple {
+        values.push(literal_of(expression)?)?;
+    }
+    Row::new(values)
+}
+
 // Statements.
 impl Session {
     // Adds a table and its constraints.
     fn create(&mut self, table: Table, constraints: Constraints) -> Outcome
-        requires { PlanFits self.old.schema (plan.CreateTable table constraints) }
-        ensures { Performs self.old (plan.CreateTable table constraints) result self.new }
+        requires { TableFits self.old table constraints }
+        ensures { Performs self.old (planned.Schema (schema_plan.CreateTable table constraints)) result self.new }
     {
+        let Ok(mut modes) = initial_modes(self.alloc, constraints.as_slice()) else {
+            return refuse(Cause::OutOfMemory);
+        };
+        let Ok(()) = self.modes.reserve(modes.len()) else {
+            return refuse(Cause::OutOfMemory);
+        };
         let Ok(()) = self.catalogue.add_table(table, constraints) else {
             return refuse(Cause::OutOfMemory);
         };
-        Ok(Answer::Done)
+        match self.modes.append(&mut modes) {
+            Ok(()) => Ok(Answer::Done),
+            Err(_) => unreachable!(),
+        }
+    }
+
+    // Why an INSERT is refused before its row is looked at: it needs two of the budget, room among the
+    // 1,048,576 changes of a transaction, and a row number.
+    fn early_cause(&self) -> Option<Cause>
+        ensures { result ≡ early self.now }
+    {
+        if self.limits.changes() < 2 {
+            Some(Cause::TooManyChanges)
+        } else if self.count >= CHANGES {
+            Some(Cause::TransactionTooLarge)
+        } else if self.next > LAST_ROW {
+            Some(Cause::Limit)
+        } else {
+            None
+        }
     }
 
     // Adds a row, and begins a transaction where none is open; refused where an immediate constraint
     // is violated.
     fn insert(&mut self, table: TableId, values: Row) -> Outcome
-        requires { table < length self.old.schema.tables }
-        ensures { Performs self.old (plan.Insert table values) result self.new }
+        requires { Suits self.old.schema table values }
+        ensures { Performs self.old (planned.Change (insert_one table values)) result self.new }
     {
-        if self.next > LAST_ROW {
-            return refuse(Cause::Limit);
+        match self.early_cause() {
+            Some(cause) => return refuse(cause),
+            None => {}
         }
         let row = StoredRow {
             number: self.next,
@@ -221,6 +319,7 @@ impl Session {
         match first_fault(
             from_ref(&row),
             self.catalogue.constraints(),
+            self.modes.as_slice(),
             Which::Immediate,
         ) {
             Some(fault) => return refuse(Cause::Violation(fault)),
@@ -234,13 +333,57 @@ impl Session {
             return refuse(Cause::OutOfMemory);
         };
         self.next += 1;
+        self.count += 1;
         self.start = Some(self.start.unwrap_or(start));
         Ok(Answer::Changed(1))
     }
 
+    // The INSERT of a tuple of literals.
+    fn insert_tuple(&mut self, table: TableId, tuple: &[Expr]) -> Outcome
+        requires { ChangeFits self.old.schema (data_statement.Insert table columns.All (rows.Values (tuple.now ∷ []))) }
+        ensures { Performs self.old (planned.Change (data_statement.Insert table columns.All (rows.Values (tuple.now ∷ [])))) result self.new }
+    {
+        match row_of(self.alloc, tuple) {
+            Ok(values) => self.insert(table, values),
+            Err(_) => refuse(Cause::OutOfMemory),
+        }
+    }
+
+    // A data statement.
+    fn change(&mut self, statement: DataStatement) -> Outcome
+        requires { ChangeFits self.old.schema statement }
+        ensures { Performs self.old (planned.Change statement) result self.new }
+    {
+        match one_of(self.alloc, statement) {
+            Ok(statements) => match statements.as_slice() {
+                [statement] => self.change_lent(statement),
+                _ => unreachable!(),
+            },
+            Err(_) => refuse(Cause::OutOfMemory),
+        }
+    }
+
+    // A data statement that is lent.
+    fn change_lent(&mut self, statement: &DataStatement) -> Outcome
+        requires { ChangeFits self.old.schema statement.now }
+        ensures { Performs self.old (planned.Change statement.now) result self.new }
+    {
+        match statement {
+            DataStatement::Insert {
+                table,
+                columns: InsertColumns::All,
+                rows: InsertRows::Values(tuples),
+            } => match tuples.as_slice() {
+                [tuple] => self.insert_tuple(*table, tuple.as_slice()),
+                _ => refuse(Cause::SchemaFault),
+            },
+            _ => refuse(Cause::SchemaFault),
+        }
+    }
+
     // The rows of a table.
     fn select(&self, table: TableId) -> Outcome
-        ensures { Performs self.now (plan.Select table) result self.now }
+        ensures { MatchBool (is_memory result) (Unit {0}) (result ≡ Ok (answer.Rows (map (λ r. r.values) (table_rows self.now.database.rows table)))) }
     {
         match rows_of(self.alloc, self.rows.as_slice(), table) {
             Ok(rows) => Ok(Answer::Rows(rows)),
@@ -251,19 +394,28 @@ impl Session {
 
 // Whole statements.
 impl Session {
-    // Whether the statement is refused for the open transaction.
-    fn is_barred(&self, statement: &Statement) -> bool
-        ensures { result ≡ is_barred self.now statement.now }
+    // Why a statement is refused for the transaction that is open or isn't.
+    fn transaction_cause(&self, statement: &Statement) -> Option<Cause>
+        ensures { result ≡ transaction_cause (is_open self.now) (occasion_of statement.now) }
     {
+        let open = self.in_transaction();
         match statement {
-            Statement::CreateTable { .. } => self.in_transaction(),
-            _ => false,
+            Statement::CreateTable { .. }
+            | Statement::AlterTable { .. }
+            | Statement::CreateTrigger(_)
+            | Statement::DropTrigger(_) => open.then_some(Cause::InTransaction),
+            Statement::StartTransaction => open.then_some(Cause::ActiveTransaction),
+            Statement::Savepoint(_)
+            | Statement::Release(_)
+            | Statement::RollbackTo(_)
+            | Statement::SetConstraints(_, _) => (!open).then_some(Cause::NoTransaction),
+            _ => None,
         }
     }
 
     // COMMIT.
     fn end(&mut self) -> Outcome
-        ensures performs { Performs self.old plan.Commit result self.new }
+        ensures performs { Performs self.old (planned.Transaction transaction_plan.Commit) result self.new }
         ensures sure { is_memory result ≡ false }
     {
         match self.commit() {
@@ -274,29 +426,77 @@ impl Session {
 
     // ROLLBACK.
     fn give_up(&mut self) -> Outcome
-        ensures performs { Performs self.old plan.Rollback result self.new }
+        ensures performs { Performs self.old (planned.Transaction transaction_plan.Rollback) result self.new }
         ensures sure { is_memory result ≡ false }
     {
         self.rollback();
         Ok(Answer::Done)
     }
 
+    // A statement that changes the catalogue.
+    fn define(&mut self, plan: SchemaPlan) -> Outcome
+        requires { SchemaFits self.old plan }
+        ensures { Performs self.old (planned.Schema plan) result self.new }
+    {
+        match plan {
+            SchemaPlan::CreateTable(table, constraints) => self.create(table, constraints),
+            _ => refuse(Cause::SchemaFault),
+        }
+    }
+
+    // A query.
+    fn query(&self, plan: QueryPlan) -> Outcome
+        requires { QueryFits plan }
+        ensures { Performs self.now (planned.Query plan) result self.now }
+    {
+        match one_of(self.alloc, plan) {
+            Ok(plans) => match plans.as_slice() {
+                [plan] => self.query_lent(plan),
+                _ => unreachable!(),
+            },
+            Err(_) => refuse(Cause::OutOfMemory),
+        }
+    }
+
+    // A query that is lent.
+    fn query_lent(&self, plan: &QueryPlan) -> Outcome
+        requires { QueryFits plan.now }
+        ensures { Performs self.now (planned.Query plan.now) result self.now }
+    {
+        match plan {
+            QueryPlan::Rows { table, .. } => self.select(*table),
+            QueryPlan::Count { .. } => refuse(Cause::SchemaFault),
+        }
+    }
+
+    // A statement of transaction management.
+    fn transact(&mut self, plan: TransactionPlan) -> Outcome
+        requires { TransactionFits plan }
+        ensures { Performs self.old (planned.Transaction plan) result self.new }
+    {
+        match &plan {
+            TransactionPlan::Commit => self.end(),
+            TransactionPlan::Rollback => self.give_up(),
+            _ => refuse(Cause::SchemaFault),
+        }
+    }
+
     // What a resolved statement does.
     fn perform(&mut self, plan: Plan) -> Outcome
-        requires { PlanFits self.old.schema plan }
+        requires { PlanFits self.old plan }
         ensures { Performs self.old plan result self.new }
     {
         match plan {
-            Plan::CreateTable(table, constraints) => self.create(table, constraints),
-            Plan::Insert(table, values) => self.insert(table, values),
-            Plan::Select(table) => self.select(table),
-            Plan::Commit => self.end(),
-            Plan::Rollback => self.give_up(),
+            Plan::Schema(definition) => self.define(definition),
+            Plan::Change(statement) => self.change(statement),
+            Plan::Query(query) => self.query(query),
+            Plan::Transaction(control) => self.transact(control),
         }
     }
 
     // Resolves a statement and does what it means.
     fn resolve_and_perform(&mut self, statement: &Statement) -> Outcome
+        requires { transaction_cause (is_open self.old) (occasion_of statement.now) ≡ None }
         ensures { Follows self.old (resolution self.old.schema statement.now) result self.new }
     {
         match resolve(self.alloc, &self.catalogue, statement) {
@@ -315,8 +515,9 @@ impl Session {
         if !is_taken_up(statement) {
             return refuse(Cause::SchemaFault);
         }
-        if self.is_barred(statement) {
-            return refuse(Cause::InTransaction);
+        match self.transaction_cause(statement) {
+            Some(cause) => return refuse(cause),
+            None => {}
         }
         match statement {
             Statement::Commit => self.end(),

@@ -1,4 +1,4 @@
-use Rattle.std.proofs.Common.{arith, not, refl, ◌≡◌, ◌∙◌, sym, ap, drop, ◌∷◌, [], ◌+◌, true, false}
+use Rattle.std.proofs.Common.{arith, ◌≡◌, ◌∙◌, sym, ap, drop, ◌∷◌, [], ◌+◌, true, false}
 use Rattle.iv_catalogue.specs.Names.{has_repeated}
 use Rattle.iv_catalogue.proofs.NameLists.{repeated_none, repeated_here, repeated_later, next_item, no_item}
 use Rattle.iv_catalogue.proofs.create.repeats.Goals as goal

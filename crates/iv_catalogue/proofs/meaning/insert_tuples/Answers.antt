@@ -1,4 +1,4 @@
-use Rattle.std.proofs.Common.{◌≡◌, IfOk, sym, rules, arith}
+use Rattle.std.proofs.Common.{arith}
 use Rattle.iv_catalogue.proofs.NameLists.{one_item}
 use Rattle.iv_catalogue.proofs.meaning.insert_tuples.Goals as goal
 

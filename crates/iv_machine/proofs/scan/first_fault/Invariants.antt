@@ -1,9 +1,9 @@
 use Rattle.std.proofs.Common.{◌≡◌, drop}
-use Rattle.iv_machine.specs.Databases.{first, scan, scan_from}
+use Rattle.iv_machine.specs.Databases.{first, scan, scan_from, is_chosen}
 use Rattle.iv_machine.proofs.scan.first_fault.Given as goal
 
 abbrev pub invariant-loop-constraint : goal.invariant-loop-constraint
 invariant-loop-constraint l = record {
   at : l.id ≡ l.constraint-index;
-  left : first (scan_from l.fn.rows l.which l.id (drop l.constraint-index l.constraints)) ≡ first (scan l.fn.rows l.constraints l.which);
+  left : first (scan_from l.fn.rows (is_chosen l.modes l.which) l.id (drop l.constraint-index l.constraints)) ≡ first (scan l.fn.rows l.constraints (is_chosen l.modes l.which));
 }

@@ -1,6 +1,5 @@
-use Rattle.std.proofs.Common.{◌≡◌, ◌∙◌, sym, string_bytes, not, ap, true, false}
+use Rattle.std.proofs.Common.{◌∙◌, sym, string_bytes, not, ap}
 use Rattle.std.specs.Str.{bytes_eq}
-use Rattle.iv_catalogue.specs.Names.{is_among}
 use Rattle.iv_catalogue.proofs.NameSets.{found_among, added, absent}
 use Rattle.iv_catalogue.proofs.names.Names.add.Goals as goal
 

@@ -1,4 +1,4 @@
-use Rattle.std.proofs.Common.{◌≡◌, ◌∙◌, sym, string_bytes}
+use Rattle.std.proofs.Common.{◌∙◌, string_bytes}
 use Rattle.std.specs.Str.{bytes_eq}
 use Rattle.iv_catalogue.proofs.NameSets.{found_among}
 use Rattle.iv_catalogue.proofs.names.Names.contains.Goals as goal

@@ -1,10 +1,19 @@
-use Rattle.std.proofs.Common.{◌≡◌, subst, sym}
-use Rattle.iv_catalogue.specs.declared.catalogue.Plan.TheVariants as plan
-use Rattle.iv_machine.proofs.Plans.{PlanFits}
+use Rattle.std.proofs.Common.{subst, sym}
+use Rattle.iv_session.specs.States.{Held}
+use Rattle.iv_machine.proofs.Plans.{TableFits}
 use Rattle.iv_session.proofs.Keeping.{created_kept}
 use Rattle.iv_session.proofs.session.Session.create.Goals as goal
 
 pub invariant_of-self-2 : goal.invariant_of-self-2
 invariant_of-self-2 c =
-    created_kept c.self.inside.catalogue c.add_table.new.self c.self.inside.limits c.self.inside.rows.items c.self.inside.next c.self.inside.start c.args.table c.args.constraints
-    (subst (λ s. PlanFits s.schema (plan.CreateTable c.args.table c.args.constraints)) (sym c.self.view_is) c.requires) c.in-Ok.ensures.ok c.self.invariant
+    let held : Held = record {
+      schema = c.self.inside.catalogue;
+      limits = c.self.inside.limits;
+      rows = c.self.inside.rows.items;
+      next = c.self.inside.next;
+      count = c.self.inside.count;
+      modes = c.self.inside.modes.items;
+      start = c.self.inside.start;
+    } in
+    rw (c.in-Ok-add_table.ensures.ok, c.in-Ok-append.ensures.items, c.reserve.ensures.items, c.in-Ok.ensures, c.as_slice.ensures)
+    (created_kept held c.args.table c.args.constraints (subst (λ s. TableFits s c.args.table c.args.constraints) (sym c.self.view_is) c.requires) c.self.invariant)

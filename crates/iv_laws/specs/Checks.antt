@@ -1,0 +1,27 @@
+-- What a data statement checks.
+use Rattle.std.specs.Prelude.{◌≡◌, ℕ, [], Ok}
+use Rattle.iv_expr.specs.Scopes.{Frame}
+use Rattle.iv_catalogue.specs.declared.plan.DataStatement.{DataStatement}
+use Rattle.iv_machine.specs.declared.database.Database.{Database}
+use Rattle.iv_machine.specs.declared.database.Which.TheVariants.{Immediate}
+use Rattle.iv_machine.specs.Context.{Context}
+use Rattle.iv_machine.specs.Databases.{scan, is_chosen}
+use Rattle.iv_machine.specs.Levels.{Finished, nested, level}
+
+-- no immediate constraint is violated
+abbrev pub IsChecked : Context → Database → Type 0
+IsChecked w db = scan db.rows w.schema.constraints (is_chosen w.modes Immediate) ≡ []
+
+-- After an accepted data statement of a script no immediate constraint is violated, whatever was violated before.
+abbrev pub LevelsCheck : Type 0
+LevelsCheck =
+    (deeper : ℕ) (w : Context) (d : DataStatement) (f : Frame) (db : Database) (budget : ℕ) (done : Finished)
+    → level deeper w d f db budget ≡ Ok done
+    → IsChecked w done.database
+
+-- So after one of a trigger's body.
+abbrev pub NestedLevelsCheck : Type 0
+NestedLevelsCheck =
+    (depth : ℕ) (w : Context) (trigger : ℕ) (d : DataStatement) (f : Frame) (db : Database) (budget : ℕ) (done : Finished)
+    → nested depth w trigger d f db budget ≡ Ok done
+    → IsChecked w done.database

@@ -1,0 +1,61 @@
+//! Laws of the machine's definitions, each as the contract of a function that does nothing.
+ghost use Rattle.iv_laws.specs.Budgets.{LevelsTakeFromTheBudget, NestedLevelsTakeFromTheBudget, WavesTakeWhatTheyChange};
+ghost use Rattle.iv_laws.specs.Checks.{LevelsCheck, NestedLevelsCheck};
+ghost use Rattle.iv_laws.specs.Closures.{TakenRowsAreGone, GoneRowsAreTaken, OtherRowsStay};
+ghost use Rattle.iv_laws.specs.FittingWaves.{WavesFit, LevelsKeepNumbers, NestedLevelsKeepNumbers, NoRowsAreNumbered};
+ghost use Rattle.iv_laws.specs.Holders.{HoldersBeforeAWave, KeysAreLostByTheWave, RestrictedRowsReferToTheWave, FollowingRowsReferToTheWave, NextWaveRefersToTheWave};
+ghost use Rattle.iv_laws.specs.Locality.{AChangeIsLocal, ViolationsElsewhereStay};
+ghost use Rattle.iv_laws.specs.Reorderings.{AnyOrderGivesTheWave};
+
+/// A data statement takes one from the budget for itself, and one for each row change.
+pub fn budget_falls()
+    ensures level { LevelsTakeFromTheBudget }
+    ensures nested { NestedLevelsTakeFromTheBudget }
+    ensures waves { WavesTakeWhatTheyChange }
+{}
+
+/// After an accepted data statement no immediate constraint is violated.
+pub fn level_checks()
+    ensures level { LevelsCheck }
+    ensures nested { NestedLevelsCheck }
+{}
+
+/// The changes of a wave, one by one in any order, give what the wave gives.
+pub fn any_order()
+    ensures { AnyOrderGivesTheWave }
+{}
+
+/// The waves of a data statement change distinct rows, say what they hold, and leave rows in rising
+/// number, below the next one.
+pub fn waves_fit()
+    ensures waves { WavesFit }
+    ensures level { LevelsKeepNumbers }
+    ensures nested { NestedLevelsKeepNumbers }
+    ensures start { NoRowsAreNumbered }
+{}
+
+/// Which rows held a key before a wave, and which keys it lost, follows from the rows after it and from
+/// the wave.
+pub fn holders_before_a_wave()
+    ensures holders { HoldersBeforeAWave }
+    ensures lost { KeysAreLostByTheWave }
+    ensures restricted { RestrictedRowsReferToTheWave }
+    ensures following { FollowingRowsReferToTheWave }
+    ensures next { NextWaveRefersToTheWave }
+{}
+
+/// A change of one row can alter what constraints say of that row, of rows that hold its old or new
+/// key, and of rows that refer to its old or new key.
+pub fn a_change_is_local()
+    ensures rows { AChangeIsLocal }
+    ensures elsewhere { ViolationsElsewhereStay }
+{}
+
+/// Where no foreign key sets columns on delete, an accepted DELETE takes away exactly the least set of
+/// rows that has its candidates, and each row that by a foreign key with ON DELETE CASCADE holds the key
+/// of a row of the set; no other row changes.
+pub fn deletion_closure()
+    ensures gone { TakenRowsAreGone }
+    ensures only { GoneRowsAreTaken }
+    ensures stay { OtherRowsStay }
+{}

@@ -1,0 +1,9 @@
+//! Laws of the machine's definitions, each as the contract of a function that does nothing.
+#![tactic(auto)]
+
+mod laws;
+
+pub use laws::{
+    a_change_is_local, any_order, budget_falls, deletion_closure, holders_before_a_wave,
+    level_checks, waves_fit,
+};

@@ -1,0 +1,44 @@
+-- What a data statement runs under, and how it is refused half-way.
+use Rattle.std.specs.Prelude.{ℕ, List, [], ◌∷◌, Option, Some, None, is_none, if◌then◌else◌, Result, Ok, Err}
+use Rattle.iv_syntax.specs.declared.statement.ConstraintMode.{ConstraintMode}
+use Rattle.iv_expr.specs.Evaluation.{and_then}
+use Rattle.iv_catalogue.specs.Catalogues.{Schema}
+use Rattle.iv_catalogue.specs.declared.cause.Cause.{Cause}
+use Rattle.iv_catalogue.specs.declared.cause.Fault.{Fault}
+use Rattle.iv_machine.specs.declared.database.Database.{Database}
+
+-- The catalogue, and the mode of each constraint.
+pub record Context : Type 0 where
+  pub schema : Schema
+  pub modes : List ConstraintMode
+
+-- A refusal: its cause, the innermost trigger whose body or WHEN was running, and the row changes that stood in the transaction
+-- when it came.
+pub record Failure : Type 0 where
+  pub cause : Cause
+  pub trigger : Option ℕ
+  pub count : ℕ
+
+-- refused outside of any trigger, as far as is known here
+abbrev pub fails : {A : Type 0} → Database → Cause → Result A Failure
+fails db cause = Err (record { cause = cause; trigger = None; count = db.count })
+
+-- a result over this database
+abbrev pub over : {A : Type 0} → Database → Result A Cause → Result A Failure
+over db (Ok a) = Ok a
+over db (Err cause) = fails db cause
+
+-- refused with the first fault of a list, where there is one
+abbrev pub unless_first : {A : Type 0} → Database → (Fault → Cause) → List Fault → Result A Failure → Result A Failure
+unless_first db cause [] r = r
+unless_first db cause (f ∷ fs) r = fails db (cause f)
+
+-- a refusal that comes while this trigger runs is told with it, unless it came inside of another that it runs
+abbrev pub inside : {A : Type 0} → ℕ → Result A Failure → Result A Failure
+inside trigger (Ok a) = Ok a
+inside trigger (Err f) = Err (if is_none f.trigger then record f { trigger = Some trigger } else f)
+
+-- what is made of each, in their order, or the first refusal
+abbrev pub each : {A B E : Type 0} → (A → Result B E) → List A → Result (List B) E
+each f [] = Ok []
+each f (x ∷ xs) = and_then (f x) (λ y. and_then (each f xs) (λ ys. Ok (y ∷ ys)))

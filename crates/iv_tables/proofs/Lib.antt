@@ -1,0 +1,9 @@
+pub mod Fronts
+pub mod Complete
+pub mod Loops
+pub mod DataSound
+pub mod DataComplete
+pub mod OptionalSound
+pub mod OptionalComplete
+pub mod TableSound
+pub mod TableComplete

@@ -1,0 +1,20 @@
+//! Statements about tables and rows, and the parts of statements.
+#![tactic(auto)]
+
+mod constraint;
+mod inserting;
+mod parts;
+mod referencing;
+mod repeated;
+mod selecting;
+mod table;
+#[cfg(test)]
+mod tests;
+mod time;
+
+pub use inserting::insert;
+pub use parts::{Parse, ParseSome};
+pub use repeated::{sequence, series, skip};
+pub use selecting::{delete, enclosed_condition, select, update};
+pub use table::{alter_table, create_table};
+pub use time::{mode, quoted};

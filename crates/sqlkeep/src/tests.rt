@@ -1,0 +1,94 @@
+//! Runs of the program over what it is given in place of standard input, output and error.
+use crate::go;
+use iv_script::Std;
+use std::alloc::Global;
+use std::io;
+use std::io::{ErrorKind, Read};
+use std::test::Fail;
+
+const ACCEPTED: &str =
+    "CREATE TABLE t (a INTEGER, CHECK (a > 0)); INSERT INTO t VALUES (1); COMMIT; SELECT * FROM t;";
+
+const REFUSED: &str =
+    "CREATE TABLE t (a INT, CONSTRAINT pos CHECK (a > 0)); INSERT INTO t VALUES (0);";
+
+// A reader whose calls are interrupted, each of them.
+#[derive(Drop)]
+struct Interrupted;
+
+impl Read for Interrupted {
+    fn read(&mut self, _: &mut [u8]) -> io::Result<usize> {
+        Err(io::Error::from(ErrorKind::Interrupted))
+    }
+}
+
+// The status, the transcript and what standard error would tell.
+fn told<R: Read + Drop>(alloc: Global, reader: R) -> Result<(u8, Vec<u8>, Vec<u8>), Fail> {
+    let mut writer = Std::new(Vec::new(alloc));
+    let mut faults = Vec::new(alloc);
+    let status = go(alloc, &mut Std::new(reader), &mut writer, &mut faults);
+    Ok((status, writer.into_inner(), faults))
+}
+
+#[test]
+fn scripts_that_ran_have_status_0_or_1(rt: HostRuntime) -> Result<(), Fail> {
+    for (script, wanted, transcript) in [
+        ("", 0u8, ""),
+        (ACCEPTED, 0, "1 ok\n2 ok 1\n3 ok\n4 rows 1\n| 1\n"),
+        (REFUSED, 1, "1 ok\n2 refused 13 Violation POS row 1\n"),
+        ("COMMIT; x", 1, "1 ok\n2 fault 8\n"),
+    ] {
+        let (status, written, faults) = told(rt.alloc(), script.as_bytes())?;
+        assert_eq!(rt; status, wanted, "{script}");
+        assert_eq!(rt; written.as_slice(), transcript.as_bytes(), "{script}");
+        assert_eq!(rt; faults.len(), 0, "{script}");
+    }
+    Ok(())
+}
+
+#[test]
+fn faults_of_reading_have_their_lines(rt: HostRuntime) -> Result<(), Fail> {
+    let (status, written, faults) = told(rt.alloc(), Interrupted)?;
+    assert_eq!(rt; (status, written.len()), (2, 0));
+    assert_eq!(rt;
+        faults.as_slice(),
+        b"sqlkeep: cannot read the script\n".as_slice()
+    );
+    let (status, written, faults) = told(rt.alloc(), io::repeat(b' '))?;
+    assert_eq!(rt; (status, written.len()), (2, 0));
+    assert_eq!(rt;
+        faults.as_slice(),
+        b"sqlkeep: the script is longer than 1048576 bytes\n".as_slice()
+    );
+    let (status, written, faults) = told(rt.alloc(), b"\xff".as_slice())?;
+    assert_eq!(rt; (status, written.len()), (2, 0));
+    assert_eq!(rt;
+        faults.as_slice(),
+        b"sqlkeep: the script is not UTF-8\n".as_slice()
+    );
+    Ok(())
+}
+
+#[test]
+fn fault_of_writing_has_its_line(rt: HostRuntime) -> Result<(), Fail> {
+    // A writer with room for 12 of the 30 bytes.
+    let mut room = [0u8; 12];
+    let mut faults = Vec::new(rt.alloc());
+    let mut reader = Std::new(ACCEPTED.as_bytes());
+    let mut writer = Std::new(room.as_mut_slice());
+    let status = go(rt.alloc(), &mut reader, &mut writer, &mut faults);
+    assert_eq!(rt; status, 2);
+    assert_eq!(rt; faults.as_slice(), b"sqlkeep: cannot write\n".as_slice());
+    Ok(())
+}
+
+#[test]
+fn line_that_cannot_be_written_changes_no_status(rt: HostRuntime) -> Result<(), Fail> {
+    let mut none = [0u8; 0];
+    let mut writer = Std::new(Vec::new(rt.alloc()));
+    let mut faults = none.as_mut_slice();
+    let mut reader = Std::new(Interrupted);
+    let status = go(rt.alloc(), &mut reader, &mut writer, &mut faults);
+    assert_eq!(rt; status, 2);
+    Ok(())
+}
