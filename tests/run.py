@@ -7,6 +7,7 @@ import argparse
 import json
 import os
 import re
+import resource
 import subprocess
 
 HERE = os.path.dirname(os.path.abspath(__file__))
@@ -128,13 +129,32 @@ def prefixes(program):
             yield 'prefixes/%s:%d' % (file, length), [] if good else ['got %r' % out[-200:]]
 
 
+def small_memory():
+    """16 MiB for all that the process maps."""
+    resource.setrlimit(resource.RLIMIT_AS, (1 << 24, 1 << 24))
+
+
+def devices(program):
+    """Runs that can't be finished: a directory in place of the script, a full device, and too little memory."""
+    with open('/dev/full', 'wb') as full:
+        directory = os.open(HERE, os.O_RDONLY)
+        for line, options in [
+                (b'cannot read the script', {'stdin': directory, 'stdout': subprocess.PIPE}),
+                (b'cannot write', {'input': b'COMMIT;', 'stdout': full}),
+                (b'out of memory', {'input': b'(' * 1000000, 'stdout': subprocess.PIPE, 'preexec_fn': small_memory})]:
+            done = subprocess.run([program], stderr=subprocess.PIPE, timeout=300, **options)
+            got = (done.stdout or b'', done.stderr, done.returncode)
+            yield 'devices: ' + line.decode(), [] if got == (b'', b'sqlkeep: %s\n' % line, 2) else ['got %r' % (got,)]
+        os.close(directory)
+
+
 def main():
     parser = argparse.ArgumentParser()
     parser.add_argument('--program', action='append', required=True)
-    parser.add_argument('--only', choices=['scripts', 'pages', 'statements', 'prefixes'])
+    parser.add_argument('--only', choices=['scripts', 'pages', 'statements', 'prefixes', 'devices'])
     options, passed, failed = parser.parse_args(), 0, 0
     for program in options.program:
-        for part in [globals()[options.only]] if options.only else [scripts, pages, statements, prefixes]:
+        for part in [globals()[options.only]] if options.only else [scripts, pages, statements, prefixes, devices]:
             for name, why in part(os.path.abspath(program)):
                 passed, failed = passed + (not why), failed + bool(why)
                 if why:

@@ -12,6 +12,8 @@ mod names;
 mod number;
 mod plan;
 mod taken_up;
+#[cfg(test)]
+mod tests;
 
 pub use catalogue::{Catalogue, Column, Table};
 pub use cause::{Cause, Fault, Refusal};

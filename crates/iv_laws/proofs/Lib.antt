@@ -18,3 +18,8 @@ pub mod Members
 pub mod DeletingWaves
 pub mod TakenRows
 pub mod Elsewhere
+pub mod FittingBodies
+pub mod PlacedRows
+pub mod Scanning
+pub mod ReachedStates
+pub mod Planned

@@ -38,12 +38,12 @@ module _ (P : StoredRow → Type 0) where
   every_filter p (r ∷ rows) e =
       elim (p r) as (λ t. Every P (if t then r ∷ filter p rows else filter p rows)) [ true ↦ (e.0, every_filter p rows e.1) | false ↦ every_filter p rows e.1 ]
 
-  every_after : (rows : List StoredRow) (wave : List Change) → Every P rows → Every P (news wave) → Every P (rows_after rows wave)
+  pub every_after : (rows : List StoredRow) (wave : List Change) → Every P rows → Every P (news wave) → Every P (rows_after rows wave)
   every_after rows wave e n =
       every_in_order (filter (is_outside wave) rows ++ news wave) (every_append (filter (is_outside wave) rows) (news wave) (every_filter (is_outside wave) rows e) n)
 
   -- of a row that a change leaves
-  every_side : (c : Change) (side : Option (List Value)) (rows : List StoredRow) → ((values : List Value) → P (record { table = c.table; number = c.row; values = values }))
+  pub every_side : (c : Change) (side : Option (List Value)) (rows : List StoredRow) → ((values : List Value) → P (record { table = c.table; number = c.row; values = values }))
       → Every P rows → Every P (cons_option (row_of c side) rows)
   every_side c None rows h e = e
   every_side c (Some values) rows h e = (h values, e)

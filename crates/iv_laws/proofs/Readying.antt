@@ -80,12 +80,16 @@ delete_drawn w db f t filter wave e =
     (subst (Drawn OfRow found.0) (ok_same (map deletion found.0) wave found.2)
     (drawn_map OfRow deletion (λ r. record { number = refl; table = refl; old = refl }) found.0))
 
+pub update_drawn : (w : Context) (db : Database) (f : Frame) (t : ℕ) (settings : List Setting) (filter : Cond) (wave : List Change)
+    → proposed w db f (data_statement.Update t settings filter) ≡ Ok wave → Drawn OfRow db.rows wave
+update_drawn w db f t settings filter wave e =
+    let found = step_of (matching (scope_of f db.rows) filter (table_rows db.rows t)) _ wave e in
+    drawn_among OfRow db.rows found.0 wave (among_matching (scope_of f db.rows) filter db t found.0 found.1)
+    (drawn_each OfRow (updated w (scope_of f db.rows) settings) (updated_is w (scope_of f db.rows) settings) found.0 wave found.2)
+
 pub proposed_ready : (w : Context) (db : Database) (f : Frame) (d : DataStatement) (wave : List Change) → proposed w db f d ≡ Ok wave → Ready db.rows wave
 proposed_ready w db f (data_statement.Insert t cs source) wave e = inr (proposed_rows_insert w (scope_of f db.rows) t cs source wave e)
-proposed_ready w db f (data_statement.Update t settings filter) wave e =
-    let found = step_of (matching (scope_of f db.rows) filter (table_rows db.rows t)) _ wave e in
-    inl (drawn_among OfRow db.rows found.0 wave (among_matching (scope_of f db.rows) filter db t found.0 found.1)
-    (drawn_each OfRow (updated w (scope_of f db.rows) settings) (updated_is w (scope_of f db.rows) settings) found.0 wave found.2))
+proposed_ready w db f (data_statement.Update t settings filter) wave e = inl (update_drawn w db f t settings filter wave e)
 proposed_ready w db f (data_statement.Delete t filter) wave e = inl (delete_drawn w db f t filter wave e)
 
 -- ---- the next wave

@@ -6,3 +6,4 @@ pub mod FittingWaves
 pub mod Holders
 pub mod Locality
 pub mod Closures
+pub mod Reached

@@ -5,6 +5,7 @@ ghost use Rattle.iv_laws.specs.Closures.{TakenRowsAreGone, GoneRowsAreTaken, Oth
 ghost use Rattle.iv_laws.specs.FittingWaves.{WavesFit, LevelsKeepNumbers, NestedLevelsKeepNumbers, NoRowsAreNumbered};
 ghost use Rattle.iv_laws.specs.Holders.{HoldersBeforeAWave, KeysAreLostByTheWave, RestrictedRowsReferToTheWave, FollowingRowsReferToTheWave, NextWaveRefersToTheWave};
 ghost use Rattle.iv_laws.specs.Locality.{AChangeIsLocal, ViolationsElsewhereStay};
+ghost use Rattle.iv_laws.specs.Reached.{PlannedStatesAreSound};
 ghost use Rattle.iv_laws.specs.Reorderings.{AnyOrderGivesTheWave};
 
 /// A data statement takes one from the budget for itself, and one for each row change.
@@ -58,4 +59,10 @@ pub fn deletion_closure()
     ensures gone { TakenRowsAreGone }
     ensures only { GoneRowsAreTaken }
     ensures stay { OtherRowsStay }
+{}
+
+/// In every state that resolved statements reach from an empty one, with any constraints, modes,
+/// savepoints and triggers, no immediate constraint is violated, and outside a transaction none at all.
+pub fn planned_states_are_sound()
+    ensures { PlannedStatesAreSound }
 {}

@@ -2,8 +2,10 @@
 #![tactic(auto)]
 
 mod laws;
+#[cfg(test)]
+mod tests;
 
 pub use laws::{
     a_change_is_local, any_order, budget_falls, deletion_closure, holders_before_a_wave,
-    level_checks, waves_fit,
+    level_checks, planned_states_are_sound, waves_fit,
 };

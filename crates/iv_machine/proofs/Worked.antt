@@ -57,4 +57,5 @@ triggers = record {
   refusal_inside_trigger = refl;
   innermost_trigger_is_told = refl;
   before_triggers_in_order = refl;
+  later_set_sees_the_earlier = refl;
 }

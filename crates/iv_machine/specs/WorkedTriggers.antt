@@ -99,3 +99,10 @@ pub record WorkedTriggers : Type 0 where
       ∷ update 0 (setting 0 (number 4) ∷ []) (exists_c (Table 0) (Compare Equal (Column 0 0) (plus (Column 1 0) (number 1))))
       ∷ select_all 0 ∷ commit ∷ [])
       ≡ ok ∷ ok ∷ ok ∷ ok_rows 1 ∷ ok_rows 1 ∷ ok_rows 1 ∷ rows ((int 14 ∷ []) ∷ (int 4 ∷ []) ∷ []) ∷ ok ∷ []
+  -- CREATE TABLE t (a INT, b INT); CREATE TRIGGER x BEFORE INSERT ON t REFERENCING NEW AS n FOR EACH ROW BEGIN ATOMIC
+  -- SET n.a = n.a + 1; SET n.b = n.a * 2; END; INSERT INTO t VALUES (1, 0); SELECT * FROM t;
+  pub later_set_sees_the_earlier : answers (
+      create_table (integer ∷ integer ∷ []) []
+      ∷ create_trigger 0 0 Before event.Insert Row Always (body.Set (setting 0 (plus (Variable New 0) (number 1))) ∷ body.Set (setting 1 (times (Variable New 0) (number 2))) ∷ [])
+      ∷ insert 0 ((number 1 ∷ number 0 ∷ []) ∷ []) ∷ select_all 0 ∷ [])
+      ≡ ok ∷ ok ∷ ok_rows 1 ∷ rows ((int 2 ∷ int 4 ∷ []) ∷ []) ∷ []

@@ -1,7 +1,10 @@
 //! Each public call once, at values from outside.
 ghost use Rattle.std.specs.Prelude.{◌≡◌};
 
-use crate::{Database, Limits, Which, applied, count_faults, first_fault, list_faults, satisfies};
+use crate::{
+    Database, Limits, Which, applied, count_faults, first_fault, list_faults,
+    reached_states_are_sound, satisfies, worked_scripts,
+};
 use iv_catalogue::{Constraint, Fault, ForeignKey, Rule};
 use iv_expr::{Change, Comparison, Cond, Expr, Row, StoredRow, TableId};
 use iv_syntax::{ConstraintMode, MatchType, Name, ReferentialAction};
@@ -227,4 +230,10 @@ fn a_wave_adds_replaces_and_leaves_out(rt: HostRuntime) -> Result<(), Fail> {
     assert_eq!(rt; later.next, 10);
     assert_eq!(rt; later.count, 5);
     Ok(())
+}
+
+#[test]
+fn laws_are_called(rt: HostRuntime) {
+    reached_states_are_sound();
+    worked_scripts();
 }

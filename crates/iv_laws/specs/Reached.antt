@@ -1,0 +1,73 @@
+-- The states that resolved statements reach, whatever constraints, modes, savepoints and triggers there are.
+use Rattle.std.specs.Prelude.{◌≡◌, ℕ, ◌<◌, List, [], ◌∷◌, length}
+use Rattle.iv_catalogue.specs.Catalogues.{Schema}
+use Rattle.iv_catalogue.specs.declared.constraint.Constraint.{Constraint}
+use Rattle.iv_catalogue.specs.declared.plan.BodyStatement.{BodyStatement}
+use Rattle.iv_catalogue.specs.declared.plan.BodyStatement.TheVariants as body
+use Rattle.iv_catalogue.specs.declared.plan.Plan.{Plan}
+use Rattle.iv_catalogue.specs.declared.plan.Plan.TheVariants as plan
+use Rattle.iv_catalogue.specs.declared.plan.SchemaPlan.{SchemaPlan}
+use Rattle.iv_catalogue.specs.declared.plan.SchemaPlan.TheVariants as schema
+use Rattle.iv_catalogue.specs.declared.plan.TransactionPlan.{TransactionPlan}
+use Rattle.iv_catalogue.specs.declared.plan.TransactionPlan.TheVariants as transaction
+use Rattle.iv_machine.specs.Bounds.{Bounds}
+use Rattle.iv_machine.specs.Laws.{IsSound}
+use Rattle.iv_machine.specs.Machine.{State, Occasion, outside, inside, beginning, always, Outcome, empty_state, is_open, transaction_cause, unless, performed}
+use Rattle.iv_machine.specs.Proposals.{table_of}
+
+-- ---- what resolution sees to: the tables that are changed are there, and the constraints of a new table are on it
+
+abbrev pub IsThere : Schema → ℕ → Type 0
+IsThere c table = table < length c.tables
+
+abbrev pub BodyFits : Schema → List BodyStatement → Type 0
+BodyFits c [] = Unit {0}
+BodyFits c (body.Data statement ∷ rest) = IsThere c (table_of statement) × BodyFits c rest
+BodyFits c (_ ∷ rest) = BodyFits c rest
+
+abbrev pub AllOn : ℕ → List Constraint → Type 0
+AllOn table [] = Unit {0}
+AllOn table (k ∷ constraints) = (k.table ≡ table) × AllOn table constraints
+
+abbrev pub SchemaPlanFits : Schema → SchemaPlan → Type 0
+SchemaPlanFits c (schema.CreateTable table constraints) = AllOn (length c.tables) constraints
+SchemaPlanFits c (schema.CreateTrigger t) = BodyFits c t.body
+SchemaPlanFits c _ = Unit {0}
+
+abbrev pub Fits : Schema → Plan → Type 0
+Fits c (plan.Schema p) = SchemaPlanFits c p
+Fits c (plan.Change statement) = IsThere c (table_of statement)
+Fits c _ = Unit {0}
+
+-- ---- resolved statements one after another
+
+abbrev pub transaction_occasion : TransactionPlan → Occasion
+transaction_occasion transaction.Start = beginning
+transaction_occasion transaction.Commit = always
+transaction_occasion transaction.Rollback = always
+transaction_occasion _ = inside
+
+-- that of the statements which a plan comes from
+abbrev pub plan_occasion : Plan → Occasion
+plan_occasion (plan.Schema _) = outside
+plan_occasion (plan.Transaction p) = transaction_occasion p
+plan_occasion _ = always
+
+-- what a resolved statement does, or why it is refused for the transaction that is open or isn't
+abbrev pub planned : State → Plan → Outcome
+planned s p = unless s (transaction_cause (is_open s) (plan_occasion p)) (performed s p)
+
+-- the state after resolved statements, in their order
+abbrev pub reached : State → List Plan → State
+reached s [] = s
+reached s (p ∷ plans) = reached (planned s p).state plans
+
+-- each fits the catalogue that it comes to
+abbrev pub AllFit : State → List Plan → Type 0
+AllFit s [] = Unit {0}
+AllFit s (p ∷ plans) = Fits s.schema p × AllFit (planned s p).state plans
+
+-- In every state that resolved statements reach from an empty one no immediate constraint is violated, and outside a transaction
+-- none at all; there modes are initial; rows have rising numbers below the next one.
+abbrev pub PlannedStatesAreSound : Type 0
+PlannedStatesAreSound = (limits : Bounds) (plans : List Plan) → AllFit (empty_state limits) plans → IsSound (reached (empty_state limits) plans)

@@ -1,0 +1,17 @@
+//! Each law is a call that returns.
+use crate::{
+    a_change_is_local, any_order, budget_falls, deletion_closure, holders_before_a_wave,
+    level_checks, planned_states_are_sound, waves_fit,
+};
+
+#[test]
+fn laws_are_called(rt: HostRuntime) {
+    budget_falls();
+    level_checks();
+    any_order();
+    waves_fit();
+    holders_before_a_wave();
+    a_change_is_local();
+    deletion_closure();
+    planned_states_are_sound();
+}
