@@ -11,36 +11,56 @@ use sqlite_items::Boxed;
 use std::alloc::{AllocError, Global};
 use std::test::Fail;
 
-fn number(value: i64) -> Expr {
-    Expr::Literal(Value::Int(value))
+// Trees are made in boxes: a box drops its tree by a call, where a tree by value has the drop of each
+// variant written out, which takes long to prove.
+
+fn number(alloc: Global, value: i64) -> Result<Boxed<Expr>, AllocError> {
+    Boxed::new(alloc, Expr::Literal(Value::Int(value)))
 }
 
-fn plus(alloc: Global, left: Expr, right: Expr) -> Result<Expr, AllocError> {
-    Ok(Expr::Plus(Boxed::new(alloc, left)?, Boxed::new(alloc, right)?))
+fn plus(alloc: Global, left: i64, right: i64) -> Result<Boxed<Expr>, AllocError> {
+    let left = number(alloc, left)?;
+    let right = number(alloc, right)?;
+    Boxed::new(alloc, Expr::Plus(left, right))
 }
 
-fn minus(alloc: Global, left: Expr, right: Expr) -> Result<Expr, AllocError> {
-    Ok(Expr::Minus(Boxed::new(alloc, left)?, Boxed::new(alloc, right)?))
+fn minus(alloc: Global, left: i64, right: i64) -> Result<Boxed<Expr>, AllocError> {
+    let left = number(alloc, left)?;
+    let right = number(alloc, right)?;
+    Boxed::new(alloc, Expr::Minus(left, right))
 }
 
-fn times(alloc: Global, left: Expr, right: Expr) -> Result<Expr, AllocError> {
-    Ok(Expr::Times(Boxed::new(alloc, left)?, Boxed::new(alloc, right)?))
+fn times(alloc: Global, left: i64, right: i64) -> Result<Boxed<Expr>, AllocError> {
+    let left = number(alloc, left)?;
+    let right = number(alloc, right)?;
+    Boxed::new(alloc, Expr::Times(left, right))
 }
 
-fn not(alloc: Global, operand: Cond) -> Result<Cond, AllocError> {
-    Ok(Cond::Not(Boxed::new(alloc, operand)?))
+/// The next number after the first column of the innermost range.
+fn next(alloc: Global) -> Result<Expr, AllocError> {
+    let column = Boxed::new(alloc, Expr::Column(0, 0))?;
+    let one = number(alloc, 1)?;
+    Ok(Expr::Plus(column, one))
 }
 
-fn and(alloc: Global, left: Cond, right: Cond) -> Result<Cond, AllocError> {
-    Ok(Cond::And(Boxed::new(alloc, left)?, Boxed::new(alloc, right)?))
+fn always(alloc: Global) -> Result<Boxed<Cond>, AllocError> {
+    Boxed::new(alloc, Cond::Always)
 }
 
-fn or(alloc: Global, left: Cond, right: Cond) -> Result<Cond, AllocError> {
-    Ok(Cond::Or(Boxed::new(alloc, left)?, Boxed::new(alloc, right)?))
+fn not(alloc: Global, operand: Boxed<Cond>) -> Result<Boxed<Cond>, AllocError> {
+    Boxed::new(alloc, Cond::Not(operand))
 }
 
-fn exists(alloc: Global, range: Range, operand: Cond) -> Result<Cond, AllocError> {
-    Ok(Cond::Exists(range, Boxed::new(alloc, operand)?))
+fn and(alloc: Global, left: Boxed<Cond>, right: Boxed<Cond>) -> Result<Boxed<Cond>, AllocError> {
+    Boxed::new(alloc, Cond::And(left, right))
+}
+
+fn or(alloc: Global, left: Boxed<Cond>, right: Boxed<Cond>) -> Result<Boxed<Cond>, AllocError> {
+    Boxed::new(alloc, Cond::Or(left, right))
+}
+
+fn exists(alloc: Global, range: Range, operand: Boxed<Cond>) -> Result<Boxed<Cond>, AllocError> {
+    Boxed::new(alloc, Cond::Exists(range, operand))
 }
 
 /// The value of an expression outside of all ranges.
@@ -66,34 +86,33 @@ fn is_fault(found: Result<Value, ExprFault>, wanted: ExprFault) -> bool {
 
 #[test]
 fn arithmetic_ends_at_64_bits(rt: HostRuntime) -> Result<(), Fail> {
-    assert!(rt; is_number(evaluated(&plus(rt.alloc(), number(1), number(2))?), 3));
-    assert!(rt;
-        is_number(
-            evaluated(&minus(rt.alloc(), number(-9223372036854775807), number(1))?),
-            i64::MIN
-        )
-    );
+    let alloc = rt.alloc();
+    assert!(rt; is_number(evaluated(plus(alloc, 1, 2)?.get()), 3));
+    let least = minus(alloc, -9223372036854775807, 1)?;
+    assert!(rt; is_number(evaluated(least.get()), i64::MIN));
     for beyond in [
-        plus(rt.alloc(), number(i64::MAX), number(1))?,
-        minus(rt.alloc(), number(i64::MIN), number(1))?,
-        minus(rt.alloc(), number(0), number(i64::MIN))?,
-        times(rt.alloc(), number(i64::MIN), number(-1))?,
+        plus(alloc, i64::MAX, 1)?,
+        minus(alloc, i64::MIN, 1)?,
+        minus(alloc, 0, i64::MIN)?,
+        times(alloc, i64::MIN, -1)?,
     ] {
-        assert!(rt; is_fault(evaluated(&beyond), ExprFault::OutOfRange));
+        assert!(rt; is_fault(evaluated(beyond.get()), ExprFault::OutOfRange));
     }
     Ok(())
 }
 
 #[test]
 fn texts_are_lent_and_copied(rt: HostRuntime) -> Result<(), Fail> {
-    let word = Expr::Literal(text(rt.alloc(), "ab")?);
+    let alloc = rt.alloc();
+    let word = Boxed::new(alloc, Expr::Literal(text(alloc, "ab")?))?;
+    let column = Boxed::new(alloc, Expr::Column(0, 0))?;
     let tables = NoTables {};
     let frame = Frame::none();
     let scope = Scope::new(&tables, &frame);
-    assert!(rt; matches!(eval_ref(&word, &scope), Ok(ValueRef::Text(_))));
-    assert!(rt; is_fault(eval(&Expr::Column(0, 0), &scope), ExprFault::Misfit));
-    match eval(&word, &scope) {
-        Ok(value) => assert!(rt; same(&value, &text(rt.alloc(), "ab")?)),
+    assert!(rt; matches!(eval_ref(word.get(), &scope), Ok(ValueRef::Text(_))));
+    assert!(rt; is_fault(eval(column.get(), &scope), ExprFault::Misfit));
+    match eval(word.get(), &scope) {
+        Ok(value) => assert!(rt; same(&value, &text(alloc, "ab")?)),
         Err(_) => assert!(rt; false),
     }
     worked_values();
@@ -101,17 +120,29 @@ fn texts_are_lent_and_copied(rt: HostRuntime) -> Result<(), Fail> {
 }
 
 /// Whether a column of the innermost range stands so to a number.
-fn column_to(comparison: Comparison, value: i64) -> Cond {
-    Cond::Compare(comparison, Expr::Column(0, 0), number(value))
+fn column_to(alloc: Global, comparison: Comparison, value: i64) -> Result<Boxed<Cond>, AllocError> {
+    let cond = Cond::Compare(
+        comparison,
+        Expr::Column(0, 0),
+        Expr::Literal(Value::Int(value)),
+    );
+    Boxed::new(alloc, cond)
 }
 
 #[test]
 fn checks_take_a_fault_for_false(rt: HostRuntime) -> Result<(), Fail> {
-    let next = plus(rt.alloc(), Expr::Column(0, 0), number(1))?;
-    let grows = Cond::Compare(Comparison::Greater, next, Expr::Column(0, 0));
-    assert_eq!(rt; check_truth(&grows, &[Value::Int(1)]), Truth::True);
-    assert_eq!(rt; check_truth(&grows, &[Value::Null]), Truth::Unknown);
-    assert_eq!(rt; check_truth(&grows, &[Value::Int(i64::MAX)]), Truth::False);
+    let alloc = rt.alloc();
+    let next = next(alloc)?;
+    let grows = Boxed::new(
+        alloc,
+        Cond::Compare(Comparison::Greater, next, Expr::Column(0, 0)),
+    )?;
+    assert_eq!(rt; check_truth(grows.get(), &[Value::Int(1)]), Truth::True);
+    assert_eq!(rt; check_truth(grows.get(), &[Value::Null]), Truth::Unknown);
+    assert_eq!(rt;
+        check_truth(grows.get(), &[Value::Int(i64::MAX)]),
+        Truth::False
+    );
     for (comparison, truths) in [
         (Comparison::Equal, [false, true, false]),
         (Comparison::NotEqual, [true, false, true]),
@@ -120,34 +151,52 @@ fn checks_take_a_fault_for_false(rt: HostRuntime) -> Result<(), Fail> {
         (Comparison::Greater, [false, false, true]),
         (Comparison::GreaterEqual, [false, true, true]),
     ] {
-        let cond = column_to(comparison, 5);
-        assert_eq!(rt; check_truth(&cond, &[Value::Int(4)]), Truth::of(truths[0]));
-        assert_eq!(rt; check_truth(&cond, &[Value::Int(5)]), Truth::of(truths[1]));
-        assert_eq!(rt; check_truth(&cond, &[Value::Int(6)]), Truth::of(truths[2]));
-        assert_eq!(rt; check_truth(&cond, &[Value::Null]), Truth::Unknown);
+        let cond = column_to(alloc, comparison, 5)?;
+        let cond = cond.get();
+        assert_eq!(rt; check_truth(cond, &[Value::Int(4)]), Truth::of(truths[0]));
+        assert_eq!(rt; check_truth(cond, &[Value::Int(5)]), Truth::of(truths[1]));
+        assert_eq!(rt; check_truth(cond, &[Value::Int(6)]), Truth::of(truths[2]));
+        assert_eq!(rt; check_truth(cond, &[Value::Null]), Truth::Unknown);
     }
     Ok(())
 }
 
+/// Whether 1 is NULL's equal, which is unknown.
+fn unknown(alloc: Global) -> Result<Boxed<Cond>, AllocError> {
+    let cond = Cond::Compare(
+        Comparison::Equal,
+        Expr::Literal(Value::Int(1)),
+        Expr::Literal(Value::Null),
+    );
+    Boxed::new(alloc, cond)
+}
+
+/// Whether a sum beyond 64 bits is null, which is a fault.
+fn faulty(alloc: Global) -> Result<Boxed<Cond>, AllocError> {
+    let greatest = number(alloc, i64::MAX)?;
+    let one = number(alloc, 1)?;
+    Boxed::new(alloc, Cond::IsNull(Expr::Plus(greatest, one)))
+}
+
 /// A condition that is false, unknown or true, or that is a fault, by its place in that order.
-fn nth(alloc: Global, place: usize) -> Result<Cond, AllocError> {
+fn nth(alloc: Global, place: usize) -> Result<Boxed<Cond>, AllocError> {
     match place {
-        0 => not(alloc, Cond::Always),
-        1 => Ok(Cond::Compare(Comparison::Equal, number(1), Expr::Literal(Value::Null))),
-        2 => Ok(Cond::Always),
-        _ => Ok(Cond::IsNull(plus(alloc, number(i64::MAX), number(1))?)),
+        0 => not(alloc, always(alloc)?),
+        1 => unknown(alloc),
+        2 => always(alloc),
+        _ => faulty(alloc),
     }
 }
 
 /// The conditions of two places, joined by AND.
-fn both(alloc: Global, left: usize, right: usize) -> Result<Cond, AllocError> {
+fn both(alloc: Global, left: usize, right: usize) -> Result<Boxed<Cond>, AllocError> {
     let left = nth(alloc, left)?;
     let right = nth(alloc, right)?;
     and(alloc, left, right)
 }
 
 /// The conditions of two places, joined by OR.
-fn either(alloc: Global, left: usize, right: usize) -> Result<Cond, AllocError> {
+fn either(alloc: Global, left: usize, right: usize) -> Result<Boxed<Cond>, AllocError> {
     let left = nth(alloc, left)?;
     let right = nth(alloc, right)?;
     or(alloc, left, right)
@@ -175,8 +224,8 @@ fn both_sides_are_evaluated(rt: HostRuntime) -> Result<(), Fail> {
     ] {
         for right in 0..4 {
             let (least, greatest) = outcomes[right];
-            assert_eq!(rt; place_of(&both(rt.alloc(), left, right)?), least);
-            assert_eq!(rt; place_of(&either(rt.alloc(), left, right)?), greatest);
+            assert_eq!(rt; place_of(both(rt.alloc(), left, right)?.get()), least);
+            assert_eq!(rt; place_of(either(rt.alloc(), left, right)?.get()), greatest);
         }
     }
     Ok(())
@@ -221,24 +270,23 @@ fn judged(cond: &Cond) -> Result<Truth, ExprFault> {
 fn exists_is_true_where_a_row_is(rt: HostRuntime) -> Result<(), Fail> {
     let full = Range::Table(TableId::new(0));
     for (value, found) in [(1, Truth::True), (i64::MAX, Truth::True), (2, Truth::False)] {
-        let cond = exists(rt.alloc(), full, column_to(Comparison::Equal, value))?;
-        assert!(rt; judged(&cond) == Ok(found));
+        let same = column_to(rt.alloc(), Comparison::Equal, value)?;
+        let cond = exists(rt.alloc(), full, same)?;
+        assert!(rt; judged(cond.get()) == Ok(found));
     }
     let empty = Range::Table(TableId::new(1));
-    assert!(rt; judged(&exists(rt.alloc(), empty, Cond::Always)?) == Ok(Truth::False));
+    let cond = exists(rt.alloc(), empty, always(rt.alloc())?)?;
+    assert!(rt; judged(cond.get()) == Ok(Truth::False));
     Ok(())
 }
 
 #[test]
 fn exists_reads_all_rows(rt: HostRuntime) -> Result<(), Fail> {
     let full = Range::Table(TableId::new(0));
-    let next = plus(rt.alloc(), Expr::Column(0, 0), number(1))?;
-    let last_faults = exists(
-        rt.alloc(),
-        full,
-        Cond::Compare(Comparison::Equal, next, number(2)),
-    )?;
-    assert!(rt; judged(&last_faults) == Err(ExprFault::OutOfRange));
+    let next = next(rt.alloc())?;
+    let two = Cond::Compare(Comparison::Equal, next, Expr::Literal(Value::Int(2)));
+    let last_faults = exists(rt.alloc(), full, Boxed::new(rt.alloc(), two)?)?;
+    assert!(rt; judged(last_faults.get()) == Err(ExprFault::OutOfRange));
     Ok(())
 }
 
@@ -249,20 +297,23 @@ fn a_nested_exists_names_the_outer_range(rt: HostRuntime) -> Result<(), Fail> {
         (Comparison::Greater, Truth::True),
         (Comparison::Equal, Truth::False),
     ] {
+        let alloc = rt.alloc();
         let beside = Cond::Compare(comparison, Expr::Column(0, 0), Expr::Column(1, 0));
-        let none_beside = not(rt.alloc(), exists(rt.alloc(), full, beside)?)?;
-        assert!(rt; judged(&exists(rt.alloc(), full, none_beside)?) == Ok(found));
+        let is_beside = exists(alloc, full, Boxed::new(alloc, beside)?)?;
+        let none_beside = not(alloc, is_beside)?;
+        assert!(rt; judged(exists(alloc, full, none_beside)?.get()) == Ok(found));
     }
     Ok(())
 }
 
 #[test]
-fn a_row_is_one_more_range(rt: HostRuntime) {
+fn a_row_is_one_more_range(rt: HostRuntime) -> Result<(), Fail> {
     let tables = NoTables {};
     let frame = Frame::none();
     let scope = Scope::new(&tables, &frame);
-    let cond = column_to(Comparison::Less, 0);
-    assert!(rt; truth_at_row(&cond, &[Value::Int(-1)], &scope) == Ok(Truth::True));
+    let cond = column_to(rt.alloc(), Comparison::Less, 0)?;
+    assert!(rt; truth_at_row(cond.get(), &[Value::Int(-1)], &scope) == Ok(Truth::True));
+    Ok(())
 }
 
 fn row(alloc: Global, value: Value) -> Result<Row, AllocError>
@@ -301,33 +352,28 @@ fn transitions_are_the_sides_of_a_wave(rt: HostRuntime) -> Result<(), Fail> {
         let frame = Frame::at(wave.changes(), change);
         let scope = Scope::new(&tables, &frame);
         for (side, found) in [(Side::Old, Truth::False), (Side::New, Truth::True)] {
-            let cond = exists(
-                alloc,
-                Range::Transition(side),
-                column_to(Comparison::Equal, 7),
-            )?;
-            assert!(rt; truth(&cond, &scope) == Ok(found));
+            let is_seven = column_to(alloc, Comparison::Equal, 7)?;
+            let cond = exists(alloc, Range::Transition(side), is_seven)?;
+            assert!(rt; truth(cond.get(), &scope) == Ok(found));
         }
-        assert!(rt; truth(&Cond::IsNull(Expr::Variable(Side::Old, 0)), &scope) == Ok(Truth::True));
-        assert!(rt; is_number(eval(&Expr::Variable(Side::New, 0), &scope), 7));
-        assert!(rt;
-            is_fault(
-                eval(&Expr::Variable(Side::New, 1), &scope),
-                ExprFault::Misfit
-            )
-        );
+        let was_null = Boxed::new(alloc, Cond::IsNull(Expr::Variable(Side::Old, 0)))?;
+        assert!(rt; truth(was_null.get(), &scope) == Ok(Truth::True));
+        let first = Boxed::new(alloc, Expr::Variable(Side::New, 0))?;
+        assert!(rt; is_number(eval(first.get(), &scope), 7));
+        let second = Boxed::new(alloc, Expr::Variable(Side::New, 1))?;
+        assert!(rt; is_fault(eval(second.get(), &scope), ExprFault::Misfit));
     }
     Ok(())
 }
 
 /// A condition of depth 64: 63 times one operator, chosen by a number.
-fn deep(alloc: Global, operator: u8) -> Result<Cond, AllocError> {
-    let mut cond = Cond::Always;
+fn deep(alloc: Global, operator: u8) -> Result<Boxed<Cond>, AllocError> {
+    let mut cond = always(alloc)?;
     for _ in 1..64 {
         cond = match operator {
             0 => not(alloc, cond)?,
-            1 => and(alloc, Cond::Always, cond)?,
-            2 => or(alloc, cond, Cond::Always)?,
+            1 => and(alloc, always(alloc)?, cond)?,
+            2 => or(alloc, cond, always(alloc)?)?,
             _ => exists(alloc, Range::Transition(Side::New), cond)?,
         };
     }
@@ -335,14 +381,16 @@ fn deep(alloc: Global, operator: u8) -> Result<Cond, AllocError> {
 }
 
 /// An expression of depth 64: 63 times one operator, chosen by a number.
-fn deep_expr(alloc: Global, operator: u8) -> Result<Expr, AllocError> {
-    let mut expr = number(1);
+fn deep_expr(alloc: Global, operator: u8) -> Result<Boxed<Expr>, AllocError> {
+    let mut expr = number(alloc, 1)?;
     for _ in 1..64 {
-        expr = match operator {
-            0 => plus(alloc, number(1), expr)?,
-            1 => minus(alloc, expr, number(1))?,
-            _ => times(alloc, number(-1), expr)?,
+        let one = number(alloc, if operator < 2 { 1 } else { -1 })?;
+        let deeper = match operator {
+            0 => Expr::Plus(one, expr),
+            1 => Expr::Minus(expr, one),
+            _ => Expr::Times(one, expr),
         };
+        expr = Boxed::new(alloc, deeper)?;
     }
     Ok(expr)
 }
@@ -350,7 +398,7 @@ fn deep_expr(alloc: Global, operator: u8) -> Result<Expr, AllocError> {
 #[test]
 fn expressions_of_depth_64_are_evaluated(rt: HostRuntime) -> Result<(), Fail> {
     for (operator, wanted) in [(0, 64), (1, -62), (2, -1)] {
-        assert!(rt; is_number(evaluated(&deep_expr(rt.alloc(), operator)?), wanted));
+        assert!(rt; is_number(evaluated(deep_expr(rt.alloc(), operator)?.get()), wanted));
     }
     Ok(())
 }
@@ -377,7 +425,7 @@ fn conditions_of_depth_64_are_evaluated(rt: HostRuntime) -> Result<(), Fail> {
         (2, Truth::True),
         (3, Truth::True),
     ] {
-        assert!(rt; truth(&deep(rt.alloc(), operator)?, &scope) == Ok(wanted));
+        assert!(rt; truth(deep(rt.alloc(), operator)?.get(), &scope) == Ok(wanted));
     }
     Ok(())
 }
