@@ -13,10 +13,6 @@ mod item_part;
 mod laws;
 mod make;
 mod predicate;
-#[cfg(test)]
-mod shown;
-#[cfg(test)]
-mod tests;
 
 pub use condition::{read_condition, read_from};
 pub use expression::read_expression;

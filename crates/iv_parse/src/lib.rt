@@ -6,8 +6,6 @@ pub mod laws;
 mod parser;
 mod session;
 mod statement;
-#[cfg(test)]
-mod tests;
 mod trigger;
 
 pub use parser::{Parsed, SyntaxFault, script};

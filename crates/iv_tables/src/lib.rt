@@ -8,8 +8,6 @@ mod referencing;
 mod repeated;
 mod selecting;
 mod table;
-#[cfg(test)]
-mod tests;
 mod time;
 
 pub use inserting::insert;

@@ -1,9 +1,7 @@
 //! Scripts, at values from outside.
-use crate::laws::{no_other_begins, one_script, one_statement};
-use crate::script;
-use crate::trigger::create_trigger;
-use iv_lex::{Token, tokens};
-use iv_syntax::TriggerDefinition;
+use iv_parse::laws::{no_other_begins, one_script, one_statement};
+use iv_parse::script;
+use iv_syntax::{Statement, TriggerDefinition};
 use std::alloc::{AllocError, Global};
 use std::test::Fail;
 
@@ -73,17 +71,13 @@ fn scripts_are_the_longest_run(rt: HostRuntime) -> Result<(), Fail> {
     Ok(())
 }
 
-fn shown_trigger(
-    alloc: Global,
-    found: &TriggerDefinition,
-    left: usize,
-) -> Result<String, AllocError> {
+fn shown_trigger(alloc: Global, found: &TriggerDefinition) -> Result<String, AllocError> {
     let items = found.referencing.len();
     let when = found.when.is_some();
     let actions = found.body.len();
     let name = found.name.as_str();
     format!(in alloc;
-        "{name} {:?} {:?} {} {items} {:?} {when} {actions}, {left}",
+        "{name} {:?} {:?} {} {items} {:?} {when} {actions}",
         found.time,
         found.event,
         found.table.as_str(),
@@ -91,37 +85,39 @@ fn shown_trigger(
     )
 }
 
-fn trigger_in(alloc: Global, source: &str, tokens: &[Token]) -> Result<String, AllocError> {
-    match create_trigger(alloc, source, tokens)? {
-        Some((found, rest)) => shown_trigger(alloc, &found, rest.len()),
-        None => format!(in alloc; "none"),
-    }
-}
-
-/// Name, time, event, table, how many items of REFERENCING, granularity, whether it has WHEN, how many
-/// actions, and how many tokens are left.
+/// Name, time, event, table, how many items of REFERENCING, granularity, whether it has WHEN, and how many
+/// actions, of the trigger that a text of one statement creates.
 fn trigger_of(alloc: Global, source: &str) -> Result<String, AllocError> {
-    let lexed = tokens(alloc, source)?;
-    trigger_in(alloc, source, lexed.tokens.as_slice())
+    let parsed = script(alloc, source)?;
+    match parsed.statements.as_slice() {
+        [Statement::CreateTrigger(found)] => shown_trigger(alloc, found),
+        _ => format!(in alloc; "none"),
+    }
 }
 
 #[test]
 fn a_trigger_has_a_body(rt: HostRuntime) -> Result<(), Fail> {
     for (source, wanted) in [
         (
-            "s AFTER UPDATE ON t REFERENCING NEW TABLE AS nt WHEN (NOT EXISTS (SELECT * FROM nt)) INSERT INTO log VALUES ('empty');",
-            "S After Update T 1 Statement true 1, 1",
+            "CREATE TRIGGER s AFTER UPDATE ON t REFERENCING NEW TABLE AS nt WHEN (NOT EXISTS (SELECT * FROM nt)) INSERT INTO log VALUES ('empty');",
+            "S After Update T 1 Statement true 1",
         ),
         (
-            "r BEFORE INSERT ON t REFERENCING OLD o NEW ROW AS n FOR EACH ROW BEGIN ATOMIC SET n.a = 1; SIGNAL 'no'; END",
-            "R Before Insert T 2 Row false 2, 0",
+            "CREATE TRIGGER r BEFORE INSERT ON t REFERENCING OLD o NEW ROW AS n FOR EACH ROW BEGIN ATOMIC SET n.a = 1; SIGNAL 'no'; END;",
+            "R Before Insert T 2 Row false 2",
         ),
-        ("r AFTER INSERT ON t BEGIN ATOMIC END", "none"),
         (
-            "r AFTER INSERT ON t BEGIN ATOMIC INSERT INTO t VALUES (1);",
+            "CREATE TRIGGER r AFTER INSERT ON t BEGIN ATOMIC END;",
             "none",
         ),
-        ("r AFTER INSERT ON t SELECT * FROM t", "none"),
+        (
+            "CREATE TRIGGER r AFTER INSERT ON t BEGIN ATOMIC INSERT INTO t VALUES (1);",
+            "none",
+        ),
+        (
+            "CREATE TRIGGER r AFTER INSERT ON t SELECT * FROM t;",
+            "none",
+        ),
     ] {
         let found = trigger_of(rt.alloc(), source)?;
         assert_eq!(rt; found.as_str(), wanted, "{source}");

@@ -1,6 +1,6 @@
-//! Each public call, at values from outside.
+//! Each public call of `iv_conditions`, at values from outside.
 use crate::shown::{show_condition, show_expression, show_range};
-use crate::{
+use iv_conditions::{
     condition_laws, expression_laws, from_laws, read_condition, read_expression, read_from,
 };
 use iv_lex::{Token, tokens};
