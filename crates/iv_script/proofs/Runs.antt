@@ -1,10 +1,10 @@
 -- One statement after another.
-use Rattle.std.proofs.Common.{◌≡◌, ℕ, ◌+◌, ◌≤◌, ◌<◌, Bool, true, false, if◌then◌else◌, List, [], ◌∷◌, ◌++◌, Option, None, Some, Result, Ok, Err, ◌∙◌, sym, ap, subst, refl, length, append_assoc, append-nil, arith, is_some}
+use Rattle.std.proofs.Common.{◌≡◌, ℕ, ◌+◌, ◌≤◌, Bool, true, false, if◌then◌else◌, List, [], ◌∷◌, ◌++◌, Option, Result, Ok, Err, ◌∙◌, sym, ap, subst, refl, append_assoc, append-nil, arith}
 use Rattle.std.specs.Io.KnownBytes.{Appends}
 use Rattle.std.proofs.KnownBytes.{Appends-trans, Appends-nil}
 use Rattle.iv_syntax.specs.declared.statement.Statement.{Statement}
 use Rattle.iv_catalogue.specs.Catalogues.{Schema}
-use Rattle.iv_catalogue.specs.Resolution.{is_memory, is_memory_cause, refused}
+use Rattle.iv_catalogue.specs.Resolution.{is_memory}
 use Rattle.iv_catalogue.specs.declared.cause.Cause.{Cause}
 use Rattle.iv_catalogue.specs.declared.cause.Cause.TheVariants as cause
 use Rattle.iv_catalogue.specs.declared.cause.Refusal.{Refusal}
@@ -12,9 +12,8 @@ use Rattle.iv_machine.specs.declared.answer.Answer.{Answer}
 use Rattle.iv_machine.specs.Machine.{State, Outcome, step, Executes}
 use Rattle.iv_print.specs.Lines.{line}
 use Rattle.iv_print.specs.Writing.{Writes}
-use Rattle.iv_print.specs.declared.device.DeviceFault.{DeviceFault}
 use Rattle.iv_script.specs.declared.statements.Tally.{Tally}
-use Rattle.iv_script.specs.Transcript.{Ran, following, outcome, lines, accepted_of, refused_of, run_from, starved_count, first_starves, later_starve}
+use Rattle.iv_script.specs.Transcript.{Ran, following, outcome, lines, accepted_of, refused_of, run_from, starved_count}
 use Rattle.iv_script.specs.Running.{RanOne, RanAll}
 
 -- ---- one statement

@@ -1,5 +1,5 @@
 -- A whole script.
-use Rattle.std.proofs.Common.{◌≡◌, ℕ, ◌+◌, Bool, true, false, if◌then◌else◌, List, [], ◌∷◌, ◌++◌, Option, None, Some, ◌∙◌, sym, ap, subst, refl, length, arith, is_some, Ok}
+use Rattle.std.proofs.Common.{◌≡◌, ℕ, ◌+◌, Bool, true, false, List, [], ◌∷◌, ◌++◌, Option, ◌∙◌, ap, subst, refl, length, arith, is_some, Ok}
 use Rattle.std.specs.Io.KnownBytes.{Appends}
 use Rattle.std.proofs.KnownBytes.{Appends-trans}
 use Rattle.iv_syntax.specs.declared.statement.Statement.{Statement}
@@ -8,7 +8,7 @@ use Rattle.iv_machine.specs.Bounds.{Bounds}
 use Rattle.iv_machine.specs.Machine.{State, empty_state, step}
 use Rattle.iv_print.specs.Writing.{Writes}
 use Rattle.iv_script.specs.declared.statements.Tally.{Tally}
-use Rattle.iv_script.specs.Transcript.{Ran, following, outcome, lines, accepted_of, refused_of, run_from, starved_count, fault_line, end_line, closing_lines, transcript, RanScript, RanFed}
+use Rattle.iv_script.specs.Transcript.{Ran, following, outcome, lines, accepted_of, refused_of, run_from, starved_count, fault_line, end_line, closing_lines, RanScript, RanFed}
 use Rattle.iv_script.specs.Running.{RanAll, RanParsed}
 
 pub ran_parsed : (old new : State) (sts : List Statement) (fault : Option ℕ) (tally : Tally) (b0 b1 b2 b3 : Option (List ℕ)) (m0 m1 m2 m3 : ℕ)

@@ -1,6 +1,5 @@
 use Rattle.std.proofs.Common.{◌≡◌, ◌≤◌, ◌+◌, ◌-◌, length, max}
 use Rattle.std.specs.Io.KnownBytes.{Consumes}
-use Rattle.iv_print.specs.Counts.{counted}
 use Rattle.iv_script.proofs.read.read_script.Given as goal
 
 abbrev pub invariant-loop-script : goal.invariant-loop-script

@@ -1,4 +1,4 @@
-use Rattle.std.proofs.Common.{◌≡◌, option_map, subst}
+use Rattle.std.proofs.Common.{option_map, subst}
 use Rattle.iv_machine.specs.Machine.{empty_state}
 use Rattle.iv_script.specs.Running.{RanParsed}
 use Rattle.iv_script.proofs.Scripts.{ran_script, ran_fed}
