@@ -63,6 +63,8 @@ pub fn deletion_closure()
 
 /// In every state that resolved statements reach from an empty one, with any constraints, modes,
 /// savepoints and triggers, no immediate constraint is violated, and outside a transaction none at all.
+/// They and the bodies of triggers change only tables that are there, and the constraints of a new table
+/// are on it.
 pub fn planned_states_are_sound()
     ensures { PlannedStatesAreSound }
 {}
