@@ -1,9 +1,13 @@
-use Rattle.std.specs.Prelude.{◌≡◌, true, refl}
+use Rattle.std.specs.Prelude.{◌≡◌, true, false, refl}
 use Rattle.std.proofs.Common.{ap}
 use Rattle.std.proofs.lemmas.Bool.{eqb-true, false≢true}
 use Rattle.iv_lex.specs.declared.kind.Kind.{Kind}
 use Rattle.iv_lex.specs.declared.kind.Kind.TheVariants as kind
 use Rattle.iv_conditions.specs.After.{same}
+
+-- nothing holds where two kinds that differ are the same
+refute : {A : Type 0} → false ≡ true → A
+refute h = absurd (false≢true h)
 
 pub exact : (j k : Kind) → same j k ≡ true → j ≡ k
 exact kind.Name kind.Name h = refl
@@ -99,4 +103,4 @@ exact kind.Varying kind.Varying h = refl
 exact kind.When kind.When h = refl
 exact kind.Where kind.Where h = refl
 exact kind.Work kind.Work h = refl
-exact _ _ h = absurd (false≢true h)
+exact _ _ h = refute h

@@ -22,6 +22,7 @@ pub fn make_group<'a>(
     ensures { (text : List ℕ) → IfOk result (λ r. expression_found text r ≡ fits limit (group inside.entry.tree) (words text rest.now)) }
 {
     if inside.depth >= limit {
+        drop(inside);
         return Ok(None);
     }
     let ExpressionPart {
@@ -46,6 +47,7 @@ fn make_signed<'a>(
     ensures { (text : List ℕ) → IfOk result (λ r. expression_found text r ≡ fits limit (signed sign operand.entry.tree) (words text operand.entry.rest.now)) }
 {
     if operand.depth >= limit {
+        drop(operand);
         return Ok(None);
     }
     let ExpressionPart { tree, depth, rest } = operand;
@@ -67,6 +69,8 @@ fn make_product<'a>(
 {
     let depth = left.depth.max(right.depth);
     if depth >= limit {
+        drop(left);
+        drop(right);
         return Ok(None);
     }
     let ExpressionPart {
@@ -98,6 +102,8 @@ fn make_sum<'a>(
 {
     let depth = left.depth.max(right.depth);
     if depth >= limit {
+        drop(left);
+        drop(right);
         return Ok(None);
     }
     let ExpressionPart {
@@ -193,7 +199,10 @@ fn close<'a>(
 {
     match after(Kind::RightParenthesis, inside.rest) {
         Some(rest) => make_group(alloc, limit, inside, rest),
-        None => Ok(None),
+        None => {
+            drop(inside);
+            Ok(None)
+        }
     }
 }
 
@@ -254,6 +263,7 @@ pub fn factors<'a>(
         return Ok(Some(left));
     };
     if most == 0 {
+        drop(left);
         return Ok(None);
     }
     match factor(alloc, limit, &*text, rest)? {
@@ -261,7 +271,10 @@ pub fn factors<'a>(
             Some(both) => factors(alloc, limit, most - 1, &*text, both),
             None => Ok(None),
         },
-        None => Ok(None),
+        None => {
+            drop(left);
+            Ok(None)
+        }
     }
 }
 
@@ -297,6 +310,7 @@ pub fn terms<'a>(
         return Ok(Some(left));
     };
     if most == 0 {
+        drop(left);
         return Ok(None);
     }
     match term(alloc, limit, &*text, rest)? {
@@ -304,7 +318,10 @@ pub fn terms<'a>(
             Some(both) => terms(alloc, limit, most - 1, &*text, both),
             None => Ok(None),
         },
-        None => Ok(None),
+        None => {
+            drop(left);
+            Ok(None)
+        }
     }
 }
 

@@ -102,15 +102,16 @@ pub fn close_exists<'a>(
 ) -> Result<Option<ItemPart<'a>>, AllocError>
     ensures { (text : List ℕ) → IfOk result (λ r. item_found text r ≡ closed_exists limit (found.entry.range, found.entry.condition) (words text found.entry.rest.now)) }
 {
+    let Some(rest) = after(Kind::RightParenthesis, found.rest) else {
+        drop(found);
+        return Ok(None);
+    };
     let FromPart {
         range,
         condition,
         depth,
-        rest,
+        rest: _,
     } = found;
-    let Some(rest) = after(Kind::RightParenthesis, rest) else {
-        return Ok(None);
-    };
     let tree = exists_of(alloc, range, condition)?;
     Ok(fit(limit, tree, depth, rest))
 }

@@ -8,6 +8,19 @@ use iv_syntax::{Condition, Expression, RangeName, Sign};
 use sqlite_items::Boxed;
 use std::alloc::{AllocError, Global};
 
+// Both in boxes.
+fn boxes<T: Drop>(alloc: Global, a: T, b: T) -> Result<(Boxed<T>, Boxed<T>), AllocError>
+    ensures { IfOk result (λ p. (p.0 ≡ a) × (p.1 ≡ b)) }
+{
+    match Boxed::new(alloc, a) {
+        Ok(a) => Ok((a, Boxed::new(alloc, b)?)),
+        Err(refused) => {
+            drop(b);
+            Err(refused)
+        }
+    }
+}
+
 #[tactic(auto, using(crate::proofs::Bridges::group_is))]
 pub fn group_of(alloc: Global, a: Expression) -> Result<Expression, AllocError>
     ensures { IfOk result (λ e. e ≡ group a) }
@@ -26,7 +39,8 @@ pub fn signed_of(alloc: Global, sign: Sign, a: Expression) -> Result<Expression,
 pub fn product_of(alloc: Global, a: Expression, b: Expression) -> Result<Expression, AllocError>
     ensures { IfOk result (λ e. e ≡ product a b) }
 {
-    Ok(Expression::Product(Boxed::new(alloc, a)?, Boxed::new(alloc, b)?))
+    let (a, b) = boxes(alloc, a, b)?;
+    Ok(Expression::Product(a, b))
 }
 
 #[tactic(auto, using(crate::proofs::Bridges::sum_is))]
@@ -38,7 +52,8 @@ pub fn sum_of(
 ) -> Result<Expression, AllocError>
     ensures { IfOk result (λ e. e ≡ sum sign a b) }
 {
-    Ok(Expression::Sum(sign, Boxed::new(alloc, a)?, Boxed::new(alloc, b)?))
+    let (a, b) = boxes(alloc, a, b)?;
+    Ok(Expression::Sum(sign, a, b))
 }
 
 #[tactic(auto, using(crate::proofs::Bridges::enclosed_is))]
@@ -59,14 +74,16 @@ pub fn negated_of(alloc: Global, a: Condition) -> Result<Condition, AllocError>
 fn both_of(alloc: Global, a: Condition, b: Condition) -> Result<Condition, AllocError>
     ensures { IfOk result (λ c. c ≡ both a b) }
 {
-    Ok(Condition::And(Boxed::new(alloc, a)?, Boxed::new(alloc, b)?))
+    let (a, b) = boxes(alloc, a, b)?;
+    Ok(Condition::And(a, b))
 }
 
 #[tactic(auto, using(crate::proofs::Bridges::either_is))]
 fn either_of(alloc: Global, a: Condition, b: Condition) -> Result<Condition, AllocError>
     ensures { IfOk result (λ c. c ≡ either a b) }
 {
-    Ok(Condition::Or(Boxed::new(alloc, a)?, Boxed::new(alloc, b)?))
+    let (a, b) = boxes(alloc, a, b)?;
+    Ok(Condition::Or(a, b))
 }
 
 pub fn connected_of(

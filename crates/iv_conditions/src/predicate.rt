@@ -40,6 +40,7 @@ pub fn fit(limit: u8, tree: Condition, below: u8, rest: &[Token]) -> Option<Item
     ensures { (text : List ℕ) → item_found text result ≡ condition_fits limit tree (words text rest.now) }
 {
     if below >= limit {
+        drop(tree);
         return None;
     }
     Some(ItemPart {
@@ -80,7 +81,7 @@ pub fn close_item<'a>(
 {
     match after(Kind::RightParenthesis, inside.rest) {
         Some(rest) => enclose(alloc, limit, inside, rest),
-        None => Ok(None),
+        None => Ok(discard(inside)),
     }
 }
 
@@ -96,12 +97,18 @@ fn test_null<'a>(limit: u8, value: ExpressionPart<'a>, tokens: &'a [Token]) -> O
     if let Some(rest) = after(Kind::Not, tokens) {
         return match after(Kind::Null, rest) {
             Some(rest) => fit(limit, Condition::IsNotNull(tree), depth, rest),
-            None => None,
+            None => {
+                drop(tree);
+                None
+            }
         };
     }
     match after(Kind::Null, tokens) {
         Some(rest) => fit(limit, Condition::IsNull(tree), depth, rest),
-        None => None,
+        None => {
+            drop(tree);
+            None
+        }
     }
 }
 
@@ -126,7 +133,10 @@ fn compare<'a>(
                 right.rest,
             ))
         }
-        None => Ok(None),
+        None => {
+            drop(left);
+            Ok(None)
+        }
     }
 }
 
@@ -201,7 +211,10 @@ pub fn negate<'a>(
     let ItemPart { item, depth, rest } = found;
     match item {
         Item::Truth(tree) => Ok(fit(limit, negated_of(alloc, tree)?, depth, rest)),
-        Item::Value(_) => Ok(None),
+        Item::Value(tree) => {
+            drop(tree);
+            Ok(None)
+        }
     }
 }
 
@@ -224,7 +237,10 @@ pub fn truth(found: ItemPart<'_>) -> Option<ConditionPart<'_>>
     let ItemPart { item, depth, rest } = found;
     match item {
         Item::Truth(tree) => Some(ConditionPart { tree, depth, rest }),
-        Item::Value(_) => None,
+        Item::Value(tree) => {
+            drop(tree);
+            None
+        }
     }
 }
 
@@ -255,14 +271,14 @@ fn connect<'a>(
 pub fn discard(found: ItemPart<'_>) -> Option<ItemPart<'_>>
     ensures { result ≡ None }
 {
-    let _ = found;
+    drop(found);
     None
 }
 
 fn discard_condition(found: ConditionPart<'_>) -> Option<ItemPart<'_>>
     ensures { result ≡ None }
 {
-    let _ = found;
+    drop(found);
     None
 }
 
@@ -311,7 +327,7 @@ pub fn join_found<'a>(
         Ok(Some(right)) => join(alloc, limit, connective, left, right),
         Ok(None) => Ok(discard(left)),
         Err(refused) => {
-            let _ = discard(left);
+            drop(left);
             Err(refused)
         }
     }

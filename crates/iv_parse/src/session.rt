@@ -121,7 +121,10 @@ fn set_constraints<'a>(
     };
     match mode(rest) {
         Some((mode, rest)) => Ok(Some((Statement::SetConstraints(list, mode), rest))),
-        None => Ok(None),
+        None => {
+            drop(list);
+            Ok(None)
+        }
     }
 }
 

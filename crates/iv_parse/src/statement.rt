@@ -163,6 +163,9 @@ pub fn statement<'a>(
     };
     match after(Kind::Semicolon, rest) {
         Some(rest) => Ok(Some((statement, rest))),
-        None => Ok(None),
+        None => {
+            drop(statement);
+            Ok(None)
+        }
     }
 }

@@ -52,8 +52,10 @@ fn each(tokens: &[Token]) -> Option<(Granularity, &[Token])>
     if let Some(rest) = after(Kind::Row, tokens) {
         return Some((Granularity::Row, rest));
     }
-    let rest = after(Kind::Statement, tokens)?;
-    Some((Granularity::Statement, rest))
+    match after(Kind::Statement, tokens) {
+        Some(rest) => Some((Granularity::Statement, rest)),
+        None => None,
+    }
 }
 
 // FOR EACH and a granularity; STATEMENT where they are left out.
@@ -103,8 +105,10 @@ fn other_event(tokens: &[Token]) -> Option<(TriggerEvent, &[Token])>
     if let Some(rest) = after(Kind::Update, tokens) {
         return Some((TriggerEvent::Update, rest));
     }
-    let rest = after(Kind::Delete, tokens)?;
-    Some((TriggerEvent::Delete, rest))
+    match after(Kind::Delete, tokens) {
+        Some(rest) => Some((TriggerEvent::Delete, rest)),
+        None => None,
+    }
 }
 
 #[tactic(auto, unfolding(crate::specs::TriggerReaders::read_event))]
@@ -195,9 +199,19 @@ fn trigger_rest<'a>(
     let Some((found, rest)) = middle(alloc, text, tokens)? else {
         return Ok(None);
     };
-    match body(alloc, text, rest)? {
-        Some((body, rest)) => Ok(Some((trigger_of(name, occasion, table, found, body), rest))),
-        None => Ok(None),
+    match body(alloc, text, rest) {
+        Ok(Some((body, rest))) => {
+            let trigger = trigger_of(name, occasion, table, found, body);
+            Ok(Some((trigger, rest)))
+        }
+        Ok(None) => {
+            drop(found);
+            Ok(None)
+        }
+        Err(refused) => {
+            drop(found);
+            Err(refused)
+        }
     }
 }
 

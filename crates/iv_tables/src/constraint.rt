@@ -27,8 +27,10 @@ fn match_type(tokens: &[Token]) -> Option<(MatchType, &[Token])>
     if let Some(rest) = after(Kind::Simple, tokens) {
         return Some((MatchType::Simple, rest));
     }
-    let rest = after(Kind::Full, tokens)?;
-    Some((MatchType::Full, rest))
+    match after(Kind::Full, tokens) {
+        Some(rest) => Some((MatchType::Full, rest)),
+        None => None,
+    }
 }
 
 // MATCH and its type, where they are given.
@@ -49,8 +51,10 @@ fn set_action(tokens: &[Token]) -> Option<(ReferentialAction, &[Token])>
     if let Some(rest) = after(Kind::Null, tokens) {
         return Some((ReferentialAction::SetNull, rest));
     }
-    let rest = after(Kind::Default, tokens)?;
-    Some((ReferentialAction::SetDefault, rest))
+    match after(Kind::Default, tokens) {
+        Some(rest) => Some((ReferentialAction::SetDefault, rest)),
+        None => None,
+    }
 }
 
 #[tactic(auto, unfolding(crate::specs::TableReaders::read_strict_action))]
@@ -58,11 +62,15 @@ fn strict_action(tokens: &[Token]) -> Option<(ReferentialAction, &[Token])>
     ensures { (text : List ℕ) → with_words text result ≡ read_strict_action (words text tokens.now) }
 {
     if let Some(rest) = after(Kind::No, tokens) {
-        let rest = after(Kind::Action, rest)?;
-        return Some((ReferentialAction::NoAction, rest));
+        return match after(Kind::Action, rest) {
+            Some(rest) => Some((ReferentialAction::NoAction, rest)),
+            None => None,
+        };
     }
-    let rest = after(Kind::Restrict, tokens)?;
-    Some((ReferentialAction::Restrict, rest))
+    match after(Kind::Restrict, tokens) {
+        Some(rest) => Some((ReferentialAction::Restrict, rest)),
+        None => None,
+    }
 }
 
 #[tactic(auto, unfolding(crate::specs::TableReaders::read_action))]
@@ -243,8 +251,13 @@ fn column_constraint_of<'a>(
             None => Some((None, tokens)),
         };
     };
-    let (time, rest) = time(tokens)?;
-    Some((Some(ColumnConstraint { name, rule, time }), rest))
+    match time(tokens) {
+        Some((time, rest)) => Some((Some(ColumnConstraint { name, rule, time }), rest)),
+        None => {
+            drop(rule);
+            None
+        }
+    }
 }
 
 impl ParseSome for ColumnConstraint {
@@ -384,6 +397,9 @@ pub fn table_constraint<'a>(
     };
     match time(rest) {
         Some((time, rest)) => Ok(Some((TableConstraint { name, rule, time }, rest))),
-        None => Ok(None),
+        None => {
+            drop(rule);
+            Ok(None)
+        }
     }
 }

@@ -54,7 +54,10 @@ pub fn enclosed_condition<'a>(
     };
     match after(Kind::RightParenthesis, rest) {
         Some(rest) => Ok(Some((condition, rest))),
-        None => Ok(None),
+        None => {
+            drop(condition);
+            Ok(None)
+        }
     }
 }
 

@@ -185,8 +185,10 @@ pub fn mode(tokens: &[Token]) -> Option<(ConstraintMode, &[Token])>
     if let Some(rest) = after(Kind::Deferred, tokens) {
         return Some((ConstraintMode::Deferred, rest));
     }
-    let rest = after(Kind::Immediate, tokens)?;
-    Some((ConstraintMode::Immediate, rest))
+    match after(Kind::Immediate, tokens) {
+        Some(rest) => Some((ConstraintMode::Immediate, rest)),
+        None => None,
+    }
 }
 
 // INITIALLY and a mode, where they are given.

@@ -35,12 +35,12 @@ pub factor-returns-in-Some-2 : goal.factor-returns-in-Some-2
 factor-returns-in-Some-2 t c =
     rw (← c.in-Some.ensures c.args.text.now, ← c.in_ok-operand-in-Some.ensures, c.in-Some-2.is) (c.make_signed.ensures c.args.text.now)
 
-pub terms-returns-in-Some-2 : goal.terms-returns-in-Some-2
-terms-returns-in-Some-2 t c =
+pub terms-returns-in-None-2 : goal.terms-returns-in-None-2
+terms-returns-in-None-2 t c =
     let s = terms_step c.args.limit (read_term c.args.limit) c.args.most c.args.left.tree (words c.args.text.now c.args.left.rest.now) (c.in-Some.sign, words c.args.text.now c.in-Some.rest.now) c.if-most-eq0.false (c.in-Some.ensures c.args.text.now) in
     rw (s, ← c.in_ok-right.ensures, c.in-Some-2.is, ← c.in_ok-both-in-Some-2.ensures c.args.text.now, c.in-None-2.is) refl
 
-pub terms-returns : goal.terms-returns
-terms-returns t c =
+pub terms-returns-in-None : goal.terms-returns-in-None
+terms-returns-in-None t c =
     let s = terms_step c.args.limit (read_term c.args.limit) c.args.most c.args.left.tree (words c.args.text.now c.args.left.rest.now) (c.in-Some.sign, words c.args.text.now c.in-Some.rest.now) c.if-most-eq0.false (c.in-Some.ensures c.args.text.now) in
     rw (s, ← c.in_ok-right.ensures, c.in-None.is) refl

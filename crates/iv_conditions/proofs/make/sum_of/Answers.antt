@@ -3,4 +3,4 @@ use Rattle.iv_conditions.proofs.Bridges.{sum_is}
 use Rattle.iv_conditions.proofs.make.sum_of.Goals as goal
 
 pub returns : goal.returns
-returns c = rw (sum_is, c.in_ok-new.ensures, c.in_ok-new-2.ensures) refl
+returns c = rw (sum_is, c.in_ok-a.ensures.0, c.in_ok-a.ensures.1) refl
