@@ -21,7 +21,11 @@ fn shown_expression(alloc: Global, tree: &Expression, left: usize) -> Result<Str
 
 fn expression_in(alloc: Global, source: &str, tokens: &[Token]) -> Result<String, AllocError> {
     match read_expression(alloc, source, tokens)? {
-        Some((tree, rest)) => shown_expression(alloc, &tree, rest.len()),
+        Some((tree, rest)) => {
+            let shown = shown_expression(alloc, &tree, rest.len());
+            drop(tree);
+            shown
+        }
         None => none(alloc),
     }
 }
@@ -63,7 +67,11 @@ fn shown_condition(alloc: Global, tree: &Condition, left: usize) -> Result<Strin
 
 fn condition_in(alloc: Global, source: &str, tokens: &[Token]) -> Result<String, AllocError> {
     match read_condition(alloc, source, tokens)? {
-        Some((tree, rest)) => shown_condition(alloc, &tree, rest.len()),
+        Some((tree, rest)) => {
+            let shown = shown_condition(alloc, &tree, rest.len());
+            drop(tree);
+            shown
+        }
         None => none(alloc),
     }
 }
@@ -135,7 +143,11 @@ fn shown_from(
 
 fn from_in(alloc: Global, source: &str, tokens: &[Token]) -> Result<String, AllocError> {
     match read_from(alloc, source, tokens)? {
-        Some((found, rest)) => shown_from(alloc, &found.0, &found.1, rest.len()),
+        Some((found, rest)) => {
+            let shown = shown_from(alloc, &found.0, &found.1, rest.len());
+            drop(found);
+            shown
+        }
         None => none(alloc),
     }
 }

@@ -34,7 +34,11 @@ fn shown_insert(alloc: Global, insert: &Insert, left: usize) -> Result<String, A
 
 fn insert_in(alloc: Global, source: &str, tokens: &[Token]) -> Result<String, AllocError> {
     match insert(alloc, source, tokens)? {
-        Some((found, rest)) => shown_insert(alloc, &found, rest.len()),
+        Some((found, rest)) => {
+            let shown = shown_insert(alloc, &found, rest.len());
+            drop(found);
+            shown
+        }
         None => format!(in alloc; "none"),
     }
 }
@@ -73,7 +77,11 @@ fn shown_update(alloc: Global, update: &Update, left: usize) -> Result<String, A
 
 fn update_in(alloc: Global, source: &str, tokens: &[Token]) -> Result<String, AllocError> {
     match update(alloc, source, tokens)? {
-        Some((found, rest)) => shown_update(alloc, &found, rest.len()),
+        Some((found, rest)) => {
+            let shown = shown_update(alloc, &found, rest.len());
+            drop(found);
+            shown
+        }
         None => format!(in alloc; "none"),
     }
 }
@@ -90,7 +98,11 @@ fn shown_delete(alloc: Global, delete: &Delete, left: usize) -> Result<String, A
 
 fn delete_in(alloc: Global, source: &str, tokens: &[Token]) -> Result<String, AllocError> {
     match delete(alloc, source, tokens)? {
-        Some((found, rest)) => shown_delete(alloc, &found, rest.len()),
+        Some((found, rest)) => {
+            let shown = shown_delete(alloc, &found, rest.len());
+            drop(found);
+            shown
+        }
         None => format!(in alloc; "none"),
     }
 }
@@ -138,7 +150,11 @@ fn shown_select(alloc: Global, select: &Select, left: usize) -> Result<String, A
 
 fn select_in(alloc: Global, source: &str, tokens: &[Token]) -> Result<String, AllocError> {
     match select(alloc, source, tokens)? {
-        Some((found, rest)) => shown_select(alloc, &found, rest.len()),
+        Some((found, rest)) => {
+            let shown = shown_select(alloc, &found, rest.len());
+            drop(found);
+            shown
+        }
         None => format!(in alloc; "none"),
     }
 }
@@ -197,7 +213,10 @@ fn parts_stand_several_times(rt: HostRuntime) -> Result<(), Fail> {
 fn condition_of(alloc: Global, source: &str) -> Result<Option<usize>, AllocError> {
     let lexed = tokens(alloc, source)?;
     match enclosed_condition(alloc, source, lexed.tokens.as_slice())? {
-        Some((_, rest)) => Ok(Some(rest.len())),
+        Some((found, rest)) => {
+            drop(found);
+            Ok(Some(rest.len()))
+        }
         None => Ok(None),
     }
 }
@@ -205,7 +224,10 @@ fn condition_of(alloc: Global, source: &str) -> Result<Option<usize>, AllocError
 fn quoted_of(alloc: Global, source: &str) -> Result<Option<usize>, AllocError> {
     let lexed = tokens(alloc, source)?;
     match quoted(alloc, source, lexed.tokens.as_slice())? {
-        Some((_, rest)) => Ok(Some(rest.len())),
+        Some((found, rest)) => {
+            drop(found);
+            Ok(Some(rest.len()))
+        }
         None => Ok(None),
     }
 }
@@ -256,7 +278,11 @@ fn shown_table(alloc: Global, found: &Statement, left: usize) -> Result<String, 
 
 fn table_in(alloc: Global, source: &str, tokens: &[Token]) -> Result<String, AllocError> {
     match create_table(alloc, source, tokens)? {
-        Some((found, rest)) => shown_table(alloc, &found, rest.len()),
+        Some((found, rest)) => {
+            let shown = shown_table(alloc, &found, rest.len());
+            drop(found);
+            shown
+        }
         None => format!(in alloc; "none"),
     }
 }
@@ -289,7 +315,11 @@ fn a_table_has_columns_and_constraints(rt: HostRuntime) -> Result<(), Fail> {
 
 fn altered_in(alloc: Global, source: &str, tokens: &[Token]) -> Result<String, AllocError> {
     match alter_table(alloc, source, tokens)? {
-        Some((found, rest)) => shown_table(alloc, &found, rest.len()),
+        Some((found, rest)) => {
+            let shown = shown_table(alloc, &found, rest.len());
+            drop(found);
+            shown
+        }
         None => format!(in alloc; "none"),
     }
 }

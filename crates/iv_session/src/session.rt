@@ -440,7 +440,10 @@ impl Session {
     {
         match plan {
             SchemaPlan::CreateTable(table, constraints) => self.create(table, constraints),
-            _ => refuse(Cause::SchemaFault),
+            plan => {
+                drop(plan);
+                refuse(Cause::SchemaFault)
+            }
         }
     }
 
