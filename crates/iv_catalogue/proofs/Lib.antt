@@ -1,3 +1,4 @@
 pub mod NameSets
 pub mod Literals
+pub mod Meanings
 pub mod NameLists

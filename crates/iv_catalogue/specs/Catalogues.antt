@@ -1,5 +1,5 @@
 -- Catalogues: the tables, constraints and triggers of a database, each in the order of creation.
-use Rattle.std.specs.Prelude.{ℕ, ◌+◌, ◌==◌, not, List, [], ◌++◌, ◌∷◌, filter}
+use Rattle.std.specs.Prelude.{ℕ, ◌+◌, ◌≤◌, ◌==◌, not, List, [], ◌++◌, ◌∷◌, filter}
 use Rattle.iv_catalogue.specs.declared.catalogue.Table.{Table}
 use Rattle.iv_catalogue.specs.declared.constraint.Constraint.{Constraint}
 use Rattle.iv_catalogue.specs.declared.plan.Trigger.{Trigger}
@@ -24,10 +24,19 @@ with_table c table constraints = record c { tables = c.tables ++ table ∷ []; c
 abbrev pub with_constraint : Schema → Constraint → Schema
 with_constraint c constraint = record c { constraints = c.constraints ++ constraint ∷ [] }
 
--- the schema with a trigger more
+-- the schema with a trigger more: its number is how many were created before it
 abbrev pub with_trigger : Schema → Trigger → Schema
-with_trigger c trigger = record c { triggers = c.triggers ++ trigger ∷ []; created = c.created + 1 }
+with_trigger c trigger = record c { triggers = c.triggers ++ record trigger { id = c.created } ∷ []; created = c.created + 1 }
 
 -- the schema without the trigger of this number
 abbrev pub without_trigger : Schema → ℕ → Schema
 without_trigger c id = record c { triggers = filter (λ t. not (t.id == id)) c.triggers }
+
+-- the numbers of triggers rise, from this one on, and stay below the other
+abbrev pub NumbersRise : ℕ → List Trigger → ℕ → Type 0
+NumbersRise low [] created = low ≤ created
+NumbersRise low (t ∷ triggers) created = (low ≤ t.id) × NumbersRise (t.id + 1) triggers created
+
+-- The triggers' numbers are distinct and below the number of triggers ever created.
+abbrev pub TriggersNumbered : Schema → Type 0
+TriggersNumbered c = NumbersRise 0 c.triggers c.created

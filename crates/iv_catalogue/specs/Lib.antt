@@ -1,3 +1,4 @@
 pub mod Names
 pub mod Catalogues
+pub mod Refusals
 pub mod Resolution

@@ -1,11 +1,12 @@
 -- Resolution: which statements are taken up, what a statement is refused for, and its plan once its names are resolved.
-use Rattle.std.specs.Prelude.{◌≡◌, ℕ, ◌+◌, ◌-◌, Bool, true, false, not, ◌&&◌, ◌||◌, if◌then◌else◌, ◌==◌, nat_le, nat_lt, pos, ◌-ℤ◌, List, [], ◌∷◌, length, map, filter_map, position, slice_get, unwrap_or, Option, Some, None, is_some, is_none, Result, Ok, Err, MatchBool}
+use Rattle.std.specs.Prelude.{◌≡◌, ℕ, ◌+◌, ◌-◌, Bool, true, false, not, ◌&&◌, ◌||◌, if◌then◌else◌, ◌==◌, nat_le, nat_lt, pos, ◌-ℤ◌, List, [], ◌∷◌, length, map, filter_map, position, slice_get, Option, Some, None, is_some, is_none, option_map, Result, Ok, Err, MatchBool}
 use Rattle.std.specs.List.{list_any, list_all}
 use Rattle.std.specs.Str.{bytes_eq}
 use Rattle.iv_value.specs.declared.value.Value.{Value}
 use Rattle.iv_value.specs.declared.value.Value.TheVariants.{Null, Int}
 use Rattle.iv_expr.specs.declared.tree.Expr.{Expr}
 use Rattle.iv_expr.specs.declared.tree.Expr.TheVariants as expr
+use Rattle.iv_expr.specs.declared.tree.Comparison.{Comparison}
 use Rattle.iv_expr.specs.declared.tree.Cond.{Cond}
 use Rattle.iv_expr.specs.declared.tree.Cond.TheVariants as cond
 use Rattle.iv_syntax.specs.declared.tree.Sign.{Sign}
@@ -19,6 +20,7 @@ use Rattle.iv_syntax.specs.declared.table.TableElement.TheVariants as element
 use Rattle.iv_syntax.specs.declared.table.TableConstraint.{TableConstraint}
 use Rattle.iv_syntax.specs.declared.table.TableRule.{TableRule}
 use Rattle.iv_syntax.specs.declared.table.TableRule.TheVariants as rule
+use Rattle.iv_syntax.specs.declared.table.ColumnDefinition.{ColumnDefinition}
 use Rattle.iv_syntax.specs.declared.table.ColumnType.{ColumnType}
 use Rattle.iv_syntax.specs.declared.table.ColumnType.TheVariants as kind
 use Rattle.iv_syntax.specs.declared.table.ConstraintTime.{ConstraintTime}
@@ -36,6 +38,7 @@ use Rattle.iv_syntax.specs.declared.statement.Statement.{Statement}
 use Rattle.iv_syntax.specs.declared.statement.Statement.TheVariants as statement
 use Rattle.iv_syntax.specs.Trees.{signed}
 use Rattle.iv_catalogue.specs.Catalogues.{Schema}
+use Rattle.iv_catalogue.specs.declared.limits.TheConstants.{GREATEST_INTEGER, MOST_COLUMNS, MOST_CONSTRAINTS, MOST_TABLES}
 use Rattle.iv_catalogue.specs.declared.catalogue.Table.{Table}
 use Rattle.iv_catalogue.specs.declared.catalogue.Column.{Column}
 use Rattle.iv_catalogue.specs.declared.constraint.Constraint.{Constraint}
@@ -51,15 +54,16 @@ use Rattle.iv_catalogue.specs.declared.plan.InsertRows.TheVariants as rows
 use Rattle.iv_catalogue.specs.declared.plan.Outputs.TheVariants as outputs
 use Rattle.iv_value.specs.declared.value.Kind.TheVariants as column_kind
 use Rattle.iv_catalogue.specs.declared.cause.Cause.{Cause}
-use Rattle.iv_catalogue.specs.declared.cause.Cause.TheVariants.{Unknown, Duplicate, SchemaFault, WrongShape, Limit, OutOfMemory}
+use Rattle.iv_catalogue.specs.declared.cause.Cause.TheVariants.{Unknown, Duplicate, SchemaFault, WrongShape, Limit}
 use Rattle.iv_catalogue.specs.declared.cause.Refusal.{Refusal}
 use Rattle.iv_catalogue.specs.Names.{is_among, has_repeated, generated}
+use Rattle.iv_catalogue.specs.Refusals.{refused, out_of_memory, is_memory}
 
--- ---- literals (5.3)
+-- ---- literals ("Literals")
 
 -- the integer that a number with this sign is; none where it has more than 64 bits
 abbrev pub integer : Sign → ℕ → Option Value
-integer s n = if nat_le n 9223372036854775807 then Some (Int (elim s [ sign.Plus ↦ pos n | sign.Minus ↦ pos 0 -ℤ pos n ])) else None
+integer s n = if nat_le n GREATEST_INTEGER then Some (Int (elim s [ sign.Plus ↦ pos n | sign.Minus ↦ pos 0 -ℤ pos n ])) else None
 
 abbrev pub signed_number : Sign → Expression → Option Value
 signed_number s (expression.Number n) = integer s n
@@ -84,26 +88,30 @@ abbrev pub is_comparison : Condition → Bool
 is_comparison (condition.Compare op a b) = is_side a && is_side b
 is_comparison _ = false
 
-abbrev pub is_check : TableRule → Bool
-is_check (rule.Check c) = is_comparison c
-is_check _ = false
+abbrev pub is_taken_up_rule : TableRule → Bool
+is_taken_up_rule (rule.Check c) = is_comparison c
+is_taken_up_rule _ = false
 
-abbrev pub is_deferred_mode : Option ConstraintMode → Bool
-is_deferred_mode (Some Deferred) = true
-is_deferred_mode _ = false
+abbrev pub says_deferred : Option ConstraintMode → Bool
+says_deferred (Some Deferred) = true
+says_deferred _ = false
 
 -- no characteristics, or INITIALLY DEFERRED alone
 abbrev pub is_plain_time : ConstraintTime → Bool
-is_plain_time t = is_none t.deferrable && (is_none t.initially || is_deferred_mode t.initially)
+is_plain_time t = is_none t.deferrable && (is_none t.initially || says_deferred t.initially)
 
 abbrev pub is_integer : ColumnType → Bool
 is_integer kind.Integer = true
 is_integer _ = false
 
--- a column of INTEGER without a default or constraints, or a CHECK of one comparison
+-- a column of INTEGER without a default or constraints
+abbrev pub is_plain_column : ColumnDefinition → Bool
+is_plain_column c = is_integer c.kind && is_none c.default && (length c.constraints == 0)
+
+-- such a column, or a CHECK of one comparison
 abbrev pub is_plain_element : TableElement → Bool
-is_plain_element (element.Column c) = is_integer c.kind && is_none c.default && (length c.constraints == 0)
-is_plain_element (element.Constraint k) = is_check k.rule && is_plain_time k.time
+is_plain_element (element.Column c) = is_plain_column c
+is_plain_element (element.Constraint k) = is_taken_up_rule k.rule && is_plain_time k.time
 
 abbrev pub is_literal_value : ValueOrDefault → Bool
 is_literal_value (value.Value e) = is_some (literal_value e)
@@ -128,7 +136,7 @@ is_taken_up statement.Commit = true
 is_taken_up statement.Rollback = true
 is_taken_up _ = false
 
--- ---- CREATE TABLE (11.3)
+-- ---- CREATE TABLE ("Table definition")
 
 abbrev pub column_name : TableElement → Option (List ℕ)
 column_name (element.Column c) = Some c.name
@@ -176,9 +184,12 @@ has_duplicate c name elements =
     || has_repeated [] (column_names elements)
     || has_repeated (map (λ k. k.name) c.constraints) (constraint_names name 1 elements)
 
--- more than 64 tables, 32 columns or 64 constraints of a table
+-- more tables, or columns or constraints of a table, than there may be
 abbrev pub is_beyond_limits : Schema → List TableElement → Bool
-is_beyond_limits c elements = nat_le 64 (length c.tables) || nat_lt 32 (length (column_names elements)) || nat_lt 64 (length elements - length (column_names elements))
+is_beyond_limits c elements =
+    nat_le MOST_TABLES (length c.tables)
+    || nat_lt MOST_COLUMNS (length (column_names elements))
+    || nat_lt MOST_CONSTRAINTS (length elements - length (column_names elements))
 
 -- the least cause that the statement deserves
 abbrev pub create_cause : Schema → List ℕ → List TableElement → Option Cause
@@ -188,66 +199,100 @@ create_cause c name elements =
     else (if length (column_names elements) == 0 then Some SchemaFault
     else (if is_beyond_limits c elements then Some Limit else None)))
 
--- a side over the row of the table
-abbrev pub resolved_side : List (List ℕ) → Expression → Expr
-resolved_side columns (expression.Column c) = expr.Column 0 (unwrap_or (position (bytes_eq c.name) columns) 0)
-resolved_side columns e = expr.Literal (unwrap_or (literal_value e) Null)
+-- ---- what a form that is taken up means; none of these gives another form a meaning
 
-abbrev pub resolved_condition : List (List ℕ) → Condition → Cond
-resolved_condition columns (condition.Compare op a b) = cond.Compare op (resolved_side columns a) (resolved_side columns b)
-resolved_condition columns _ = cond.Always
+-- all of them, where each is there
+abbrev pub all_of : {A : Type 0} → List (Option A) → Option (List A)
+all_of [] = Some []
+all_of (None ∷ xs) = None
+all_of (Some x ∷ xs) = option_map (λ ys. x ∷ ys) (all_of xs)
 
-abbrev pub resolved_rule : List (List ℕ) → TableRule → Cond
-resolved_rule columns (rule.Check c) = resolved_condition columns c
-resolved_rule columns _ = cond.Always
+-- a column of the table's row, or a literal
+abbrev pub side_meaning : List (List ℕ) → Expression → Option Expr
+side_meaning columns (expression.Column c) =
+    if is_none c.qualifier then option_map (λ place. expr.Column 0 place) (position (bytes_eq c.name) columns) else None
+side_meaning columns e = option_map expr.Literal (literal_value e)
 
-abbrev pub column_of : List ℕ → Column
-column_of name = record { name = name; kind = column_kind.Integer; default = Null }
+abbrev pub comparison_of : Comparison → Option Expr → Option Expr → Option Cond
+comparison_of op (Some a) (Some b) = Some (cond.Compare op a b)
+comparison_of op _ _ = None
 
--- the constraint that is written at this place among those of the table
-abbrev pub constraint_of : ℕ → List ℕ → List (List ℕ) → ℕ → TableConstraint → Constraint
-constraint_of table name columns place k = record {
-  name = name_or_generated name place k.name;
+abbrev pub condition_meaning : List (List ℕ) → Condition → Option Cond
+condition_meaning columns (condition.Compare op a b) = comparison_of op (side_meaning columns a) (side_meaning columns b)
+condition_meaning columns _ = None
+
+abbrev pub rule_meaning : List (List ℕ) → TableRule → Option Cond
+rule_meaning columns (rule.Check c) = condition_meaning columns c
+rule_meaning columns _ = None
+
+abbrev pub column_of : ColumnDefinition → Option Column
+column_of c = if is_plain_column c then Some (record { name = c.name; kind = column_kind.Integer; default = Null }) else None
+
+abbrev pub column_in : TableElement → Option (Option Column)
+column_in (element.Column c) = Some (column_of c)
+column_in (element.Constraint k) = None
+
+-- the columns of the table, in the order of their text
+abbrev pub columns_of : List TableElement → Option (List Column)
+columns_of elements = all_of (filter_map column_in elements)
+
+-- a CHECK of this name and condition
+abbrev pub check_of : ℕ → List ℕ → ConstraintTime → Cond → Constraint
+check_of table name time condition = record {
+  name = name;
   table = table;
-  rule = Check (resolved_rule columns k.rule);
-  deferrable = is_deferred_mode k.time.initially;
-  initially = if is_deferred_mode k.time.initially then Deferred else Immediate;
+  rule = Check condition;
+  deferrable = says_deferred time.initially;
+  initially = if says_deferred time.initially then Deferred else Immediate;
 }
 
+-- the constraint that is written at this place among those of the table
+abbrev pub constraint_of : ℕ → List ℕ → List (List ℕ) → ℕ → TableConstraint → Option Constraint
+constraint_of table name columns place k =
+    if is_plain_time k.time
+    then option_map (check_of table (name_or_generated name place k.name) k.time) (rule_meaning columns k.rule)
+    else None
+
+abbrev pub constraints_from : ℕ → List ℕ → List (List ℕ) → ℕ → List TableElement → List (Option Constraint)
+constraints_from table name columns place [] = []
+constraints_from table name columns place (element.Column c ∷ elements) = constraints_from table name columns place elements
+constraints_from table name columns place (element.Constraint k ∷ elements) =
+    constraint_of table name columns place k ∷ constraints_from table name columns (place + 1) elements
+
 -- the constraints of the table that gets this place in the catalogue
-abbrev pub constraints_of : ℕ → List ℕ → List (List ℕ) → ℕ → List TableElement → List Constraint
-constraints_of table name columns place [] = []
-constraints_of table name columns place (element.Column c ∷ elements) = constraints_of table name columns place elements
-constraints_of table name columns place (element.Constraint k ∷ elements) =
-    constraint_of table name columns place k ∷ constraints_of table name columns (place + 1) elements
+abbrev pub constraints_of : ℕ → List ℕ → List TableElement → Option (List Constraint)
+constraints_of table name elements = all_of (constraints_from table name (column_names elements) 1 elements)
 
-abbrev pub created : Schema → List ℕ → List TableElement → Plan
-created c name elements =
-    plan.Schema (CreateTable
-    (record { name = name; columns = map column_of (column_names elements) })
-    (constraints_of (length c.tables) name (column_names elements) 1 elements))
+abbrev pub table_plan : List ℕ → Option (List Column) → Option (List Constraint) → Option Plan
+table_plan name (Some columns) (Some constraints) = Some (plan.Schema (CreateTable (record { name = name; columns = columns }) constraints))
+table_plan name _ _ = None
 
--- ---- INSERT and SELECT (14.8, 7.11)
+abbrev pub create_plan : Schema → List ℕ → List TableElement → Option Plan
+create_plan c name elements = table_plan name (columns_of elements) (constraints_of (length c.tables) name elements)
+
+-- ---- INSERT ("Insert statement") and SELECT ("Query specification")
 
 -- the place of the table of that name
 abbrev pub table_named : Schema → List ℕ → Option ℕ
 table_named c name = position (λ t. bytes_eq name t.name) c.tables
 
-abbrev pub literal_or_null : ValueOrDefault → Value
-literal_or_null (value.Value e) = unwrap_or (literal_value e) Null
-literal_or_null value.Default = Null
+-- the plan, or a schema fault where a form has no meaning yet
+abbrev pub plan_or_fault : Option Plan → Result Plan Refusal
+plan_or_fault (Some p) = Ok p
+plan_or_fault None = refused SchemaFault
 
-abbrev pub refused : {A : Type 0} → Cause → Result A Refusal
-refused c = Err (record { cause = c; trigger = None })
+abbrev pub literal_meaning : ValueOrDefault → Option Expr
+literal_meaning (value.Value e) = option_map expr.Literal (literal_value e)
+literal_meaning value.Default = None
 
-abbrev pub literal_expr : ValueOrDefault → Expr
-literal_expr v = expr.Literal (literal_or_null v)
+abbrev pub insertion_of : ℕ → List Expr → Plan
+insertion_of t tuple = plan.Change (data_statement.Insert t columns.All (rows.Values (tuple ∷ [])))
 
--- a tuple for the table's columns, all of them in their order
+-- a tuple of literals for the table's columns, all of them in their order
 abbrev pub insert_into : ℕ → Table → List ValueOrDefault → Result Plan Refusal
 insert_into t table tuple =
     if length tuple == length table.columns
-    then Ok (plan.Change (data_statement.Insert t columns.All (rows.Values (map literal_expr tuple ∷ []))))
+    then plan_or_fault (option_map (insertion_of t) (all_of (map literal_meaning tuple)))
     else refused WrongShape
 
 abbrev pub insert_plan : List Table → Option ℕ → List ValueOrDefault → Result Plan Refusal
@@ -258,46 +303,43 @@ insert_plan tables (Some t) tuple =
       | None ↦ refused Unknown
     ]
 
-abbrev pub select_plan : Option ℕ → Result Plan Refusal
-select_plan None = refused Unknown
-select_plan (Some t) = Ok (plan.Query (Rows t outputs.Star cond.Always))
-
 abbrev pub insert_tuples : Schema → List ℕ → List (List ValueOrDefault) → Result Plan Refusal
 insert_tuples c name (tuple ∷ []) = insert_plan c.tables (table_named c name) tuple
 insert_tuples c name _ = refused SchemaFault
 
-abbrev pub resolved_insert : Schema → Insert → Result Plan Refusal
-resolved_insert c (insert.Rows table None (source.Values tuples)) = insert_tuples c table tuples
-resolved_insert c _ = refused SchemaFault
+abbrev pub insert_resolution : Schema → Insert → Result Plan Refusal
+insert_resolution c (insert.Rows table None (source.Values tuples)) = insert_tuples c table tuples
+insert_resolution c _ = refused SchemaFault
 
-abbrev pub resolved_select : Schema → Select → Result Plan Refusal
-resolved_select c (select.Rows list range filter) = select_plan (table_named c range.table)
-resolved_select c _ = refused SchemaFault
+-- all rows of a table, whole
+abbrev pub select_plan : Option ℕ → Result Plan Refusal
+select_plan None = refused Unknown
+select_plan (Some t) = Ok (plan.Query (Rows t outputs.Star cond.Always))
 
-abbrev pub resolved_create : Schema → List ℕ → List TableElement → Option Cause → Result Plan Refusal
-resolved_create c name elements (Some cause) = refused cause
-resolved_create c name elements None = Ok (created c name elements)
+abbrev pub plain_select_plan : Schema → Select → Result Plan Refusal
+plain_select_plan c (select.Rows list range filter) = select_plan (table_named c range.table)
+plain_select_plan c _ = refused SchemaFault
 
--- The plan of a statement that is taken up, or the least cause that it deserves.
+abbrev pub select_resolution : Schema → Select → Result Plan Refusal
+select_resolution c s = if is_plain_select s then plain_select_plan c s else refused SchemaFault
+
+abbrev pub create_resolution : Schema → List ℕ → List TableElement → Option Cause → Result Plan Refusal
+create_resolution c name elements (Some cause) = refused cause
+create_resolution c name elements None = plan_or_fault (create_plan c name elements)
+
+-- a statement that is taken up
+abbrev pub resolution_by_kind : Schema → Statement → Result Plan Refusal
+resolution_by_kind c (statement.CreateTable name elements) = create_resolution c name elements (create_cause c name elements)
+resolution_by_kind c (statement.Insert i) = insert_resolution c i
+resolution_by_kind c (statement.Select s) = select_resolution c s
+resolution_by_kind c statement.Commit = Ok (plan.Transaction transaction.Commit)
+resolution_by_kind c statement.Rollback = Ok (plan.Transaction transaction.Rollback)
+resolution_by_kind c _ = refused SchemaFault
+
+-- The plan of a statement, or the least cause that it deserves. A statement that isn't taken up is a schema fault before all else.
 abbrev pub resolution : Schema → Statement → Result Plan Refusal
-resolution c (statement.CreateTable name elements) = resolved_create c name elements (create_cause c name elements)
-resolution c (statement.Insert i) = resolved_insert c i
-resolution c (statement.Select s) = resolved_select c s
-resolution c statement.Commit = Ok (plan.Transaction transaction.Commit)
-resolution c statement.Rollback = Ok (plan.Transaction transaction.Rollback)
-resolution c _ = refused SchemaFault
+resolution c s = if is_taken_up s then resolution_by_kind c s else refused SchemaFault
 
--- ---- want of memory
-
-abbrev pub is_memory_cause : Cause → Bool
-is_memory_cause OutOfMemory = true
-is_memory_cause _ = false
-
--- the answer is a want of memory
-abbrev pub is_memory : {A : Type 0} → Result A Refusal → Bool
-is_memory (Ok a) = false
-is_memory (Err r) = is_memory_cause r.cause
-
--- the answer is the resolution, or a want of memory
+-- The answer is the resolution; or memory was refused, which no trigger has to do with.
 abbrev pub Resolves : Schema → Statement → Result Plan Refusal → Type 0
-Resolves c s r = MatchBool (is_memory r) (Unit {0}) (r ≡ resolution c s)
+Resolves c s r = MatchBool (is_memory r) ((r ≡ Err out_of_memory) × (is_taken_up s ≡ true)) (r ≡ resolution c s)

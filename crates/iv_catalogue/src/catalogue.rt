@@ -1,8 +1,9 @@
 //! Tables, and the catalogue of a database.
-ghost use Rattle.std.specs.Prelude.{◌≡◌, ◌≤◌, ◌<◌, length, OnOk, OnErr};
+ghost use Rattle.std.specs.Prelude.{◌≡◌, ◌≤◌, ◌<◌, ◌*◌, length, OnOk, OnErr};
 ghost use Rattle.iv_catalogue.specs.Catalogues.{empty_schema, with_table};
 
 use crate::constraint::{Constraint, Constraints};
+use crate::limits::{MOST_CONSTRAINTS, MOST_TABLES};
 use crate::plan::Trigger;
 use iv_syntax::Name;
 use iv_value::{Kind, Value};
@@ -26,8 +27,8 @@ pub struct Table {
     pub columns: Items<Column>,
 }
 
-/// All tables, constraints and triggers, each in the order of creation: at most 64 tables, and 64
-/// constraints for each. Contracts see it as its schema.
+/// All tables, constraints and triggers, each in the order of creation: at most `MOST_TABLES` tables, and
+/// `MOST_CONSTRAINTS` constraints for each. Contracts see it as its schema.
 #[derive(Drop)]
 pub struct Catalogue {
     tables: Vec<Table>,
@@ -40,6 +41,7 @@ pub struct Catalogue {
 impl Model for Catalogue {
     ghost use Rattle.std.specs.Prelude.{◌≤◌, ◌*◌, length};
     ghost use Rattle.iv_catalogue.specs.Catalogues.{Schema};
+    ghost use Rattle.iv_catalogue.specs.declared.limits.TheConstants.{MOST_CONSTRAINTS, MOST_TABLES};
     ghost use Rattle.iv_expr.specs.contracts.tree.Cond as cond;
     ghost use Rattle.iv_expr.specs.contracts.tree.Expr as expr;
     ghost use Rattle.std.specs.Coded.{codes};
@@ -50,7 +52,7 @@ impl Model for Catalogue {
 
     ghost view = { λ c. record { tables = c.tables.items; constraints = c.constraints.items; triggers = c.triggers.items; created = c.created } };
 
-    ghost invariant = { λ c. (length c.tables.items ≤ 64) × (length c.constraints.items ≤ 64 * length c.tables.items) };
+    ghost invariant = { λ c. (length c.tables.items ≤ MOST_TABLES) × (length c.constraints.items ≤ MOST_CONSTRAINTS * length c.tables.items) };
 }
 
 impl Catalogue {
@@ -69,7 +71,7 @@ impl Catalogue {
     /// The tables.
     pub fn tables(&self) -> &[Table]
         ensures tables { result.now ≡ self.now.tables }
-        ensures few { length result.now ≤ 64 }
+        ensures few { length result.now ≤ MOST_TABLES }
     {
         self.tables.as_slice()
     }
@@ -77,7 +79,7 @@ impl Catalogue {
     /// The constraints.
     pub fn constraints(&self) -> &[Constraint]
         ensures constraints { result.now ≡ self.now.constraints }
-        ensures few { length result.now ≤ 4096 }
+        ensures few { length result.now ≤ MOST_TABLES * MOST_CONSTRAINTS }
     {
         self.constraints.as_slice()
     }
@@ -89,10 +91,12 @@ impl Catalogue {
         self.triggers.as_slice()
     }
 
-    /// Adds a table with its constraints. Where memory is refused the catalogue is as before.
+    /// Adds a table with its constraints. Where memory is refused the catalogue is as before. Its
+    /// conditions are the limits of a catalogue, which `resolve` sees to: it has room for a table, and the
+    /// table has no more constraints than it may.
     pub fn add_table(&mut self, table: Table, constraints: Constraints) -> Result<(), AllocError>
-        requires room { length self.old.tables < 64 }
-        requires few { length constraints ≤ 64 }
+        requires tables { length self.old.tables < MOST_TABLES }
+        requires constraints { length constraints ≤ MOST_CONSTRAINTS }
         ensures ok { OnOk result (self.new ≡ with_table self.old table constraints) }
         ensures err { OnErr result (self.new ≡ self.old) }
     {

@@ -1,5 +1,9 @@
 //! Why a statement is refused.
+ghost use Rattle.std.specs.Prelude.{◌≡◌};
+ghost use Rattle.iv_catalogue.specs.Refusals.{refusal_of};
+
 use crate::number::{ConstraintId, TriggerId};
+use std::alloc::AllocError;
 
 /// A violation: the constraint and the number of the row that violates it.
 #[derive(Clone, Copy, Debug, PartialEq, Eq)]
@@ -55,4 +59,27 @@ pub enum Cause {
 pub struct Refusal {
     pub cause: Cause,
     pub trigger: Option<TriggerId>,
+}
+
+impl Refusal {
+    /// The refusal for this cause, outside any trigger.
+    pub fn of(cause: Cause) -> Refusal
+        ensures { result ≡ refusal_of cause }
+    {
+        Refusal {
+            cause,
+            trigger: None,
+        }
+    }
+}
+
+impl From<AllocError> for Refusal {
+    ghost use Rattle.std.specs.Prelude.{◌≡◌};
+    ghost use Rattle.iv_catalogue.specs.Refusals.{out_of_memory};
+
+    ghost from_gives = { λ _ refusal. refusal ≡ out_of_memory };
+
+    fn from(_: AllocError) -> Refusal {
+        Refusal::of(Cause::OutOfMemory)
+    }
 }

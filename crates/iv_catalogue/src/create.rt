@@ -1,21 +1,23 @@
 //! CREATE TABLE: the causes that it deserves, and its plan.
-ghost use Rattle.std.specs.Prelude.{◌≡◌, ◌≤◌, ℕ, List, ◌++◌, ◌∷◌, [], length, map, filter_map, Some, None, IfOk, OnOk, ◌||◌, ◌+◌, nat_le, nat_lt, ◌<◌, IfSome, ◌-◌, position, unwrap_or};
+ghost use Rattle.std.specs.Prelude.{◌≡◌, ◌≤◌, ℕ, List, ◌++◌, ◌∷◌, [], length, map, filter_map, Some, None, IfOk, OnOk, ◌||◌, ◌+◌, nat_le, nat_lt, ◌<◌, IfSome, ◌-◌, position, option_map, is_none, if◌then◌else◌};
 ghost use Rattle.std.specs.List.{list_any};
 ghost use Rattle.std.specs.Str.{bytes_eq};
 ghost use Rattle.iv_catalogue.specs.Names.{is_among, has_repeated, generated};
-ghost use Rattle.iv_catalogue.specs.Resolution.{literal_value, column_name, column_names, name_or_generated, constraint_names, unknown_side, unknown_condition, unknown_rule, unknown_element, has_unknown, has_duplicate, is_beyond_limits, create_cause, resolved_side, resolved_condition, resolved_rule, column_of, constraint_of, constraints_of, created, resolved_create};
-ghost use Rattle.iv_value.specs.declared.value.Value.TheVariants as value;
+ghost use Rattle.iv_catalogue.specs.Resolution.{literal_value, column_name, column_names, name_or_generated, constraint_names, unknown_side, unknown_condition, unknown_rule, unknown_element, has_unknown, has_duplicate, is_beyond_limits, create_cause, side_meaning, comparison_of, condition_meaning, rule_meaning, column_of, column_in, columns_of, check_of, constraint_of, constraints_from, constraints_of, create_plan, create_resolution, all_of};
+ghost use Rattle.iv_expr.specs.declared.tree.Expr.TheVariants as expr;
 
 use crate::catalogue::{Catalogue, Column, Table};
 use crate::cause::{Cause, Refusal};
 use crate::constraint::{Constraint, Constraints, Rule};
+use crate::limits::{MOST_COLUMNS, MOST_CONSTRAINTS, MOST_TABLES};
 use crate::literal::literal_value;
 use crate::names::Names;
 use crate::plan::{Plan, SchemaPlan};
-use crate::taken_up::is_deferred_mode;
-use iv_expr::{Cond, Expr, TableId};
+use crate::taken_up::{is_plain_column, is_plain_time, says_deferred};
+use iv_expr::{Comparison, Cond, Expr, TableId};
 use iv_syntax::{
-    Condition, ConstraintMode, Expression, Name, TableConstraint, TableElement, TableRule,
+    ColumnDefinition, ColumnName, Condition, ConstraintMode, ConstraintTime, Expression, Name,
+    TableConstraint, TableElement, TableRule,
 };
 use iv_value::{Kind, Text, Value};
 use sqlite_items::Items;
@@ -172,11 +174,13 @@ fn has_duplicate_constraint(
     has_repeated(alloc, used.as_slice(), names.as_slice())
 }
 
-// Whether there are more than 64 tables, 32 columns or 64 constraints of a table.
+// Whether there are more tables, or columns or constraints of a table, than there may be.
 fn is_beyond_limits(tables: usize, columns: usize, elements: usize) -> bool
-    ensures { result ≡ (nat_le 64 tables || nat_lt 32 columns || nat_lt 64 (elements - columns)) }
+    ensures { result ≡ (nat_le MOST_TABLES tables || nat_lt MOST_COLUMNS columns || nat_lt MOST_CONSTRAINTS (elements - columns)) }
 {
-    tables >= 64 || columns > 32 || elements.saturating_sub(columns) > 64
+    tables >= MOST_TABLES
+        || columns > MOST_COLUMNS
+        || elements.saturating_sub(columns) > MOST_CONSTRAINTS
 }
 
 // The least cause that the statement deserves.
@@ -235,49 +239,72 @@ fn place_of(columns: &[Name], name: &str) -> Option<usize>
     columns.iter().position(|column| name == column.as_str())
 }
 
-// The place of a column, 0 where there is none of that name.
-fn column_place(columns: &[Name], name: &str) -> u32
-    requires { length columns.now ≤ 32 }
-    ensures { result ≡ unwrap_or (position (bytes_eq name.now) columns.now) 0 }
-{
-    match place_of(columns, name) {
-        Some(place) => place as u32,
-        None => 0,
-    }
-}
-
 // A side of a comparison over the table's row.
-fn resolved_side(columns: &[Name], expression: &Expression) -> Expr
-    requires { length columns.now ≤ 32 }
-    ensures { result ≡ resolved_side columns.now expression.now }
+fn side_meaning(columns: &[Name], expression: &Expression) -> Option<Expr>
+    requires { length columns.now ≤ MOST_COLUMNS }
+    ensures { result ≡ side_meaning columns.now expression.now }
 {
     match expression {
-        Expression::Column(column) => Expr::Column(0, column_place(columns, column.name.as_str())),
-        _ => Expr::Literal(value_of(expression)),
+        Expression::Column(column) => column_meaning(columns, column),
+        _ => match literal_value(expression) {
+            Some(value) => Some(Expr::Literal(value)),
+            None => None,
+        },
     }
 }
 
-// The value of a literal, NULL for all else.
-fn value_of(expression: &Expression) -> Value
-    ensures { result ≡ unwrap_or (literal_value expression.now) value.Null }
+// A column of the table's row.
+fn column_meaning(columns: &[Name], column: &ColumnName) -> Option<Expr>
+    requires { length columns.now ≤ MOST_COLUMNS }
+    ensures { result ≡ (if is_none column.now.qualifier then option_map (λ place. expr.Column 0 place) (position (bytes_eq column.now.name) columns.now) else None) }
 {
-    match literal_value(expression) {
-        Some(value) => value,
-        None => Value::Null,
+    if column.qualifier.is_some() {
+        return None;
+    }
+    match place_of(columns, column.name.as_str()) {
+        Some(place) => Some(Expr::Column(0, place as u32)),
+        None => None,
     }
 }
 
-fn resolved_rule(columns: &[Name], rule: &TableRule) -> Cond
-    requires { length columns.now ≤ 32 }
-    ensures { result ≡ resolved_rule columns.now rule.now }
+fn comparison_of(comparison: Comparison, left: Option<Expr>, right: Option<Expr>) -> Option<Cond>
+    ensures { result ≡ comparison_of comparison left right }
+{
+    match (left, right) {
+        (Some(left), Some(right)) => Some(Cond::Compare(comparison, left, right)),
+        _ => None,
+    }
+}
+
+fn rule_meaning(columns: &[Name], rule: &TableRule) -> Option<Cond>
+    requires { length columns.now ≤ MOST_COLUMNS }
+    ensures { result ≡ rule_meaning columns.now rule.now }
 {
     match rule {
-        TableRule::Check(Condition::Compare(comparison, left, right)) => Cond::Compare(
+        TableRule::Check(Condition::Compare(comparison, left, right)) => comparison_of(
             *comparison,
-            resolved_side(columns, left),
-            resolved_side(columns, right),
+            side_meaning(columns, left),
+            side_meaning(columns, right),
         ),
-        _ => Cond::Always,
+        _ => None,
+    }
+}
+
+// A CHECK of this name and condition.
+fn check_of(table: TableId, name: Name, time: &ConstraintTime, condition: Cond) -> Constraint
+    ensures { result ≡ check_of table name time.now condition }
+{
+    let deferred = says_deferred(time.initially);
+    Constraint {
+        name,
+        table,
+        rule: Rule::Check(condition),
+        deferrable: deferred,
+        initially: if deferred {
+            ConstraintMode::Deferred
+        } else {
+            ConstraintMode::Immediate
+        },
     }
 }
 
@@ -289,22 +316,20 @@ fn constraint_of(
     columns: &[Name],
     place: u64,
     written: &TableConstraint,
-) -> Result<Constraint, AllocError>
-    requires { length columns.now ≤ 32 }
+) -> Result<Option<Constraint>, AllocError>
+    requires { length columns.now ≤ MOST_COLUMNS }
     ensures { IfOk result (λ k. k ≡ constraint_of table name.now columns.now place written.now) }
 {
-    let deferred = is_deferred_mode(written.time.initially);
-    Ok(Constraint {
-        name: name_or_generated(alloc, name, place, &written.name)?,
-        table,
-        rule: Rule::Check(resolved_rule(columns, &written.rule)),
-        deferrable: deferred,
-        initially: if deferred {
-            ConstraintMode::Deferred
-        } else {
-            ConstraintMode::Immediate
-        },
-    })
+    if !is_plain_time(&written.time) {
+        return Ok(None);
+    }
+    match rule_meaning(columns, &written.rule) {
+        Some(condition) => {
+            let own = name_or_generated(alloc, name, place, &written.name)?;
+            Ok(Some(check_of(table, own, &written.time, condition)))
+        }
+        None => Ok(None),
+    }
 }
 
 // The constraints of the table.
@@ -314,54 +339,79 @@ fn constraints_of(
     name: &str,
     columns: &[Name],
     elements: &[TableElement],
-) -> Result<Vec<Constraint>, AllocError>
-    requires { length columns.now ≤ 32 }
-    ensures { IfOk result (λ constraints. constraints.items ≡ constraints_of table name.now columns.now 1 elements.now) }
+) -> Result<Option<Vec<Constraint>>, AllocError>
+    requires few { length columns.now ≤ MOST_COLUMNS }
+    requires columns { columns.now ≡ column_names elements.now }
+    ensures { IfOk result (λ found. option_map (λ constraints. constraints.items) found ≡ constraints_of table name.now elements.now) }
 {
     let mut constraints = Vec::new(alloc);
     let mut place = 1u64;
     for element in elements {
         if let TableElement::Constraint(written) = element {
-            constraints.push(constraint_of(alloc, table, name, columns, place, written)?)?;
+            match constraint_of(alloc, table, name, columns, place, written)? {
+                Some(constraint) => constraints.push(constraint)?,
+                None => return Ok(None),
+            }
             place += 1;
         }
     }
-    Ok(constraints)
+    Ok(Some(constraints))
 }
 
-fn columns_of(alloc: Global, names: &[Name]) -> Result<Items<Column>, AllocError>
-    ensures { IfOk result (λ columns. columns ≡ map column_of names.now) }
+// The column that its definition gives.
+fn column_of(definition: &ColumnDefinition) -> Result<Option<Column>, AllocError>
+    ensures { IfOk result (λ column. column ≡ column_of definition.now) }
 {
-    let mut columns = Items::new(alloc);
-    for name in names {
-        columns.push(Column {
-            name: name.clone()?,
+    if is_plain_column(definition) {
+        Ok(Some(Column {
+            name: definition.name.clone()?,
             kind: Kind::Integer,
             default: Value::Null,
-        })?;
+        }))
+    } else {
+        Ok(None)
     }
-    Ok(columns)
+}
+
+fn columns_of(alloc: Global, elements: &[TableElement]) -> Result<Option<Items<Column>>, AllocError>
+    ensures { IfOk result (λ columns. columns ≡ columns_of elements.now) }
+{
+    let mut columns = Items::new(alloc);
+    for element in elements {
+        if let TableElement::Column(definition) = element {
+            match column_of(definition)? {
+                Some(column) => columns.push(column)?,
+                None => return Ok(None),
+            }
+        }
+    }
+    Ok(Some(columns))
 }
 
 // The plan of a statement that deserves no cause.
-fn created(
+fn create_plan(
     alloc: Global,
     catalogue: &Catalogue,
     name: &Name,
     columns: &[Name],
     elements: &[TableElement],
-) -> Result<Plan, AllocError>
+) -> Result<Option<Plan>, AllocError>
     requires columns { columns.now ≡ column_names elements.now }
     requires fits { create_cause catalogue.now name.now elements.now ≡ None }
-    ensures { IfOk result (λ plan. plan ≡ created catalogue.now name.now elements.now) }
+    ensures { IfOk result (λ plan. plan ≡ create_plan catalogue.now name.now elements.now) }
 {
     let id = TableId::new(catalogue.tables().len() as u32);
-    let constraints = constraints_of(alloc, id, name.as_str(), columns, elements)?;
+    let Some(own) = columns_of(alloc, elements)? else {
+        return Ok(None);
+    };
+    let Some(constraints) = constraints_of(alloc, id, name.as_str(), columns, elements)? else {
+        return Ok(None);
+    };
     let table = Table {
         name: name.clone()?,
-        columns: columns_of(alloc, columns)?,
+        columns: own,
     };
-    Ok(Plan::Schema(SchemaPlan::CreateTable(table, Constraints::from_vec(constraints))))
+    Ok(Some(Plan::Schema(SchemaPlan::CreateTable(table, Constraints::from_vec(constraints)))))
 }
 
 /// The plan of CREATE TABLE, or the least cause that it deserves.
@@ -371,7 +421,7 @@ pub fn create(
     name: &Name,
     elements: &[TableElement],
 ) -> Result<Result<Plan, Refusal>, AllocError>
-    ensures { IfOk result (λ r. r ≡ resolved_create catalogue.now name.now elements.now (create_cause catalogue.now name.now elements.now)) }
+    ensures { IfOk result (λ r. r ≡ create_resolution catalogue.now name.now elements.now (create_cause catalogue.now name.now elements.now)) }
 {
     let columns = column_names(alloc, elements)?;
     match create_cause(
@@ -381,10 +431,10 @@ pub fn create(
         columns.as_slice(),
         elements,
     )? {
-        Some(cause) => Ok(Err(Refusal {
-            cause,
-            trigger: None,
-        })),
-        None => Ok(Ok(created(alloc, catalogue, name, columns.as_slice(), elements)?)),
+        Some(cause) => Ok(Err(Refusal::of(cause))),
+        None => match create_plan(alloc, catalogue, name, columns.as_slice(), elements)? {
+            Some(plan) => Ok(Ok(plan)),
+            None => Ok(Err(Refusal::of(Cause::SchemaFault))),
+        },
     }
 }

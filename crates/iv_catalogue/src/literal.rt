@@ -1,14 +1,16 @@
 //! Literals of integers and NULL.
 ghost use Rattle.std.specs.Prelude.{◌≡◌};
-ghost use Rattle.iv_catalogue.specs.Resolution.{integer, signed_number, literal_value, literal_or_null};
+ghost use Rattle.iv_catalogue.specs.Resolution.{integer, signed_number, literal_value, literal_meaning};
 
+use crate::limits::GREATEST_INTEGER;
+use iv_expr::Expr;
 use iv_syntax::{Expression, Sign, ValueOrDefault};
 use iv_value::Value;
 
 fn integer(sign: Sign, number: u64) -> Option<Value>
     ensures { result ≡ integer sign number }
 {
-    if number > 9_223_372_036_854_775_807 {
+    if number > GREATEST_INTEGER {
         return None;
     }
     let size = number as i64;
@@ -43,15 +45,15 @@ pub fn literal_value(expression: &Expression) -> Option<Value>
     }
 }
 
-/// The value of a literal in a tuple, NULL for all else.
-pub fn literal_or_null(value: &ValueOrDefault) -> Value
-    ensures { result ≡ literal_or_null value.now }
+/// A value of a tuple, where it is a literal.
+pub fn literal_meaning(value: &ValueOrDefault) -> Option<Expr>
+    ensures { result ≡ literal_meaning value.now }
 {
     match value {
         ValueOrDefault::Value(expression) => match literal_value(expression) {
-            Some(literal) => literal,
-            None => Value::Null,
+            Some(literal) => Some(Expr::Literal(literal)),
+            None => None,
         },
-        ValueOrDefault::Default => Value::Null,
+        ValueOrDefault::Default => None,
     }
 }

@@ -1,15 +1,18 @@
 //! What a statement means in a catalogue.
 ghost use Rattle.std.specs.Prelude.{◌≡◌, position, map, Option, IfOk, option_copied, IfSome, ◌<◌, ◌≤◌, length, ◌^◌};
 ghost use Rattle.std.specs.Str.{bytes_eq};
-ghost use Rattle.iv_catalogue.specs.Resolution.{table_named, refused, literal_expr, insert_into, insert_plan, insert_tuples, select_plan, resolved_insert, resolved_select, resolution, Resolves};
+ghost use Rattle.iv_catalogue.specs.Refusals.{refused, is_memory};
+ghost use Rattle.iv_catalogue.specs.Resolution.{all_of, table_named, literal_meaning, insert_into, insert_plan, insert_tuples, select_plan, insert_resolution, plain_select_plan, select_resolution, resolution_by_kind, resolution, Resolves};
 
 use crate::catalogue::{Catalogue, Table};
 use crate::cause::{Cause, Refusal};
 use crate::create::create;
-use crate::literal::literal_or_null;
+use crate::limits::MOST_TABLES;
+use crate::literal::literal_meaning;
 use crate::plan::{
     DataStatement, InsertColumns, InsertRows, Outputs, Plan, QueryPlan, TransactionPlan,
 };
+use crate::taken_up::{is_plain_select, is_taken_up};
 use iv_expr::{Cond, Expr, TableId};
 use iv_syntax::{Insert, InsertSource, Select, Statement, ValueOrDefault};
 use sqlite_items::Items;
@@ -25,20 +28,21 @@ fn place_of(tables: &[Table], name: &str) -> Option<usize>
 fn refuse<T>(cause: Cause) -> Result<T, Refusal>
     ensures { result ≡ refused cause }
 {
-    Err(Refusal {
-        cause,
-        trigger: None,
-    })
+    Err(Refusal::of(cause))
 }
 
-fn literals(alloc: Global, tuple: &[ValueOrDefault]) -> Result<Items<Expr>, AllocError>
-    ensures { IfOk result (λ values. values ≡ map literal_expr tuple.now) }
+// The values of a tuple, where all are literals.
+fn literals(alloc: Global, tuple: &[ValueOrDefault]) -> Result<Option<Items<Expr>>, AllocError>
+    ensures { IfOk result (λ values. values ≡ all_of (map literal_meaning tuple.now)) }
 {
     let mut values = Items::new(alloc);
     for value in tuple {
-        values.push(Expr::Literal(literal_or_null(value)))?;
+        match literal_meaning(value) {
+            Some(literal) => values.push(literal)?,
+            None => return Ok(None),
+        }
     }
-    Ok(values)
+    Ok(Some(values))
 }
 
 // The plan of INSERT into the table at this place.
@@ -53,8 +57,11 @@ fn insert_at(
     if tuple.len() != table.columns.len() {
         return Ok(refuse(Cause::WrongShape));
     }
+    let Some(values) = literals(alloc, tuple)? else {
+        return Ok(refuse(Cause::SchemaFault));
+    };
     let mut tuples = Items::new(alloc);
-    tuples.push(literals(alloc, tuple)?)?;
+    tuples.push(values)?;
     Ok(Ok(Plan::Change(DataStatement::Insert {
         table: TableId::new(place),
         columns: InsertColumns::All,
@@ -67,7 +74,7 @@ fn insert(
     catalogue: &Catalogue,
     insert: &Insert,
 ) -> Result<Result<Plan, Refusal>, AllocError>
-    ensures { IfOk result (λ r. r ≡ resolved_insert catalogue.now insert.now) }
+    ensures { IfOk result (λ r. r ≡ insert_resolution catalogue.now insert.now) }
 {
     match insert {
         Insert::Rows {
@@ -99,7 +106,7 @@ fn insert_tuple(
     name: &str,
     tuple: &[ValueOrDefault],
 ) -> Result<Result<Plan, Refusal>, AllocError>
-    requires { length tables.now ≤ 64 }
+    requires { length tables.now ≤ MOST_TABLES }
     ensures { IfOk result (λ r. r ≡ insert_plan tables.now (position (λ t. bytes_eq name.now t.name) tables.now) tuple.now) }
 {
     match place_of(tables, name) {
@@ -112,7 +119,17 @@ fn insert_tuple(
 }
 
 fn select(catalogue: &Catalogue, select: &Select) -> Result<Plan, Refusal>
-    ensures { result ≡ resolved_select catalogue.now select.now }
+    ensures { result ≡ select_resolution catalogue.now select.now }
+{
+    if is_plain_select(select) {
+        plain_select(catalogue, select)
+    } else {
+        refuse(Cause::SchemaFault)
+    }
+}
+
+fn plain_select(catalogue: &Catalogue, select: &Select) -> Result<Plan, Refusal>
+    ensures { result ≡ plain_select_plan catalogue.now select.now }
 {
     match select {
         Select::Rows(_, range, _) => select_from(catalogue.tables(), range.table.as_str()),
@@ -121,7 +138,7 @@ fn select(catalogue: &Catalogue, select: &Select) -> Result<Plan, Refusal>
 }
 
 fn select_from(tables: &[Table], name: &str) -> Result<Plan, Refusal>
-    requires { length tables.now ≤ 64 }
+    requires { length tables.now ≤ MOST_TABLES }
     ensures { result ≡ select_plan (position (λ t. bytes_eq name.now t.name) tables.now) }
 {
     match place_of(tables, name) {
@@ -134,12 +151,12 @@ fn select_from(tables: &[Table], name: &str) -> Result<Plan, Refusal>
     }
 }
 
-fn resolved(
+fn resolve_by_kind(
     alloc: Global,
     catalogue: &Catalogue,
     statement: &Statement,
 ) -> Result<Result<Plan, Refusal>, AllocError>
-    ensures { IfOk result (λ r. r ≡ resolution catalogue.now statement.now) }
+    ensures { IfOk result (λ r. r ≡ resolution_by_kind catalogue.now statement.now) }
 {
     match statement {
         Statement::CreateTable { name, elements } => {
@@ -153,13 +170,15 @@ fn resolved(
     }
 }
 
-/// The plan of a statement, or the least cause that it deserves, or want of memory. It takes time in
-/// proportion to the statement and, for CREATE TABLE, to the constraints of the catalogue.
+/// The plan of a statement, or the least cause that it deserves. A statement that isn't taken up is a
+/// schema fault before all else. Memory is taken for a plan alone. It takes time in proportion to the
+/// statement and, for CREATE TABLE, to the constraints of the catalogue.
 pub fn resolve(alloc: Global, catalogue: &Catalogue, statement: &Statement) -> Result<Plan, Refusal>
     ensures { Resolves catalogue.now statement.now result }
 {
-    match resolved(alloc, catalogue, statement) {
-        Ok(answer) => answer,
-        Err(_) => refuse(Cause::OutOfMemory),
+    if is_taken_up(statement) {
+        resolve_by_kind(alloc, catalogue, statement)?
+    } else {
+        refuse(Cause::SchemaFault)
     }
 }

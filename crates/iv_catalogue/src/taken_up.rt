@@ -1,12 +1,12 @@
 //! Which statements are taken up so far.
 ghost use Rattle.std.specs.Prelude.{◌≡◌};
 ghost use Rattle.std.specs.List.{list_all};
-ghost use Rattle.iv_catalogue.specs.Resolution.{is_side, is_comparison, is_check, is_deferred_mode, is_plain_time, is_plain_element, is_literal_value, is_plain_insert, is_plain_select, is_taken_up};
+ghost use Rattle.iv_catalogue.specs.Resolution.{is_side, is_comparison, is_taken_up_rule, says_deferred, is_plain_time, is_plain_column, is_plain_element, is_literal_value, is_plain_insert, is_plain_select, is_taken_up};
 
 use crate::literal::literal_value;
 use iv_syntax::{
-    ColumnType, Condition, ConstraintMode, ConstraintTime, Expression, Insert, InsertSource,
-    Select, SelectList, Statement, TableElement, TableRule, ValueOrDefault,
+    ColumnDefinition, ColumnType, Condition, ConstraintMode, ConstraintTime, Expression, Insert,
+    InsertSource, Select, SelectList, Statement, TableElement, TableRule, ValueOrDefault,
 };
 
 fn is_side(expression: &Expression) -> bool
@@ -27,8 +27,8 @@ fn is_comparison(condition: &Condition) -> bool
     }
 }
 
-fn is_check(rule: &TableRule) -> bool
-    ensures { result ≡ is_check rule.now }
+fn is_taken_up_rule(rule: &TableRule) -> bool
+    ensures { result ≡ is_taken_up_rule rule.now }
 {
     match rule {
         TableRule::Check(condition) => is_comparison(condition),
@@ -37,29 +37,35 @@ fn is_check(rule: &TableRule) -> bool
 }
 
 /// Whether the mode that is written is DEFERRED.
-pub fn is_deferred_mode(mode: Option<ConstraintMode>) -> bool
-    ensures { result ≡ is_deferred_mode mode }
+pub fn says_deferred(mode: Option<ConstraintMode>) -> bool
+    ensures { result ≡ says_deferred mode }
 {
     matches!(mode, Some(ConstraintMode::Deferred))
 }
 
-fn is_plain_time(time: &ConstraintTime) -> bool
+/// No characteristics, or INITIALLY DEFERRED alone.
+pub fn is_plain_time(time: &ConstraintTime) -> bool
     ensures { result ≡ is_plain_time time.now }
 {
-    time.deferrable.is_none() && (time.initially.is_none() || is_deferred_mode(time.initially))
+    time.deferrable.is_none() && (time.initially.is_none() || says_deferred(time.initially))
+}
+
+/// A column of INTEGER without a default or constraints.
+pub fn is_plain_column(column: &ColumnDefinition) -> bool
+    ensures { result ≡ is_plain_column column.now }
+{
+    matches!(column.kind, ColumnType::Integer)
+        && column.default.is_none()
+        && column.constraints.len() == 0
 }
 
 fn is_plain_element(element: &TableElement) -> bool
     ensures { result ≡ is_plain_element element.now }
 {
     match element {
-        TableElement::Column(column) => {
-            matches!(column.kind, ColumnType::Integer)
-                && column.default.is_none()
-                && column.constraints.len() == 0
-        }
+        TableElement::Column(column) => is_plain_column(column),
         TableElement::Constraint(constraint) => {
-            is_check(&constraint.rule) && is_plain_time(&constraint.time)
+            is_taken_up_rule(&constraint.rule) && is_plain_time(&constraint.time)
         }
     }
 }
@@ -95,7 +101,8 @@ fn is_plain_insert(insert: &Insert) -> bool
     }
 }
 
-fn is_plain_select(select: &Select) -> bool
+/// SELECT * FROM a table.
+pub fn is_plain_select(select: &Select) -> bool
     ensures { result ≡ is_plain_select select.now }
 {
     match select {
