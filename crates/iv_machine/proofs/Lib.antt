@@ -4,6 +4,8 @@ pub mod Scans
 pub mod Orders
 pub mod Plain
 pub mod Plans
+pub mod Modes
+pub mod Occasions
 pub mod Sound
 pub mod Selected
 pub mod Puts

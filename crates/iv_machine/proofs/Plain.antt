@@ -8,8 +8,6 @@ use Rattle.iv_value.specs.declared.value.Value.TheVariants.{Null, Int, Text}
 use Rattle.iv_value.specs.declared.value.Kind.TheVariants.{Integer}
 use Rattle.iv_expr.specs.declared.row.StoredRow.{StoredRow}
 use Rattle.iv_expr.specs.declared.row.Change.{Change}
-use Rattle.iv_expr.specs.declared.tree.Expr.{Expr}
-use Rattle.iv_expr.specs.declared.tree.Expr.TheVariants.{Literal}
 use Rattle.iv_expr.specs.declared.tree.ExprFault.{ExprFault}
 use Rattle.iv_expr.specs.Scopes.{Scope, no_frame, scope_of, table_rows}
 use Rattle.iv_expr.specs.Evaluation.{value, and_then}
@@ -22,10 +20,7 @@ use Rattle.iv_catalogue.specs.declared.constraint.Rule.{Rule}
 use Rattle.iv_catalogue.specs.declared.constraint.Rule.TheVariants as rule
 use Rattle.iv_catalogue.specs.declared.cause.Cause.TheVariants.{TooManyChanges, TransactionTooLarge, Limit, Violation}
 use Rattle.iv_catalogue.specs.declared.cause.Fault.{Fault}
-use Rattle.iv_catalogue.specs.declared.plan.DataStatement.{DataStatement}
-use Rattle.iv_catalogue.specs.declared.plan.DataStatement.TheVariants.{Insert}
 use Rattle.iv_catalogue.specs.declared.plan.InsertColumns.TheVariants as columns
-use Rattle.iv_catalogue.specs.declared.plan.InsertRows.TheVariants.{Values}
 use Rattle.iv_machine.specs.declared.database.Database.{Database}
 use Rattle.iv_machine.specs.declared.database.Which.TheVariants.{Immediate}
 use Rattle.iv_machine.specs.Databases.{row_at, scan, is_chosen, first, applied, fault_at}
@@ -35,21 +30,10 @@ use Rattle.iv_machine.specs.ReferentialActions.{Effect, foreign_key, is_restrict
 use Rattle.iv_machine.specs.Waves.{Settled, entered, settle, settled}
 use Rattle.iv_machine.specs.Levels.{Finished, Runs, level, level_steps, nested, checked}
 use Rattle.iv_machine.specs.Invariants.{Rising, is_check, AllChecks, AllIntegers}
+use Rattle.iv_machine.specs.Fitting.{is_plain, AllPlain, literals, Suits, insert_one}
 use Rattle.iv_machine.proofs.Orders.{addition, with_row, row_added}
 
 -- ---- the values
-
-abbrev pub is_plain : Value → Bool
-is_plain (Text t) = false
-is_plain _ = true
-
-abbrev pub AllPlain : List Value → Type 0
-AllPlain [] = Unit {0}
-AllPlain (v ∷ vs) = (is_plain v ≡ true) × AllPlain vs
-
--- the tuple
-abbrev pub literals : List Value → List Expr
-literals values = map Literal values
 
 abbrev oks : List Value → List (Result Value ExprFault)
 oks values = map (λ v. Ok v) values
@@ -84,17 +68,6 @@ second k (v ∷ vs) = ap (λ l. v ∷ l) (second (k + 1) vs)
 
 from_none : (i : ℕ) → 0 + i ≡ i
 from_none i = omega arith
-
--- the tuple fits the table
-pub record Suits (c : Schema) (t : ℕ) (values : List Value) : Type 0 where
-  pub table : Table
-  pub there : slice_get c.tables t ≡ Some table
-  pub integers : AllIntegers table.columns
-  pub plain : AllPlain values
-  pub wide : length values ≡ length table.columns
-
-abbrev pub insert_one : ℕ → List Value → DataStatement
-insert_one t values = Insert t columns.All (Values (literals values ∷ []))
 
 inserted_plain : (w : Context) (s : Scope) (t : ℕ) (values : List Value) → Suits w.schema t values → inserted w t columns.All (map (value s) (literals values)) ≡ Ok (insertion t values)
 inserted_plain w s t values h =

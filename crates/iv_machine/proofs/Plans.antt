@@ -1,5 +1,5 @@
 -- What a resolved plan is like, as long as few statements are taken up.
-use Rattle.std.proofs.Common.{◌≡◌, ℕ, ◌+◌, ◌-◌, ◌<◌, ◌≤◌, ◌||◌, nat_le, nat_lt, arith, Bool, true, false, if◌then◌else◌, ◌==◌, List, [], ◌∷◌, ◌∙◌, refl, ap, cond, length, map, Option, Some, None, is_some, unwrap_or, Result, Ok, Err, slice_get, pos, ◌-ℤ◌, zero, suc, subst}
+use Rattle.std.proofs.Common.{◌≡◌, ℕ, ◌+◌, ◌-◌, filter_map, option_map, ◌<◌, ◌≤◌, ◌||◌, nat_le, nat_lt, arith, Bool, true, false, if◌then◌else◌, ◌==◌, List, [], ◌∷◌, ◌∙◌, refl, ap, cond, length, map, Option, Some, None, is_some, slice_get, pos, ◌-ℤ◌, zero, suc, subst}
 use Rattle.iv_syntax.specs.declared.table.TableElement.{TableElement}
 use Rattle.iv_syntax.specs.declared.table.TableElement.TheVariants as element
 use Rattle.iv_syntax.specs.declared.statement.ValueOrDefault.{ValueOrDefault}
@@ -12,26 +12,20 @@ use Rattle.iv_syntax.specs.declared.statement.Statement.{Statement}
 use Rattle.iv_syntax.specs.declared.statement.Statement.TheVariants as statement
 use Rattle.iv_catalogue.specs.Catalogues.{Schema}
 use Rattle.iv_catalogue.specs.declared.cause.Cause.{Cause}
-use Rattle.iv_catalogue.specs.declared.cause.Refusal.{Refusal}
 use Rattle.iv_catalogue.specs.declared.catalogue.Table.{Table}
 use Rattle.iv_catalogue.specs.declared.constraint.Constraint.{Constraint}
 use Rattle.std.proofs.lemmas.Bool.Decides.{nat_tests}
-use Rattle.iv_catalogue.specs.declared.plan.Plan.{Plan}
-use Rattle.iv_catalogue.specs.declared.plan.Plan.TheVariants as plan
-use Rattle.iv_catalogue.specs.declared.plan.SchemaPlan.{SchemaPlan}
-use Rattle.iv_catalogue.specs.declared.plan.SchemaPlan.TheVariants as schema
-use Rattle.iv_catalogue.specs.declared.plan.QueryPlan.{QueryPlan}
-use Rattle.iv_catalogue.specs.declared.plan.QueryPlan.TheVariants as query
-use Rattle.iv_catalogue.specs.declared.plan.TransactionPlan.{TransactionPlan}
-use Rattle.iv_catalogue.specs.declared.plan.TransactionPlan.TheVariants as transaction
-use Rattle.iv_catalogue.specs.Resolution.{resolution, resolved_create, create_cause, constraints_of, insert_into, insert_plan, insert_tuples, resolved_insert, resolved_select, select_plan, table_named, literal_or_null, literal_expr, literal_value, signed_number, integer, column_of, refused, column_names, is_beyond_limits, has_unknown, has_duplicate}
-use Rattle.iv_machine.proofs.Scans.{Upon}
+use Rattle.iv_catalogue.specs.Refusals.{refused}
+use Rattle.iv_catalogue.specs.Resolution.{all_of, is_taken_up, resolution, resolution_by_kind, create_resolution, create_cause, is_plain_time, check_of, name_or_generated, rule_meaning, constraint_of, constraints_from, constraints_of, is_plain_column, column_in, columns_of, table_plan, plan_or_fault, insertion_of, insert_into, insert_plan, insert_tuples, insert_resolution, is_plain_select, plain_select_plan, select_resolution, select_plan, table_named, literal_meaning, literal_value, signed_number, integer, column_names, is_beyond_limits, has_unknown, has_duplicate}
+use Rattle.iv_catalogue.specs.declared.limits.TheConstants.{GREATEST_INTEGER, MOST_COLUMNS, MOST_CONSTRAINTS, MOST_TABLES}
+use Rattle.iv_syntax.specs.declared.table.TableConstraint.{TableConstraint}
+use Rattle.iv_value.specs.declared.value.Kind.TheVariants.{Integer}
+use Rattle.iv_expr.specs.declared.tree.Expr.{Expr}
+use Rattle.iv_machine.specs.Fitting.{is_plain, AllPlain, literals, Upon, AnswerFits}
 use Rattle.iv_catalogue.specs.declared.cause.Cause.TheVariants.{Unknown, Duplicate, SchemaFault, WrongShape, Limit}
 use Rattle.iv_value.specs.declared.value.Value.{Value}
 use Rattle.iv_value.specs.declared.value.Value.TheVariants.{Null, Int}
 use Rattle.iv_expr.specs.declared.tree.Expr.TheVariants.{Literal}
-use Rattle.iv_expr.specs.declared.tree.Cond.{Cond}
-use Rattle.iv_expr.specs.declared.tree.Cond.TheVariants.{Always}
 use Rattle.iv_syntax.specs.declared.tree.Sign.{Sign}
 use Rattle.iv_syntax.specs.declared.tree.Sign.TheVariants as sign
 use Rattle.iv_syntax.specs.declared.tree.Expression.{Expression}
@@ -39,87 +33,91 @@ use Rattle.iv_syntax.specs.declared.tree.Expression.TheVariants as expression
 use Rattle.iv_syntax.specs.declared.statement.ValueOrDefault.TheVariants as value
 use Rattle.iv_syntax.specs.Trees.{signed}
 use Rattle.iv_catalogue.specs.declared.catalogue.Column.{Column}
-use Rattle.iv_catalogue.specs.declared.plan.DataStatement.{DataStatement}
-use Rattle.iv_catalogue.specs.declared.plan.DataStatement.TheVariants.{Insert}
-use Rattle.iv_catalogue.specs.declared.plan.InsertColumns.TheVariants as columns
-use Rattle.iv_catalogue.specs.declared.plan.InsertRows.TheVariants as rows
-use Rattle.iv_catalogue.specs.declared.plan.Outputs.{Outputs}
-use Rattle.iv_catalogue.specs.declared.plan.Outputs.TheVariants.{Star}
 use Rattle.iv_machine.specs.declared.database.Database.{Database}
 use Rattle.iv_machine.specs.Machine.{State, is_open, outside, transaction_cause, occasion_of}
-use Rattle.iv_machine.specs.Invariants.{AllChecks, AllIntegers, TablesOfIntegers, Plain}
-use Rattle.iv_machine.proofs.Plain.{is_plain, AllPlain, literals, Suits}
+use Rattle.iv_machine.specs.Invariants.{is_check, AllChecks, AllIntegers, TablesOfIntegers, Plain}
 
--- an INSERT of one tuple of integers and nulls, which suits its table
-abbrev pub ChangeFits : Schema → DataStatement → Type 0
-ChangeFits c (Insert t columns.All (rows.Values (tuple ∷ []))) = (values : List Value) × (tuple ≡ literals values) × Suits c t values
-ChangeFits c _ = ⊥
+-- ---- what the lists of meanings are like, where all are there
 
--- SELECT * FROM a table
-abbrev pub SelectFits : Outputs → Cond → Type 0
-SelectFits Star Always = Unit {0}
-SelectFits _ _ = ⊥
+-- constraints of this table, each a CHECK, and so many
+pub record ChecksOf (n count : ℕ) (ks : List Constraint) : Type 0 where
+  pub own : Upon n ks
+  pub checks : AllChecks ks
+  pub many : length ks ≡ count
 
--- there is room for a new table, its constraints are its own, and no transaction is open
-pub record TableFits (s : State) (table : Table) (constraints : List Constraint) : Type 0 where
-  pub outside : s.start ≡ None
-  pub room : length s.schema.tables < 64
-  pub few : length constraints ≤ 64
-  pub own : Upon (length s.schema.tables) constraints
-  pub checks : AllChecks constraints
-  pub integers : AllIntegers table.columns
+abbrev ChecksIf : ℕ → ℕ → Option (List Constraint) → Type 0
+ChecksIf n count None = Unit {0}
+ChecksIf n count (Some ks) = ChecksOf n count ks
 
-abbrev pub SchemaFits : State → SchemaPlan → Type 0
-SchemaFits s (schema.CreateTable table constraints) = TableFits s table constraints
-SchemaFits s _ = ⊥
+abbrev CheckIf : ℕ → Option Constraint → Type 0
+CheckIf n None = Unit {0}
+CheckIf n (Some k) = (k.table ≡ n) × (is_check k.rule ≡ true)
 
-abbrev pub QueryFits : QueryPlan → Type 0
-QueryFits (query.Rows table outputs filter) = SelectFits outputs filter
-QueryFits _ = ⊥
+check_if : (n : ℕ) (name : List ℕ) (names : List (List ℕ)) (place : ℕ) (k : TableConstraint) → CheckIf n (constraint_of n name names place k)
+check_if n name names place k =
+    elim (is_plain_time k.time) as (λ b. CheckIf n (if b then option_map (check_of n (name_or_generated name place k.name) k.time) (rule_meaning names k.rule) else None)) [
+      | true ↦ elim (rule_meaning names k.rule) as (λ o. CheckIf n (option_map (check_of n (name_or_generated name place k.name) k.time) o)) [ Some condition ↦ (refl, refl) | None ↦ tt ]
+      | false ↦ tt
+    ]
 
-abbrev pub TransactionFits : TransactionPlan → Type 0
-TransactionFits transaction.Commit = Unit {0}
-TransactionFits transaction.Rollback = Unit {0}
-TransactionFits _ = ⊥
+one_more_check : (n count : ℕ) (k : Option Constraint) (rest : List (Option Constraint)) → CheckIf n k → ChecksIf n count (all_of rest) → ChecksIf n (count + 1) (all_of (k ∷ rest))
+one_more_check n count None rest h hs = tt
+one_more_check n count (Some k) rest h hs =
+    elim (all_of rest) as (λ o. ChecksIf n count o → ChecksIf n (count + 1) (option_map (λ ks. k ∷ ks) o)) [
+      | Some ks ↦ λ all. record { own = (h.0, all.own); checks = (h.1, all.checks); many = omega (arith, all.many) }
+      | None ↦ λ all. tt
+    ] hs
 
-abbrev pub PlanFits : State → Plan → Type 0
-PlanFits s (plan.Schema p) = SchemaFits s p
-PlanFits s (plan.Change d) = ChangeFits s.schema d
-PlanFits s (plan.Query p) = QueryFits p
-PlanFits s (plan.Transaction p) = TransactionFits p
+-- the table's constraints; elements are columns and constraints
+checks_from : (n : ℕ) (name : List ℕ) (names : List (List ℕ)) (place : ℕ) (elements : List TableElement)
+    → ChecksIf n (length elements - length (column_names elements)) (all_of (constraints_from n name names place elements)) × (length (column_names elements) ≤ length elements)
+checks_from n name names place [] = (record { own = tt; checks = tt; many = refl }, omega arith)
+checks_from n name names place (element.Column c ∷ elements) =
+    let rest = checks_from n name names place elements in
+    let same : length elements - length (column_names elements) ≡ suc (length elements) - suc (length (column_names elements)) = omega arith in
+    (subst (λ count. ChecksIf n count (all_of (constraints_from n name names place elements))) same rest.0, omega (arith, rest.1))
+checks_from n name names place (element.Constraint k ∷ elements) =
+    let rest = checks_from n name names (place + 1) elements in
+    let same : length elements - length (column_names elements) + 1 ≡ suc (length elements) - length (column_names elements) = omega (arith, rest.1) in (
+      subst (λ count. ChecksIf n count (all_of (constraint_of n name names place k ∷ constraints_from n name names (place + 1) elements))) same
+          (one_more_check n (length elements - length (column_names elements)) (constraint_of n name names place k) (constraints_from n name names (place + 1) elements)
+          (check_if n name names place k) rest.0),
+      omega (arith, rest.1),
+    )
 
-abbrev pub AnswerFits : State → Result Plan Refusal → Type 0
-AnswerFits s (Ok p) = PlanFits s p
-AnswerFits s (Err r) = Unit {0}
+abbrev IntegersIf : Option (List Column) → Type 0
+IntegersIf None = Unit {0}
+IntegersIf (Some cs) = AllIntegers cs
 
-own_constraints : (table : ℕ) (name : List ℕ) (columns : List (List ℕ)) (place : ℕ) (elements : List TableElement) → Upon table (constraints_of table name columns place elements)
-own_constraints table name columns place [] = tt
-own_constraints table name columns place (element.Column c ∷ elements) = own_constraints table name columns place elements
-own_constraints table name columns place (element.Constraint k ∷ elements) = (refl, own_constraints table name columns (place + 1) elements)
+one_more_column : (b : Bool) (name : List ℕ) (rest : List (Option Column)) → IntegersIf (all_of rest)
+    → IntegersIf (all_of ((if b then Some (record { name = name; kind = Integer; default = Null }) else None) ∷ rest))
+one_more_column false name rest h = tt
+one_more_column true name rest h =
+    elim (all_of rest) as (λ o. IntegersIf o → IntegersIf (option_map (λ cs. record { name = name; kind = Integer; default = Null } ∷ cs) o)) [ Some cs ↦ λ all. (refl, all) | None ↦ λ all. tt ] h
 
--- elements are columns and constraints
-all_elements : (table : ℕ) (name : List ℕ) (columns : List (List ℕ)) (place : ℕ) (elements : List TableElement)
-    → length (constraints_of table name columns place elements) + length (column_names elements) ≡ length elements
-all_elements table name columns place [] = refl
-all_elements table name columns place (element.Column c ∷ elements) = omega (arith, all_elements table name columns place elements)
-all_elements table name columns place (element.Constraint k ∷ elements) = omega (arith, all_elements table name columns (place + 1) elements)
+integers_from : (elements : List TableElement) → IntegersIf (columns_of elements)
+integers_from [] = tt
+integers_from (element.Column c ∷ elements) = one_more_column (is_plain_column c) c.name (filter_map column_in elements) (integers_from elements)
+integers_from (element.Constraint k ∷ elements) = integers_from elements
+
+-- ---- CREATE TABLE
 
 neither : (a b : Bool) → (a || b) ≡ false → (a ≡ false) × (b ≡ false)
 neither true b h = cc
 neither false b h = (refl, h)
 
-few_tables : (t : ℕ) → nat_le 64 t ≡ false → t < 64
+few_tables : (t : ℕ) → nat_le MOST_TABLES t ≡ false → t < MOST_TABLES
 few_tables t h = grind (arith, nat_tests)
 
-few_constraints : (k columns elements : ℕ) → k + columns ≡ elements → nat_lt 64 (elements - columns) ≡ false → k ≤ 64
-few_constraints k columns elements e h = grind (arith, nat_tests)
+few_constraints : (count : ℕ) → nat_lt MOST_CONSTRAINTS count ≡ false → count ≤ MOST_CONSTRAINTS
+few_constraints count h = grind (arith, nat_tests)
 
-within_limits : (c : Schema) (elements : List TableElement) (ks : List Constraint) → length ks + length (column_names elements) ≡ length elements
-    → is_beyond_limits c elements ≡ false → (length c.tables < 64) × (length ks ≤ 64)
-within_limits c elements ks e h =
-    let parts = neither (nat_le 64 (length c.tables) || nat_lt 32 (length (column_names elements))) (nat_lt 64 (length elements - length (column_names elements))) h in
-    let tables = neither (nat_le 64 (length c.tables)) (nat_lt 32 (length (column_names elements))) parts.0 in
-    (few_tables (length c.tables) tables.0, few_constraints (length ks) (length (column_names elements)) (length elements) e parts.1)
+within_limits : (c : Schema) (elements : List TableElement) → is_beyond_limits c elements ≡ false
+    → (length c.tables < MOST_TABLES) × (length elements - length (column_names elements) ≤ MOST_CONSTRAINTS)
+within_limits c elements h =
+    let parts = neither (nat_le MOST_TABLES (length c.tables) || nat_lt MOST_COLUMNS (length (column_names elements))) (nat_lt MOST_CONSTRAINTS (length elements - length (column_names elements))) h in
+    let tables = neither (nat_le MOST_TABLES (length c.tables)) (nat_lt MOST_COLUMNS (length (column_names elements))) parts.0 in
+    (few_tables (length c.tables) tables.0, few_constraints (length elements - length (column_names elements)) parts.1)
 
 last_test : (a b x d : Bool) (p q r s : Cause) → cond a (Some p) (cond b (Some q) (cond x (Some r) (cond d (Some s) None))) ≡ None → d ≡ false
 last_test true b x d p q r s h = cc
@@ -132,60 +130,73 @@ no_limit : (c : Schema) (name : List ℕ) (elements : List TableElement) → cre
 no_limit c name elements h =
     last_test (has_unknown elements) (has_duplicate c name elements) (length (column_names elements) == 0) (is_beyond_limits c elements) Unknown Duplicate SchemaFault Limit h
 
-all_checks : (table : ℕ) (name : List ℕ) (columns : List (List ℕ)) (place : ℕ) (elements : List TableElement) → AllChecks (constraints_of table name columns place elements)
-all_checks table name columns place [] = tt
-all_checks table name columns place (element.Column c ∷ elements) = all_checks table name columns place elements
-all_checks table name columns place (element.Constraint k ∷ elements) = (refl, all_checks table name columns (place + 1) elements)
-
-all_integers : (names : List (List ℕ)) → AllIntegers (map column_of names)
-all_integers [] = tt
-all_integers (name ∷ names) = (refl, all_integers names)
+plan_fits : (s : State) (name : List ℕ) (count : ℕ) (cs : Option (List Column)) (ks : Option (List Constraint)) → s.start ≡ None → length s.schema.tables < MOST_TABLES → count ≤ MOST_CONSTRAINTS
+    → IntegersIf cs → ChecksIf (length s.schema.tables) count ks → AnswerFits s (plan_or_fault (table_plan name cs ks))
+plan_fits s name count (Some cs) (Some ks) o room few integers checks = record {
+  outside = o;
+  room = room;
+  few = omega (arith, few, checks.many);
+  own = checks.own;
+  checks = checks.checks;
+  integers = integers;
+}
+plan_fits s name count None ks o room few integers checks = tt
+plan_fits s name count (Some cs) None o room few integers checks = tt
 
 create_fits : (s : State) (name : List ℕ) (elements : List TableElement) (cause : Option Cause) → s.start ≡ None → create_cause s.schema name elements ≡ cause
-    → AnswerFits s (resolved_create s.schema name elements cause)
+    → AnswerFits s (create_resolution s.schema name elements cause)
 create_fits s name elements (Some cause) o e = tt
 create_fits s name elements None o e =
-    let ks : List Constraint = constraints_of (length s.schema.tables) name (column_names elements) 1 elements in
-    let few = within_limits s.schema elements ks (all_elements (length s.schema.tables) name (column_names elements) 1 elements) (no_limit s.schema name elements e) in
-    record {
-      outside = o;
-      room = few.0;
-      few = few.1;
-      own = own_constraints (length s.schema.tables) name (column_names elements) 1 elements;
-      checks = all_checks (length s.schema.tables) name (column_names elements) 1 elements;
-      integers = all_integers (column_names elements);
-    }
+    let few = within_limits s.schema elements (no_limit s.schema name elements e) in
+    plan_fits s name (length elements - length (column_names elements)) (columns_of elements) (constraints_of (length s.schema.tables) name elements) o few.0 few.1
+    (integers_from elements) (checks_from (length s.schema.tables) name (column_names elements) 1 elements).0
 
 -- ---- INSERT
 
-integer_plain : (s : Sign) (n : ℕ) → is_plain (unwrap_or (integer s n) Null) ≡ true
-integer_plain s n = elim (nat_le n 9223372036854775807) as (λ b. is_plain (unwrap_or (cond b (Some (Int (elim s [ sign.Plus ↦ pos n | sign.Minus ↦ pos 0 -ℤ pos n ]))) None) Null) ≡ true) [ true ↦ refl | false ↦ refl ]
+abbrev PlainIf : Option Value → Type 0
+PlainIf None = Unit {0}
+PlainIf (Some v) = is_plain v ≡ true
 
-signed_plain : (s : Sign) (e : Expression) → is_plain (unwrap_or (signed_number s e) Null) ≡ true
+integer_plain : (s : Sign) (n : ℕ) → PlainIf (integer s n)
+integer_plain s n =
+    elim (nat_le n GREATEST_INTEGER) as (λ b. PlainIf (if b then Some (Int (elim s [ sign.Plus ↦ pos n | sign.Minus ↦ pos 0 -ℤ pos n ])) else None)) [ true ↦ refl | false ↦ tt ]
+
+signed_plain : (s : Sign) (e : Expression) → PlainIf (signed_number s e)
 signed_plain s (expression.Number n) = integer_plain s n
-signed_plain s _ = refl
+signed_plain s _ = tt
 
-literal_plain : (e : Expression) → is_plain (unwrap_or (literal_value e) Null) ≡ true
+literal_plain : (e : Expression) → PlainIf (literal_value e)
 literal_plain (expression.Number n) = integer_plain sign.Plus n
 literal_plain expression.Null = refl
 literal_plain (signed s a) = signed_plain s a
-literal_plain _ = refl
+literal_plain _ = tt
 
-value_plain : (v : ValueOrDefault) → is_plain (literal_or_null v) ≡ true
-value_plain (value.Value e) = literal_plain e
-value_plain value.Default = refl
+-- so many literals of integers and nulls
+pub record LiteralsOf (count : ℕ) (es : List Expr) : Type 0 where
+  pub values : List Value
+  pub are : es ≡ literals values
+  pub plain : AllPlain values
+  pub many : length values ≡ count
 
-all_plain : (tuple : List ValueOrDefault) → AllPlain (map literal_or_null tuple)
-all_plain [] = tt
-all_plain (v ∷ vs) = (value_plain v, all_plain vs)
+abbrev LiteralsIf : ℕ → Option (List Expr) → Type 0
+LiteralsIf count None = Unit {0}
+LiteralsIf count (Some es) = LiteralsOf count es
 
-same_literals : (tuple : List ValueOrDefault) → map literal_expr tuple ≡ literals (map literal_or_null tuple)
-same_literals [] = refl
-same_literals (v ∷ vs) = ap (λ l. Literal (literal_or_null v) ∷ l) (same_literals vs)
+one_more_literal : (count : ℕ) (v : Option Value) (rest : List (Option Expr)) → PlainIf v → LiteralsIf count (all_of rest) → LiteralsIf (count + 1) (all_of (option_map Literal v ∷ rest))
+one_more_literal count None rest h hs = tt
+one_more_literal count (Some v) rest h hs =
+    elim (all_of rest) as (λ o. LiteralsIf count o → LiteralsIf (count + 1) (option_map (λ es. Literal v ∷ es) o)) [
+      | Some es ↦ λ all. record { values = v ∷ all.values; are = ap (λ l. Literal v ∷ l) all.are; plain = (h, all.plain); many = omega (arith, all.many) }
+      | None ↦ λ all. tt
+    ] hs
 
-as_many : (tuple : List ValueOrDefault) → length (map literal_or_null tuple) ≡ length tuple
-as_many [] = refl
-as_many (v ∷ vs) = ap suc (as_many vs)
+literals_from : (tuple : List ValueOrDefault) → LiteralsIf (length tuple) (all_of (map literal_meaning tuple))
+literals_from [] = record { values = []; are = refl; plain = tt; many = refl }
+literals_from (value.Value e ∷ tuple) =
+    let one : length tuple + 1 ≡ suc (length tuple) = omega arith in
+    subst (λ count. LiteralsIf count (all_of (option_map Literal (literal_value e) ∷ map literal_meaning tuple))) one
+    (one_more_literal (length tuple) (literal_value e) (map literal_meaning tuple) (literal_plain e) (literals_from tuple))
+literals_from (value.Default ∷ tuple) = tt
 
 pub no_table : (t : ℕ) (table : Table) → slice_get {X = Table} [] t ≡ Some table → ⊥
 no_table t table h = cc
@@ -198,24 +209,20 @@ of_integers (x ∷ ts) (suc t) table h e = of_integers ts t table h.1 e
 equal : (n m : ℕ) → (n == m) ≡ true → n ≡ m
 equal n m h = grind (arith, nat_tests)
 
-same_length : (tuple : List ValueOrDefault) (columns : List Column) → (length tuple == length columns) ≡ true → length (map literal_or_null tuple) ≡ length columns
-same_length tuple columns h = as_many tuple ∙ equal (length tuple) (length columns) h
+tuple_fits_if : (s : State) (t : ℕ) (table : Table) (count : ℕ) (es : Option (List Expr)) → Plain s.schema → slice_get s.schema.tables t ≡ Some table → count ≡ length table.columns
+    → LiteralsIf count es → AnswerFits s (plan_or_fault (option_map (insertion_of t) es))
+tuple_fits_if s t table count None p h wide ls = tt
+tuple_fits_if s t table count (Some es) p h wide ls = (
+  ls.values,
+  ls.are,
+  record { table = table; there = h; integers = of_integers s.schema.tables t table p.integers h; plain = ls.plain; wide = ls.many ∙ wide },
+)
 
 shaped_fits : (s : State) (t : ℕ) (table : Table) (tuple : List ValueOrDefault) → Plain s.schema → slice_get s.schema.tables t ≡ Some table → AnswerFits s (insert_into t table tuple)
 shaped_fits s t table tuple p h =
     elim (length tuple == length table.columns) as (λ b. (length tuple == length table.columns) ≡ b
-    → AnswerFits s (if b then Ok (plan.Change (Insert t columns.All (rows.Values (map literal_expr tuple ∷ [])))) else refused WrongShape)) [
-      | true ↦ λ wide. (
-        map literal_or_null tuple,
-        same_literals tuple,
-        record {
-          table = table;
-          there = h;
-          integers = of_integers s.schema.tables t table p.integers h;
-          plain = all_plain tuple;
-          wide = same_length tuple table.columns wide;
-        },
-      )
+    → AnswerFits s (if b then plan_or_fault (option_map (insertion_of t) (all_of (map literal_meaning tuple))) else refused WrongShape)) [
+      | true ↦ λ wide. tuple_fits_if s t table (length tuple) (all_of (map literal_meaning tuple)) p h (equal (length tuple) (length table.columns) wide) (literals_from tuple)
       | false ↦ λ wide. tt
     ] refl
 
@@ -233,7 +240,7 @@ tuples_fit s name [] p = tt
 tuples_fit s name (tuple ∷ []) p = tuple_fits s (table_named s.schema name) tuple p
 tuples_fit s name (tuple ∷ other ∷ more) p = tt
 
-insert_fits : (s : State) (i : WrittenInsert) → Plain s.schema → AnswerFits s (resolved_insert s.schema i)
+insert_fits : (s : State) (i : WrittenInsert) → Plain s.schema → AnswerFits s (insert_resolution s.schema i)
 insert_fits s (insert.DefaultValues t) p = tt
 insert_fits s (insert.Rows t (Some l) x) p = tt
 insert_fits s (insert.Rows t None (source.Values tuples)) p = tuples_fit s t tuples p
@@ -245,9 +252,12 @@ place_fits : (s : State) (place : Option ℕ) → AnswerFits s (select_plan plac
 place_fits s None = tt
 place_fits s (Some t) = tt
 
-select_fits : (s : State) (q : Select) → AnswerFits s (resolved_select s.schema q)
-select_fits s (select.Count r f) = tt
-select_fits s (select.Rows l r f) = place_fits s (table_named s.schema r.table)
+plain_select_fits : (s : State) (q : Select) → AnswerFits s (plain_select_plan s.schema q)
+plain_select_fits s (select.Count r f) = tt
+plain_select_fits s (select.Rows l r f) = place_fits s (table_named s.schema r.table)
+
+select_fits : (s : State) (q : Select) → AnswerFits s (select_resolution s.schema q)
+select_fits s q = elim (is_plain_select q) as (λ b. AnswerFits s (if b then plain_select_plan s.schema q else refused SchemaFault)) [ true ↦ plain_select_fits s q | false ↦ tt ]
 
 -- ---- any statement
 
@@ -255,9 +265,13 @@ none_open : (o : Option Database) → transaction_cause (is_some o) outside ≡ 
 none_open None h = refl
 none_open (Some d) h = cc
 
+kind_fits : (s : State) (st : Statement) → Plain s.schema → transaction_cause (is_open s) (occasion_of st) ≡ None → AnswerFits s (resolution_by_kind s.schema st)
+kind_fits s (statement.CreateTable name elements) p o = create_fits s name elements (create_cause s.schema name elements) (none_open s.start o) refl
+kind_fits s (statement.Insert i) p o = insert_fits s i p
+kind_fits s (statement.Select q) p o = select_fits s q
+kind_fits s _ p o = tt
+
 -- every plan that resolution gives fits, where the statement may run
 pub resolution_fits : (s : State) (st : Statement) → Plain s.schema → transaction_cause (is_open s) (occasion_of st) ≡ None → AnswerFits s (resolution s.schema st)
-resolution_fits s (statement.CreateTable name elements) p o = create_fits s name elements (create_cause s.schema name elements) (none_open s.start o) refl
-resolution_fits s (statement.Insert i) p o = insert_fits s i p
-resolution_fits s (statement.Select q) p o = select_fits s q
-resolution_fits s _ p o = tt
+resolution_fits s st p o =
+    elim (is_taken_up st) as (λ b. AnswerFits s (if b then resolution_by_kind s.schema st else refused SchemaFault)) [ true ↦ kind_fits s st p o | false ↦ tt ]

@@ -5,6 +5,7 @@ use Rattle.iv_catalogue.specs.declared.constraint.Constraint.{Constraint}
 use Rattle.iv_catalogue.specs.declared.constraint.Rule.{Rule}
 use Rattle.iv_catalogue.specs.declared.constraint.Rule.TheVariants as rule
 use Rattle.iv_expr.specs.declared.row.StoredRow.{StoredRow}
+use Rattle.iv_machine.specs.Fitting.{Upon}
 use Rattle.iv_machine.specs.Invariants.{Below, is_check, AllChecks}
 use Rattle.iv_machine.specs.Databases.{obeys, satisfies, violates, fault_at, violations, chosen_violations, scan_from, scan}
 
@@ -94,10 +95,6 @@ none_of_some rows chosen cs h = none_of_some_from rows chosen 0 cs h
 -- ---- more constraints
 
 -- the constraints are of the table with this number
-abbrev pub Upon : ℕ → List Constraint → Type 0
-Upon n [] = Unit {0}
-Upon n (c ∷ cs) = (c.table ≡ n) × Upon n cs
-
 pub below_more : (n m : ℕ) (rows : List StoredRow) → n ≤ m → Below n rows → Below m rows
 below_more n m [] h b = tt
 below_more n m (r ∷ rows) h b = (omega (arith, h, b.0), below_more n m rows h b.1)

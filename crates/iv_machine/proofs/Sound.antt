@@ -3,7 +3,7 @@ use Rattle.std.proofs.Common.{◌≡◌, ℕ, ◌+◌, ◌<◌, ◌≤◌, Bool,
 use Rattle.iv_value.specs.declared.value.Value.{Value}
 use Rattle.iv_expr.specs.Scopes.{no_frame}
 use Rattle.iv_syntax.specs.declared.statement.Statement.{Statement}
-use Rattle.iv_catalogue.specs.Catalogues.{with_table}
+use Rattle.iv_catalogue.specs.Catalogues.{with_table, NumbersRise}
 use Rattle.iv_catalogue.specs.declared.catalogue.Table.{Table}
 use Rattle.iv_catalogue.specs.declared.constraint.Constraint.{Constraint}
 use Rattle.iv_catalogue.specs.declared.plan.DataStatement.{DataStatement}
@@ -25,18 +25,20 @@ use Rattle.iv_catalogue.specs.declared.cause.Refusal.{Refusal}
 use Rattle.iv_catalogue.specs.Resolution.{is_taken_up, resolution}
 use Rattle.iv_machine.specs.declared.answer.Answer.{Answer}
 use Rattle.iv_machine.specs.declared.database.Database.{Database}
-use Rattle.iv_machine.specs.declared.database.Which.TheVariants.{Immediate, All}
+use Rattle.iv_machine.specs.declared.database.Which.TheVariants.{Immediate, Deferred, All}
 use Rattle.iv_machine.specs.Bounds.{Bounds}
 use Rattle.iv_machine.specs.Context.{fails}
 use Rattle.iv_machine.specs.Databases.{scan, is_chosen, first, initial_modes}
 use Rattle.iv_machine.specs.Levels.{level}
-use Rattle.iv_machine.specs.Machine.{State, empty_state, starting, is_open, refuse, context_of, changed, data_changed, answered, selected, ended, rolled_back, commit_state, first_violation, with_schema, defined, queried, transacted, performed, performed_where, transaction_cause, occasion_of, unless, step, run}
+use Rattle.iv_machine.specs.Machine.{State, empty_state, starting, is_open, refuse, context_of, changed, data_changed, answered, selected, ended, commit_by, commit_outcome, rollback_by, rollback_outcome, first_violation, with_schema, defined, queried, transacted, performed, performed_where, transaction_cause, occasion_of, unless, step, run}
 use Rattle.iv_machine.specs.Invariants.{Orderly, AllChecks, TablesOfIntegers, AllIntegers, Plain, Sound}
-use Rattle.iv_machine.specs.Laws.{IsSound, ReachedStatesAreSound}
+use Rattle.iv_machine.specs.Laws.{IsSound, EachSaveHolds, ReachedStatesAreSound}
 use Rattle.iv_machine.proofs.Scans.{none_of_some, more_constraints, below_more, below_both}
 use Rattle.iv_machine.proofs.Orders.{with_row, new_row_of, rising_more}
-use Rattle.iv_machine.proofs.Plain.{Suits, insert_one, plain_level, plain_checked, level_plain}
-use Rattle.iv_machine.proofs.Plans.{PlanFits, AnswerFits, ChangeFits, TableFits, SchemaFits, QueryFits, TransactionFits, resolution_fits, no_table}
+use Rattle.iv_machine.specs.Fitting.{Suits, insert_one, PlanFits, AnswerFits, ChangeFits, TableFits, SchemaFits, QueryFits, TransactionFits}
+use Rattle.iv_machine.proofs.Plain.{plain_level, plain_checked, level_plain}
+use Rattle.iv_machine.proofs.Plans.{resolution_fits, no_table}
+use Rattle.iv_machine.proofs.Modes.{none_where_none_deferred}
 
 pub empty_sound : (limits : Bounds) → Sound (empty_state limits)
 empty_sound limits = record {
@@ -167,21 +169,23 @@ ended_sound s d clean orderly plain = record {
   unsaved = refl;
 }
 
-pub rolled_back_sound : (s : State) → Sound s → Sound (rolled_back s)
-rolled_back_sound s h =
-    elim s.start as (λ o. scan (unwrap_or o s.database).rows s.schema.constraints (λ _. true) ≡ [] → Orderly (length s.schema.tables) (unwrap_or o s.database)
-    → Sound (elim o [ Some d ↦ ended s d | None ↦ s ])) [
-      | Some d ↦ λ clean orderly. ended_sound s d clean orderly h.plain
-      | None ↦ λ clean orderly. h
-    ] h.clean h.start_orderly
+rollback_by_sound : (s : State) (start : Option Database) → scan (unwrap_or start s.database).rows s.schema.constraints (λ _. true) ≡ []
+    → Orderly (length s.schema.tables) (unwrap_or start s.database) → Sound s → Sound (rollback_by s start).state
+rollback_by_sound s None clean orderly h = h
+rollback_by_sound s (Some d) clean orderly h = ended_sound s d clean orderly h.plain
 
-pub committed_sound : (s : State) (f : Option Fault) → first_violation s ≡ f → Sound s → Sound (commit_state s f)
-committed_sound s None e h =
-    elim s.start as (λ o. Sound (elim o [ Some d ↦ ended s s.database | None ↦ s ])) [
-      | Some d ↦ ended_sound s s.database (no_first (scan s.database.rows s.schema.constraints (λ _. true)) e) h.orderly h.plain
-      | None ↦ h
-    ]
-committed_sound s (Some f) e h = rolled_back_sound s h
+pub rollback_sound : (s : State) → Sound s → Sound (rollback_outcome s).state
+rollback_sound s h = rollback_by_sound s s.start h.clean h.start_orderly h
+
+commit_by_sound : (s : State) (start : Option Database) (f : Option Fault) → first_violation s ≡ f → scan (unwrap_or start s.database).rows s.schema.constraints (λ _. true) ≡ []
+    → Orderly (length s.schema.tables) (unwrap_or start s.database) → Sound s → Sound (commit_by s start f).state
+commit_by_sound s None f e clean orderly h = h
+commit_by_sound s (Some d) None e clean orderly h =
+    ended_sound s s.database (no_first (scan s.database.rows s.schema.constraints (λ _. true)) e) h.orderly h.plain
+commit_by_sound s (Some d) (Some f) e clean orderly h = ended_sound s d clean orderly h.plain
+
+pub commit_sound : (s : State) → Sound s → Sound (commit_outcome s).state
+commit_sound s h = commit_by_sound s s.start (first_violation s) refl h.clean h.start_orderly h
 
 -- ---- statements
 
@@ -194,8 +198,8 @@ queried_sound s (query.Rows t outputs filter) u h = answered_sound s (selected s
 queried_sound s _ u h = absurd u
 
 transacted_sound : (s : State) (p : TransactionPlan) → TransactionFits p → Sound s → Sound (transacted s p).state
-transacted_sound s transaction.Commit u h = committed_sound s (first_violation s) refl h
-transacted_sound s transaction.Rollback u h = rolled_back_sound s h
+transacted_sound s transaction.Commit u h = commit_sound s h
+transacted_sound s transaction.Rollback u h = rollback_sound s h
 transacted_sound s _ u h = absurd u
 
 pub performed_sound : (s : State) (p : Plan) → PlanFits s p → Sound s → Sound (performed s p).state
@@ -228,9 +232,19 @@ run_sound s (st ∷ sts) h = run_sound (step s st).state sts (step_sound s st h)
 pub sound_is : (s : State) → Sound s → IsSound s
 sound_is s h = record {
   immediate = h.immediate;
-  outside = λ e. ap (λ d. scan d.rows s.schema.constraints (is_chosen s.modes All)) (sym (outside_same s e)) ∙ h.clean;
-  modes = λ e. h.initial;
+  deferred = (
+    none_of_some s.database.rows (is_chosen s.modes Deferred) s.schema.constraints,
+    none_where_none_deferred s.database.rows s.modes s.schema.constraints h.immediate,
+  );
+  outside = λ e. record {
+    unviolated = ap (λ d. scan d.rows s.schema.constraints (is_chosen s.modes All)) (sym (outside_same s e)) ∙ h.clean;
+    initial = h.initial;
+    unsaved = h.unsaved;
+    uncounted = ap (λ d. d.count) (sym (outside_same s e)) ∙ h.uncounted;
+  };
+  saves = subst (EachSaveHolds s.schema) (sym h.unsaved) tt;
   rising = h.orderly.rising;
+  triggers = subst (λ ts. NumbersRise 0 ts s.schema.created) (sym h.plain.untriggered) (omega arith);
 }
 
 pub reached : ReachedStatesAreSound

@@ -1,20 +1,46 @@
--- The laws that public functions carry.
-use Rattle.std.specs.Prelude.{◌≡◌, List, [], None}
+-- The laws of the states that statements reach, which public functions carry.
+use Rattle.std.specs.Prelude.{◌≡◌, ◌↔◌, List, [], ◌∷◌, None, Ok}
 use Rattle.iv_syntax.specs.declared.statement.Statement.{Statement}
-use Rattle.iv_machine.specs.declared.database.Which.TheVariants.{Immediate, All}
+use Rattle.iv_catalogue.specs.Catalogues.{Schema, TriggersNumbered}
+use Rattle.iv_catalogue.specs.declared.plan.Plan.{Plan}
+use Rattle.iv_catalogue.specs.Resolution.{resolution}
+use Rattle.iv_machine.specs.declared.database.Which.TheVariants.{Immediate, Deferred, All}
 use Rattle.iv_machine.specs.Bounds.{Bounds}
 use Rattle.iv_machine.specs.Databases.{scan, is_chosen, initial_modes}
-use Rattle.iv_machine.specs.Machine.{State, empty_state, run}
+use Rattle.iv_machine.specs.Machine.{State, Savepoint, empty_state, run, occasion_of, plan_occasion}
 use Rattle.iv_machine.specs.Invariants.{Rising}
 
--- no immediate constraint is violated, and outside a transaction none at all; there modes are initial; rows have rising numbers
--- below the next one
+-- Outside a transaction no constraint is violated, modes are initial, there is no savepoint, and no row change stands.
+pub record IsQuiet (s : State) : Type 0 where
+  pub unviolated : scan s.database.rows s.schema.constraints (is_chosen s.modes All) ≡ []
+  pub initial : s.modes ≡ initial_modes s.schema.constraints
+  pub unsaved : s.savepoints ≡ []
+  pub uncounted : s.database.count ≡ 0
+
+-- No immediate constraint is violated in a savepoint's database, under its own modes.
+abbrev pub SaveHolds : Schema → Savepoint → Type 0
+SaveHolds c save = scan save.database.rows c.constraints (is_chosen save.modes Immediate) ≡ []
+
+abbrev pub EachSaveHolds : Schema → List Savepoint → Type 0
+EachSaveHolds c [] = Unit {0}
+EachSaveHolds c (save ∷ saves) = SaveHolds c save × EachSaveHolds c saves
+
+-- No immediate constraint is violated, so that none is violated exactly where no deferred one is; and what holds outside a
+-- transaction, of savepoints, of rows (their numbers rise, below the next one) and of the numbers of triggers.
 pub record IsSound (s : State) : Type 0 where
   pub immediate : scan s.database.rows s.schema.constraints (is_chosen s.modes Immediate) ≡ []
-  pub outside : s.start ≡ None → scan s.database.rows s.schema.constraints (is_chosen s.modes All) ≡ []
-  pub modes : s.start ≡ None → s.modes ≡ initial_modes s.schema.constraints
+  pub deferred :
+      (scan s.database.rows s.schema.constraints (is_chosen s.modes All) ≡ [])
+      ↔ (scan s.database.rows s.schema.constraints (is_chosen s.modes Deferred) ≡ [])
+  pub outside : s.start ≡ None → IsQuiet s
+  pub saves : EachSaveHolds s.schema s.savepoints
   pub rising : Rising 0 s.database.rows s.database.next
+  pub triggers : TriggersNumbered s.schema
 
 -- In every state that a run reaches from an empty one.
 abbrev pub ReachedStatesAreSound : Type 0
 ReachedStatesAreSound = (limits : Bounds) (statements : List Statement) → IsSound (run (empty_state limits) statements).1
+
+-- A statement and its plan may run on the same occasions.
+abbrev pub PlansKeepTheOccasion : Type 0
+PlansKeepTheOccasion = (c : Schema) (st : Statement) (p : Plan) → resolution c st ≡ Ok p → plan_occasion p ≡ occasion_of st

@@ -8,6 +8,7 @@ pub mod Waves
 pub mod Levels
 pub mod Machine
 pub mod Invariants
+pub mod Fitting
 pub mod Laws
 pub mod WorkedPlans
 pub mod WorkedScripts

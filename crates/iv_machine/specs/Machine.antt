@@ -1,5 +1,5 @@
--- The machine: its states, and what a statement answers and leaves (4.32 "SQL-transactions", 16 "Transaction management").
-use Rattle.std.specs.Prelude.{◌≡◌, ℕ, ◌-◌, Bool, true, false, not, ◌&&◌, if◌then◌else◌, ◌==◌, List, [], ◌∷◌, length, map, filter, find, fold, pos, slice_get, slice_set, Option, Some, None, is_some, unwrap_or, Result, Ok, Err, MatchBool}
+-- The machine: its states, and what a statement answers and leaves ("SQL-transactions", "Transaction management").
+use Rattle.std.specs.Prelude.{◌≡◌, ℕ, ◌-◌, nat_lt, Bool, true, false, not, ◌&&◌, ◌||◌, if◌then◌else◌, ◌==◌, List, [], ◌∷◌, length, map, filter, find, fold, pos, slice_get, slice_set, Option, Some, None, is_some, unwrap_or, Result, Ok, Err, MatchBool}
 use Rattle.std.specs.List.{enumerate_from}
 use Rattle.std.specs.Str.{bytes_eq}
 use Rattle.iv_value.specs.declared.value.Value.{Value}
@@ -29,7 +29,8 @@ use Rattle.iv_catalogue.specs.declared.plan.QueryPlan.{QueryPlan}
 use Rattle.iv_catalogue.specs.declared.plan.QueryPlan.TheVariants as query
 use Rattle.iv_catalogue.specs.declared.plan.TransactionPlan.{TransactionPlan}
 use Rattle.iv_catalogue.specs.declared.plan.TransactionPlan.TheVariants as transaction
-use Rattle.iv_catalogue.specs.Resolution.{is_taken_up, resolution, refused, is_memory}
+use Rattle.iv_catalogue.specs.Refusals.{refused, is_memory, out_of_memory}
+use Rattle.iv_catalogue.specs.Resolution.{is_taken_up, resolution}
 use Rattle.iv_machine.specs.declared.database.Database.{Database}
 use Rattle.iv_machine.specs.declared.database.Which.TheVariants.{All}
 use Rattle.iv_machine.specs.declared.answer.Answer.{Answer}
@@ -103,7 +104,7 @@ refuse_first s cause None o = o
 abbrev pub context_of : State → Context
 context_of s = record { schema = s.schema; modes = s.modes }
 
--- a data statement outside a transaction begins one (4.32)
+-- a data statement outside a transaction begins one ("SQL-transactions")
 abbrev pub begun : State → State
 begun s = record s { start = Some (starting s) }
 
@@ -124,7 +125,7 @@ changed s (Err f) = record {
 abbrev pub data_changed : State → DataStatement → Outcome
 data_changed s d = changed s (level (s.limits.depth - 1) (context_of s) d no_frame s.database s.limits.changes)
 
--- ---- SELECT (7.12 "query specification")
+-- ---- SELECT ("Query specification")
 
 abbrev pub answered : State → Result Answer Cause → Outcome
 answered s (Ok a) = accept s a
@@ -147,50 +148,39 @@ selected s table outputs filter =
 abbrev pub counted : State → ℕ → Cond → Result Answer Cause
 counted s table filter = and_then (found s table filter) (λ rows. Ok (Rows ((Int (pos (length rows)) ∷ []) ∷ [])))
 
--- ---- the ends of a transaction (16.6 "commit statement", 16.7 "rollback statement")
+-- ---- the ends of a transaction ("Commit statement", "Rollback statement")
 
 -- The transaction is ended with this database: no change stands, the modes are initial, and there is no savepoint.
 abbrev pub ended : State → Database → State
 ended s db = record s { database = record db { count = 0 }; modes = initial_modes s.schema.constraints; start = None; savepoints = [] }
 
--- the state as it was at the start of the transaction, where one is open
-abbrev pub rolled_back : State → State
-rolled_back s = elim s.start [ Some d ↦ ended s d | None ↦ s ]
+-- The transaction is ended with the database from its start, and every change that stood in it is undone.
+abbrev pub rolled_back : State → Database → Result Answer Refusal → Outcome
+rolled_back s start answer = record { answer = answer; state = ended s start; work = record { changes = 0; undone = s.database.count } }
 
 -- the first violation of any constraint, by creation, then by row
 abbrev pub first_violation : State → Option Fault
 first_violation s = first (scan s.database.rows s.schema.constraints (is_chosen s.modes All))
 
--- the answer of COMMIT, from the first violation of any constraint: outside a transaction it is accepted
-abbrev pub commit_answer : Option Database → Option Fault → Result (Unit {0}) Fault
-commit_answer None f = Ok tt
-commit_answer (Some d) None = Ok tt
-commit_answer (Some d) (Some f) = Err f
+-- COMMIT, by the database at the start of an open transaction and by the first violation. Outside a transaction it does nothing. It
+-- is accepted where no constraint is violated, and the database stays; otherwise it rolls the transaction back.
+abbrev pub commit_by : State → Option Database → Option Fault → Outcome
+commit_by s None violation = accept s Done
+commit_by s (Some start) None = accept (ended s s.database) Done
+commit_by s (Some start) (Some fault) = rolled_back s start (refused (CommitRefused fault))
 
--- the state after COMMIT: the database stays, or is the one at the transaction's start
-abbrev pub commit_state : State → Option Fault → State
-commit_state s None = elim s.start [ Some d ↦ ended s s.database | None ↦ s ]
-commit_state s (Some f) = rolled_back s
+abbrev pub commit_outcome : State → Outcome
+commit_outcome s = commit_by s s.start (first_violation s)
 
-abbrev pub commit_reply : Result (Unit {0}) Fault → Result Answer Refusal
-commit_reply (Ok u) = Ok Done
-commit_reply (Err f) = refused (CommitRefused f)
+-- ROLLBACK, by the database at the start of an open transaction.
+abbrev pub rollback_by : State → Option Database → Outcome
+rollback_by s None = accept s Done
+rollback_by s (Some start) = rolled_back s start (Ok Done)
 
--- what is undone of the transaction: all changes that stand in it, where it is open
-abbrev pub standing : State → ℕ
-standing s = if is_open s then s.database.count else 0
+abbrev pub rollback_outcome : State → Outcome
+rollback_outcome s = rollback_by s s.start
 
-abbrev pub commit_work : State → Result (Unit {0}) Fault → Work
-commit_work s (Ok u) = no_work
-commit_work s (Err f) = record { changes = 0; undone = standing s }
-
-abbrev pub committed : State → Option Fault → Outcome
-committed s f = record { answer = commit_reply (commit_answer s.start f); state = commit_state s f; work = commit_work s (commit_answer s.start f) }
-
-abbrev pub given_up : State → Outcome
-given_up s = record { answer = Ok Done; state = rolled_back s; work = record { changes = 0; undone = standing s } }
-
--- ---- savepoints (16.4 "savepoint statement", 16.5 "release savepoint statement")
+-- ---- savepoints ("Savepoint statement", "Release savepoint statement")
 
 -- a savepoint of that name, and those before it
 pub record Found : Type 0 where
@@ -222,7 +212,7 @@ returned s (Some x) = record {
   work = record { changes = 0; undone = s.database.count - x.savepoint.database.count };
 }
 
--- ---- SET CONSTRAINTS (16.3 "set constraints mode statement")
+-- ---- SET CONSTRAINTS ("Set constraints mode statement")
 
 abbrev pub is_deferrable : Schema → ℕ → Bool
 is_deferrable c id = elim (slice_get c.constraints id) [ Some k ↦ k.deferrable | None ↦ false ]
@@ -256,7 +246,7 @@ constraints_set s ids m =
 abbrev pub with_schema : State → Schema → State
 with_schema s c = record s { schema = c; modes = initial_modes c.constraints }
 
--- a constraint is refused where a row violates it, deferrable or not (11.12 "add table constraint definition")
+-- a constraint is refused where a row violates it, deferrable or not ("Add table constraint definition")
 abbrev pub added : State → Constraint → Outcome
 added s k =
     refuse_first s (λ f. AddRefused f.row)
@@ -277,8 +267,8 @@ queried s (query.Count table filter) = answered s (counted s table filter)
 
 abbrev pub transacted : State → TransactionPlan → Outcome
 transacted s transaction.Start = accept (begun s) Done
-transacted s transaction.Commit = committed s (first_violation s)
-transacted s transaction.Rollback = given_up s
+transacted s transaction.Commit = commit_outcome s
+transacted s transaction.Rollback = rollback_outcome s
 transacted s (transaction.Savepoint name) = accept (saved s name) Done
 transacted s (transaction.Release name) = released s (savepoint_named name s.savepoints)
 transacted s (transaction.RollbackTo name) = returned s (savepoint_named name s.savepoints)
@@ -295,13 +285,16 @@ abbrev pub performed_where : State → Result Plan Refusal → Outcome
 performed_where s (Ok p) = performed s p
 performed_where s (Err r) = record { answer = Err r; state = s; work = no_work }
 
--- Whether a statement runs outside a transaction alone, inside one alone, only to begin one, or always.
+-- ---- when a statement may run
+
+-- Outside a transaction alone, inside one alone, only to begin one, or always.
 pub data Occasion : Type 0 where
   outside : Occasion
   inside : Occasion
   beginning : Occasion
   always : Occasion
 
+-- schema statements run outside a transaction; savepoints and constraint modes are set inside one
 abbrev pub occasion_of : Statement → Occasion
 occasion_of (statement.CreateTable _ _) = outside
 occasion_of (statement.AlterTable _ _) = outside
@@ -313,6 +306,18 @@ occasion_of (statement.Release _) = inside
 occasion_of (statement.RollbackTo _) = inside
 occasion_of (statement.SetConstraints _ _) = inside
 occasion_of _ = always
+
+abbrev pub transaction_occasion : TransactionPlan → Occasion
+transaction_occasion transaction.Start = beginning
+transaction_occasion transaction.Commit = always
+transaction_occasion transaction.Rollback = always
+transaction_occasion _ = inside
+
+-- the same of a resolved statement
+abbrev pub plan_occasion : Plan → Occasion
+plan_occasion (plan.Schema _) = outside
+plan_occasion (plan.Transaction p) = transaction_occasion p
+plan_occasion _ = always
 
 -- why a statement is refused before anything else
 abbrev pub transaction_cause : Bool → Occasion → Option Cause
@@ -338,20 +343,24 @@ run s (st ∷ sts) = let o : Outcome = step s st in let rest : List (Result Answ
 
 -- ---- what a session promises
 
--- The answer and the next state are those of the machine, or memory was refused and the state stays.
+-- the statement may run a trigger: it changes rows, and there are triggers
+abbrev pub may_run_triggers : State → Statement → Bool
+may_run_triggers s (statement.Insert _) = nat_lt 0 (length s.schema.triggers)
+may_run_triggers s (statement.Update _) = nat_lt 0 (length s.schema.triggers)
+may_run_triggers s (statement.Delete _) = nat_lt 0 (length s.schema.triggers)
+may_run_triggers s _ = false
+
+-- Memory was refused: the state stays, and the refusal tells a trigger only where one may have run.
+abbrev pub Starved : State → Statement → Result Answer Refusal → State → Type 0
+Starved old st r new = (new ≡ old) × (may_run_triggers old st ≡ false → r ≡ Err out_of_memory)
+
+-- The answer and the next state are those of the machine, or memory was refused.
 abbrev pub Executes : State → Statement → Result Answer Refusal → State → Type 0
-Executes old st r new = MatchBool (is_memory r) (new ≡ old) ((r ≡ (step old st).answer) × (new ≡ (step old st).state))
+Executes old st r new = MatchBool (is_memory r) (Starved old st r new) ((r ≡ (step old st).answer) × (new ≡ (step old st).state))
 
--- the same of a plan
-abbrev pub Performs : State → Plan → Result Answer Refusal → State → Type 0
-Performs old p r new = MatchBool (is_memory r) (new ≡ old) ((r ≡ (performed old p).answer) × (new ≡ (performed old p).state))
-
--- the same of what resolution gives
-abbrev pub Follows : State → Result Plan Refusal → Result Answer Refusal → State → Type 0
-Follows old p r new = MatchBool (is_memory r) (new ≡ old) ((r ≡ (performed_where old p).answer) × (new ≡ (performed_where old p).state))
-
--- the statement takes no memory: COMMIT, ROLLBACK, and one that is refused for the transaction that is open or isn't
+-- The statement takes no memory: COMMIT, ROLLBACK, one that isn't taken up, and one that is refused for the transaction that is open
+-- or isn't.
 abbrev pub takes_no_memory : State → Statement → Bool
 takes_no_memory s statement.Commit = true
 takes_no_memory s statement.Rollback = true
-takes_no_memory s st = is_some (transaction_cause (is_open s) (occasion_of st))
+takes_no_memory s st = not (is_taken_up st) || is_some (transaction_cause (is_open s) (occasion_of st))

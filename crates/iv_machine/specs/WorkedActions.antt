@@ -14,7 +14,7 @@ use Rattle.iv_catalogue.specs.declared.constraint.Rule.TheVariants as rule
 use Rattle.iv_catalogue.specs.declared.cause.Cause.TheVariants as cause
 use Rattle.iv_catalogue.specs.declared.plan.BodyStatement.TheVariants as body
 use Rattle.iv_catalogue.specs.declared.plan.Plan.{Plan}
-use Rattle.iv_catalogue.specs.Resolution.{refused}
+use Rattle.iv_catalogue.specs.Refusals.{refused}
 use Rattle.iv_machine.specs.WorkedPlans.{number, null, column, where_column, integer, integer_default, not_deferrable, references, create_table, create_trigger, setting, insertion_of, insert, insert_one, update, delete, select_all, count_all, commit, rollback, Answered, ok, ok_rows, int, rows, fault, answers, answers_within, works_within, work}
 
 -- CREATE TABLE p (k INT PRIMARY KEY); CREATE TABLE c (x INT REFERENCES p ON UPDATE CASCADE); INSERT INTO p VALUES (1), (2);

@@ -11,7 +11,7 @@ use Rattle.iv_catalogue.specs.declared.constraint.Rule.{Rule}
 use Rattle.iv_catalogue.specs.declared.constraint.Rule.TheVariants as rule
 use Rattle.iv_catalogue.specs.declared.cause.Cause.TheVariants.{Violation, CommitRefused, UnknownSavepoint, NumberOutOfRange, AddRefused, NotDeferrable}
 use Rattle.iv_catalogue.specs.declared.plan.Plan.{Plan}
-use Rattle.iv_catalogue.specs.Resolution.{refused}
+use Rattle.iv_catalogue.specs.Refusals.{refused}
 use Rattle.iv_machine.specs.WorkedPlans.{number, null, column, where_column, integer, not_deferrable, deferrable, initially_deferred, references, create_table, add_constraint, setting, insert, insert_one, update, select, select_all, count_all, set_all, set_one, start, commit, rollback, savepoint, release, rollback_to, ok, ok_rows, int, rows, fault, answers, works_within, work}
 
 -- CREATE TABLE p (k INT PRIMARY KEY); CREATE TABLE c (x INT REFERENCES p INITIALLY DEFERRED);

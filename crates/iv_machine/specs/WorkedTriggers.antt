@@ -23,7 +23,7 @@ use Rattle.iv_catalogue.specs.declared.plan.InsertRows.TheVariants as insert_row
 use Rattle.iv_catalogue.specs.declared.plan.Outputs.TheVariants.{Values}
 use Rattle.iv_catalogue.specs.declared.plan.Plan.{Plan}
 use Rattle.iv_catalogue.specs.declared.plan.Plan.TheVariants.{Change}
-use Rattle.iv_catalogue.specs.Resolution.{refused}
+use Rattle.iv_catalogue.specs.Refusals.{refused}
 use Rattle.iv_machine.specs.WorkedPlans.{number, null, column, where_column, integer, not_deferrable, deferrable, create_table, create_trigger, drop_trigger, setting, insertion_of, insert, insert_one, update, delete, select_all, count_all, set_one, start, commit, ok, ok_rows, int, rows, fault, refused_in, answers, answers_deep, works_within, work}
 
 -- CREATE TABLE t (a INT CHECK (a < 5)); CREATE TRIGGER r AFTER INSERT ON t INSERT INTO t VALUES (1); INSERT INTO t VALUES (0);

@@ -1,14 +1,21 @@
 //! Laws of the machine, as contracts of functions that do nothing.
-ghost use Rattle.iv_machine.specs.Laws.{ReachedStatesAreSound};
+ghost use Rattle.iv_machine.specs.Laws.{PlansKeepTheOccasion, ReachedStatesAreSound};
 ghost use Rattle.iv_machine.specs.WorkedActions.{WorkedActions};
 ghost use Rattle.iv_machine.specs.WorkedConstraints.{WorkedConstraints};
 ghost use Rattle.iv_machine.specs.WorkedScripts.{WorkedScripts};
 ghost use Rattle.iv_machine.specs.WorkedTriggers.{WorkedTriggers};
 
 /// In every state that a run of statements reaches from an empty one no immediate constraint is
-/// violated, and outside a transaction none at all.
+/// violated, so that no constraint is violated exactly where no deferred one is. Outside a transaction no
+/// constraint is violated, modes are initial, there is no savepoint, and no row change stands.
 pub fn reached_states_are_sound()
     ensures { ReachedStatesAreSound }
+{}
+
+/// A statement and its plan may run on the same occasions: outside a transaction, inside one, to begin
+/// one, or always.
+pub fn plans_keep_the_occasion()
+    ensures { PlansKeepTheOccasion }
 {}
 
 /// Worked scripts answer what they should.
