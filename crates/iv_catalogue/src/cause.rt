@@ -3,7 +3,7 @@ ghost use Rattle.std.specs.Prelude.{◌≡◌};
 ghost use Rattle.iv_catalogue.specs.Refusals.{refusal_of};
 
 use crate::number::{ConstraintId, TriggerId};
-use std::alloc::AllocError;
+use std::alloc::{AllocError, AllocFailed};
 
 /// A violation: the constraint and the number of the row that violates it.
 #[derive(Clone, Copy, Debug, PartialEq, Eq)]
@@ -81,5 +81,16 @@ impl From<AllocError> for Refusal {
 
     fn from(_: AllocError) -> Refusal {
         Refusal::of(Cause::OutOfMemory)
+    }
+}
+
+impl<T: Drop> From<AllocFailed<T>> for Refusal {
+    ghost use Rattle.std.specs.Prelude.{◌≡◌};
+    ghost use Rattle.iv_catalogue.specs.Refusals.{out_of_memory};
+
+    ghost from_gives = { λ _ refusal. refusal ≡ out_of_memory };
+
+    fn from(failed: AllocFailed<T>) -> Refusal {
+        Refusal::from(AllocError::from(failed))
     }
 }

@@ -1,5 +1,5 @@
 -- What a session keeps stays a sound state, and is the state that the machine says.
-use Rattle.std.proofs.Common.{◌≡◌, ℕ, ◌+◌, ◌-◌, ◌≤◌, Bool, List, [], ◌∷◌, ◌++◌, ◌∙◌, refl, sym, ap, subst, cond, if◌then◌else◌, true, false, map, length, take, drop, Option, Some, None, Result, Ok, arith, IfSome, MatchBool, take-append-drop, length-append, unwrap_or, option_map, nat_lt}
+use Rattle.std.proofs.Common.{◌≡◌, ℕ, ◌+◌, ◌-◌, ◌≤◌, Bool, List, [], ◌∷◌, ◌++◌, ◌∙◌, refl, sym, ap, subst, cond, if◌then◌else◌, true, false, map, length, take, drop, Option, Some, None, Result, Ok, Err, arith, IfSome, MatchBool, take-append-drop, length-append, unwrap_or, option_map, nat_lt}
 use Rattle.std.proofs.lemmas.List.{take-append-le}
 use Rattle.std.proofs.Math.Seq.{take-length}
 use Rattle.iv_value.specs.declared.value.Value.{Value}
@@ -19,7 +19,7 @@ use Rattle.iv_catalogue.specs.declared.cause.Cause.{Cause}
 use Rattle.iv_catalogue.specs.declared.cause.Cause.TheVariants.{TooManyChanges, TransactionTooLarge, Limit, Violation}
 use Rattle.iv_catalogue.specs.declared.cause.Fault.{Fault}
 use Rattle.iv_catalogue.specs.declared.cause.Refusal.{Refusal}
-use Rattle.iv_catalogue.specs.Resolution.{refused, is_memory, is_memory_cause}
+use Rattle.iv_catalogue.specs.Refusals.{refused, is_memory, is_memory_cause, out_of_memory}
 use Rattle.iv_machine.specs.declared.answer.Answer.{Answer}
 use Rattle.iv_machine.specs.declared.answer.Answer.TheVariants.{Changed, Rows}
 use Rattle.iv_machine.specs.declared.database.Database.{Database}
@@ -27,14 +27,15 @@ use Rattle.iv_machine.specs.declared.database.Which.TheVariants.{Immediate}
 use Rattle.iv_machine.specs.Context.{Failure, fails}
 use Rattle.iv_machine.specs.Databases.{scan, scan_from, chosen_violations, violations, is_chosen, initial_modes, first}
 use Rattle.iv_machine.specs.Levels.{Finished}
-use Rattle.iv_machine.specs.Machine.{State, changed, answered, selected, first_violation, commit_state, rolled_back, ended, performed, Performs}
+use Rattle.iv_machine.specs.Machine.{State, changed, answered, selected, first_violation, commit_by, commit_outcome, rollback_by, rollback_outcome, ended, performed}
 use Rattle.iv_machine.specs.Invariants.{Sound}
 use Rattle.iv_machine.proofs.Orders.{with_row, new_row_of}
-use Rattle.iv_machine.proofs.Plain.{Suits, literals, insert_one, plain_checked}
-use Rattle.iv_machine.proofs.Plans.{TableFits, SelectFits}
+use Rattle.iv_machine.specs.Fitting.{Suits, literals, insert_one, TableFits, SelectFits}
+use Rattle.iv_session.specs.Performing.{Performs}
+use Rattle.iv_machine.proofs.Plain.{plain_checked}
 use Rattle.iv_machine.proofs.Scans.{more_rows, none_of_some}
 use Rattle.iv_machine.proofs.Selected.{all_selected}
-use Rattle.iv_machine.proofs.Sound.{created_sound, rolled_back_sound, committed_sound, performed_sound, insert_is_plain}
+use Rattle.iv_machine.proofs.Sound.{created_sound, rollback_sound, commit_sound, performed_sound, insert_is_plain}
 use Rattle.iv_session.specs.declared.session.Start.{Start}
 use Rattle.iv_session.specs.Inserts.{early, literal_of}
 use Rattle.iv_session.specs.States.{Held, state_of, database_at, Kept}
@@ -83,24 +84,23 @@ ended_as h d k = λ i. record {
   savepoints = [];
 }
 
-pub undone_as : (h : Held) (start : Start) → h.start ≡ Some start → Kept h → state_of (undone h start) ≡ rolled_back (state_of h)
+pub undone_as : (h : Held) (start : Start) → h.start ≡ Some start → Kept h → state_of (undone h start) ≡ (rollback_outcome (state_of h)).state
 undone_as h start e k =
-    ended_as h (database_at h.rows start) k
-    ∙ ap (λ o. elim (option_map (database_at h.rows) o) [ Some d ↦ ended (state_of h) d | None ↦ state_of h ]) (sym e)
+    ended_as h (database_at h.rows start) k ∙ ap (λ o. (rollback_by (state_of h) (option_map (database_at h.rows) o)).state) (sym e)
 
-pub stays_as : (h : Held) → h.start ≡ None → state_of h ≡ rolled_back (state_of h)
-stays_as h e = ap (λ o. elim (option_map (database_at h.rows) o) [ Some d ↦ ended (state_of h) d | None ↦ state_of h ]) (sym e)
+pub stays_as : (h : Held) → h.start ≡ None → state_of h ≡ (rollback_outcome (state_of h)).state
+stays_as h e = ap (λ o. (rollback_by (state_of h) (option_map (database_at h.rows) o)).state) (sym e)
 
 pub undone_kept : (h : Held) (start : Start) → h.start ≡ Some start → Kept h → Kept (undone h start)
-undone_kept h start e k = record { within = tt; sound = subst Sound (sym (undone_as h start e k)) (rolled_back_sound (state_of h) k.sound) }
+undone_kept h start e k = record { within = tt; sound = subst Sound (sym (undone_as h start e k)) (rollback_sound (state_of h) k.sound) }
 
 uncounted : (h : Held) → h.start ≡ None → Kept h → h.count ≡ 0
 uncounted h e k = subst (λ o. (unwrap_or (option_map (database_at h.rows) o) (record { rows = h.rows; next = h.next; count = h.count })).count ≡ 0) e k.sound.uncounted
 
-done_as_from : (h : Held) (o : Option Start) → h.start ≡ o → Kept h → state_of (done h) ≡ commit_state (state_of h) None
+done_as_from : (h : Held) (o : Option Start) → h.start ≡ o → Kept h → state_of (done h) ≡ (commit_by (state_of h) (option_map (database_at h.rows) h.start) None).state
 done_as_from h (Some start) e k =
     ended_as h (record { rows = h.rows; next = h.next; count = h.count }) k
-    ∙ ap (λ o. elim (option_map (database_at h.rows) o) [ Some d ↦ ended (state_of h) (record { rows = h.rows; next = h.next; count = h.count }) | None ↦ state_of h ]) (sym e)
+    ∙ ap (λ o. (commit_by (state_of h) (option_map (database_at h.rows) o) None).state) (sym e)
 done_as_from h None e k =
     (λ i. record {
       schema = h.schema;
@@ -110,13 +110,13 @@ done_as_from h None e k =
       start = option_map (database_at h.rows) (sym e i);
       savepoints = [];
     })
-    ∙ ap (λ o. elim (option_map (database_at h.rows) o) [ Some d ↦ ended (state_of h) (record { rows = h.rows; next = h.next; count = h.count }) | None ↦ state_of h ]) (sym e)
+    ∙ ap (λ o. (commit_by (state_of h) (option_map (database_at h.rows) o) None).state) (sym e)
 
-pub done_as : (h : Held) → Kept h → state_of (done h) ≡ commit_state (state_of h) None
-done_as h k = done_as_from h h.start refl k
+pub done_as : (h : Held) → first_violation (state_of h) ≡ None → Kept h → state_of (done h) ≡ (commit_outcome (state_of h)).state
+done_as h v k = done_as_from h h.start refl k ∙ ap (λ f. (commit_by (state_of h) (option_map (database_at h.rows) h.start) f).state) (sym v)
 
 pub done_kept : (h : Held) → first_violation (state_of h) ≡ None → Kept h → Kept (done h)
-done_kept h e k = record { within = tt; sound = subst Sound (sym (done_as h k)) (committed_sound (state_of h) None e k.sound) }
+done_kept h e k = record { within = tt; sound = subst Sound (sym (done_as h e k)) (commit_sound (state_of h) k.sound) }
 
 -- ---- CREATE TABLE
 
@@ -145,14 +145,14 @@ created_kept h t ks fits k = record { within = k.within; sound = subst Sound (sy
 
 -- the rows of a table, or want of memory
 abbrev pub Selects : State → ℕ → Result Answer Refusal → Type 0
-Selects s t r = MatchBool (is_memory r) (Unit {0}) (r ≡ Ok (Rows (map (λ x. x.values) (table_rows s.database.rows t))))
+Selects s t r = MatchBool (is_memory r) (r ≡ Err out_of_memory) (r ≡ Ok (Rows (map (λ x. x.values) (table_rows s.database.rows t))))
 
 pub selects : (s : State) (t : ℕ) (outputs : Outputs) (filter : Cond) → SelectFits outputs filter → (r : Result Answer Refusal) → Selects s t r
     → Performs s (plan.Query (query.Rows t outputs filter)) r s
 selects s t Star Always u r e =
-    elim (is_memory r) as (λ b. MatchBool b (Unit {0}) (r ≡ Ok (Rows (map (λ x. x.values) (table_rows s.database.rows t))))
-    → MatchBool b (s ≡ s) ((r ≡ (answered s (selected s t Star Always)).answer) × (s ≡ (answered s (selected s t Star Always)).state))) [
-      | true ↦ λ m. refl
+    elim (is_memory r) as (λ b. MatchBool b (r ≡ Err out_of_memory) (r ≡ Ok (Rows (map (λ x. x.values) (table_rows s.database.rows t))))
+    → MatchBool b ((s ≡ s) × (r ≡ Err out_of_memory)) ((r ≡ (answered s (selected s t Star Always)).answer) × (s ≡ (answered s (selected s t Star Always)).state))) [
+      | true ↦ λ m. (refl, m)
       | false ↦ λ m. (m ∙ sym (ap (λ a. (answered s a).answer) (all_selected s t)), sym (ap (λ a. (answered s a).state) (all_selected s t)))
     ] e
 selects s t _ _ u r e = absurd u

@@ -1,2 +1,4 @@
+pub mod Ending
 pub mod Inserts
+pub mod Performing
 pub mod States

@@ -1,16 +1,18 @@
 //! Statements on one database in memory.
-ghost use Rattle.std.specs.Prelude.{Ok, ◌≡◌, ◌≢◌, ◌<◌, ◌^◌, ◌-◌, ◌≤◌, ℕ, Bool, [], ◌∷◌, IfOk, OnOk, OnErr, IfSome, MatchBool, Some, None, is_some, true, false, min, map, length, not};
-ghost use Rattle.iv_catalogue.specs.Resolution.{is_memory, refused, resolution};
+ghost use Rattle.std.specs.Prelude.{Ok, Err, ◌≡◌, ◌≢◌, ◌<◌, ◌^◌, ◌-◌, ◌≤◌, ℕ, Bool, [], ◌∷◌, IfOk, OnOk, OnErr, IfSome, MatchBool, Some, None, is_some, true, false, min, map, length, not};
+ghost use Rattle.iv_catalogue.specs.Refusals.{is_memory, out_of_memory, refused};
+ghost use Rattle.iv_catalogue.specs.Resolution.{resolution};
 ghost use Rattle.iv_catalogue.specs.Catalogues.{Schema};
 ghost use Rattle.iv_catalogue.specs.declared.plan.Plan.TheVariants as planned;
 ghost use Rattle.iv_catalogue.specs.declared.plan.SchemaPlan.TheVariants as schema_plan;
 ghost use Rattle.iv_catalogue.specs.declared.plan.TransactionPlan.TheVariants as transaction_plan;
-ghost use Rattle.iv_machine.proofs.Plans.{PlanFits, SchemaFits, QueryFits, TransactionFits, ChangeFits, TableFits};
-ghost use Rattle.iv_machine.proofs.Plain.{Suits, insert_one};
+ghost use Rattle.iv_machine.specs.Fitting.{PlanFits, SchemaFits, QueryFits, TransactionFits, ChangeFits, TableFits, Suits, insert_one};
 ghost use Rattle.iv_machine.specs.declared.database.Which.TheVariants.{Immediate, Deferred, All};
 ghost use Rattle.iv_expr.specs.Scopes.{table_rows};
 ghost use Rattle.iv_machine.specs.Databases.{scan, is_chosen, first, initial_modes};
-ghost use Rattle.iv_machine.specs.Machine.{State, Executes, takes_no_memory, transaction_cause, occasion_of, is_open, empty_state, commit_answer, commit_state, first_violation, rolled_back, Performs, Follows};
+ghost use Rattle.iv_machine.specs.Machine.{State, Executes, takes_no_memory, transaction_cause, occasion_of, is_open, empty_state, commit_outcome, first_violation, rollback_outcome};
+ghost use Rattle.iv_session.specs.Ending.{commit_answer};
+ghost use Rattle.iv_session.specs.Performing.{Performs, Follows};
 ghost use Rattle.iv_machine.specs.declared.answer.Answer.TheVariants as answer;
 ghost use Rattle.iv_catalogue.specs.declared.plan.DataStatement.TheVariants as data_statement;
 ghost use Rattle.iv_catalogue.specs.declared.plan.InsertColumns.TheVariants as columns;
@@ -107,7 +109,7 @@ impl Session {
     /// Ends the transaction, and brings back the database from its start. Outside a transaction it does
     /// nothing. It takes no memory.
     pub fn rollback(&mut self)
-        ensures { self.new ≡ rolled_back self.old }
+        ensures { self.new ≡ (rollback_outcome self.old).state }
     {
         if let Some(start) = self.start.take() {
             self.rows.truncate(start.rows);
@@ -168,8 +170,8 @@ impl Session {
     /// at the transaction's start. Outside a transaction it does nothing. It takes no memory, and looks at
     /// the rows that the transaction added.
     pub fn commit(&mut self) -> Result<(), Fault>
-        ensures answer { result ≡ commit_answer self.old.start (first_violation self.old) }
-        ensures state { self.new ≡ commit_state self.old (first_violation self.old) }
+        ensures answer { commit_answer result ≡ (commit_outcome self.old).answer }
+        ensures state { self.new ≡ (commit_outcome self.old).state }
         ensures accepted { OnOk result (scan self.old.database.rows self.old.schema.constraints (is_chosen self.old.modes All) ≡ []) }
         ensures refused { OnErr result (scan self.old.database.rows self.old.schema.constraints (is_chosen self.old.modes All) ≢ []) }
     {
@@ -196,10 +198,7 @@ const LAST_ROW: u64 = 9_223_372_036_854_775_807;
 fn refuse<T>(cause: Cause) -> Result<T, Refusal>
     ensures { result ≡ refused cause }
 {
-    Err(Refusal {
-        cause,
-        trigger: None,
-    })
+    Err(Refusal::of(cause))
 }
 
 // The rows of a table, by number.
@@ -270,15 +269,9 @@ impl Session {
         requires { TableFits self.old table constraints }
         ensures { Performs self.old (planned.Schema (schema_plan.CreateTable table constraints)) result self.new }
     {
-        let Ok(mut modes) = initial_modes(self.alloc, constraints.as_slice()) else {
-            return refuse(Cause::OutOfMemory);
-        };
-        let Ok(()) = self.modes.reserve(modes.len()) else {
-            return refuse(Cause::OutOfMemory);
-        };
-        let Ok(()) = self.catalogue.add_table(table, constraints) else {
-            return refuse(Cause::OutOfMemory);
-        };
+        let mut modes = initial_modes(self.alloc, constraints.as_slice())?;
+        self.modes.reserve(modes.len())?;
+        self.catalogue.add_table(table, constraints)?;
         match self.modes.append(&mut modes) {
             Ok(()) => Ok(Answer::Done),
             Err(_) => unreachable!(),
@@ -329,9 +322,7 @@ impl Session {
             rows: self.rows.len(),
             next: self.next,
         };
-        let Ok(()) = self.rows.push(row) else {
-            return refuse(Cause::OutOfMemory);
-        };
+        self.rows.push(row)?;
         self.next += 1;
         self.count += 1;
         self.start = Some(self.start.unwrap_or(start));
@@ -343,10 +334,8 @@ impl Session {
         requires { ChangeFits self.old.schema (data_statement.Insert table columns.All (rows.Values (tuple.now ∷ []))) }
         ensures { Performs self.old (planned.Change (data_statement.Insert table columns.All (rows.Values (tuple.now ∷ [])))) result self.new }
     {
-        match row_of(self.alloc, tuple) {
-            Ok(values) => self.insert(table, values),
-            Err(_) => refuse(Cause::OutOfMemory),
-        }
+        let values = row_of(self.alloc, tuple)?;
+        self.insert(table, values)
     }
 
     // A data statement.
@@ -354,12 +343,10 @@ impl Session {
         requires { ChangeFits self.old.schema statement }
         ensures { Performs self.old (planned.Change statement) result self.new }
     {
-        match one_of(self.alloc, statement) {
-            Ok(statements) => match statements.as_slice() {
-                [statement] => self.change_lent(statement),
-                _ => unreachable!(),
-            },
-            Err(_) => refuse(Cause::OutOfMemory),
+        let statements = one_of(self.alloc, statement)?;
+        match statements.as_slice() {
+            [statement] => self.change_lent(statement),
+            _ => unreachable!(),
         }
     }
 
@@ -383,12 +370,9 @@ impl Session {
 
     // The rows of a table.
     fn select(&self, table: TableId) -> Outcome
-        ensures { MatchBool (is_memory result) (Unit {0}) (result ≡ Ok (answer.Rows (map (λ r. r.values) (table_rows self.now.database.rows table)))) }
+        ensures { MatchBool (is_memory result) (result ≡ Err out_of_memory) (result ≡ Ok (answer.Rows (map (λ r. r.values) (table_rows self.now.database.rows table)))) }
     {
-        match rows_of(self.alloc, self.rows.as_slice(), table) {
-            Ok(rows) => Ok(Answer::Rows(rows)),
-            Err(_) => refuse(Cause::OutOfMemory),
-        }
+        Ok(Answer::Rows(rows_of(self.alloc, self.rows.as_slice(), table)?))
     }
 }
 
@@ -452,12 +436,10 @@ impl Session {
         requires { QueryFits plan }
         ensures { Performs self.now (planned.Query plan) result self.now }
     {
-        match one_of(self.alloc, plan) {
-            Ok(plans) => match plans.as_slice() {
-                [plan] => self.query_lent(plan),
-                _ => unreachable!(),
-            },
-            Err(_) => refuse(Cause::OutOfMemory),
+        let plans = one_of(self.alloc, plan)?;
+        match plans.as_slice() {
+            [plan] => self.query_lent(plan),
+            _ => unreachable!(),
         }
     }
 

@@ -2,7 +2,7 @@ use Rattle.std.proofs.Common.{◌≡◌, ◌∙◌, ap, sym, subst, ◌∷◌, [
 use Rattle.iv_machine.specs.declared.database.Which.TheVariants.{Immediate}
 use Rattle.iv_machine.specs.Databases.{scan, is_chosen, first}
 use Rattle.iv_machine.proofs.Orders.{new_row_of}
-use Rattle.iv_machine.proofs.Plain.{Suits}
+use Rattle.iv_machine.specs.Fitting.{Suits}
 use Rattle.iv_session.specs.Inserts.{early}
 use Rattle.iv_session.specs.States.{Held, state_of}
 use Rattle.iv_session.proofs.Keeping.{early_performs, refused_performs, accepted_performs, lengthened_kept}
@@ -44,7 +44,7 @@ returns-in-Some-first_fault c =
     none (found ∙ c.in-Some-first_fault.is) c.refuse-in-Some-first_fault.ensures suits c.self.invariant)
 
 pub invariant_of-self : goal.invariant_of-self
-invariant_of-self c = rw (c.in_default.ensures.items) c.self.invariant
+invariant_of-self c = rw (c.in_err-push.ensures.items) c.self.invariant
 
 pub invariant_of-self-2 : goal.invariant_of-self-2
 invariant_of-self-2 c =
@@ -63,7 +63,7 @@ invariant_of-self-2 c =
     ∙ ap (λ l. first (scan l c.constraints.result.now (is_chosen c.as_slice.result.now Immediate))) c.from_ref.ensures.value
     ∙ ap (λ k. first (scan (new_row_of c.args.table held.next c.args.values ∷ []) k (is_chosen c.as_slice.result.now Immediate))) c.constraints.ensures.constraints
     ∙ ap (λ m. first (scan (new_row_of c.args.table held.next c.args.values ∷ []) held.schema.constraints (is_chosen m Immediate))) c.as_slice.ensures.value) in
-    rw (c.in-Ok.ensures.items, c.unwrap_or.ensures, c.len.ensures, c.self.inside.rows.ok.0)
+    rw (c.in_ok-push.ensures.items, c.unwrap_or.ensures, c.len.ensures, c.self.inside.rows.ok.0)
     (lengthened_kept held c.args.table c.args.values none (found ∙ c.in-None-first_fault.is) suits c.self.invariant)
 
 pub returns : goal.returns
@@ -83,5 +83,5 @@ returns c =
     ∙ ap (λ l. first (scan l c.constraints.result.now (is_chosen c.as_slice.result.now Immediate))) c.from_ref.ensures.value
     ∙ ap (λ k. first (scan (new_row_of c.args.table held.next c.args.values ∷ []) k (is_chosen c.as_slice.result.now Immediate))) c.constraints.ensures.constraints
     ∙ ap (λ m. first (scan (new_row_of c.args.table held.next c.args.values ∷ []) held.schema.constraints (is_chosen m Immediate))) c.as_slice.ensures.value) in
-    rw (← c.self.view_is, c.in-Ok.ensures.items, c.unwrap_or.ensures, c.len.ensures, c.self.inside.rows.ok.0)
+    rw (← c.self.view_is, c.in_ok-push.ensures.items, c.unwrap_or.ensures, c.len.ensures, c.self.inside.rows.ok.0)
     (accepted_performs held c.args.table c.args.values none (found ∙ c.in-None-first_fault.is) suits c.self.invariant)

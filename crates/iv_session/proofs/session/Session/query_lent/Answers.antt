@@ -1,5 +1,5 @@
 use Rattle.std.proofs.Common.{subst}
-use Rattle.iv_machine.proofs.Plans.{QueryFits}
+use Rattle.iv_machine.specs.Fitting.{QueryFits}
 use Rattle.iv_session.proofs.Keeping.{selects}
 use Rattle.iv_session.proofs.session.Session.query_lent.Goals as goal
 

@@ -1,6 +1,7 @@
 use Rattle.std.proofs.Common.{◌≡◌, subst, sym, None}
 use Rattle.iv_machine.specs.Machine.{is_open, transaction_cause, occasion_of}
-use Rattle.iv_machine.proofs.Plans.{AnswerFits, resolution_fits}
+use Rattle.iv_machine.specs.Fitting.{AnswerFits}
+use Rattle.iv_machine.proofs.Plans.{resolution_fits}
 use Rattle.iv_session.specs.States.{Held, state_of}
 use Rattle.iv_session.proofs.session.Session.resolve_and_perform.Goals as goal
 
