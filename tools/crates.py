@@ -1,0 +1,176 @@
+"""The crates of this repository, and how they are proved together.
+
+    crates.py build                          proves the program and all below it, and builds it
+    crates.py check CRATE.. [--above] [--edits] [--jobs N]
+                                             proves these crates, and with --above those that stand on them
+    crates.py try [FILE]                     runs a script, or standard input, without any proof
+
+Progress goes to standard error. A step that fails ends the work with status 1.
+"""
+import os
+import re
+import subprocess
+import sys
+import tempfile
+import time
+from concurrent.futures import FIRST_COMPLETED, ThreadPoolExecutor, wait
+
+ROOT = os.path.dirname(os.path.dirname(os.path.realpath(__file__)))
+PROGRAM = "sqlkeep"
+
+# What `rt try` adds to the program's own lines on standard error.
+ADDED = re.compile(r"^(checked: ended status=|run=ended status=)")
+
+
+def say(line):
+    print(line, file=sys.stderr, flush=True)
+
+
+def folder(crate):
+    return os.path.join(ROOT, "crates", crate)
+
+
+def crates():
+    """Each crate of crates.txt with those of this repository that it names."""
+    named = {}
+    with open(os.path.join(ROOT, "crates.txt"), encoding="utf-8") as lines:
+        for line in lines:
+            line = line.split("#")[0].strip()
+            if line:
+                head, _, tail = line.partition(":")
+                named[head.split()[0]] = tail.split()
+    return {crate: [low for low in lows if low in named] for crate, lows in named.items()}
+
+
+def below(wanted, named):
+    """These crates and all that they stand on."""
+    found = set()
+    left = list(wanted)
+    while left:
+        crate = left.pop()
+        if crate not in found:
+            found.add(crate)
+            left += named[crate]
+    return found
+
+
+def above(wanted, named):
+    """These crates and all that stand on them."""
+    return {crate for crate in named if below([crate], named) & set(wanted)}
+
+
+def run(crate, words):
+    """Runs rt in a crate's folder, and returns its status, its output and the seconds that it took."""
+    began = time.monotonic()
+    ran = subprocess.run(["rt", *words], cwd=folder(crate), stdin=subprocess.DEVNULL, stdout=subprocess.PIPE, stderr=subprocess.STDOUT, text=True, errors="replace", check=False)
+    return ran.returncode, ran.stdout, time.monotonic() - began
+
+
+def prove(wanted, named, jobs):
+    """Proves the crates, each after those below it, so many at a time; whether all are proved."""
+    left = {crate: {low for low in named[crate] if low in wanted} for crate in wanted}
+    running = {}
+    with ThreadPoolExecutor(jobs) as pool:
+        while left or running:
+            for crate in sorted(crate for crate, lows in left.items() if not lows):
+                if len(running) < jobs:
+                    del left[crate]
+                    running[pool.submit(run, crate, ["check", "--jobs", "1"])] = crate
+            done, _ = wait(running, return_when=FIRST_COMPLETED)
+            for one in done:
+                crate = running.pop(one)
+                status, output, seconds = one.result()
+                if status != 0:
+                    say(output)
+                    say(f"{crate}: not proved")
+                    return False
+                say(f"{crate}: proved, {seconds:.0f} s; {len(left) + len(running)} to go")
+                for lows in left.values():
+                    lows.discard(crate)
+    return True
+
+
+def build():
+    began = time.monotonic()
+    named = crates()
+    if not prove(below([PROGRAM], named), named, os.cpu_count() or 1):
+        return 1
+    status, output, _ = run(PROGRAM, ["run"])
+    if not os.path.exists(os.path.join(folder(PROGRAM), "out", PROGRAM)):
+        say(output)
+        say(f"{PROGRAM}: not built")
+        return status or 1
+    say(f"{PROGRAM}: proved and built in {time.monotonic() - began:.0f} s")
+    return 0
+
+
+def lay_out(crate):
+    """Lays out the crate's files; whether they could be read."""
+    status, output, _ = run(crate, ["fmt"])
+    if output.strip() or status != 0:
+        say(output.rstrip())
+    return status == 0
+
+
+def are_refused(crate):
+    """Whether the crate's must-fail edits are refused."""
+    ran = subprocess.run(["rt", "must-fail", crate], cwd=ROOT, stdin=subprocess.DEVNULL, stdout=sys.stderr, check=False)
+    return ran.returncode == 0
+
+
+def check(words):
+    named = crates()
+    jobs = os.cpu_count() or 1
+    if "--jobs" in words:
+        at = words.index("--jobs")
+        jobs = int(words[at + 1])
+        del words[at : at + 2]
+    wanted = [word for word in words if not word.startswith("--")]
+    unknown = [word for word in words if word.startswith("--") and word not in ("--above", "--edits")]
+    unknown += [crate for crate in wanted if crate not in named]
+    if unknown or not wanted:
+        say(f"usage: ./check CRATE.. [--above] [--edits] [--jobs N]; not known: {' '.join(unknown)}")
+        return 2
+    chosen = above(wanted, named) if "--above" in words else set(wanted)
+    for crate in sorted(chosen):
+        if not lay_out(crate):
+            return 1
+    if not prove(below(chosen, named), named, jobs):
+        return 1
+    if "--edits" in words:
+        for crate in wanted:
+            if not are_refused(crate):
+                return 1
+    return 0
+
+
+def try_script(words):
+    """Runs the program over a script without proof: its status, its output and its lines of standard error."""
+    script = open(words[0], "rb") if words else sys.stdin.buffer
+    with tempfile.TemporaryFile() as told:
+        status = subprocess.run(["rt", "try", "--seconds", "3600"], cwd=folder(PROGRAM), stdin=script, stderr=told, check=False).returncode
+        told.seek(0)
+        lines = told.read().decode("utf-8", "replace").splitlines()
+    ended = any(line.startswith("run=ended ") for line in lines)
+    for line in lines:
+        if not (ended and ADDED.match(line)):
+            say(line)
+    if not ended:
+        say(f"{PROGRAM}: the unproved run gave no answer; ./build makes a program that does")
+        return 2
+    return status
+
+
+def main(words):
+    if words[:1] == ["build"] and len(words) == 1:
+        return build()
+    if words[:1] == ["check"]:
+        return check(words[1:])
+    if words[:1] == ["try"] and len(words) <= 2:
+        return try_script(words[1:])
+    say(__doc__)
+    return 2
+
+
+if __name__ == "__main__":
+    sys.exit(main(sys.argv[1:]))
