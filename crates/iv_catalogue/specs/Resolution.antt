@@ -1,5 +1,5 @@
 -- Resolution: which statements are taken up, what a statement is refused for, and its plan once its names are resolved.
-use Rattle.std.specs.Prelude.{◌≡◌, ℕ, ◌+◌, ◌-◌, Bool, true, false, not, ◌&&◌, ◌||◌, if◌then◌else◌, ◌==◌, nat_le, nat_lt, pos, ◌-ℤ◌, List, [], ◌∷◌, length, map, filter_map, position, slice_get, Option, Some, None, is_some, is_none, option_map, Result, Ok, Err, MatchBool}
+use Rattle.std.specs.Prelude.{◌≡◌, ℕ, ◌+◌, ◌-◌, Bool, true, false, not, ◌&&◌, ◌||◌, if◌then◌else◌, ◌==◌, nat_le, nat_lt, pos, ◌-ℤ◌, List, [], ◌∷◌, length, map, filter_map, position, slice_get, Option, Some, None, is_some, is_none, option_map, Result, Ok, Err, is_ok, MatchBool}
 use Rattle.std.specs.List.{list_any, list_all}
 use Rattle.std.specs.Str.{bytes_eq}
 use Rattle.iv_value.specs.declared.value.Value.{Value}
@@ -117,9 +117,14 @@ abbrev pub is_literal_value : ValueOrDefault → Bool
 is_literal_value (value.Value e) = is_some (literal_value e)
 is_literal_value value.Default = false
 
--- VALUES with one tuple of literals, for all columns
+-- one tuple of literals
+abbrev pub is_plain_tuples : List (List ValueOrDefault) → Bool
+is_plain_tuples (tuple ∷ []) = list_all is_literal_value tuple
+is_plain_tuples _ = false
+
+-- VALUES with such a tuple, for all columns
 abbrev pub is_plain_insert : Insert → Bool
-is_plain_insert (insert.Rows table None (source.Values (tuple ∷ []))) = list_all is_literal_value tuple
+is_plain_insert (insert.Rows table None (source.Values tuples)) = is_plain_tuples tuples
 is_plain_insert _ = false
 
 -- SELECT * FROM a table
@@ -340,6 +345,6 @@ resolution_by_kind c _ = refused SchemaFault
 abbrev pub resolution : Schema → Statement → Result Plan Refusal
 resolution c s = if is_taken_up s then resolution_by_kind c s else refused SchemaFault
 
--- The answer is the resolution; or memory was refused, which no trigger has to do with.
+-- The answer is the resolution; or memory was refused for a plan, which no trigger has to do with.
 abbrev pub Resolves : Schema → Statement → Result Plan Refusal → Type 0
-Resolves c s r = MatchBool (is_memory r) ((r ≡ Err out_of_memory) × (is_taken_up s ≡ true)) (r ≡ resolution c s)
+Resolves c s r = MatchBool (is_memory r) ((r ≡ Err out_of_memory) × (is_ok (resolution c s) ≡ true)) (r ≡ resolution c s)

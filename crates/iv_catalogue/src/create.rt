@@ -1,14 +1,15 @@
 //! CREATE TABLE: the causes that it deserves, and its plan.
-ghost use Rattle.std.specs.Prelude.{◌≡◌, ◌≤◌, ℕ, List, ◌++◌, ◌∷◌, [], length, map, filter_map, Some, None, IfOk, OnOk, ◌||◌, ◌+◌, nat_le, nat_lt, ◌<◌, IfSome, ◌-◌, position, option_map, is_none, if◌then◌else◌};
-ghost use Rattle.std.specs.List.{list_any};
+ghost use Rattle.std.specs.Prelude.{◌≡◌, ◌≤◌, ℕ, List, ◌++◌, ◌∷◌, [], length, map, filter_map, Some, None, IfOk, OnOk, OnErr, is_ok, true, ◌||◌, ◌+◌, nat_le, nat_lt, ◌<◌, IfSome, ◌-◌, position, option_map, is_none, if◌then◌else◌};
+ghost use Rattle.std.specs.List.{list_any, list_all};
 ghost use Rattle.std.specs.Str.{bytes_eq};
 ghost use Rattle.iv_catalogue.specs.Names.{is_among, has_repeated, generated};
-ghost use Rattle.iv_catalogue.specs.Resolution.{literal_value, column_name, column_names, name_or_generated, constraint_names, unknown_side, unknown_condition, unknown_rule, unknown_element, has_unknown, has_duplicate, is_beyond_limits, create_cause, side_meaning, comparison_of, condition_meaning, rule_meaning, column_of, column_in, columns_of, check_of, constraint_of, constraints_from, constraints_of, create_plan, create_resolution, all_of};
+ghost use Rattle.iv_catalogue.specs.Resolution.{literal_value, column_name, column_names, name_or_generated, constraint_names, unknown_side, unknown_condition, unknown_rule, unknown_element, has_unknown, has_duplicate, is_beyond_limits, create_cause, side_meaning, comparison_of, condition_meaning, rule_meaning, column_of, column_in, columns_of, check_of, constraint_of, constraints_from, constraints_of, create_plan, create_resolution, plan_or_fault, is_plain_element, all_of};
 ghost use Rattle.iv_expr.specs.declared.tree.Expr.TheVariants as expr;
 
 use crate::catalogue::{Catalogue, Column, Table};
 use crate::cause::{Cause, Refusal};
 use crate::constraint::{Constraint, Constraints, Rule};
+use crate::in_place;
 use crate::limits::{MOST_COLUMNS, MOST_CONSTRAINTS, MOST_TABLES};
 use crate::literal::literal_value;
 use crate::names::Names;
@@ -183,8 +184,64 @@ fn is_beyond_limits(tables: usize, columns: usize, elements: usize) -> bool
         || elements.saturating_sub(columns) > MOST_CONSTRAINTS
 }
 
-// The least cause that the statement deserves.
+// The least cause that the statement deserves. Where memory for sets of names is refused it is looked for
+// in place, so no memory is wanted.
 fn create_cause(
+    alloc: Global,
+    catalogue: &Catalogue,
+    name: &str,
+    elements: &[TableElement],
+) -> Option<Cause>
+    ensures { result ≡ create_cause catalogue.now name.now elements.now }
+{
+    match cause_by_sets(alloc, catalogue, name, elements) {
+        Ok(cause) => cause,
+        Err(_) => cause_in_place(catalogue, name, elements),
+    }
+}
+
+// The same without memory, in time in proportion to the square of the elements.
+fn cause_in_place(catalogue: &Catalogue, name: &str, elements: &[TableElement]) -> Option<Cause>
+    ensures { result ≡ create_cause catalogue.now name.now elements.now }
+{
+    if in_place::has_unknown(elements) {
+        return Some(Cause::Unknown);
+    }
+    if duplicates_in_place(catalogue, name, elements) {
+        return Some(Cause::Duplicate);
+    }
+    let columns = in_place::count_columns(elements);
+    if columns == 0 {
+        return Some(Cause::SchemaFault);
+    }
+    if is_beyond_limits(catalogue.tables().len(), columns, elements.len()) {
+        return Some(Cause::Limit);
+    }
+    None
+}
+
+fn duplicates_in_place(catalogue: &Catalogue, name: &str, elements: &[TableElement]) -> bool
+    ensures { result ≡ has_duplicate catalogue.now name.now elements.now }
+{
+    is_table_name(catalogue.tables(), name)
+        || in_place::repeats_column(elements)
+        || in_place::repeats_constraint(catalogue.constraints(), name, elements)
+}
+
+// The same in time near to the statement's length, by sets of names.
+fn cause_by_sets(
+    alloc: Global,
+    catalogue: &Catalogue,
+    name: &str,
+    elements: &[TableElement],
+) -> Result<Option<Cause>, AllocError>
+    ensures { IfOk result (λ cause. cause ≡ create_cause catalogue.now name.now elements.now) }
+{
+    let columns = column_names(alloc, elements)?;
+    cause_by_names(alloc, catalogue, name, columns.as_slice(), elements)
+}
+
+fn cause_by_names(
     alloc: Global,
     catalogue: &Catalogue,
     name: &str,
@@ -414,27 +471,37 @@ fn create_plan(
     Ok(Some(Plan::Schema(SchemaPlan::CreateTable(table, Constraints::from_vec(constraints)))))
 }
 
-/// The plan of CREATE TABLE, or the least cause that it deserves.
+/// The plan of CREATE TABLE, or the least cause that it deserves. Memory is wanted for a plan alone.
+#[tactic(auto, using(crate::proofs::TakenUp::table_is_planned))]
 pub fn create(
     alloc: Global,
     catalogue: &Catalogue,
     name: &Name,
     elements: &[TableElement],
 ) -> Result<Result<Plan, Refusal>, AllocError>
-    ensures { IfOk result (λ r. r ≡ create_resolution catalogue.now name.now elements.now (create_cause catalogue.now name.now elements.now)) }
+    requires { list_all is_plain_element elements.now ≡ true }
+    ensures resolution { IfOk result (λ r. r ≡ create_resolution catalogue.now name.now elements.now (create_cause catalogue.now name.now elements.now)) }
+    ensures memory { OnErr result (is_ok (create_resolution catalogue.now name.now elements.now (create_cause catalogue.now name.now elements.now)) ≡ true) }
+{
+    match create_cause(alloc, catalogue, name.as_str(), elements) {
+        Some(cause) => Ok(Err(Refusal::of(cause))),
+        None => planned(alloc, catalogue, name, elements),
+    }
+}
+
+// The plan of a statement that deserves no cause.
+fn planned(
+    alloc: Global,
+    catalogue: &Catalogue,
+    name: &Name,
+    elements: &[TableElement],
+) -> Result<Result<Plan, Refusal>, AllocError>
+    requires { create_cause catalogue.now name.now elements.now ≡ None }
+    ensures { IfOk result (λ r. r ≡ plan_or_fault (create_plan catalogue.now name.now elements.now)) }
 {
     let columns = column_names(alloc, elements)?;
-    match create_cause(
-        alloc,
-        catalogue,
-        name.as_str(),
-        columns.as_slice(),
-        elements,
-    )? {
-        Some(cause) => Ok(Err(Refusal::of(cause))),
-        None => match create_plan(alloc, catalogue, name, columns.as_slice(), elements)? {
-            Some(plan) => Ok(Ok(plan)),
-            None => Ok(Err(Refusal::of(Cause::SchemaFault))),
-        },
+    match create_plan(alloc, catalogue, name, columns.as_slice(), elements)? {
+        Some(plan) => Ok(Ok(plan)),
+        None => Ok(Err(Refusal::of(Cause::SchemaFault))),
     }
 }

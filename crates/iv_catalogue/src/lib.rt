@@ -6,6 +6,7 @@ mod catalogue;
 mod cause;
 mod constraint;
 mod create;
+mod in_place;
 mod limits;
 mod literal;
 mod meaning;
@@ -15,6 +16,7 @@ mod plan;
 mod taken_up;
 #[cfg(test)]
 mod tests;
+mod written_name;
 
 pub use catalogue::{Catalogue, Column, Table};
 pub use cause::{Cause, Fault, Refusal};

@@ -1,8 +1,9 @@
 //! What a statement means in a catalogue.
-ghost use Rattle.std.specs.Prelude.{◌≡◌, position, map, Option, IfOk, option_copied, IfSome, ◌<◌, ◌≤◌, length, ◌^◌};
+ghost use Rattle.std.specs.Prelude.{◌≡◌, position, map, Option, IfOk, OnErr, is_ok, true, option_copied, IfSome, ◌<◌, ◌≤◌, length, ◌^◌};
+ghost use Rattle.std.specs.List.{list_all};
 ghost use Rattle.std.specs.Str.{bytes_eq};
 ghost use Rattle.iv_catalogue.specs.Refusals.{refused, is_memory};
-ghost use Rattle.iv_catalogue.specs.Resolution.{all_of, table_named, literal_meaning, insert_into, insert_plan, insert_tuples, select_plan, insert_resolution, plain_select_plan, select_resolution, resolution_by_kind, resolution, Resolves};
+ghost use Rattle.iv_catalogue.specs.Resolution.{all_of, is_taken_up, is_plain_insert, is_plain_tuples, is_literal_value, table_named, literal_meaning, insert_into, insert_plan, insert_tuples, select_plan, insert_resolution, plain_select_plan, select_resolution, resolution_by_kind, resolution, Resolves};
 
 use crate::catalogue::{Catalogue, Table};
 use crate::cause::{Cause, Refusal};
@@ -46,13 +47,16 @@ fn literals(alloc: Global, tuple: &[ValueOrDefault]) -> Result<Option<Items<Expr
 }
 
 // The plan of INSERT into the table at this place.
+#[tactic(auto, using(crate::proofs::TakenUp::tuple_is_planned))]
 fn insert_at(
     alloc: Global,
     table: &Table,
     place: u32,
     tuple: &[ValueOrDefault],
 ) -> Result<Result<Plan, Refusal>, AllocError>
-    ensures { IfOk result (λ r. r ≡ insert_into place table.now tuple.now) }
+    requires { list_all is_literal_value tuple.now ≡ true }
+    ensures resolution { IfOk result (λ r. r ≡ insert_into place table.now tuple.now) }
+    ensures memory { OnErr result (is_ok (insert_into place table.now tuple.now) ≡ true) }
 {
     if tuple.len() != table.columns.len() {
         return Ok(refuse(Cause::WrongShape));
@@ -74,7 +78,9 @@ fn insert(
     catalogue: &Catalogue,
     insert: &Insert,
 ) -> Result<Result<Plan, Refusal>, AllocError>
-    ensures { IfOk result (λ r. r ≡ insert_resolution catalogue.now insert.now) }
+    requires { is_plain_insert insert.now ≡ true }
+    ensures resolution { IfOk result (λ r. r ≡ insert_resolution catalogue.now insert.now) }
+    ensures memory { OnErr result (is_ok (insert_resolution catalogue.now insert.now) ≡ true) }
 {
     match insert {
         Insert::Rows {
@@ -92,7 +98,9 @@ fn insert_tuples(
     name: &str,
     tuples: &[Items<ValueOrDefault>],
 ) -> Result<Result<Plan, Refusal>, AllocError>
-    ensures { IfOk result (λ r. r ≡ insert_tuples catalogue.now name.now tuples.now) }
+    requires { is_plain_tuples tuples.now ≡ true }
+    ensures resolution { IfOk result (λ r. r ≡ insert_tuples catalogue.now name.now tuples.now) }
+    ensures memory { OnErr result (is_ok (insert_tuples catalogue.now name.now tuples.now) ≡ true) }
 {
     match tuples {
         [tuple] => insert_tuple(alloc, catalogue.tables(), name, tuple.as_slice()),
@@ -106,8 +114,10 @@ fn insert_tuple(
     name: &str,
     tuple: &[ValueOrDefault],
 ) -> Result<Result<Plan, Refusal>, AllocError>
-    requires { length tables.now ≤ MOST_TABLES }
-    ensures { IfOk result (λ r. r ≡ insert_plan tables.now (position (λ t. bytes_eq name.now t.name) tables.now) tuple.now) }
+    requires tables { length tables.now ≤ MOST_TABLES }
+    requires literals { list_all is_literal_value tuple.now ≡ true }
+    ensures resolution { IfOk result (λ r. r ≡ insert_plan tables.now (position (λ t. bytes_eq name.now t.name) tables.now) tuple.now) }
+    ensures memory { OnErr result (is_ok (insert_plan tables.now (position (λ t. bytes_eq name.now t.name) tables.now) tuple.now) ≡ true) }
 {
     match place_of(tables, name) {
         Some(place) => match tables.get(place) {
@@ -156,7 +166,9 @@ fn resolve_by_kind(
     catalogue: &Catalogue,
     statement: &Statement,
 ) -> Result<Result<Plan, Refusal>, AllocError>
-    ensures { IfOk result (λ r. r ≡ resolution_by_kind catalogue.now statement.now) }
+    requires { is_taken_up statement.now ≡ true }
+    ensures resolution { IfOk result (λ r. r ≡ resolution_by_kind catalogue.now statement.now) }
+    ensures memory { OnErr result (is_ok (resolution_by_kind catalogue.now statement.now) ≡ true) }
 {
     match statement {
         Statement::CreateTable { name, elements } => {
