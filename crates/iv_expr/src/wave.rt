@@ -1,12 +1,12 @@
 //! Waves: changes that are made together.
 ghost use Rattle.std.specs.Prelude.{◌≡◌, ℕ, ◌<◌, ◌++◌, [], ◌∷◌, OnErr, OnOk};
-ghost use Rattle.iv_expr.specs.Changes.{Rising, last_row};
+ghost use Rattle.iv_expr.specs.Changes.{RisingChanges, last_row};
 
 use crate::row::Change;
 use std::alloc::{AllocError, Global};
 use std::marker::Model;
 
-/// Changes by rising row number, so of different rows. Contracts see it as their list.
+/// Changes by rising row number, so of different rows. Contracts see it as the record of its changes.
 #[derive(Drop)]
 pub struct Wave {
     changes: Vec<Change>,
@@ -15,21 +15,20 @@ pub struct Wave {
 }
 
 impl Model for Wave {
-    ghost use Rattle.std.specs.Prelude.{List, ◌≡◌};
-    ghost use Rattle.iv_expr.specs.declared.row.Change.{Change as Item};
-    ghost use Rattle.iv_expr.specs.Changes.{Rising, last_row};
+    ghost use Rattle.std.specs.Prelude.{◌≡◌};
+    ghost use Rattle.iv_expr.specs.Changes.{Wave as Changes, RisingChanges, last_row};
 
-    ghost Value = { List Item };
+    ghost Value = { Changes };
 
-    ghost view = { λ w. w.changes.items };
+    ghost view = { λ w. record { changes = w.changes.items } };
 
-    ghost invariant = { λ w. (w.last ≡ last_row w.changes.items) × Rising w.changes.items };
+    ghost invariant = { λ w. (w.last ≡ last_row w.changes.items) × RisingChanges w.changes.items };
 }
 
 impl Wave {
     /// No changes.
     pub fn new(alloc: Global) -> Wave
-        ensures { result ≡ [] }
+        ensures { result.changes ≡ [] }
     {
         Wave {
             changes: Vec::new(alloc),
@@ -39,15 +38,15 @@ impl Wave {
 
     /// The row number of the last change, or 0 where there is none.
     pub fn last_row(&self) -> u64
-        ensures { result ≡ last_row self.now }
+        ensures { result ≡ last_row self.now.changes }
     {
         self.last
     }
 
     /// Adds a change of a row above those that are there.
     pub fn push(&mut self, change: Change) -> Result<(), AllocError>
-        requires { last_row self.old < change.row }
-        ensures ok { OnOk result (self.new ≡ self.old ++ change ∷ []) }
+        requires { last_row self.old.changes < change.row }
+        ensures ok { OnOk result (self.new.changes ≡ self.old.changes ++ change ∷ []) }
         ensures err { OnErr result (self.new ≡ self.old) }
     {
         let row = change.row;
@@ -58,8 +57,8 @@ impl Wave {
 
     /// The changes.
     pub fn changes(&self) -> &[Change]
-        ensures list { result.now ≡ self.now }
-        ensures rising { Rising self.now }
+        ensures list { result.now ≡ self.now.changes }
+        ensures rising { RisingChanges self.now.changes }
     {
         &self.changes
     }

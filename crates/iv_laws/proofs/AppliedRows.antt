@@ -9,27 +9,27 @@ use Rattle.iv_value.specs.declared.value.Value.{Value}
 use Rattle.iv_expr.specs.declared.row.StoredRow.{StoredRow}
 use Rattle.iv_expr.specs.declared.row.Change.{Change}
 use Rattle.iv_machine.specs.declared.database.Database.{Database}
-use Rattle.iv_machine.specs.Databases.{row_at, in_wave, rows_after}
+use Rattle.iv_machine.specs.Databases.{row_at, has_change, rows_after}
 use Rattle.iv_laws.specs.RisingRows.{InOrder}
 use Rattle.iv_laws.specs.Holders.{is_outside}
 use Rattle.iv_laws.proofs.RowNumbers.{row_at_in_order, sorted_in_order}
 
 pub row_at_outside : (wave : List Change) (rows : List StoredRow) (n : ℕ)
-    → row_at (filter (is_outside wave) rows) n ≡ (if in_wave wave n then None else row_at rows n)
-row_at_outside wave [] n = elim (in_wave wave n) as (λ b. ◌≡◌ {A = Option StoredRow} None (if b then None else None)) [ true ↦ refl | false ↦ refl ]
+    → row_at (filter (is_outside wave) rows) n ≡ (if has_change wave n then None else row_at rows n)
+row_at_outside wave [] n = elim (has_change wave n) as (λ b. ◌≡◌ {A = Option StoredRow} None (if b then None else None)) [ true ↦ refl | false ↦ refl ]
 row_at_outside wave (r ∷ rows) n =
-    elim (r.number == n) as (λ b. (r.number == n) ≡ b → row_at (filter (is_outside wave) (r ∷ rows)) n ≡ (if in_wave wave n then None else (if b then Some r else row_at rows n))) [
+    elim (r.number == n) as (λ b. (r.number == n) ≡ b → row_at (filter (is_outside wave) (r ∷ rows)) n ≡ (if has_change wave n then None else (if b then Some r else row_at rows n))) [
       | true ↦ λ e. let is = eqb-true r.number n e in
-          elim (in_wave wave r.number) as (λ b. in_wave wave r.number ≡ b
-          → row_at (if not b then r ∷ filter (is_outside wave) rows else filter (is_outside wave) rows) n ≡ (if in_wave wave n then None else Some r)) [
-            | true ↦ λ f. let g : in_wave wave n ≡ true = ap (in_wave wave) (sym is) ∙ f in
+          elim (has_change wave r.number) as (λ b. has_change wave r.number ≡ b
+          → row_at (if not b then r ∷ filter (is_outside wave) rows else filter (is_outside wave) rows) n ≡ (if has_change wave n then None else Some r)) [
+            | true ↦ λ f. let g : has_change wave n ≡ true = ap (has_change wave) (sym is) ∙ f in
                 row_at_outside wave rows n ∙ ap (λ b. if b then None else row_at rows n) g ∙ ap (λ b. if b then None else Some r) (sym g)
-            | false ↦ λ f. let g : in_wave wave n ≡ false = ap (in_wave wave) (sym is) ∙ f in
+            | false ↦ λ f. let g : has_change wave n ≡ false = ap (has_change wave) (sym is) ∙ f in
                 ap (λ b. if b then Some r else row_at (filter (is_outside wave) rows) n) e ∙ ap (λ b. if b then None else Some r) (sym g)
           ] refl
       | false ↦ λ e.
-          elim (in_wave wave r.number) as (λ b. row_at (if not b then r ∷ filter (is_outside wave) rows else filter (is_outside wave) rows) n
-          ≡ (if in_wave wave n then None else row_at rows n)) [
+          elim (has_change wave r.number) as (λ b. row_at (if not b then r ∷ filter (is_outside wave) rows else filter (is_outside wave) rows) n
+          ≡ (if has_change wave n then None else row_at rows n)) [
             | true ↦ row_at_outside wave rows n
             | false ↦ ap (λ b. if b then Some r else row_at (filter (is_outside wave) rows) n) e ∙ row_at_outside wave rows n
           ]
@@ -54,10 +54,10 @@ side_elsewhere c (Some values) rows n e = rw e refl
 abbrev pub sides : (Change → Option (List Value)) → List Change → List StoredRow
 sides side wave = filter_map (λ c. row_of c (side c)) wave
 
-pub no_side : (side : Change → Option (List Value)) (wave : List Change) (n : ℕ) → in_wave wave n ≡ false → row_at (sides side wave) n ≡ None
+pub no_side : (side : Change → Option (List Value)) (wave : List Change) (n : ℕ) → has_change wave n ≡ false → row_at (sides side wave) n ≡ None
 no_side side [] n h = refl
 no_side side (c ∷ wave) n h =
-    elim (c.row == n) as (λ b. (c.row == n) ≡ b → (b || in_wave wave n) ≡ false → row_at (cons_option (row_of c (side c)) (sides side wave)) n ≡ None) [
+    elim (c.row == n) as (λ b. (c.row == n) ≡ b → (b || has_change wave n) ≡ false → row_at (cons_option (row_of c (side c)) (sides side wave)) n ≡ None) [
       | true ↦ λ e f. absurd (true≢false f)
       | false ↦ λ e f. side_elsewhere c (side c) (sides side wave) n e ∙ no_side side wave n f
     ] refl h
@@ -74,15 +74,15 @@ or_none (Some x) = refl
 
 -- the row at a number after a wave is that of the wave's change of that number, else the one before
 pub row_at_rows_after : (rows : List StoredRow) (wave : List Change) (n : ℕ)
-    → row_at (rows_after rows wave) n ≡ (if in_wave wave n then row_at (news wave) n else row_at rows n)
+    → row_at (rows_after rows wave) n ≡ (if has_change wave n then row_at (news wave) n else row_at rows n)
 row_at_rows_after rows wave n =
     row_at_in_order (filter (is_outside wave) rows ++ news wave) n
     ∙ find-append (λ r. r.number == n) (filter (is_outside wave) rows) (news wave)
     ∙ ap (λ o. option_or o (row_at (news wave) n)) (row_at_outside wave rows n)
-    ∙ either (in_wave wave n) refl
+    ∙ either (has_change wave n) refl
   where
-    either : (b : Bool) → in_wave wave n ≡ b
-        → option_or (if in_wave wave n then None else row_at rows n) (row_at (news wave) n) ≡ (if in_wave wave n then row_at (news wave) n else row_at rows n)
+    either : (b : Bool) → has_change wave n ≡ b
+        → option_or (if has_change wave n then None else row_at rows n) (row_at (news wave) n) ≡ (if has_change wave n then row_at (news wave) n else row_at rows n)
     either true e = rw e refl
     either false e = rw (e, no_side (λ c. c.new) wave n e) (or_none (row_at rows n))
 

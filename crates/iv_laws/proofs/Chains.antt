@@ -4,7 +4,8 @@ use Rattle.iv_expr.specs.Evaluation.{and_then}
 use Rattle.iv_catalogue.specs.declared.cause.Cause.{Cause}
 use Rattle.iv_catalogue.specs.declared.cause.Fault.{Fault}
 use Rattle.iv_machine.specs.declared.database.Database.{Database}
-use Rattle.iv_machine.specs.Context.{Failure, over, unless_first, inside, each}
+use Rattle.iv_catalogue.specs.declared.cause.Refusal.{Refusal}
+use Rattle.iv_machine.specs.Context.{Failure, over, unless_first, while_running, with_count, inside_trigger, each}
 
 pub not_ok : {A E : Type 0} (e : E) (a : A) → ◌≡◌ {A = Result A E} (Err e) (Ok a) → ⊥
 not_ok e a h = cc
@@ -17,13 +18,21 @@ pub step_of : {A B E : Type 0} (r : Result A E) (f : A → Result B E) (y : B) �
 step_of (Ok x) f y e = (x, refl, e)
 step_of (Err z) f y e = absurd (not_ok z y e)
 
-pub ok_inside : {A : Type 0} (trigger : ℕ) (r : Result A Failure) (y : A) → inside trigger r ≡ Ok y → r ≡ Ok y
+pub ok_inside : {A : Type 0} (trigger : ℕ) (r : Result A Failure) (y : A) → inside_trigger trigger r ≡ Ok y → r ≡ Ok y
 ok_inside trigger (Ok x) y e = e
 ok_inside trigger (Err f) y e = absurd (not_ok _ y e)
 
 pub ok_over : {A : Type 0} (db : Database) (r : Result A Cause) (y : A) → over db r ≡ Ok y → r ≡ Ok y
 ok_over db (Ok x) y e = ap Ok (ok_same x y e)
 ok_over db (Err f) y e = absurd (not_ok _ y e)
+
+pub ok_running : {A : Type 0} (trigger : ℕ) (r : Result A Cause) (y : A) → while_running trigger r ≡ Ok y → r ≡ Ok y
+ok_running trigger (Ok x) y e = ap Ok (ok_same x y e)
+ok_running trigger (Err f) y e = absurd (not_ok _ y e)
+
+pub ok_with_count : {A : Type 0} (db : Database) (r : Result A Refusal) (y : A) → with_count db r ≡ Ok y → r ≡ Ok y
+ok_with_count db (Ok x) y e = ap Ok (ok_same x y e)
+ok_with_count db (Err f) y e = absurd (not_ok _ y e)
 
 -- what no first fault refused has none
 pub none_first : {A : Type 0} (db : Database) (cause : Fault → Cause) (faults : List Fault) (r : Result A Failure) (y : A)

@@ -7,7 +7,7 @@ use Rattle.iv_expr.specs.Evaluation.{and_then}
 use Rattle.iv_expr.specs.Scopes.{Scope, within}
 use Rattle.iv_catalogue.specs.declared.cause.Cause.{Cause}
 use Rattle.iv_machine.specs.Context.{each}
-use Rattle.iv_machine.specs.Proposals.{holds, kept, where_true}
+use Rattle.iv_machine.specs.Proposals.{holds, element_where_true, where_true}
 use Rattle.iv_laws.proofs.Chains.{ok_same, step_of}
 
 -- the second list is of some of the first, in their order, each related to its own
@@ -69,14 +69,14 @@ module _ {A : Type 0} (row_of : A → List Value) (s : Scope) (c : Cond) where
   told_is : (x : A) (p : A × Bool) → told x ≡ Ok p → x ≡ p.0
   told_is x p e = let one = step_of (holds (within s (row_of x)) c) _ p e in ap (λ q. q.0) (ok_same (x, one.0) p one.2)
 
-  among_kept : (xs : List A) (pairs : List (A × Bool)) → each told xs ≡ Ok pairs → Among xs (filter_map kept pairs)
-  among_kept [] pairs e = subst (λ ps. Among [] (filter_map kept ps)) (ok_same [] pairs e) nothing
+  among_kept : (xs : List A) (pairs : List (A × Bool)) → each told xs ≡ Ok pairs → Among xs (filter_map element_where_true pairs)
+  among_kept [] pairs e = subst (λ ps. Among [] (filter_map element_where_true ps)) (ok_same [] pairs e) nothing
   among_kept (x ∷ xs) pairs e =
       let one = step_of (told x) _ pairs e in
       let more = step_of (each told xs) _ pairs one.2 in
       let rest = among_kept xs more.0 more.1 in
-      subst (λ ps. Among (x ∷ xs) (filter_map kept ps)) (ok_same (one.0 ∷ more.0) pairs more.2)
-      (elim one.0.1 as (λ b. Among (x ∷ xs) (cons_option (if b then Some one.0.0 else None) (filter_map kept more.0))) [
+      subst (λ ps. Among (x ∷ xs) (filter_map element_where_true ps)) (ok_same (one.0 ∷ more.0) pairs more.2)
+      (elim one.0.1 as (λ b. Among (x ∷ xs) (cons_option (if b then Some one.0.0 else None) (filter_map element_where_true more.0))) [
         | true ↦ taken x one.0.0 (told_is x one.0 one.1) rest
         | false ↦ passed x rest
       ])
@@ -84,4 +84,4 @@ module _ {A : Type 0} (row_of : A → List Value) (s : Scope) (c : Cond) where
   pub among_where_true : (xs ys : List A) → where_true row_of s c xs ≡ Ok ys → Among xs ys
   among_where_true xs ys e =
       let pairs = step_of (each told xs) _ ys e in
-      subst (Among xs) (ok_same (filter_map kept pairs.0) ys pairs.2) (among_kept xs pairs.0 pairs.1)
+      subst (Among xs) (ok_same (filter_map element_where_true pairs.0) ys pairs.2) (among_kept xs pairs.0 pairs.1)

@@ -6,7 +6,8 @@ use Rattle.iv_expr.specs.declared.row.StoredRow.{StoredRow}
 use Rattle.iv_expr.specs.declared.row.Change.{Change}
 use Rattle.iv_catalogue.specs.declared.constraint.Constraint.{Constraint}
 use Rattle.iv_machine.specs.declared.database.Database.{Database}
-use Rattle.iv_machine.specs.Databases.{row_at, violates, applied}
+use Rattle.iv_machine.specs.Databases.{row_at, violates}
+use Rattle.iv_laws.specs.Reorderings.{after_changes}
 use Rattle.iv_laws.specs.RisingRows.{InOrder}
 use Rattle.iv_laws.specs.FittingWaves.{old_row}
 use Rattle.iv_laws.specs.Locality.{concerns, is_elsewhere}
@@ -51,7 +52,7 @@ not_true true e = absurd (false_true e)
 not_true false e = refl
 
 pub violations_elsewhere : (db : Database) (c : Change) (k : Constraint) → InOrder db.rows → row_at db.rows c.row ≡ old_row c
-    → filter (is_elsewhere c k) (filter (violates (applied db (c ∷ [])).rows k) (applied db (c ∷ [])).rows) ≡ filter (is_elsewhere c k) (filter (violates db.rows k) db.rows)
+    → filter (is_elsewhere c k) (filter (violates (after_changes db (c ∷ [])).rows k) (after_changes db (c ∷ [])).rows) ≡ filter (is_elsewhere c k) (filter (violates db.rows k) db.rows)
 violations_elsewhere db c k h current =
     same_rows (filter away (filter after later)) (filter away (filter before db.rows))
     (in_order_filter away (filter after later) (in_order_filter after later rising)) (in_order_filter away (filter before db.rows) (in_order_filter before db.rows h)) (λ n.
@@ -62,7 +63,7 @@ violations_elsewhere db c k h current =
     ∙ sym (row_at_two away before db.rows n h))
   where
     later : List StoredRow
-    later = (applied db (c ∷ [])).rows
+    later = (after_changes db (c ∷ [])).rows
 
     rising : InOrder later
     rising = rows_after_in_order db.rows (c ∷ [])

@@ -1,6 +1,8 @@
 -- What data statements that fit a catalogue keep, the triggers that fire keep, where their bodies fit it.
 use Rattle.std.proofs.Common.{◌≡◌, ℕ, ◌+◌, ◌≤◌, ◌||◌, Bool, true, false, not, if◌then◌else◌, nat_lt, List, [], ◌∷◌, ◌++◌, length, map, filter, flat_map, Ok, subst, arith}
+use Rattle.std.specs.List.{enumerate_from}
 use Rattle.iv_expr.specs.declared.row.Change.{Change}
+use Rattle.iv_expr.specs.Changes.{Wave}
 use Rattle.iv_expr.specs.Scopes.{Frame, scope_of}
 use Rattle.iv_catalogue.specs.Catalogues.{Schema}
 use Rattle.iv_catalogue.specs.declared.plan.BodyStatement.{BodyStatement}
@@ -10,8 +12,8 @@ use Rattle.iv_catalogue.specs.declared.plan.Trigger.{Trigger}
 use Rattle.iv_machine.specs.declared.database.Database.{Database}
 use Rattle.iv_machine.specs.Context.{Context, over}
 use Rattle.iv_machine.specs.Proposals.{holds, table_of, event_of}
-use Rattle.iv_machine.specs.BeforeTriggers.{is_before, for_each_row, is_on, event_of_change}
-use Rattle.iv_machine.specs.Levels.{Firing, Finished, Standing, Runs, row_firing, statement_firing, firings_of, firings, body_run, fired, all_fired}
+use Rattle.iv_machine.specs.BeforeTriggers.{is_before, for_each_row, is_on, placed_statements}
+use Rattle.iv_machine.specs.Levels.{Firing, Finished, Standing, Runs, row_firing, statement_firing, firings_of, transitions_of, firings, statement_run, body_run, firing_run, firings_run}
 use Rattle.iv_laws.specs.Reached.{IsThere, BodyFits}
 use Rattle.iv_laws.proofs.Chains.{not_ok, ok_same, step_of, ok_inside}
 
@@ -46,16 +48,16 @@ firings_of_fit c d t transitions h =
       | false ↦ elim (is_on (table_of d) (event_of d) t || nat_lt 0 (length transitions)) as (λ b. FiringsFit c (if b then statement_firing t transitions ∷ [] else [])) [ true ↦ (h, tt) | false ↦ tt ]
     ]
 
-all_firings_fit : (c : Schema) (d : DataStatement) (changes : List Change) (ts : List Trigger)
-    → TriggersFit c ts → FiringsFit c (flat_map (λ t. firings_of d t (filter (λ x. is_on x.table (event_of_change x) t) changes)) ts)
-all_firings_fit c d changes [] h = tt
-all_firings_fit c d changes (t ∷ ts) h =
-    firings_both c (firings_of d t (filter (λ x. is_on x.table (event_of_change x) t) changes))
-    (flat_map (λ t'. firings_of d t' (filter (λ x. is_on x.table (event_of_change x) t') changes)) ts)
-    (firings_of_fit c d t (filter (λ x. is_on x.table (event_of_change x) t) changes) h.0) (all_firings_fit c d changes ts h.1)
+all_firings_fit : (c : Schema) (d : DataStatement) (net : Wave) (ts : List Trigger)
+    → TriggersFit c ts → FiringsFit c (flat_map (λ t. firings_of d t (transitions_of t net)) ts)
+all_firings_fit c d net [] h = tt
+all_firings_fit c d net (t ∷ ts) h =
+    firings_both c (firings_of d t (transitions_of t net))
+    (flat_map (λ t'. firings_of d t' (transitions_of t' net)) ts)
+    (firings_of_fit c d t (transitions_of t net) h.0) (all_firings_fit c d net ts h.1)
 
-pub firings_fit : (w : Context) (d : DataStatement) (changes : List Change) → TriggersFit w.schema w.schema.triggers → FiringsFit w.schema (firings w d changes)
-firings_fit w d changes h = all_firings_fit w.schema d changes (filter (λ t. not (is_before t)) w.schema.triggers) (triggers_filter w.schema (λ t. not (is_before t)) w.schema.triggers h)
+pub firings_fit : (w : Context) (d : DataStatement) (net : Wave) → TriggersFit w.schema w.schema.triggers → FiringsFit w.schema (firings w d net)
+firings_fit w d net h = all_firings_fit w.schema d net (filter (λ t. not (is_before t)) w.schema.triggers) (triggers_filter w.schema (λ t. not (is_before t)) w.schema.triggers h)
 
 -- ---- more tables
 
@@ -77,30 +79,41 @@ KeepsWhereFit c P run =
     (trigger : ℕ) (d : DataStatement) (f : Frame) (db : Database) (budget : ℕ) (done : Finished)
     → IsThere c (table_of d) → run trigger d f db budget ≡ Ok done → P db budget → P done.database done.rest
 
+first_and_rest : (c : Schema) (statement : BodyStatement) (rest : List BodyStatement) → BodyFits c (statement ∷ rest) → BodyFits c (statement ∷ []) × BodyFits c rest
+first_and_rest c (body.Data d) rest h = ((h.0, tt), h.1)
+first_and_rest c (body.Signal text) rest h = (tt, h)
+first_and_rest c (body.Set s) rest h = (tt, h)
+
 module _ (c : Schema) (P : Database → ℕ → Type 0) (run : Runs) (keeps : KeepsWhereFit c P run) where
-  body_keeps : (trigger : ℕ) (f : Frame) (place : ℕ) (statements : List BodyStatement) (at after : Standing)
-      → BodyFits c statements → body_run run trigger f place statements at ≡ Ok after → P at.database at.budget → P after.database after.budget
-  body_keeps trigger f place [] at after u e h = subst (λ s. P s.database s.budget) (ok_same at after e) h
-  body_keeps trigger f place (body.Data d ∷ rest) at after u e h =
-      let one = step_of (run trigger d f at.database at.budget) _ after e in
-      body_keeps trigger f (place + 1) rest (record { database = one.0.database; budget = one.0.rest }) after u.1 one.2
-      (keeps trigger d f at.database at.budget one.0 u.0 one.1 h)
-  body_keeps trigger f place (body.Signal text ∷ rest) at after u e h = absurd (not_ok _ after e)
-  body_keeps trigger f place (body.Set _ ∷ rest) at after u e h = body_keeps trigger f (place + 1) rest at after u e h
+  statement_keeps : (x : Firing) (place : ℕ) (statement : BodyStatement) (at after : Standing)
+      → BodyFits c (statement ∷ []) → statement_run run x place statement at ≡ Ok after → P at.database at.budget → P after.database after.budget
+  statement_keeps x place (body.Data d) at after u e h =
+      let done = step_of (run x.trigger.id d x.frame at.database at.budget) _ after e in
+      subst (λ s. P s.database s.budget) (ok_same _ after done.2) (keeps x.trigger.id d x.frame at.database at.budget done.0 u.0 done.1 h)
+  statement_keeps x place (body.Signal text) at after u e h = absurd (not_ok _ after e)
+  statement_keeps x place (body.Set s) at after u e h = subst (λ s. P s.database s.budget) (ok_same at after e) h
+
+  body_keeps : (x : Firing) (place : ℕ) (statements : List BodyStatement) (at after : Standing)
+      → BodyFits c statements → body_run run x (enumerate_from place statements) at ≡ Ok after → P at.database at.budget → P after.database after.budget
+  body_keeps x place [] at after u e h = subst (λ s. P s.database s.budget) (ok_same at after e) h
+  body_keeps x place (statement ∷ rest) at after u e h =
+      let one = step_of (statement_run run x place statement at) _ after e in
+      let parts = first_and_rest c statement rest u in
+      body_keeps x (place + 1) rest one.0 after parts.1 one.2 (statement_keeps x place statement at one.0 parts.0 one.1 h)
 
   body_keeps_where : (x : Firing) (fires : Bool) (at after : Standing)
-      → BodyFits c x.trigger.body → (if fires then body_run run x.trigger.id x.frame 1 x.trigger.body at else Ok at) ≡ Ok after
+      → BodyFits c x.trigger.body → (if fires then body_run run x (placed_statements x.trigger) at else Ok at) ≡ Ok after
       → P at.database at.budget → P after.database after.budget
-  body_keeps_where x true at after u e h = body_keeps x.trigger.id x.frame 1 x.trigger.body at after u e h
+  body_keeps_where x true at after u e h = body_keeps x 1 x.trigger.body at after u e h
   body_keeps_where x false at after u e h = subst (λ s. P s.database s.budget) (ok_same at after e) h
 
-  fired_keeps : (x : Firing) (at after : Standing) → BodyFits c x.trigger.body → fired run x at ≡ Ok after → P at.database at.budget → P after.database after.budget
+  fired_keeps : (x : Firing) (at after : Standing) → BodyFits c x.trigger.body → firing_run run x at ≡ Ok after → P at.database at.budget → P after.database after.budget
   fired_keeps x at after u e h =
       let one = step_of (over at.database (holds (scope_of x.frame at.database.rows) x.trigger.when)) _ after (ok_inside x.trigger.id _ after e) in
       body_keeps_where x one.0 at after u one.2 h
 
-  pub all_fired_keeps_where : (xs : List Firing) (at after : Standing) → FiringsFit c xs → all_fired run xs at ≡ Ok after → P at.database at.budget → P after.database after.budget
+  pub all_fired_keeps_where : (xs : List Firing) (at after : Standing) → FiringsFit c xs → firings_run run xs at ≡ Ok after → P at.database at.budget → P after.database after.budget
   all_fired_keeps_where [] at after u e h = subst (λ s. P s.database s.budget) (ok_same at after e) h
   all_fired_keeps_where (x ∷ xs) at after u e h =
-      let one = step_of (fired run x at) _ after e in
+      let one = step_of (firing_run run x at) _ after e in
       all_fired_keeps_where xs one.0 after u.1 one.2 (fired_keeps x at one.0 u.0 one.1 h)

@@ -1,29 +1,30 @@
 -- The waves of a level fit the databases that they are applied to.
-use Rattle.std.proofs.Common.{◌≡◌, refl, ℕ, zero, suc, ◌+◌, ◌-◌, ◌<◌, ◌≤◌, false, ◌||◌, if◌then◌else◌, List, [], ◌∷◌, length, Some, None, is_none, Ok, sym, ap, subst, ◌∙◌, arith, inl, inr}
+use Rattle.std.proofs.Common.{◌≡◌, refl, ℕ, zero, suc, ◌+◌, ◌<◌, ◌≤◌, false, ◌||◌, if◌then◌else◌, List, [], ◌∷◌, Option, Some, None, is_none, Ok, sym, ap, subst, ◌∙◌, arith, inl, inr}
 use Rattle.std.proofs.lemmas.Bool.{ne_eqb}
+use Rattle.iv_value.specs.declared.value.Value.{Value}
 use Rattle.iv_expr.specs.declared.row.StoredRow.{StoredRow}
 use Rattle.iv_expr.specs.declared.row.Change.{Change}
+use Rattle.iv_expr.specs.Changes.{Wave, wave_of, RisingChangesFrom, RisingChanges}
 use Rattle.iv_expr.specs.Scopes.{Frame}
 use Rattle.iv_catalogue.specs.declared.plan.DataStatement.{DataStatement}
 use Rattle.iv_machine.specs.declared.database.Database.{Database}
-use Rattle.iv_machine.specs.Databases.{no_rows, row_at, in_wave, applied}
+use Rattle.iv_machine.specs.Databases.{no_rows, row_at, has_change, database_after}
 use Rattle.iv_machine.specs.Context.{Context}
-use Rattle.iv_machine.specs.Proposals.{proposed}
-use Rattle.iv_machine.specs.ReferentialActions.{followed}
-use Rattle.iv_machine.specs.Waves.{numbered, entered, Settled, settle, settled, net}
-use Rattle.iv_machine.specs.Levels.{Finished, Runs, firings, nested, level}
+use Rattle.iv_machine.specs.Proposals.{proposed_wave}
+use Rattle.iv_machine.specs.Waves.{with_numbers, wave_as_applied, SettledWaves, settled_waves, net_wave}
+use Rattle.iv_machine.specs.Levels.{Finished, Runs, firings, nested_level, level}
 use Rattle.iv_laws.specs.RisingRows.{Above, InOrder}
 use Rattle.iv_laws.specs.Reorderings.{Distinct}
-use Rattle.iv_laws.specs.FittingWaves.{old_row, Current, Numbered, Leading}
-use Rattle.iv_laws.proofs.Chains.{not_ok, ok_same, step_of, ok_over}
+use Rattle.iv_laws.specs.FittingWaves.{old_row, Current, NumbersFrom, Numbered, FitsDatabase, Chain}
+use Rattle.iv_laws.proofs.Chains.{not_ok}
+use Rattle.iv_laws.proofs.Settling.{every_settled}
 use Rattle.iv_laws.proofs.Firings.{Keeps, Steps, steps_of, all_fired_keeps}
-use Rattle.iv_laws.proofs.Budgeting.{entered_is}
 use Rattle.iv_laws.proofs.RowNumbers.{row_at_head, row_at_other}
 use Rattle.iv_laws.proofs.AppliedRows.{row_of}
 use Rattle.iv_laws.proofs.NumberedRows.{Below, below_raised, parts_of, Positive, numbered_applied}
 use Rattle.iv_laws.proofs.Drawn.{Drawn, nothing, passed, taken}
 use Rattle.iv_laws.proofs.Readying.{OfRow, Insertions, Ready, proposed_ready, followed_ready}
-use Rattle.iv_laws.proofs.BeforeRows.{AllAlike, before_alike, distinct_alike, current_alike}
+use Rattle.iv_laws.proofs.BeforeRows.{AllAlike, applied_alike, current_alike}
 
 -- ---- changes of rows that are there
 
@@ -48,152 +49,168 @@ current_drawn rows some wave h nothing = tt
 current_drawn rows some wave h (passed {xs = more} r d) = current_drawn rows more wave h.1 d
 current_drawn rows some wave h (taken {xs = more} {ys = others} r c is d) = (ap (row_at rows) is.number ∙ h.0 ∙ sym (old_of_row r c is), current_drawn rows more others h.1 d)
 
-absent_drawn : (n low : ℕ) (rows : List StoredRow) (wave : List Change) → n ≤ low → Above low rows → Drawn OfRow rows wave → in_wave wave n ≡ false
-absent_drawn n low rows wave le a nothing = refl
-absent_drawn n low rows wave le a (passed {xs = more} r d) = absent_drawn n low more wave le a.1 d
-absent_drawn n low rows wave le a (taken {xs = more} {ys = others} r c is d) =
-    ap (λ b. b || in_wave others n) (ne_eqb c.row n (λ e. absurd (omega (arith, e, is.number, a.0, le)))) ∙ absent_drawn n low more others le a.1 d
+-- ---- rising numbers
 
-distinct_drawn : (rows : List StoredRow) (wave : List Change) → InOrder rows → Drawn OfRow rows wave → Distinct wave
-distinct_drawn rows wave h nothing = tt
-distinct_drawn rows wave h (passed {xs = more} r d) = distinct_drawn more wave h.1 d
-distinct_drawn rows wave h (taken {xs = more} {ys = others} r c is d) =
-    (absent_drawn c.row r.number more others (omega (arith, is.number)) h.0 d, distinct_drawn more others h.1 d)
+rising_drawn : (low : ℕ) (rows : List StoredRow) (changes : List Change) → Above low rows → InOrder rows → Drawn OfRow rows changes → RisingChangesFrom low changes
+rising_drawn low rows changes a h nothing = tt
+rising_drawn low rows changes a h (passed {xs = more} r d) = rising_drawn low more changes a.1 h.1 d
+rising_drawn low rows changes a h (taken {xs = more} {ys = others} r c is d) =
+    (omega (arith, is.number, a.0), rising_drawn c.row more others (subst (λ n. Above n more) (sym is.number) h.0) h.1 d)
 
-pub numbered_drawn : (next : ℕ) (rows : List StoredRow) (wave : List Change) → Drawn OfRow rows wave → numbered next wave ≡ wave
-numbered_drawn next rows wave nothing = refl
-numbered_drawn next rows wave (passed {xs = more} r d) = numbered_drawn next more wave d
-numbered_drawn next rows wave (taken {xs = more} {ys = others} r c is d) =
-    ap (λ o. if is_none o then record c { row = next } ∷ numbered (next + 1) others else c ∷ numbered next others) is.old
+pub absent_rising : (n low : ℕ) (changes : List Change) → n ≤ low → RisingChangesFrom low changes → has_change changes n ≡ false
+absent_rising n low [] le h = refl
+absent_rising n low (c ∷ changes) le h =
+    ap (λ b. b || has_change changes n) (ne_eqb c.row n (λ e. absurd (omega (arith, e, h.0, le))))
+    ∙ absent_rising n c.row changes (omega (arith, h.0, le)) h.1
+
+distinct_from : (low : ℕ) (changes : List Change) → RisingChangesFrom low changes → Distinct changes
+distinct_from low [] h = tt
+distinct_from low (c ∷ changes) h = (absent_rising c.row c.row changes (omega arith) h.1, distinct_from c.row changes h.1)
+
+-- rising numbers are of different rows
+pub rising_distinct : (changes : List Change) → RisingChanges changes → Distinct changes
+rising_distinct changes h = distinct_from 0 changes h
+
+positive_from : (low : ℕ) (changes : List Change) → RisingChangesFrom low changes → Positive changes
+positive_from low [] h = tt
+positive_from low (c ∷ changes) h = (omega (arith, h.0), positive_from c.row changes h.1)
+
+-- rising numbers are above 0
+pub rising_positive : (changes : List Change) → RisingChanges changes → Positive changes
+rising_positive changes h = positive_from 0 changes h
+
+pub numbered_drawn : (next : ℕ) (rows : List StoredRow) (changes : List Change) → Drawn OfRow rows changes → with_numbers next changes ≡ changes
+numbered_drawn next rows changes nothing = refl
+numbered_drawn next rows changes (passed {xs = more} r d) = numbered_drawn next more changes d
+numbered_drawn next rows changes (taken {xs = more} {ys = others} r c is d) =
+    ap (λ o. if is_none o then record c { row = next } ∷ with_numbers (next + 1) others else c ∷ with_numbers next others) is.old
     ∙ ap (λ l. c ∷ l) (numbered_drawn next more others d)
+
+no_new_drawn : (next : ℕ) (rows : List StoredRow) (changes : List Change) → Drawn OfRow rows changes → NumbersFrom next changes
+no_new_drawn next rows changes nothing = tt
+no_new_drawn next rows changes (passed {xs = more} r d) = no_new_drawn next more changes d
+no_new_drawn next rows changes (taken {xs = more} {ys = others} r c is d) = ((λ none. absurd (not_there r.values (sym is.old ∙ none))), no_new_drawn next more others d)
+  where
+    not_there : (values : List Value) → ◌≡◌ {A = Option (List Value)} (Some values) None → ⊥
+    not_there values e = cc
 
 -- ---- insertions
 
-numbered_new : (next : ℕ) (c : Change) (wave : List Change) → c.old ≡ None → numbered next (c ∷ wave) ≡ record c { row = next } ∷ numbered (next + 1) wave
-numbered_new next c wave e = ap (λ o. if is_none o then record c { row = next } ∷ numbered (next + 1) wave else c ∷ numbered next wave) e
+numbered_new : (next : ℕ) (c : Change) (changes : List Change) → c.old ≡ None → with_numbers next (c ∷ changes) ≡ record c { row = next } ∷ with_numbers (next + 1) changes
+numbered_new next c changes e = ap (λ o. if is_none o then record c { row = next } ∷ with_numbers (next + 1) changes else c ∷ with_numbers next changes) e
 
-absent_numbered : (n next : ℕ) (wave : List Change) → n < next → Insertions wave → in_wave (numbered next wave) n ≡ false
-absent_numbered n next [] less h = refl
-absent_numbered n next (c ∷ wave) less h =
-    ap (λ l. in_wave l n) (numbered_new next c wave h.0)
-    ∙ ap (λ b. b || in_wave (numbered (next + 1) wave) n) (ne_eqb next n (λ e. absurd (omega (arith, e, less))))
-    ∙ absent_numbered n (next + 1) wave (omega (arith, less)) h.1
-
-distinct_numbered : (next : ℕ) (wave : List Change) → Insertions wave → Distinct (numbered next wave)
-distinct_numbered next [] h = tt
-distinct_numbered next (c ∷ wave) h =
-    subst Distinct (sym (numbered_new next c wave h.0)) (absent_numbered next (next + 1) wave (omega arith) h.1, distinct_numbered (next + 1) wave h.1)
+rising_numbered : (low next : ℕ) (changes : List Change) → low < next → Insertions changes → RisingChangesFrom low (with_numbers next changes)
+rising_numbered low next [] less h = tt
+rising_numbered low next (c ∷ changes) less h =
+    subst (RisingChangesFrom low) (sym (numbered_new next c changes h.0)) (less, rising_numbered next (next + 1) changes (omega arith) h.1)
 
 row_at_below : (n next : ℕ) (rows : List StoredRow) → next ≤ n → Below next rows → row_at rows n ≡ None
 row_at_below n next [] le b = refl
 row_at_below n next (r ∷ rows) le b = row_at_other r rows n (ne_eqb r.number n (λ e. absurd (omega (arith, e, b.0, le)))) ∙ row_at_below n next rows le b.1
 
-current_numbered : (rows : List StoredRow) (next : ℕ) (wave : List Change) → Below next rows → Insertions wave → Current rows (numbered next wave)
+current_numbered : (rows : List StoredRow) (next : ℕ) (changes : List Change) → Below next rows → Insertions changes → Current rows (with_numbers next changes)
 current_numbered rows next [] b h = tt
-current_numbered rows next (c ∷ wave) b h =
-    subst (Current rows) (sym (numbered_new next c wave h.0)) (
+current_numbered rows next (c ∷ changes) b h =
+    subst (Current rows) (sym (numbered_new next c changes h.0)) (
       row_at_below next next rows (omega arith) b ∙ sym (ap (row_of (record c { row = next })) h.0),
-      current_numbered rows (next + 1) wave (below_raised next (next + 1) rows (omega arith) b) h.1,
+      current_numbered rows (next + 1) changes (below_raised next (next + 1) rows (omega arith) b) h.1,
     )
+
+new_numbered : (start next : ℕ) (changes : List Change) → start ≤ next → Insertions changes → NumbersFrom start (with_numbers next changes)
+new_numbered start next [] le h = tt
+new_numbered start next (c ∷ changes) le h =
+    subst (NumbersFrom start) (sym (numbered_new next c changes h.0)) ((λ none. le), new_numbered start (next + 1) changes (omega (arith, le)) h.1)
 
 -- ---- a wave as it is applied
 
-positive_drawn : (rows : List StoredRow) (wave : List Change) → Above 0 rows → Drawn OfRow rows wave → Positive wave
-positive_drawn rows wave a nothing = tt
-positive_drawn rows wave a (passed {xs = more} r d) = positive_drawn more wave a.1 d
-positive_drawn rows wave a (taken {xs = more} {ys = others} r c is d) = (omega (arith, is.number, a.0), positive_drawn more others a.1 d)
-
-positive_numbered : (next : ℕ) (wave : List Change) → 0 < next → Insertions wave → Positive (numbered next wave)
-positive_numbered next [] less h = tt
-positive_numbered next (c ∷ wave) less h =
-    subst Positive (sym (numbered_new next c wave h.0)) (less, positive_numbered (next + 1) wave (omega (arith, less)) h.1)
-
-pub positive_alike : (wave other : List Change) → AllAlike wave other → Positive wave → Positive other
-positive_alike [] [] h p = tt
-positive_alike [] (d ∷ other) h p = absurd h
-positive_alike (c ∷ wave) [] h p = absurd h
-positive_alike (c ∷ wave) (d ∷ other) h p = (omega (arith, h.0.row, p.0), positive_alike wave other h.1 p.1)
-
--- a wave that fits these rows, of positive numbers
-pub record Fits (rows : List StoredRow) (wave : List Change) : Type 0 where
-  pub distinct : Distinct wave
-  pub current : Current rows wave
-  pub positive : Positive wave
-
-pub drawn_fits : (db : Database) (wave : List Change) → Numbered db → Drawn OfRow db.rows wave → Fits db.rows wave
-drawn_fits db wave h d =
+pub drawn_fits : (db : Database) (changes : List Change) → Numbered db → Drawn OfRow db.rows changes → FitsDatabase db (wave_of changes)
+drawn_fits db changes h d =
     let parts = parts_of 0 db.rows db.next h in
     record {
-      distinct = distinct_drawn db.rows wave parts.order d;
-      current = current_drawn db.rows db.rows wave (present_itself db.rows parts.order) d;
-      positive = positive_drawn db.rows wave parts.above d;
+      rising = rising_drawn 0 db.rows changes parts.above parts.order d;
+      current = current_drawn db.rows db.rows changes (present_itself db.rows parts.order) d;
+      new = no_new_drawn db.next db.rows changes d;
     }
 
-numbered_fits : (db : Database) (wave : List Change) → Numbered db → Ready db.rows wave → Fits db.rows (numbered db.next wave)
-numbered_fits db wave h (inl d) = subst (Fits db.rows) (sym (numbered_drawn db.next db.rows wave d)) (drawn_fits db wave h d)
-numbered_fits db wave h (inr i) =
+numbered_fits : (db : Database) (changes : List Change) → Numbered db → Ready db.rows changes → FitsDatabase db (wave_of (with_numbers db.next changes))
+numbered_fits db changes h (inl d) = subst (λ l. FitsDatabase db (wave_of l)) (sym (numbered_drawn db.next db.rows changes d)) (drawn_fits db changes h d)
+numbered_fits db changes h (inr i) =
     let parts = parts_of 0 db.rows db.next h in
     record {
-      distinct = distinct_numbered db.next wave i;
-      current = current_numbered db.rows db.next wave parts.below i;
-      positive = positive_numbered db.next wave parts.next_above i;
+      rising = rising_numbered 0 db.next changes parts.next_above i;
+      current = current_numbered db.rows db.next changes parts.below i;
+      new = new_numbered db.next db.next changes (omega arith) i;
     }
 
-pub entered_fits : (w : Context) (db : Database) (budget : ℕ) (wave out : List Change) → Numbered db → Ready db.rows wave → entered w db budget wave ≡ Ok out → Fits db.rows out
-entered_fits w db budget wave out h ready e =
-    let alike = before_alike w db (numbered db.next wave) out (entered_is w db budget wave out e).is_before in
-    let fits = numbered_fits db wave h ready in
-    record {
-      distinct = distinct_alike (numbered db.next wave) out alike fits.distinct;
-      current = current_alike db.rows (numbered db.next wave) out alike fits.current;
-      positive = positive_alike (numbered db.next wave) out alike fits.positive;
-    }
+rising_alike : (low : ℕ) (changes other : List Change) → AllAlike changes other → RisingChangesFrom low changes → RisingChangesFrom low other
+rising_alike low [] [] h p = tt
+rising_alike low [] (d ∷ other) h p = absurd h
+rising_alike low (c ∷ changes) [] h p = absurd h
+rising_alike low (c ∷ changes) (d ∷ other) h p =
+    (omega (arith, h.0.row, p.0), rising_alike d.row changes other h.1 (subst (λ n. RisingChangesFrom n changes) h.0.row p.1))
+
+new_alike : (next : ℕ) (changes other : List Change) → AllAlike changes other → NumbersFrom next changes → NumbersFrom next other
+new_alike next [] [] h p = tt
+new_alike next [] (d ∷ other) h p = absurd h
+new_alike next (c ∷ changes) [] h p = absurd h
+new_alike next (c ∷ changes) (d ∷ other) h p =
+    ((λ none. subst (λ n. next ≤ n) h.0.row (p.0 (h.0.old ∙ none))), new_alike next changes other h.1 p.1)
+
+-- a wave that fits a database, but for its new values, fits it
+pub alike_fits : (db : Database) (wave other : Wave) → AllAlike wave.changes other.changes → FitsDatabase db wave → FitsDatabase db other
+alike_fits db wave other h fits = record {
+  rising = rising_alike 0 wave.changes other.changes h fits.rising;
+  current = current_alike db.rows wave.changes other.changes h fits.current;
+  new = new_alike db.next wave.changes other.changes h fits.new;
+}
+
+pub applied_fits : (w : Context) (db : Database) (budget : ℕ) (wave out : Wave) → Numbered db → Ready db.rows wave.changes
+    → wave_as_applied w db budget wave ≡ Ok out → FitsDatabase db out
+applied_fits w db budget wave out h ready e =
+    alike_fits db (wave_of (with_numbers db.next wave.changes)) out (applied_alike w db budget wave out e) (numbered_fits db wave.changes h ready)
 
 -- ---- the waves
 
-pub settle_fits : (fuel : ℕ) (w : Context) (db : Database) (budget : ℕ) (wave : List Change) (s : Settled)
-    → Numbered db → Ready db.rows wave → settle fuel w db budget wave ≡ Ok s → Leading db s.waves s.last
-settle_fits zero w db budget [] s h ready e = subst (λ x. Leading db x.waves x.last) (ok_same _ s e) (h, refl)
-settle_fits zero w db budget (c ∷ cs) s h ready e = absurd (not_ok _ s e)
-settle_fits (suc fuel) w db budget [] s h ready e = subst (λ x. Leading db x.waves x.last) (ok_same _ s e) (h, refl)
-settle_fits (suc fuel) w db budget (c ∷ cs) s h ready e =
-    let one = step_of (entered w db budget (c ∷ cs)) _ s e in
-    let two = step_of (followed w db (applied db one.0)) _ s one.2 in
-    let rest = step_of (settle fuel w (applied db one.0) (budget - length one.0) two.0) _ s two.2 in
-    let fits = entered_fits w db budget (c ∷ cs) one.0 h ready one.1 in
-    subst (λ x. Leading db x.waves x.last) (ok_same (record rest.0 { waves = one.0 ∷ rest.0.waves }) s rest.2) (
+pub settled_fits : (w : Context) (db : Database) (budget : ℕ) (wave : Wave) (s : SettledWaves)
+    → settled_waves w db budget wave ≡ Ok s → Numbered db → Ready db.rows wave.changes → Chain db s.waves s.last
+settled_fits w db budget wave s e =
+    every_settled w (λ db' budget' wave' s'. Numbered db' → Ready db'.rows wave'.changes → Chain db' s'.waves s'.last)
+    (λ db' budget' wave' none h ready. (h, refl))
+    (λ db' budget' wave' one others is_applied is_followed more h ready.
+    let fits = applied_fits w db' budget' wave' one.wave h ready is_applied in (
       h,
-      fits.distinct,
-      fits.current,
-      settle_fits fuel w (applied db one.0) (budget - length one.0) two.0 rest.0 (numbered_applied db one.0 h fits.positive) (followed_ready w db (applied db one.0) two.0 two.1) rest.1,
-    )
+      fits,
+      more (numbered_applied db' one.wave.changes h (rising_positive one.wave.changes fits.rising))
+          (followed_ready w db' (database_after db' one.wave) one.next is_followed),
+    ))
+    db budget wave s e
 
-pub waves_fit : (w : Context) (d : DataStatement) (f : Frame) (db : Database) (budget : ℕ) (wave : List Change) (s : Settled)
-    → Numbered db → proposed w db f d ≡ Ok wave → settled w db budget wave ≡ Ok s → Leading db s.waves s.last
-waves_fit w d f db budget wave s h is_proposed e = settle_fits budget w db budget wave s h (proposed_ready w db f d wave is_proposed) e
+pub waves_are_a_chain : (w : Context) (d : DataStatement) (f : Frame) (db : Database) (budget : ℕ) (wave : Wave) (s : SettledWaves)
+    → Numbered db → proposed_wave w db f d ≡ Ok wave → settled_waves w db budget wave ≡ Ok s → Chain db s.waves s.last
+waves_are_a_chain w d f db budget wave s h is_proposed e = settled_fits w db budget wave s e h (proposed_ready w db f d wave is_proposed)
 
-leading_ends : (db last : Database) (waves : List (List Change)) → Leading db waves last → Numbered last
-leading_ends db last [] h = subst Numbered h.1 h.0
-leading_ends db last (wave ∷ waves) h = leading_ends (applied db wave) last waves h.3
+chain_ends : (db last : Database) (waves : List Wave) → Chain db waves last → Numbered last
+chain_ends db last [] h = subst Numbered h.1 h.0
+chain_ends db last (wave ∷ waves) h = chain_ends (database_after db wave) last waves h.2
 
 -- ---- levels
 
 steps_number : (run : Runs) (w : Context) (d : DataStatement) (f : Frame) (db : Database) (budget : ℕ) (done : Finished)
     → Keeps (λ x _. Numbered x) run → Numbered db → Steps run w d f db budget done → Numbered done.database
 steps_number run w d f db budget done keeps h s =
-    let last = leading_ends db s.waves.last s.waves.waves (waves_fit w d f db budget s.wave s.waves h (ok_over db _ s.wave s.is_proposed) s.is_settled) in
+    let last = chain_ends db s.waves.last s.waves.waves (waves_are_a_chain w d f db budget s.wave s.waves h s.is_proposed s.is_settled) in
     let kept = all_fired_keeps (λ x _. Numbered x) run keeps
-    (firings w d (net db.rows s.waves.last.rows s.waves.waves)) (record { database = s.waves.last; budget = s.waves.rest }) s.standing s.is_fired last in
+    (firings w d (net_wave db.rows s.waves.last.rows s.waves.waves)) (record { database = s.waves.last; budget = s.waves.rest }) s.standing s.is_fired last in
     subst (λ x. Numbered x.database) s.is_done kept
 
 pub nested_numbers : (depth : ℕ) (w : Context) (trigger : ℕ) (d : DataStatement) (f : Frame) (db : Database) (budget : ℕ) (done : Finished)
-    → Numbered db → nested depth w trigger d f db budget ≡ Ok done → Numbered done.database
+    → Numbered db → nested_level depth w trigger d f db budget ≡ Ok done → Numbered done.database
 nested_numbers zero w trigger d f db budget done h e = absurd (not_ok _ done e)
 nested_numbers (suc depth) w trigger d f db zero done h e = absurd (not_ok _ done e)
 nested_numbers (suc depth) w trigger d f db (suc budget) done h e =
-    steps_number (nested depth w) w d f db budget done
+    steps_number (nested_level depth w) w d f db budget done
     (λ trigger' d' f' db' budget' done' e' h'. nested_numbers depth w trigger' d' f' db' budget' done' h' e') h
-    (steps_of (nested depth w) w d f db budget done e)
+    (steps_of (nested_level depth w) w d f db budget done e)
 
 pub level_numbers : (deeper : ℕ) (w : Context) (d : DataStatement) (f : Frame) (db : Database) (budget : ℕ) (done : Finished)
     → Numbered db → level deeper w d f db budget ≡ Ok done → Numbered done.database

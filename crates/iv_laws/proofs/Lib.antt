@@ -1,6 +1,8 @@
 pub mod Chains
 pub mod Firings
+pub mod Settling
 pub mod Budgeting
+pub mod Counting
 pub mod Checking
 pub mod RowNumbers
 pub mod AppliedRows
@@ -13,6 +15,8 @@ pub mod FittingWaves
 pub mod Keys
 pub mod Filters
 pub mod Holders
+pub mod LosingWaves
+pub mod Following
 pub mod Locality
 pub mod Members
 pub mod DeletingWaves
@@ -23,3 +27,4 @@ pub mod PlacedRows
 pub mod Scanning
 pub mod ReachedStates
 pub mod Planned
+pub mod WaveEquations

@@ -15,7 +15,8 @@ use Rattle.iv_catalogue.specs.declared.constraint.Rule.{Rule}
 use Rattle.iv_catalogue.specs.declared.constraint.Rule.TheVariants as rule
 use Rattle.iv_catalogue.specs.declared.constraint.ForeignKey.{ForeignKey}
 use Rattle.iv_machine.specs.declared.database.Database.{Database}
-use Rattle.iv_machine.specs.Databases.{row_at, key_of, none_null, all_null, holds_key, is_unique, has_referenced, matches, obeys, satisfies, applied}
+use Rattle.iv_machine.specs.Databases.{row_at, key_of, none_null, all_null, holds_key, is_unique, has_referenced, matches, obeys, satisfies}
+use Rattle.iv_laws.specs.Reorderings.{after_changes}
 use Rattle.iv_laws.specs.RisingRows.{InOrder}
 use Rattle.iv_laws.specs.FittingWaves.{old_row}
 use Rattle.iv_laws.specs.Locality.{holds_side, holds_old_or_new, concerns_by, concerns}
@@ -30,10 +31,10 @@ or_false false = refl
 
 -- a test that neither side of a change passes finds the same rows before and after
 unmoved : (db : Database) (c : Change) (p : StoredRow → Bool) → InOrder db.rows → row_at db.rows c.row ≡ old_row c
-    → passing p (row_of c c.old) ≡ None → passing p (row_of c c.new) ≡ None → filter p (applied db (c ∷ [])).rows ≡ filter p db.rows
+    → passing p (row_of c c.old) ≡ None → passing p (row_of c c.new) ≡ None → filter p (after_changes db (c ∷ [])).rows ≡ filter p db.rows
 unmoved db c p h current old new =
-    same_rows (filter p (applied db (c ∷ [])).rows) (filter p db.rows) (in_order_filter p (applied db (c ∷ [])).rows (rows_after_in_order db.rows (c ∷ []))) (in_order_filter p db.rows h) (λ n.
-    row_at_filter_in_order p (applied db (c ∷ [])).rows n (rows_after_in_order db.rows (c ∷ []))
+    same_rows (filter p (after_changes db (c ∷ [])).rows) (filter p db.rows) (in_order_filter p (after_changes db (c ∷ [])).rows (rows_after_in_order db.rows (c ∷ []))) (in_order_filter p db.rows h) (λ n.
+    row_at_filter_in_order p (after_changes db (c ∷ [])).rows n (rows_after_in_order db.rows (c ∷ []))
     ∙ ap (passing p) (row_at_rows_after db.rows (c ∷ []) n)
     ∙ ap (λ b. passing p (if b then row_at (news (c ∷ [])) n else row_at db.rows n)) (or_false (c.row == n))
     ∙ elim (c.row == n) as (λ b. (c.row == n) ≡ b → passing p (if b then row_at (news (c ∷ [])) n else row_at db.rows n) ≡ passing p (row_at db.rows n)) [
@@ -47,9 +48,9 @@ unmoved db c p h current old new =
 -- so a test of a table's rows that neither side passes finds one before where it finds one after
 same_any : (db : Database) (c : Change) (t : ℕ) (p : StoredRow → Bool) → InOrder db.rows → row_at db.rows c.row ≡ old_row c
     → passing (λ r. (r.table == t) && p r) (row_of c c.old) ≡ None → passing (λ r. (r.table == t) && p r) (row_of c c.new) ≡ None
-    → list_any p (table_rows (applied db (c ∷ [])).rows t) ≡ list_any p (table_rows db.rows t)
+    → list_any p (table_rows (after_changes db (c ∷ [])).rows t) ≡ list_any p (table_rows db.rows t)
 same_any db c t p h current old new =
-    as_filter (applied db (c ∷ [])).rows
+    as_filter (after_changes db (c ∷ [])).rows
     ∙ ap (list_any (λ _. true)) (unmoved db c (λ r. (r.table == t) && p r) h current old new)
     ∙ sym (as_filter db.rows)
   where
@@ -97,7 +98,7 @@ and_false false = refl
 
 same_unique : (db : Database) (c : Change) (t : ℕ) (columns : List ℕ) (r : StoredRow) → InOrder db.rows → row_at db.rows c.row ≡ old_row c
     → ((c.table == t) && holds_old_or_new columns columns r c) ≡ false
-    → is_unique (applied db (c ∷ [])).rows t columns r ≡ is_unique db.rows t columns r
+    → is_unique (after_changes db (c ∷ [])).rows t columns r ≡ is_unique db.rows t columns r
 same_unique db c t columns r h current e =
     let parts = parts_fail (c.table == t) (holds_side columns columns r c.old) (holds_side columns columns r c.new) e in
     ap not (same_any db c t other h current
@@ -114,7 +115,7 @@ same_unique db c t columns r h current e =
 
 same_referenced : (db : Database) (c : Change) (fk : ForeignKey) (r : StoredRow) → InOrder db.rows → row_at db.rows c.row ≡ old_row c
     → ((c.table == fk.referenced) && holds_old_or_new fk.columns fk.key r c) ≡ false → none_null (key_of fk.columns r.values) ≡ true
-    → has_referenced (applied db (c ∷ [])).rows fk (key_of fk.columns r.values) ≡ has_referenced db.rows fk (key_of fk.columns r.values)
+    → has_referenced (after_changes db (c ∷ [])).rows fk (key_of fk.columns r.values) ≡ has_referenced db.rows fk (key_of fk.columns r.values)
 same_referenced db c fk r h current e given =
     let parts = parts_fail (c.table == fk.referenced) (holds_side fk.columns fk.key r c.old) (holds_side fk.columns fk.key r c.new) e in
     same_any db c fk.referenced has h current
@@ -131,28 +132,28 @@ same_referenced db c fk r h current e given =
 
 same_matches : (db : Database) (c : Change) (fk : ForeignKey) (m : MatchType) (r : StoredRow) → InOrder db.rows → row_at db.rows c.row ≡ old_row c
     → ((c.table == fk.referenced) && holds_old_or_new fk.columns fk.key r c) ≡ false
-    → matches m (applied db (c ∷ [])).rows fk (key_of fk.columns r.values) ≡ matches m db.rows fk (key_of fk.columns r.values)
+    → matches m (after_changes db (c ∷ [])).rows fk (key_of fk.columns r.values) ≡ matches m db.rows fk (key_of fk.columns r.values)
 same_matches db c fk m r h current e = by_given (none_null (key_of fk.columns r.values)) refl
   where
     before : Bool
     before = has_referenced db.rows fk (key_of fk.columns r.values)
 
     after : Bool
-    after = has_referenced (applied db (c ∷ [])).rows fk (key_of fk.columns r.values)
+    after = has_referenced (after_changes db (c ∷ [])).rows fk (key_of fk.columns r.values)
 
     by_match : (b : Bool) → none_null (key_of fk.columns r.values) ≡ b → (not b || after) ≡ (not b || before) → (b && after) ≡ (b && before) → (m : MatchType)
-        → matches m (applied db (c ∷ [])).rows fk (key_of fk.columns r.values) ≡ matches m db.rows fk (key_of fk.columns r.values)
+        → matches m (after_changes db (c ∷ [])).rows fk (key_of fk.columns r.values) ≡ matches m db.rows fk (key_of fk.columns r.values)
     by_match b g simple full Simple = ap (λ x. not x || after) g ∙ simple ∙ ap (λ x. not x || before) (sym g)
     by_match b g simple full Full =
         ap (λ x. all_null (key_of fk.columns r.values) || x) (ap (λ x. x && after) g ∙ full ∙ ap (λ x. x && before) (sym g))
 
     by_given : (b : Bool) → none_null (key_of fk.columns r.values) ≡ b
-        → matches m (applied db (c ∷ [])).rows fk (key_of fk.columns r.values) ≡ matches m db.rows fk (key_of fk.columns r.values)
+        → matches m (after_changes db (c ∷ [])).rows fk (key_of fk.columns r.values) ≡ matches m db.rows fk (key_of fk.columns r.values)
     by_given true g = let same = same_referenced db c fk r h current e g in by_match true g same same m
     by_given false g = by_match false g refl refl m
 
 same_obeys : (db : Database) (c : Change) (t : ℕ) (k : Rule) (r : StoredRow) → InOrder db.rows → row_at db.rows c.row ≡ old_row c
-    → concerns_by c t k r ≡ false → obeys (applied db (c ∷ [])).rows t k r ≡ obeys db.rows t k r
+    → concerns_by c t k r ≡ false → obeys (after_changes db (c ∷ [])).rows t k r ≡ obeys db.rows t k r
 same_obeys db c t (rule.NotNull column) r h current e = refl
 same_obeys db c t (rule.Check condition) r h current e = refl
 same_obeys db c t (rule.Unique columns) r h current e = same_unique db c t columns r h current e
@@ -160,5 +161,5 @@ same_obeys db c t (rule.PrimaryKey columns) r h current e = ap (λ b. none_null 
 same_obeys db c t (rule.ForeignKey fk) r h current e = same_matches db c fk fk.matching r h current e
 
 pub change_is_local : (db : Database) (c : Change) (k : Constraint) (r : StoredRow) → InOrder db.rows → row_at db.rows c.row ≡ old_row c
-    → concerns c k r ≡ false → satisfies (applied db (c ∷ [])).rows k r ≡ satisfies db.rows k r
+    → concerns c k r ≡ false → satisfies (after_changes db (c ∷ [])).rows k r ≡ satisfies db.rows k r
 change_is_local db c k r h current e = same_obeys db c k.table k.rule r h current e

@@ -1,11 +1,11 @@
 -- The elements of lists.
-use Rattle.std.proofs.Common.{◌≡◌, refl, ℕ, ◌+◌, Bool, true, false, ◌||◌, if◌then◌else◌, List, [], ◌∷◌, filter, filter_map, Option, Some, None, sym, ap, subst, ◌∙◌, ◌⊎◌, inl, inr, ⊎_elim}
+use Rattle.std.proofs.Common.{◌≡◌, refl, ℕ, Bool, true, false, ◌||◌, if◌then◌else◌, List, [], ◌∷◌, ◌++◌, map, filter, filter_map, flat_map, Option, Some, None, sym, ap, subst, ◌∙◌, ◌⊎◌, inl, inr, ⊎_elim}
 use Rattle.std.specs.Bool.{◌==◌}
-use Rattle.std.specs.List.{list_any, list_all, cons_option, enumerate_from}
+use Rattle.std.specs.List.{list_any, list_all, cons_option}
 use Rattle.std.proofs.lemmas.Bool.{eqb-true, eq-eqb}
 use Rattle.iv_expr.specs.declared.row.StoredRow.{StoredRow}
 use Rattle.iv_expr.specs.declared.row.Change.{Change}
-use Rattle.iv_machine.specs.Databases.{row_at, in_wave, first}
+use Rattle.iv_machine.specs.Databases.{row_at, has_change, first}
 use Rattle.iv_laws.specs.RisingRows.{InOrder}
 use Rattle.iv_laws.proofs.RowNumbers.{some_none, some_same}
 use Rattle.iv_laws.proofs.FittingWaves.{Present, present_itself}
@@ -88,17 +88,37 @@ pub first_is : {A : Type 0} (x : A) (xs : List A) → In x xs → (y : A) × (fi
 first_is x [] i = absurd i
 first_is x (y ∷ ys) i = (y, refl)
 
--- ---- numbered lists
+-- ---- lists made of lists
 
-pub in_enumerated : {A : Type 0} (x : A) (n : ℕ) (xs : List A) → In x xs → (m : ℕ) × In (m, x) (enumerate_from n xs)
-in_enumerated x n [] i = absurd i
-in_enumerated x n (y ∷ ys) (inl is) = (n, inl (λ i. (n, is i)))
-in_enumerated x n (y ∷ ys) (inr i) = let rest = in_enumerated x (n + 1) ys i in (rest.0, inr rest.1)
+in_left : {A : Type 0} (x : A) (xs ys : List A) → In x xs → In x (xs ++ ys)
+in_left x [] ys i = absurd i
+in_left x (z ∷ xs) ys (inl is) = inl is
+in_left x (z ∷ xs) ys (inr i) = inr (in_left x xs ys i)
 
-pub of_enumerated : {A : Type 0} (p : ℕ × A) (n : ℕ) (xs : List A) → In p (enumerate_from n xs) → In p.1 xs
-of_enumerated p n [] i = absurd i
-of_enumerated p n (y ∷ ys) (inl is) = inl (ap (λ q. q.1) is)
-of_enumerated p n (y ∷ ys) (inr i) = inr (of_enumerated p (n + 1) ys i)
+in_right : {A : Type 0} (x : A) (xs ys : List A) → In x ys → In x (xs ++ ys)
+in_right x [] ys i = i
+in_right x (z ∷ xs) ys i = inr (in_right x xs ys i)
+
+in_either : {A : Type 0} (x : A) (xs ys : List A) → In x (xs ++ ys) → In x xs ⊎ In x ys
+in_either x [] ys i = inr i
+in_either x (z ∷ xs) ys (inl is) = inl (inl is)
+in_either x (z ∷ xs) ys (inr i) = ⊎_elim (λ j. inl (inr j)) (λ j. inr j) (in_either x xs ys i)
+
+pub in_flat_map : {A B : Type 0} (f : A → List B) (y : B) (x : A) (xs : List A) → In x xs → In y (f x) → In y (flat_map f xs)
+in_flat_map f y x [] i j = absurd i
+in_flat_map f y x (z ∷ xs) (inl is) j = in_left y (f z) (flat_map f xs) (subst (λ v. In y (f v)) is j)
+in_flat_map f y x (z ∷ xs) (inr i) j = in_right y (f z) (flat_map f xs) (in_flat_map f y x xs i j)
+
+pub of_flat_map : {A B : Type 0} (f : A → List B) (y : B) (xs : List A) → In y (flat_map f xs) → Found xs (λ x. In y (f x))
+of_flat_map f y [] i = absurd i
+of_flat_map f y (x ∷ xs) i =
+    ⊎_elim (λ j. record { element = x; is_in = inl refl; holds = j })
+    (λ j. further x xs (λ z. In y (f z)) (of_flat_map f y xs j)) (in_either y (f x) (flat_map f xs) i)
+
+pub of_map : {A B : Type 0} (f : A → B) (y : B) (xs : List A) → In y (map f xs) → Found xs (λ x. y ≡ f x)
+of_map f y [] i = absurd i
+of_map f y (x ∷ xs) (inl is) = record { element = x; is_in = inl refl; holds = is }
+of_map f y (x ∷ xs) (inr i) = further x xs (λ z. y ≡ f z) (of_map f y xs i)
 
 -- ---- rows and changes by their numbers
 
@@ -118,10 +138,10 @@ present_in rows (s ∷ some) r h (inr i) = present_in rows some r h.1 i
 pub rows_in : (rows : List StoredRow) (r : StoredRow) → InOrder rows → In r rows → row_at rows r.number ≡ Some r
 rows_in rows r h i = present_in rows rows r (present_itself rows h) i
 
-pub in_wave_of : (wave : List Change) (n : ℕ) → in_wave wave n ≡ true → Found wave (λ c. c.row ≡ n)
+pub in_wave_of : (wave : List Change) (n : ℕ) → has_change wave n ≡ true → Found wave (λ c. c.row ≡ n)
 in_wave_of wave n e =
     let found = of_any (λ c. c.row == n) wave e in
     record { element = found.element; is_in = found.is_in; holds = eqb-true found.element.row n found.holds }
 
-pub wave_has : (wave : List Change) (c : Change) (n : ℕ) → In c wave → c.row ≡ n → in_wave wave n ≡ true
+pub wave_has : (wave : List Change) (c : Change) (n : ℕ) → In c wave → c.row ≡ n → has_change wave n ≡ true
 wave_has wave c n i e = any_in (λ x. x.row == n) c wave i (eq-eqb c.row n e)

@@ -6,8 +6,9 @@ use Rattle.iv_value.specs.declared.value.Value.{Value}
 use Rattle.iv_expr.specs.declared.row.StoredRow.{StoredRow}
 use Rattle.iv_expr.specs.declared.row.Change.{Change}
 use Rattle.iv_machine.specs.declared.database.Database.{Database}
-use Rattle.iv_machine.specs.Databases.{put, in_order, rows_after, next_after, applied}
+use Rattle.iv_machine.specs.Databases.{rows_with, in_order, rows_after, next_after}
 use Rattle.iv_machine.specs.Invariants.{Rising}
+use Rattle.iv_laws.specs.Reorderings.{after_changes}
 use Rattle.iv_laws.specs.RisingRows.{Every, Above, InOrder}
 use Rattle.iv_laws.specs.Holders.{is_outside}
 use Rattle.iv_laws.specs.FittingWaves.{Numbered}
@@ -17,12 +18,12 @@ use Rattle.iv_laws.proofs.AppliedRows.{row_of, news, rows_after_in_order}
 -- ---- what each row has, each row after a wave has
 
 module _ (P : StoredRow → Type 0) where
-  every_put : (r : StoredRow) (rows : List StoredRow) → P r → Every P rows → Every P (put r rows)
+  every_put : (r : StoredRow) (rows : List StoredRow) → P r → Every P rows → Every P (rows_with r rows)
   every_put r [] h e = (h, tt)
   every_put r (s ∷ rows) h e =
-      elim (nat_lt r.number s.number) as (λ t. Every P (if t then r ∷ s ∷ rows else (if r.number == s.number then r ∷ rows else s ∷ put r rows))) [
+      elim (nat_lt r.number s.number) as (λ t. Every P (if t then r ∷ s ∷ rows else (if r.number == s.number then r ∷ rows else s ∷ rows_with r rows))) [
         | true ↦ (h, e)
-        | false ↦ elim (r.number == s.number) as (λ t. Every P (if t then r ∷ rows else s ∷ put r rows)) [ true ↦ (h, e.1) | false ↦ (e.0, every_put r rows h e.1) ]
+        | false ↦ elim (r.number == s.number) as (λ t. Every P (if t then r ∷ rows else s ∷ rows_with r rows)) [ true ↦ (h, e.1) | false ↦ (e.0, every_put r rows h e.1) ]
       ]
 
   every_in_order : (rows : List StoredRow) → Every P rows → Every P (in_order rows)
@@ -101,11 +102,11 @@ below_news next (c ∷ wave) =
     every_side (λ r. r.number < next_after next (c ∷ wave)) c c.new (news wave) (λ values. less)
     (below_raised (next_after next wave) (next_after next (c ∷ wave)) (news wave) (omega arith) (below_news next wave))
 
-pub numbered_applied : (db : Database) (wave : List Change) → Numbered db → Positive wave → Numbered (applied db wave)
+pub numbered_applied : (db : Database) (wave : List Change) → Numbered db → Positive wave → Numbered (after_changes db wave)
 numbered_applied db wave h p =
     let parts = parts_of 0 db.rows db.next h in
     let least = next_after_least db.next wave in
-    rising_from 0 (applied db wave).rows (next_after db.next wave) (rows_after_in_order db.rows wave)
+    rising_from 0 (after_changes db wave).rows (next_after db.next wave) (rows_after_in_order db.rows wave)
     (every_after (λ r. 0 < r.number) db.rows wave parts.above (above_news wave p))
     (every_after (λ r. r.number < next_after db.next wave) db.rows wave (below_raised db.next (next_after db.next wave) db.rows least parts.below) (below_news db.next wave))
     (omega (arith, parts.next_above, least))

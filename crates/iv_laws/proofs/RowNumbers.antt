@@ -3,7 +3,7 @@ use Rattle.std.proofs.Common.{◌≡◌, refl, ℕ, ◌<◌, ◌≤◌, Bool, tr
 use Rattle.std.specs.Bool.{nat_lt, ◌==◌}
 use Rattle.std.proofs.lemmas.Bool.{eqb-true, eq-eqb, ltb-true}
 use Rattle.iv_expr.specs.declared.row.StoredRow.{StoredRow}
-use Rattle.iv_machine.specs.Databases.{row_at, put, in_order}
+use Rattle.iv_machine.specs.Databases.{row_at, rows_with, in_order}
 use Rattle.iv_laws.specs.RisingRows.{Above, InOrder}
 
 pub some_none : {A : Type 0} (a : A) → ◌≡◌ {A = Option A} (Some a) None → ⊥
@@ -29,12 +29,12 @@ number_of_row_at (r ∷ rows) n found e =
 
 -- ---- a row put among others
 
-pub row_at_put : (r : StoredRow) (rows : List StoredRow) (n : ℕ) → row_at (put r rows) n ≡ (if r.number == n then Some r else row_at rows n)
+pub row_at_put : (r : StoredRow) (rows : List StoredRow) (n : ℕ) → row_at (rows_with r rows) n ≡ (if r.number == n then Some r else row_at rows n)
 row_at_put r [] n = refl
 row_at_put r (s ∷ rows) n =
-    elim (nat_lt r.number s.number) as (λ b. row_at (if b then r ∷ s ∷ rows else (if r.number == s.number then r ∷ rows else s ∷ put r rows)) n ≡ (if r.number == n then Some r else row_at (s ∷ rows) n)) [
+    elim (nat_lt r.number s.number) as (λ b. row_at (if b then r ∷ s ∷ rows else (if r.number == s.number then r ∷ rows else s ∷ rows_with r rows)) n ≡ (if r.number == n then Some r else row_at (s ∷ rows) n)) [
       | true ↦ refl
-      | false ↦ elim (r.number == s.number) as (λ b. (r.number == s.number) ≡ b → row_at (if b then r ∷ rows else s ∷ put r rows) n ≡ (if r.number == n then Some r else row_at (s ∷ rows) n)) [
+      | false ↦ elim (r.number == s.number) as (λ b. (r.number == s.number) ≡ b → row_at (if b then r ∷ rows else s ∷ rows_with r rows) n ≡ (if r.number == n then Some r else row_at (s ∷ rows) n)) [
         | true ↦ λ e. grind (arith, eqb-true _ _ e)
         | false ↦ λ e. grind (arith, e, row_at_put r rows n)
       ] refl
@@ -50,20 +50,20 @@ pub above_lower : (low n : ℕ) (rows : List StoredRow) → low ≤ n → Above 
 above_lower low n [] h a = tt
 above_lower low n (r ∷ rows) h a = (omega (arith, a.0), above_lower low n rows h a.1)
 
-above_put : (n : ℕ) (r : StoredRow) (rows : List StoredRow) → n < r.number → Above n rows → Above n (put r rows)
+above_put : (n : ℕ) (r : StoredRow) (rows : List StoredRow) → n < r.number → Above n rows → Above n (rows_with r rows)
 above_put n r [] h a = (h, tt)
 above_put n r (s ∷ rows) h a =
-    elim (nat_lt r.number s.number) as (λ b. Above n (if b then r ∷ s ∷ rows else (if r.number == s.number then r ∷ rows else s ∷ put r rows))) [
+    elim (nat_lt r.number s.number) as (λ b. Above n (if b then r ∷ s ∷ rows else (if r.number == s.number then r ∷ rows else s ∷ rows_with r rows))) [
       | true ↦ (h, a)
-      | false ↦ elim (r.number == s.number) as (λ b. Above n (if b then r ∷ rows else s ∷ put r rows)) [ true ↦ (h, a.1) | false ↦ (a.0, above_put n r rows h a.1) ]
+      | false ↦ elim (r.number == s.number) as (λ b. Above n (if b then r ∷ rows else s ∷ rows_with r rows)) [ true ↦ (h, a.1) | false ↦ (a.0, above_put n r rows h a.1) ]
     ]
 
-in_order_put : (r : StoredRow) (rows : List StoredRow) → InOrder rows → InOrder (put r rows)
+in_order_put : (r : StoredRow) (rows : List StoredRow) → InOrder rows → InOrder (rows_with r rows)
 in_order_put r [] h = (tt, tt)
 in_order_put r (s ∷ rows) h =
-    elim (nat_lt r.number s.number) as (λ b. nat_lt r.number s.number ≡ b → InOrder (if b then r ∷ s ∷ rows else (if r.number == s.number then r ∷ rows else s ∷ put r rows))) [
+    elim (nat_lt r.number s.number) as (λ b. nat_lt r.number s.number ≡ b → InOrder (if b then r ∷ s ∷ rows else (if r.number == s.number then r ∷ rows else s ∷ rows_with r rows))) [
       | true ↦ λ e. let less : r.number < s.number = ltb-true _ _ e in ((less, above_lower r.number s.number rows (omega (arith, less)) h.0), h)
-      | false ↦ λ e. elim (r.number == s.number) as (λ b. (r.number == s.number) ≡ b → InOrder (if b then r ∷ rows else s ∷ put r rows)) [
+      | false ↦ λ e. elim (r.number == s.number) as (λ b. (r.number == s.number) ≡ b → InOrder (if b then r ∷ rows else s ∷ rows_with r rows)) [
         | true ↦ λ f. let is = eqb-true r.number s.number f in (rw is h.0, h.1)
         | false ↦ λ f. (above_put s.number r rows (grind (arith, e, f)) h.0, in_order_put r rows h.1)
       ] refl

@@ -5,8 +5,8 @@ use Rattle.std.proofs.lemmas.Bool.{eq-eqb}
 use Rattle.iv_expr.specs.declared.row.StoredRow.{StoredRow}
 use Rattle.iv_catalogue.specs.declared.constraint.Constraint.{Constraint}
 use Rattle.iv_catalogue.specs.declared.cause.Fault.{Fault}
-use Rattle.iv_machine.specs.Databases.{violations, chosen_violations, scan_from, scan, first}
-use Rattle.iv_machine.proofs.Scans.{left_empty, right_empty, both_empty}
+use Rattle.iv_machine.specs.Databases.{violations, chosen_violations, scan, first}
+use Rattle.iv_machine.proofs.Scans.{scan_from, left_empty, right_empty, both_empty}
 use Rattle.iv_laws.proofs.RowNumbers.{some_none}
 
 pub no_first : {A : Type 0} (xs : List A) → first xs ≡ None → xs ≡ []

@@ -6,7 +6,7 @@ use Rattle.iv_machine.specs.declared.database.Database.{Database}
 use Rattle.iv_machine.specs.declared.database.Which.TheVariants.{Immediate}
 use Rattle.iv_machine.specs.Context.{Context}
 use Rattle.iv_machine.specs.Databases.{scan, is_chosen}
-use Rattle.iv_machine.specs.Levels.{Finished, nested, level}
+use Rattle.iv_machine.specs.Levels.{Finished, nested_level, level}
 
 -- no immediate constraint is violated
 abbrev pub IsChecked : Context → Database → Type 0
@@ -23,5 +23,5 @@ LevelsCheck =
 abbrev pub NestedLevelsCheck : Type 0
 NestedLevelsCheck =
     (depth : ℕ) (w : Context) (trigger : ℕ) (d : DataStatement) (f : Frame) (db : Database) (budget : ℕ) (done : Finished)
-    → nested depth w trigger d f db budget ≡ Ok done
+    → nested_level depth w trigger d f db budget ≡ Ok done
     → IsChecked w done.database

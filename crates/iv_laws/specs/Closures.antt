@@ -2,7 +2,7 @@
 use Rattle.std.specs.Prelude.{◌≡◌, ℕ, Bool, true, false, ◌&&◌, not, ◌==◌, List, Some, None, Ok}
 use Rattle.std.specs.List.{list_any, list_all}
 use Rattle.iv_expr.specs.declared.row.StoredRow.{StoredRow}
-use Rattle.iv_expr.specs.declared.row.Change.{Change}
+use Rattle.iv_expr.specs.Changes.{Wave}
 use Rattle.iv_expr.specs.declared.tree.Cond.{Cond}
 use Rattle.iv_expr.specs.Scopes.{Frame}
 use Rattle.iv_syntax.specs.declared.table.ReferentialAction.{ReferentialAction}
@@ -11,11 +11,11 @@ use Rattle.iv_catalogue.specs.declared.constraint.Constraint.{Constraint}
 use Rattle.iv_catalogue.specs.declared.constraint.ForeignKey.{ForeignKey}
 use Rattle.iv_catalogue.specs.declared.plan.DataStatement.TheVariants.{Delete}
 use Rattle.iv_machine.specs.declared.database.Database.{Database}
-use Rattle.iv_machine.specs.Databases.{row_at, key_of, holds_key, in_wave}
+use Rattle.iv_machine.specs.Databases.{row_at, key_of, holds_key, has_change}
 use Rattle.iv_machine.specs.Context.{Context}
-use Rattle.iv_machine.specs.Proposals.{proposed}
-use Rattle.iv_machine.specs.ReferentialActions.{foreign_key}
-use Rattle.iv_machine.specs.Waves.{Settled, settled}
+use Rattle.iv_machine.specs.Proposals.{proposed_wave}
+use Rattle.iv_machine.specs.ReferentialActions.{references}
+use Rattle.iv_machine.specs.Waves.{SettledWaves, settled_waves}
 use Rattle.iv_laws.specs.FittingWaves.{Numbered}
 
 -- ---- the actions
@@ -32,7 +32,7 @@ sets_columns _ = false
 
 -- no foreign key has SET NULL or SET DEFAULT on delete
 abbrev pub no_column_is_set : List Constraint → Bool
-no_column_is_set constraints = list_all (λ k. elim (foreign_key k.rule) [ Some fk ↦ not (sets_columns fk.on_delete) | None ↦ true ]) constraints
+no_column_is_set constraints = list_all (λ k. not (sets_columns k.key.on_delete)) (references constraints)
 
 -- ---- the set
 
@@ -42,43 +42,42 @@ cascades_by fk r other = is_cascade fk.on_delete && ((other.table == fk.referenc
 
 -- so by some foreign key of its table
 abbrev pub follows : List Constraint → StoredRow → StoredRow → Bool
-follows constraints r other =
-    list_any (λ k. (k.table == r.table) && elim (foreign_key k.rule) [ Some fk ↦ cascades_by fk r other | None ↦ false ]) constraints
+follows constraints r other = list_any (λ k. (k.table == r.table) && cascades_by k.key r other) (references constraints)
 
 -- The least set of these rows that has those of a wave, and each row that by a foreign key with ON DELETE CASCADE holds the key
 -- of a row of the set.
-pub data Taken (constraints : List Constraint) (rows : List StoredRow) (wave : List Change) : StoredRow → Type 0 where
-  candidate : (r : StoredRow) → row_at rows r.number ≡ Some r → in_wave wave r.number ≡ true → Taken constraints rows wave r
+pub data Taken (constraints : List Constraint) (rows : List StoredRow) (wave : Wave) : StoredRow → Type 0 where
+  candidate : (r : StoredRow) → row_at rows r.number ≡ Some r → has_change wave.changes r.number ≡ true → Taken constraints rows wave r
   referring : (r other : StoredRow) → row_at rows r.number ≡ Some r → follows constraints r other ≡ true
       → Taken constraints rows wave other → Taken constraints rows wave r
 
 -- ---- what a DELETE takes away
 
 -- the waves of a DELETE, with what it proposes, are accepted and lead to a last database
-abbrev pub Deletes : Context → ℕ → Cond → Frame → Database → ℕ → List Change → Settled → Type 0
+abbrev pub Deletes : Context → ℕ → Cond → Frame → Database → ℕ → Wave → SettledWaves → Type 0
 Deletes w t filter f db budget wave s =
     Numbered db
     × (no_column_is_set w.schema.constraints ≡ true)
-    × (proposed w db f (Delete t filter) ≡ Ok wave)
-    × (settled w db budget wave ≡ Ok s)
+    × (proposed_wave w db f (Delete t filter) ≡ Ok wave)
+    × (settled_waves w db budget wave ≡ Ok s)
 
 -- Each row of the set is gone.
 abbrev pub TakenRowsAreGone : Type 0
 TakenRowsAreGone =
-    (w : Context) (t : ℕ) (filter : Cond) (f : Frame) (db : Database) (budget : ℕ) (wave : List Change) (s : Settled)
+    (w : Context) (t : ℕ) (filter : Cond) (f : Frame) (db : Database) (budget : ℕ) (wave : Wave) (s : SettledWaves)
     → Deletes w t filter f db budget wave s
     → (r : StoredRow) → Taken w.schema.constraints db.rows wave r → row_at s.last.rows r.number ≡ None
 
 -- No row that is gone is outside the set.
 abbrev pub GoneRowsAreTaken : Type 0
 GoneRowsAreTaken =
-    (w : Context) (t : ℕ) (filter : Cond) (f : Frame) (db : Database) (budget : ℕ) (wave : List Change) (s : Settled)
+    (w : Context) (t : ℕ) (filter : Cond) (f : Frame) (db : Database) (budget : ℕ) (wave : Wave) (s : SettledWaves)
     → Deletes w t filter f db budget wave s
     → (r : StoredRow) → row_at db.rows r.number ≡ Some r → row_at s.last.rows r.number ≡ None → Taken w.schema.constraints db.rows wave r
 
 -- Each row that is there was there, with the same values.
 abbrev pub OtherRowsStay : Type 0
 OtherRowsStay =
-    (w : Context) (t : ℕ) (filter : Cond) (f : Frame) (db : Database) (budget : ℕ) (wave : List Change) (s : Settled)
+    (w : Context) (t : ℕ) (filter : Cond) (f : Frame) (db : Database) (budget : ℕ) (wave : Wave) (s : SettledWaves)
     → Deletes w t filter f db budget wave s
     → (r : StoredRow) → row_at s.last.rows r.number ≡ Some r → row_at db.rows r.number ≡ Some r

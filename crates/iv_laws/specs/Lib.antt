@@ -7,3 +7,4 @@ pub mod Holders
 pub mod Locality
 pub mod Closures
 pub mod Reached
+pub mod WaveEquations

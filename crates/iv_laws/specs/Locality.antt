@@ -7,8 +7,9 @@ use Rattle.iv_catalogue.specs.declared.constraint.Constraint.{Constraint}
 use Rattle.iv_catalogue.specs.declared.constraint.Rule.{Rule}
 use Rattle.iv_catalogue.specs.declared.constraint.Rule.TheVariants as rule
 use Rattle.iv_machine.specs.declared.database.Database.{Database}
-use Rattle.iv_machine.specs.Databases.{row_at, key_of, holds_key, satisfies, violates, applied}
+use Rattle.iv_machine.specs.Databases.{row_at, key_of, holds_key, satisfies, violates}
 use Rattle.iv_laws.specs.RisingRows.{InOrder}
+use Rattle.iv_laws.specs.Reorderings.{after_changes}
 use Rattle.iv_laws.specs.FittingWaves.{old_row}
 
 -- a row holds in these columns what one side of a change has in the columns of a key
@@ -39,7 +40,7 @@ AChangeIsLocal =
     (db : Database) (c : Change) (k : Constraint) (r : StoredRow)
     → InOrder db.rows → row_at db.rows c.row ≡ old_row c
     → concerns c k r ≡ false
-    → satisfies (applied db (c ∷ [])).rows k r ≡ satisfies db.rows k r
+    → satisfies (after_changes db (c ∷ [])).rows k r ≡ satisfies db.rows k r
 
 -- neither the changed row nor one that the change concerns
 abbrev pub is_elsewhere : Change → Constraint → StoredRow → Bool
@@ -50,5 +51,5 @@ abbrev pub ViolationsElsewhereStay : Type 0
 ViolationsElsewhereStay =
     (db : Database) (c : Change) (k : Constraint)
     → InOrder db.rows → row_at db.rows c.row ≡ old_row c
-    → filter (is_elsewhere c k) (filter (violates (applied db (c ∷ [])).rows k) (applied db (c ∷ [])).rows)
+    → filter (is_elsewhere c k) (filter (violates (after_changes db (c ∷ [])).rows k) (after_changes db (c ∷ [])).rows)
     ≡ filter (is_elsewhere c k) (filter (violates db.rows k) db.rows)

@@ -1,18 +1,36 @@
 //! Laws of the machine's definitions, each as the contract of a function that does nothing.
-ghost use Rattle.iv_laws.specs.Budgets.{LevelsTakeFromTheBudget, NestedLevelsTakeFromTheBudget, WavesTakeWhatTheyChange};
+ghost use Rattle.iv_laws.specs.Budgets.{LevelsTakeFromTheBudget, NestedLevelsTakeFromTheBudget, WavesTakeWhatTheyChange, WavesCountTheirChanges, LevelsCountTheirChanges, NestedLevelsCountTheirChanges, RefusedLevelsKeepTheCount};
 ghost use Rattle.iv_laws.specs.Checks.{LevelsCheck, NestedLevelsCheck};
 ghost use Rattle.iv_laws.specs.Closures.{TakenRowsAreGone, GoneRowsAreTaken, OtherRowsStay};
-ghost use Rattle.iv_laws.specs.FittingWaves.{WavesFit, LevelsKeepNumbers, NestedLevelsKeepNumbers, NoRowsAreNumbered};
-ghost use Rattle.iv_laws.specs.Holders.{HoldersBeforeAWave, KeysAreLostByTheWave, RestrictedRowsReferToTheWave, FollowingRowsReferToTheWave, NextWaveRefersToTheWave};
+ghost use Rattle.iv_laws.specs.FittingWaves.{WavesAreAChain, LevelsKeepNumbers, NestedLevelsKeepNumbers, NoRowsAreNumbered};
+ghost use Rattle.iv_laws.specs.Holders.{HoldersBeforeAWave, RowsBeforeAWave, KeysAreLostByTheWave, RestrictedRowsFollow, ConflictsFollow, NextWavesFollow, WavesFollowFromWaves};
 ghost use Rattle.iv_laws.specs.Locality.{AChangeIsLocal, ViolationsElsewhereStay};
 ghost use Rattle.iv_laws.specs.Reached.{PlannedStatesAreSound};
 ghost use Rattle.iv_laws.specs.Reorderings.{AnyOrderGivesTheWave};
+ghost use Rattle.iv_laws.specs.WaveEquations.{RowsAfterAWave, RowsAfterAreInOrder, WavesAreSettledOneByOne};
 
-/// A data statement takes one from the budget for itself, and one for each row change.
+/// A data statement takes from its budget one for each data statement and one for each row change, at all
+/// levels, and nothing else.
 pub fn budget_falls()
     ensures level { LevelsTakeFromTheBudget }
     ensures nested { NestedLevelsTakeFromTheBudget }
     ensures waves { WavesTakeWhatTheyChange }
+{}
+
+/// The changes that stand after a data statement are those before it, and the sizes of all waves at all
+/// levels; where it is refused, no fewer stand than before it.
+pub fn changes_are_counted()
+    ensures waves { WavesCountTheirChanges }
+    ensures level { LevelsCountTheirChanges }
+    ensures nested { NestedLevelsCountTheirChanges }
+    ensures refused { RefusedLevelsKeepTheCount }
+{}
+
+/// What one wave does to each row, and how waves are settled one after another.
+pub fn waves_one_by_one()
+    ensures rows { RowsAfterAWave }
+    ensures order { RowsAfterAreInOrder }
+    ensures settled { WavesAreSettledOneByOne }
 {}
 
 /// After an accepted data statement no immediate constraint is violated.
@@ -26,23 +44,25 @@ pub fn any_order()
     ensures { AnyOrderGivesTheWave }
 {}
 
-/// The waves of a data statement change distinct rows, say what they hold, and leave rows in rising
-/// number, below the next one.
+/// The waves of a data statement are a chain: each is by rising row number, says what the rows hold, and
+/// gives new rows numbers that none had before. Data statements leave rows in rising number, below the next.
 pub fn waves_fit()
-    ensures waves { WavesFit }
+    ensures waves { WavesAreAChain }
     ensures level { LevelsKeepNumbers }
     ensures nested { NestedLevelsKeepNumbers }
     ensures start { NoRowsAreNumbered }
 {}
 
-/// Which rows held a key before a wave, and which keys it lost, follows from the rows after it and from
-/// the wave.
+/// Which rows held a key before a wave, which keys it took away, and what follows it, are told by the rows
+/// after it and by the wave.
 pub fn holders_before_a_wave()
     ensures holders { HoldersBeforeAWave }
+    ensures rows { RowsBeforeAWave }
     ensures lost { KeysAreLostByTheWave }
-    ensures restricted { RestrictedRowsReferToTheWave }
-    ensures following { FollowingRowsReferToTheWave }
-    ensures next { NextWaveRefersToTheWave }
+    ensures restricted { RestrictedRowsFollow }
+    ensures conflicts { ConflictsFollow }
+    ensures next { NextWavesFollow }
+    ensures following { WavesFollowFromWaves }
 {}
 
 /// A change of one row can alter what constraints say of that row, of rows that hold its old or new

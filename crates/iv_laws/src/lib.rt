@@ -6,6 +6,6 @@ mod laws;
 mod tests;
 
 pub use laws::{
-    a_change_is_local, any_order, budget_falls, deletion_closure, holders_before_a_wave,
-    level_checks, planned_states_are_sound, waves_fit,
+    a_change_is_local, any_order, budget_falls, changes_are_counted, deletion_closure,
+    holders_before_a_wave, level_checks, planned_states_are_sound, waves_fit, waves_one_by_one,
 };

@@ -1,12 +1,14 @@
 //! Each law is a call that returns.
 use crate::{
-    a_change_is_local, any_order, budget_falls, deletion_closure, holders_before_a_wave,
-    level_checks, planned_states_are_sound, waves_fit,
+    a_change_is_local, any_order, budget_falls, changes_are_counted, deletion_closure,
+    holders_before_a_wave, level_checks, planned_states_are_sound, waves_fit, waves_one_by_one,
 };
 
 #[test]
 fn laws_are_called(rt: HostRuntime) {
     budget_falls();
+    changes_are_counted();
+    waves_one_by_one();
     level_checks();
     any_order();
     waves_fit();

@@ -25,9 +25,9 @@ pub first_in_right : {A : Type 0} (xs ys : List A) → first xs ≡ None → fir
 first_in_right [] ys h = refl
 first_in_right (z ∷ xs) ys h = cc
 
-counted : {A B : Type 0} (f : A → B) (xs : List A) → length (map f xs) ≡ length xs
-counted f [] = refl
-counted f (x ∷ xs) = ap suc (counted f xs)
+length_of_map : {A B : Type 0} (f : A → B) (xs : List A) → length (map f xs) ≡ length xs
+length_of_map f [] = refl
+length_of_map f (x ∷ xs) = ap suc (length_of_map f xs)
 
 pub count_of_violations : (rows : List StoredRow) (id : ℕ) (c : Constraint) → length (violations rows id c) ≡ length (filter (violates rows c) rows)
-count_of_violations rows id c = counted (fault_at id) (filter (violates rows c) rows)
+count_of_violations rows id c = length_of_map (fault_at id) (filter (violates rows c) rows)

@@ -5,7 +5,8 @@ use Rattle.iv_syntax.specs.declared.statement.ConstraintMode.{ConstraintMode}
 use Rattle.iv_catalogue.specs.declared.cause.Fault.{Fault}
 use Rattle.iv_catalogue.specs.declared.constraint.Constraint.{Constraint}
 use Rattle.iv_machine.specs.declared.database.Which.TheVariants.{Immediate, Deferred}
-use Rattle.iv_machine.specs.Databases.{violations, chosen_violations, scan_from, scan, is_chosen, is_deferred}
+use Rattle.iv_machine.specs.Databases.{violations, chosen_violations, scan, is_chosen, is_deferred}
+use Rattle.iv_machine.proofs.Scans.{scan_from}
 
 first_none : {A : Type 0} (xs ys : List A) → xs ++ ys ≡ [] → xs ≡ []
 first_none [] ys h = refl

@@ -4,8 +4,9 @@ use Rattle.std.proofs.lemmas.Bool.Decides.{nat_tests}
 use Rattle.iv_value.specs.declared.value.Value.{Value}
 use Rattle.iv_expr.specs.declared.row.StoredRow.{StoredRow}
 use Rattle.iv_expr.specs.declared.row.Change.{Change}
+use Rattle.iv_expr.specs.Changes.{wave_of}
 use Rattle.iv_machine.specs.declared.database.Database.{Database}
-use Rattle.iv_machine.specs.Databases.{put, in_order, in_wave, rows_after, applied}
+use Rattle.iv_machine.specs.Databases.{rows_with, in_order, has_change, rows_after, database_after}
 use Rattle.iv_machine.specs.Invariants.{Rising}
 
 -- a new row of a table, with this number
@@ -30,31 +31,31 @@ rising_more low (r ∷ rows) table next values h = (h.0, rising_more r.number ro
 
 -- ---- the rows of the wave of one new row
 
-put_first : (r s : StoredRow) (rows : List StoredRow) → r.number < s.number → put r (s ∷ rows) ≡ r ∷ s ∷ rows
-put_first r s rows h = ap (λ b. if b then r ∷ s ∷ rows else (if r.number == s.number then r ∷ rows else s ∷ put r rows)) (lemma h) where
+put_first : (r s : StoredRow) (rows : List StoredRow) → r.number < s.number → rows_with r (s ∷ rows) ≡ r ∷ s ∷ rows
+put_first r s rows h = ap (λ b. if b then r ∷ s ∷ rows else (if r.number == s.number then r ∷ rows else s ∷ rows_with r rows)) (lemma h) where
   lemma : r.number < s.number → nat_lt r.number s.number ≡ true
   lemma h = grind (arith, nat_tests)
 
-rising_put : (low : ℕ) (r : StoredRow) (rows : List StoredRow) (next : ℕ) → Rising low (r ∷ rows) next → put r rows ≡ r ∷ rows
+rising_put : (low : ℕ) (r : StoredRow) (rows : List StoredRow) (next : ℕ) → Rising low (r ∷ rows) next → rows_with r rows ≡ r ∷ rows
 rising_put low r [] next h = refl
 rising_put low r (s ∷ rows) next h = put_first r s rows h.1.0
 
 -- rows in rising number are in order
 pub rising_in_order : (low : ℕ) (rows : List StoredRow) (next : ℕ) → Rising low rows next → in_order rows ≡ rows
 rising_in_order low [] next h = refl
-rising_in_order low (r ∷ rows) next h = ap (put r) (rising_in_order r.number rows next h.1) ∙ rising_put low r rows next h
+rising_in_order low (r ∷ rows) next h = ap (rows_with r) (rising_in_order r.number rows next h.1) ∙ rising_put low r rows next h
 
 other_number : (n next : ℕ) → n < next → (next == n) ≡ false
 other_number n next h = grind (arith, nat_tests)
 
-not_added : (table next : ℕ) (values : List Value) (r : StoredRow) → r.number < next → not (in_wave (addition table next values ∷ []) r.number) ≡ true
+not_added : (table next : ℕ) (values : List Value) (r : StoredRow) → r.number < next → not (has_change (addition table next values ∷ []) r.number) ≡ true
 not_added table next values r h = ap (λ b. not (b || false)) (other_number r.number next h)
 
 kept_all : (low : ℕ) (rows : List StoredRow) (table next : ℕ) (values : List Value) → Rising low rows next
-    → filter (λ r. not (in_wave (addition table next values ∷ []) r.number)) rows ≡ rows
+    → filter (λ r. not (has_change (addition table next values ∷ []) r.number)) rows ≡ rows
 kept_all low [] table next values h = refl
 kept_all low (r ∷ rows) table next values h =
-    ap (λ b. cond b (r ∷ filter (λ x. not (in_wave (addition table next values ∷ []) x.number)) rows) (filter (λ x. not (in_wave (addition table next values ∷ []) x.number)) rows))
+    ap (λ b. cond b (r ∷ filter (λ x. not (has_change (addition table next values ∷ []) x.number)) rows) (filter (λ x. not (has_change (addition table next values ∷ []) x.number)) rows))
     (not_added table next values r (low_below r.number rows next h.1))
     ∙ ap (λ l. r ∷ l) (kept_all r.number rows table next values h.1)
 
@@ -68,5 +69,5 @@ rows_more table values rows next h =
     ∙ rising_in_order 0 (rows ++ new_row_of table next values ∷ []) (next + 1) (rising_more 0 rows table next values h)
 
 -- the wave of one new row adds it at the end
-pub row_added : (db : Database) (table : ℕ) (values : List Value) → Rising 0 db.rows db.next → applied db (addition table db.next values ∷ []) ≡ with_row db table values
+pub row_added : (db : Database) (table : ℕ) (values : List Value) → Rising 0 db.rows db.next → database_after db (wave_of (addition table db.next values ∷ [])) ≡ with_row db table values
 row_added db table values h = λ i. record { rows = rows_more table values db.rows db.next h i; next = next_more db.next i; count = db.count + 1 }

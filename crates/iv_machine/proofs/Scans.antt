@@ -1,13 +1,19 @@
 -- What a scan finds in more rows, for more constraints, and for some of the constraints.
-use Rattle.std.proofs.Common.{◌≡◌, ℕ, ◌+◌, ◌<◌, ◌≤◌, Bool, true, false, not, ◌&&◌, ◌==◌, List, [], ◌∷◌, ◌++◌, ◌∙◌, refl, ap, cond, map, filter, arith}
+use Rattle.std.proofs.Common.{◌≡◌, ℕ, ◌+◌, ◌<◌, ◌≤◌, Bool, true, false, not, ◌&&◌, ◌==◌, List, [], ◌∷◌, ◌++◌, ◌∙◌, refl, ap, cond, map, filter, flat_map, arith}
+use Rattle.std.specs.List.{enumerate_from}
 use Rattle.std.proofs.lemmas.Bool.Decides.{nat_tests}
 use Rattle.iv_catalogue.specs.declared.constraint.Constraint.{Constraint}
 use Rattle.iv_catalogue.specs.declared.constraint.Rule.{Rule}
 use Rattle.iv_catalogue.specs.declared.constraint.Rule.TheVariants as rule
+use Rattle.iv_catalogue.specs.declared.cause.Fault.{Fault}
 use Rattle.iv_expr.specs.declared.row.StoredRow.{StoredRow}
 use Rattle.iv_machine.specs.Fitting.{Upon}
 use Rattle.iv_machine.specs.Invariants.{Below, is_check, AllChecks}
-use Rattle.iv_machine.specs.Databases.{obeys, satisfies, violates, fault_at, violations, chosen_violations, scan_from, scan}
+use Rattle.iv_machine.specs.Databases.{obeys, satisfies, violates, fault_at, violations, chosen_violations, scan}
+
+-- the violations of the chosen ones among constraints of which the first has this number
+abbrev pub scan_from : List StoredRow → (ℕ → Bool) → ℕ → List Constraint → List Fault
+scan_from rows chosen id constraints = flat_map (λ k. chosen_violations rows chosen k.0 k.1) (enumerate_from id constraints)
 
 -- ---- lists
 

@@ -10,7 +10,7 @@ use Rattle.iv_catalogue.specs.declared.cause.Cause.{Cause}
 use Rattle.iv_catalogue.specs.declared.plan.Outputs.TheVariants.{Star}
 use Rattle.iv_machine.specs.declared.answer.Answer.TheVariants.{Rows}
 use Rattle.iv_machine.specs.Context.{each}
-use Rattle.iv_machine.specs.Proposals.{with_cause, holds, kept, matching}
+use Rattle.iv_machine.specs.Proposals.{with_cause, holds, element_where_true, matching_rows}
 use Rattle.iv_machine.specs.Machine.{State, output_row, selected}
 
 abbrev told : StoredRow → StoredRow × Bool
@@ -20,15 +20,15 @@ each_told : (s : Scope) (rows : List StoredRow) → each {E = Cause} (λ x. and_
 each_told s [] = refl
 each_told s (r ∷ rows) = ap (λ m. and_then {E = Cause} m (λ ys. Ok (told r ∷ ys))) (each_told s rows)
 
-kept_told : (rows : List StoredRow) → filter_map kept (map told rows) ≡ rows
+kept_told : (rows : List StoredRow) → filter_map element_where_true (map told rows) ≡ rows
 kept_told [] = refl
 kept_told (r ∷ rows) = ap (λ l. r ∷ l) (kept_told rows)
 
 abbrev accepted : List StoredRow → Result (List StoredRow) Cause
 accepted rows = Ok rows
 
-all_match : (s : Scope) (rows : List StoredRow) → matching s Always rows ≡ Ok rows
-all_match s rows = ap (λ m. and_then {E = Cause} m (λ pairs. Ok (filter_map kept pairs))) (each_told s rows) ∙ ap accepted (kept_told rows)
+all_match : (s : Scope) (rows : List StoredRow) → matching_rows s Always rows ≡ Ok rows
+all_match s rows = ap (λ m. and_then {E = Cause} m (λ pairs. Ok (filter_map element_where_true pairs))) (each_told s rows) ∙ ap accepted (kept_told rows)
 
 abbrev fine : Value → Result Value ExprFault
 fine v = Ok v

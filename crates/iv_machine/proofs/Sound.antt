@@ -26,7 +26,7 @@ use Rattle.iv_catalogue.specs.Resolution.{is_taken_up, resolution}
 use Rattle.iv_machine.specs.declared.answer.Answer.{Answer}
 use Rattle.iv_machine.specs.declared.database.Database.{Database}
 use Rattle.iv_machine.specs.declared.database.Which.TheVariants.{Immediate, Deferred, All}
-use Rattle.iv_machine.specs.Bounds.{Bounds}
+use Rattle.iv_machine.specs.Bounds.{Bounds, most_changes_in_a_transaction, last_row_number}
 use Rattle.iv_machine.specs.Context.{fails}
 use Rattle.iv_machine.specs.Databases.{scan, is_chosen, first, initial_modes}
 use Rattle.iv_machine.specs.Levels.{level}
@@ -141,7 +141,7 @@ insert_is_plain s t values u h = level_plain (s.limits.depth - 1) (context_of s)
 inserted_sound : (s : State) (t : ℕ) (values : List Value) → Suits s.schema t values → Sound s → Sound (data_changed s (insert_one t values)).state
 inserted_sound s t values u h =
     subst (λ l. Sound (changed s l).state) (sym (insert_is_plain s t values u h))
-    (level_sound s t values (nat_lt s.limits.changes 2) (nat_lt 1048576 (s.database.count + 1)) (nat_lt 9223372036854775807 s.database.next)
+    (level_sound s t values (nat_lt s.limits.changes 2) (nat_lt most_changes_in_a_transaction (s.database.count + 1)) (nat_lt last_row_number s.database.next)
     (table_within s.schema.tables t u.table u.there) h)
 
 changed_sound : (s : State) (d : DataStatement) → ChangeFits s.schema d → Sound s → Sound (data_changed s d).state

@@ -1,7 +1,10 @@
--- BEFORE triggers: those of a statement, and those of the rows of a wave (4.35 "Triggers", 14.14 "Execution of BEFORE triggers").
-use Rattle.std.specs.Prelude.{ℕ, ◌+◌, Bool, true, false, ◌&&◌, not, if◌then◌else◌, ◌==◌, List, [], ◌∷◌, filter, slice_set, Some, None, is_none, Result, Ok, Err}
+-- BEFORE triggers: those of a statement, and those of the rows of a wave ("Triggers", "Execution of BEFORE triggers").
+use Rattle.std.specs.Prelude.{ℕ, Bool, true, false, ◌&&◌, not, if◌then◌else◌, ◌==◌, List, [], filter, find, slice_set, Some, None, is_none, Result, Ok, Err}
+use Rattle.std.specs.List.{enumerate_from}
 use Rattle.iv_value.specs.declared.value.Value.{Value}
+use Rattle.iv_expr.specs.declared.row.StoredRow.{StoredRow}
 use Rattle.iv_expr.specs.declared.row.Change.{Change}
+use Rattle.iv_expr.specs.Changes.{Wave}
 use Rattle.iv_expr.specs.Scopes.{Frame, no_frame, scope_of}
 use Rattle.iv_expr.specs.Evaluation.{value, and_then}
 use Rattle.iv_syntax.specs.declared.trigger.ActionTime.TheVariants.{Before, After}
@@ -10,12 +13,13 @@ use Rattle.iv_syntax.specs.declared.trigger.TriggerEvent.{TriggerEvent}
 use Rattle.iv_syntax.specs.declared.trigger.TriggerEvent.TheVariants as event
 use Rattle.iv_catalogue.specs.declared.cause.Cause.{Cause}
 use Rattle.iv_catalogue.specs.declared.cause.Cause.TheVariants.{Signal}
+use Rattle.iv_catalogue.specs.declared.cause.Refusal.{Refusal}
 use Rattle.iv_catalogue.specs.declared.plan.BodyStatement.{BodyStatement}
 use Rattle.iv_catalogue.specs.declared.plan.BodyStatement.TheVariants as body
+use Rattle.iv_catalogue.specs.declared.plan.Setting.{Setting}
 use Rattle.iv_catalogue.specs.declared.plan.Trigger.{Trigger}
-use Rattle.iv_machine.specs.declared.database.Database.{Database}
-use Rattle.iv_machine.specs.Context.{Context, Failure, over, inside, each}
-use Rattle.iv_machine.specs.Proposals.{holds, stored}
+use Rattle.iv_machine.specs.Context.{Context, while_running, each, in_turn}
+use Rattle.iv_machine.specs.Proposals.{holds, stored_value}
 
 -- ---- which triggers are meant
 
@@ -45,25 +49,30 @@ is_on table event t = (t.table == table) && same_event t.event event
 abbrev pub event_of_change : Change → TriggerEvent
 event_of_change c = if is_none c.old then event.Insert else (if is_none c.new then event.Delete else event.Update)
 
+-- the statements of a trigger's body, each with its place from 1 on
+abbrev pub placed_statements : Trigger → List (ℕ × BodyStatement)
+placed_statements t = enumerate_from 1 t.body
+
 -- ---- those of a statement
 
--- the first SIGNAL of a body of which the first statement has this place
-abbrev pub signalled : ℕ → ℕ → List BodyStatement → Result (Unit {0}) Cause
-signalled trigger place [] = Ok tt
-signalled trigger place (body.Signal text ∷ rest) = Err (Signal trigger place)
-signalled trigger place (_ ∷ rest) = signalled trigger (place + 1) rest
+abbrev pub is_signal : BodyStatement → Bool
+is_signal (body.Signal text) = true
+is_signal _ = false
 
-abbrev pub before_statement_by : Database → Trigger → Result (Unit {0}) Failure
-before_statement_by db t =
-    inside t.id (over db (and_then (holds (scope_of no_frame db.rows) t.when) (λ fires. if fires then signalled t.id 1 t.body else Ok tt)))
+-- refused with the first SIGNAL of the body, where there is one
+abbrev pub unless_signal : Trigger → Result (Unit {0}) Cause
+unless_signal t = elim (find (λ s. is_signal s.1) (placed_statements t)) [ Some s ↦ Err (Signal t.id s.0) | None ↦ Ok tt ]
 
-abbrev pub before_statement_by_all : Database → List Trigger → Result (Unit {0}) Failure
-before_statement_by_all db [] = Ok tt
-before_statement_by_all db (t ∷ ts) = and_then (before_statement_by db t) (λ _. before_statement_by_all db ts)
+-- a BEFORE statement trigger: its body runs where WHEN is true
+abbrev pub before_statement_run : List StoredRow → Trigger → Result (Unit {0}) Cause
+before_statement_run rows t =
+    and_then (holds (scope_of no_frame rows) t.when) (λ fires. if fires then unless_signal t else Ok tt)
 
 -- The BEFORE statement triggers of a table and event, by creation.
-abbrev pub before_statement : Context → Database → ℕ → TriggerEvent → Result (Unit {0}) Failure
-before_statement w db table event = before_statement_by_all db (filter (λ t. is_before_statement t && is_on table event t) w.schema.triggers)
+abbrev pub before_statement : Context → List StoredRow → ℕ → TriggerEvent → Result (Unit {0}) Refusal
+before_statement context rows table event =
+    in_turn (λ t _. while_running t.id (before_statement_run rows t))
+    (filter (λ t. is_before_statement t && is_on table event t) context.schema.triggers) tt
 
 -- ---- those of the rows of a wave
 
@@ -72,29 +81,38 @@ abbrev pub change_frame : Change → Frame
 change_frame c = record { old = c.old; new = c.new; transition = [] }
 
 -- the change with a column of its new row set
-abbrev pub with_new : Change → ℕ → Value → Change
-with_new c column v = elim c.new [ Some row ↦ record c { new = Some (slice_set row column v) } | None ↦ c ]
+abbrev pub with_new_value : Change → ℕ → Value → Change
+with_new_value c column v = elim c.new [ Some row ↦ record c { new = Some (slice_set row column v) } | None ↦ c ]
 
--- the body, of which the first statement has this place; a later SET sees the value of an earlier one
-abbrev pub before_body : Context → Database → ℕ → ℕ → List BodyStatement → Change → Result Change Cause
-before_body w db trigger place [] c = Ok c
-before_body w db trigger place (body.Set s ∷ rest) c =
-    and_then (stored w c.table s.column (value (scope_of (change_frame c) db.rows) s.value)) (λ v.
-    before_body w db trigger (place + 1) rest (with_new c s.column v))
-before_body w db trigger place (body.Signal text ∷ rest) c = Err (Signal trigger place)
-before_body w db trigger place (body.Data _ ∷ rest) c = before_body w db trigger (place + 1) rest c
+-- the change after a SET: the value is evaluated, and fitted to its column
+abbrev pub change_after_set : Context → List StoredRow → Setting → Change → Result Change Cause
+change_after_set context rows s c =
+    and_then (stored_value context c.table s.column (value (scope_of (change_frame c) rows) s.value)) (λ v.
+    Ok (with_new_value c s.column v))
 
-abbrev pub before_row : Context → Database → Trigger → Change → Result Change Failure
-before_row w db t c =
-    if is_on c.table (event_of_change c) t
-    then inside t.id (over db (and_then (holds (scope_of (change_frame c) db.rows) t.when) (λ fires. if fires then before_body w db t.id 1 t.body c else Ok c)))
-    else Ok c
+-- the change after a statement of the body
+abbrev pub change_after_statement : Context → List StoredRow → Trigger → ℕ → BodyStatement → Change → Result Change Cause
+change_after_statement context rows t place (body.Set s) c = change_after_set context rows s c
+change_after_statement context rows t place (body.Signal text) c = Err (Signal t.id place)
+change_after_statement context rows t place (body.Data statement) c = Ok c
 
-abbrev pub before_rows : Context → Database → List Trigger → List Change → Result (List Change) Failure
-before_rows w db [] wave = Ok wave
-before_rows w db (t ∷ ts) wave = and_then (each (before_row w db t) wave) (before_rows w db ts)
+-- a BEFORE row trigger on a change: its body runs where WHEN is true, and a later SET sees the value of an earlier one
+abbrev pub before_row_run : Context → List StoredRow → Trigger → Change → Result Change Cause
+before_row_run context rows t c =
+    and_then (holds (scope_of (change_frame c) rows) t.when) (λ fires.
+    if fires then in_turn (λ s. change_after_statement context rows t s.0 s.1) (placed_statements t) c else Ok c)
 
--- A wave after the BEFORE row triggers: the triggers by creation, each over the changes of its table and event in their order;
--- tables are seen as they are before the wave.
-abbrev pub before : Context → Database → List Change → Result (List Change) Failure
-before w db wave = before_rows w db (filter is_before_row w.schema.triggers) wave
+-- the change after a BEFORE row trigger, which is run where it is on the change's table and event
+abbrev pub change_after_trigger : Context → List StoredRow → Trigger → Change → Result Change Refusal
+change_after_trigger context rows t c =
+    if is_on c.table (event_of_change c) t then while_running t.id (before_row_run context rows t c) else Ok c
+
+-- the changes after BEFORE row triggers: one trigger after the other, each over the changes in their order
+abbrev pub changes_after_triggers : Context → List StoredRow → List Trigger → List Change → Result (List Change) Refusal
+changes_after_triggers context rows triggers changes = in_turn (λ t. each (change_after_trigger context rows t)) triggers changes
+
+-- A wave after its BEFORE row triggers, by their creation; tables are seen with these rows, as they are before the wave.
+abbrev pub wave_after_triggers : Context → List StoredRow → Wave → Result Wave Refusal
+wave_after_triggers context rows wave =
+    and_then (changes_after_triggers context rows (filter is_before_row context.schema.triggers) wave.changes) (λ changes.
+    Ok (record wave { changes = changes }))

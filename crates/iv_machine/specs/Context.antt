@@ -5,6 +5,7 @@ use Rattle.iv_expr.specs.Evaluation.{and_then}
 use Rattle.iv_catalogue.specs.Catalogues.{Schema}
 use Rattle.iv_catalogue.specs.declared.cause.Cause.{Cause}
 use Rattle.iv_catalogue.specs.declared.cause.Fault.{Fault}
+use Rattle.iv_catalogue.specs.declared.cause.Refusal.{Refusal}
 use Rattle.iv_machine.specs.declared.database.Database.{Database}
 
 -- The catalogue, and the mode of each constraint.
@@ -30,15 +31,35 @@ over db (Err cause) = fails db cause
 
 -- refused with the first fault of a list, where there is one
 abbrev pub unless_first : {A : Type 0} → Database → (Fault → Cause) → List Fault → Result A Failure → Result A Failure
-unless_first db cause [] r = r
-unless_first db cause (f ∷ fs) r = fails db (cause f)
+unless_first db cause [] result = result
+unless_first db cause (fault ∷ faults) result = fails db (cause fault)
+
+-- ---- the trigger and the count of a refusal
+
+-- refused while this trigger runs
+abbrev pub while_running : {A : Type 0} → ℕ → Result A Cause → Result A Refusal
+while_running trigger (Ok a) = Ok a
+while_running trigger (Err cause) = Err (record { cause = cause; trigger = Some trigger })
+
+-- a refusal with the row changes that stand in this database
+abbrev pub with_count : {A : Type 0} → Database → Result A Refusal → Result A Failure
+with_count db (Ok a) = Ok a
+with_count db (Err refusal) = Err (record { cause = refusal.cause; trigger = refusal.trigger; count = db.count })
 
 -- a refusal that comes while this trigger runs is told with it, unless it came inside of another that it runs
-abbrev pub inside : {A : Type 0} → ℕ → Result A Failure → Result A Failure
-inside trigger (Ok a) = Ok a
-inside trigger (Err f) = Err (if is_none f.trigger then record f { trigger = Some trigger } else f)
+abbrev pub inside_trigger : {A : Type 0} → ℕ → Result A Failure → Result A Failure
+inside_trigger trigger (Ok a) = Ok a
+inside_trigger trigger (Err failure) =
+    Err (if is_none failure.trigger then record failure { trigger = Some trigger } else failure)
+
+-- ---- one after another
 
 -- what is made of each, in their order, or the first refusal
 abbrev pub each : {A B E : Type 0} → (A → Result B E) → List A → Result (List B) E
 each f [] = Ok []
 each f (x ∷ xs) = and_then (f x) (λ y. and_then (each f xs) (λ ys. Ok (y ∷ ys)))
+
+-- what each in turn makes of what the one before it left, or the first refusal
+abbrev pub in_turn : {A B E : Type 0} → (A → B → Result B E) → List A → B → Result B E
+in_turn f [] b = Ok b
+in_turn f (x ∷ xs) b = and_then (f x b) (in_turn f xs)

@@ -1,13 +1,14 @@
 -- Databases: what a constraint asks of a row, the violations that a scan of all tables finds, and a database after a wave of row
--- changes (ISO/IEC 9075-2:1999, 4.17 "Integrity constraints").
-use Rattle.std.specs.Prelude.{ℕ, ◌+◌, max, Bool, true, false, ◌&&◌, ◌||◌, not, if◌then◌else◌, ◌==◌, nat_lt, List, [], ◌∷◌, ◌++◌, length, map, filter, filter_map, find, slice_get, Option, Some, None}
-use Rattle.std.specs.List.{list_any, list_all}
+-- changes (ISO/IEC 9075-2:1999, "Integrity constraints").
+use Rattle.std.specs.Prelude.{ℕ, ◌+◌, max, Bool, true, false, ◌&&◌, ◌||◌, not, if◌then◌else◌, ◌==◌, nat_lt, List, [], ◌∷◌, ◌++◌, length, map, filter, filter_map, flat_map, find, slice_get, Option, Some, None}
+use Rattle.std.specs.List.{list_any, list_all, enumerate_from}
 use Rattle.iv_value.specs.declared.value.Value.{Value}
 use Rattle.iv_value.specs.declared.value.Value.TheVariants.{Null}
 use Rattle.iv_value.specs.Truths.{is_false}
 use Rattle.iv_value.specs.Values.{is_null, all_same}
 use Rattle.iv_expr.specs.declared.row.StoredRow.{StoredRow}
 use Rattle.iv_expr.specs.declared.row.Change.{Change}
+use Rattle.iv_expr.specs.Changes.{Wave}
 use Rattle.iv_expr.specs.Evaluation.{check_truth}
 use Rattle.iv_expr.specs.Scopes.{table_rows}
 use Rattle.iv_syntax.specs.declared.statement.ConstraintMode.{ConstraintMode}
@@ -29,13 +30,13 @@ no_rows = record { rows = []; next = 1; count = 0 }
 
 -- the row of this number, where there is one
 abbrev pub row_at : List StoredRow → ℕ → Option StoredRow
-row_at rows n = find (λ r. r.number == n) rows
+row_at rows number = find (λ r. r.number == number) rows
 
 -- ---- keys
 
 -- the value of a column by its place
 abbrev pub value_at : List Value → ℕ → Value
-value_at row c = elim (slice_get row c) [ Some v ↦ v | None ↦ Null ]
+value_at row column = elim (slice_get row column) [ Some v ↦ v | None ↦ Null ]
 
 -- the values of some columns of a row
 abbrev pub key_of : List ℕ → List Value → List Value
@@ -53,74 +54,72 @@ holds_key columns key row = none_null (key_of columns row) && all_same (key_of c
 
 -- ---- what a constraint asks of a row of its table
 
--- no other row of the table holds this row's key (11.7 "unique constraint definition")
+-- another row has another number, and holds this row's key
+abbrev pub shares_key : List ℕ → StoredRow → StoredRow → Bool
+shares_key columns row other = not (other.number == row.number) && holds_key columns (key_of columns row.values) other.values
+
+-- no other row of the table holds this row's key ("Unique constraint definition")
 abbrev pub is_unique : List StoredRow → ℕ → List ℕ → StoredRow → Bool
-is_unique rows t columns r =
-    not (list_any (λ other. not (other.number == r.number) && holds_key columns (key_of columns r.values) other.values) (table_rows rows t))
+is_unique rows table columns row = not (list_any (shares_key columns row) (table_rows rows table))
 
 -- some row of the referenced table has this key
 abbrev pub has_referenced : List StoredRow → ForeignKey → List Value → Bool
 has_referenced rows fk key = list_any (λ r. all_same (key_of fk.key r.values) key) (table_rows rows fk.referenced)
 
 -- MATCH SIMPLE: some column is null, or the key is a referenced one. MATCH FULL: all are null, or none is and the key is a
--- referenced one (11.8 "referential constraint definition").
+-- referenced one ("Referential constraint definition").
 abbrev pub matches : MatchType → List StoredRow → ForeignKey → List Value → Bool
 matches Simple rows fk key = not (none_null key) || has_referenced rows fk key
 matches Full rows fk key = all_null key || (none_null key && has_referenced rows fk key)
 
--- what a rule on this table asks of a row; a CHECK is satisfied where its condition is not false (11.9 "check constraint
--- definition"), and a fault of evaluation makes the condition false
+-- what a rule on this table asks of a row; a CHECK is satisfied where its condition is not false ("Check constraint definition"),
+-- and a fault of evaluation makes the condition false
 abbrev pub obeys : List StoredRow → ℕ → Rule → StoredRow → Bool
-obeys rows t (rule.NotNull c) r = not (is_null (value_at r.values c))
-obeys rows t (rule.Check condition) r = not (is_false (check_truth condition r.values))
-obeys rows t (rule.Unique columns) r = is_unique rows t columns r
-obeys rows t (rule.PrimaryKey columns) r = none_null (key_of columns r.values) && is_unique rows t columns r
-obeys rows t (rule.ForeignKey fk) r = matches fk.matching rows fk (key_of fk.columns r.values)
+obeys rows table (rule.NotNull column) row = not (is_null (value_at row.values column))
+obeys rows table (rule.Check condition) row = not (is_false (check_truth condition row.values))
+obeys rows table (rule.Unique columns) row = is_unique rows table columns row
+obeys rows table (rule.PrimaryKey columns) row = none_null (key_of columns row.values) && is_unique rows table columns row
+obeys rows table (rule.ForeignKey fk) row = matches fk.matching rows fk (key_of fk.columns row.values)
 
 -- Whether a row of a constraint's table satisfies it, among these rows.
 abbrev pub satisfies : List StoredRow → Constraint → StoredRow → Bool
-satisfies rows c r = obeys rows c.table c.rule r
+satisfies rows constraint row = obeys rows constraint.table constraint.rule row
 
 -- ---- the scan
 
 -- the constraint of this number and a row that violates it
 abbrev pub fault_at : ℕ → StoredRow → Fault
-fault_at id r = record { constraint = id; row = r.number }
+fault_at id row = record { constraint = id; row = row.number }
 
 -- the row is one of the constraint's table and doesn't satisfy it
 abbrev pub violates : List StoredRow → Constraint → StoredRow → Bool
-violates rows c r = (r.table == c.table) && not (satisfies rows c r)
+violates rows constraint row = (row.table == constraint.table) && not (satisfies rows constraint row)
 
 -- the violations of one constraint, by row
 abbrev pub violations : List StoredRow → ℕ → Constraint → List Fault
-violations rows id c = map (fault_at id) (filter (violates rows c) rows)
+violations rows id constraint = map (fault_at id) (filter (violates rows constraint) rows)
 
 -- the violations of a constraint, where it is chosen
 abbrev pub chosen_violations : List StoredRow → (ℕ → Bool) → ℕ → Constraint → List Fault
-chosen_violations rows chosen id c = if chosen id then violations rows id c else []
-
--- the violations of the chosen ones among constraints of which the first has this number
-abbrev pub scan_from : List StoredRow → (ℕ → Bool) → ℕ → List Constraint → List Fault
-scan_from rows chosen id [] = []
-scan_from rows chosen id (c ∷ cs) = chosen_violations rows chosen id c ++ scan_from rows chosen (id + 1) cs
+chosen_violations rows chosen id constraint = if chosen id then violations rows id constraint else []
 
 -- The scan: all pairs of a chosen constraint and a row that violates it, by the constraint's creation, then by row.
 abbrev pub scan : List StoredRow → List Constraint → (ℕ → Bool) → List Fault
-scan rows constraints chosen = scan_from rows chosen 0 constraints
+scan rows constraints chosen = flat_map (λ k. chosen_violations rows chosen k.0 k.1) (enumerate_from 0 constraints)
 
--- ---- modes (4.17.1 "Checking of constraints")
+-- ---- modes ("Checking of constraints")
 
 -- the modes at the start of a transaction, by constraint
 abbrev pub initial_modes : List Constraint → List ConstraintMode
 initial_modes constraints = map (λ c. c.initially) constraints
 
-abbrev pub is_deferred_mode : ConstraintMode → Bool
-is_deferred_mode mode.Deferred = true
-is_deferred_mode mode.Immediate = false
+abbrev pub defers : ConstraintMode → Bool
+defers mode.Deferred = true
+defers mode.Immediate = false
 
 -- whether the constraint of this number is deferred
 abbrev pub is_deferred : List ConstraintMode → ℕ → Bool
-is_deferred modes id = elim (slice_get modes id) [ Some m ↦ is_deferred_mode m | None ↦ false ]
+is_deferred modes id = elim (slice_get modes id) [ Some mode ↦ defers mode | None ↦ false ]
 
 -- the constraints that are meant, under these modes
 abbrev pub is_chosen : List ConstraintMode → Which → ℕ → Bool
@@ -135,32 +134,42 @@ first (x ∷ xs) = Some x
 
 -- ---- a database after a wave
 
--- the wave changes the row of this number
-abbrev pub in_wave : List Change → ℕ → Bool
-in_wave wave n = list_any (λ c. c.row == n) wave
+-- one of these changes is of the row of this number
+abbrev pub has_change : List Change → ℕ → Bool
+has_change changes number = list_any (λ c. c.row == number) changes
 
 -- the rows, in rising number, with this one among them
-abbrev pub put : StoredRow → List StoredRow → List StoredRow
-put r [] = r ∷ []
-put r (s ∷ rows) = if nat_lt r.number s.number then r ∷ s ∷ rows else (if r.number == s.number then r ∷ rows else s ∷ put r rows)
+abbrev pub rows_with : StoredRow → List StoredRow → List StoredRow
+rows_with r [] = r ∷ []
+rows_with r (s ∷ rows) =
+    if nat_lt r.number s.number then r ∷ s ∷ rows else (if r.number == s.number then r ∷ rows else s ∷ rows_with r rows)
 
+-- these rows in rising number
 abbrev pub in_order : List StoredRow → List StoredRow
 in_order [] = []
-in_order (r ∷ rows) = put r (in_order rows)
+in_order (r ∷ rows) = rows_with r (in_order rows)
 
 -- the row that a change leaves, where it is no deletion
 abbrev pub new_row : Change → Option StoredRow
 new_row c = elim c.new [ Some values ↦ Some (record { table = c.table; number = c.row; values = values }) | None ↦ None ]
 
--- the rows outside the wave, and those that the wave leaves, in rising number
+-- the rows that these changes aren't of, and those that they leave, in rising number
 abbrev pub rows_after : List StoredRow → List Change → List StoredRow
-rows_after rows wave = in_order (filter (λ r. not (in_wave wave r.number)) rows ++ filter_map new_row wave)
+rows_after rows changes = in_order (filter (λ r. not (has_change changes r.number)) rows ++ filter_map new_row changes)
 
--- the least number that is neither below this one nor below or among those of the wave
+-- the least number that is neither below this one nor below or among those of these changes
 abbrev pub next_after : ℕ → List Change → ℕ
 next_after next [] = next
-next_after next (c ∷ wave) = max (c.row + 1) (next_after next wave)
+next_after next (c ∷ changes) = max (c.row + 1) (next_after next changes)
+
+-- how many changes a wave has
+abbrev pub size : Wave → ℕ
+size wave = length wave.changes
 
 -- The database after a wave: its rows replaced, left out or added, and each change counted.
-abbrev pub applied : Database → List Change → Database
-applied db wave = record { rows = rows_after db.rows wave; next = next_after db.next wave; count = db.count + length wave }
+abbrev pub database_after : Database → Wave → Database
+database_after db wave = record {
+  rows = rows_after db.rows wave.changes;
+  next = next_after db.next wave.changes;
+  count = db.count + size wave;
+}

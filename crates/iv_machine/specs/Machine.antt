@@ -38,7 +38,7 @@ use Rattle.iv_machine.specs.declared.answer.Answer.TheVariants.{Done, Changed, R
 use Rattle.iv_machine.specs.Bounds.{Bounds}
 use Rattle.iv_machine.specs.Databases.{no_rows, scan, is_chosen, is_deferred, initial_modes, first}
 use Rattle.iv_machine.specs.Context.{Context, Failure, each}
-use Rattle.iv_machine.specs.Proposals.{with_cause, matching, outputs_of}
+use Rattle.iv_machine.specs.Proposals.{with_cause, matching_rows, outputs_of}
 use Rattle.iv_machine.specs.Levels.{Finished, level}
 
 -- ---- states
@@ -133,7 +133,7 @@ answered s (Err cause) = refuse s cause
 
 -- the rows of a table where the condition is true, by number
 abbrev pub found : State → ℕ → Cond → Result (List StoredRow) Cause
-found s table filter = matching (scope_of no_frame s.database.rows) filter (table_rows s.database.rows table)
+found s table filter = matching_rows (scope_of no_frame s.database.rows) filter (table_rows s.database.rows table)
 
 -- what is selected of a row
 abbrev pub output_row : Scope → Outputs → List Value → Result (List Value) Cause

@@ -1,5 +1,5 @@
--- What a data statement proposes: the changes of the rows that it finds or makes (14.7 "delete statement: searched", 14.8 "insert
--- statement", 14.10 "update statement: searched").
+-- What a data statement proposes: the changes of the rows that it finds or makes ("Delete statement: searched", "Insert statement",
+-- "Update statement: searched").
 use Rattle.std.specs.Prelude.{ℕ, Bool, if◌then◌else◌, List, [], map, filter_map, fold, zip, slice_get, slice_set, Option, Some, None, Result, Ok, Err}
 use Rattle.std.specs.List.{enumerate_from}
 use Rattle.iv_value.specs.declared.value.Value.{Value}
@@ -8,6 +8,7 @@ use Rattle.iv_value.specs.Truths.{is_true}
 use Rattle.iv_value.specs.Values.{fit_of}
 use Rattle.iv_expr.specs.declared.row.StoredRow.{StoredRow}
 use Rattle.iv_expr.specs.declared.row.Change.{Change}
+use Rattle.iv_expr.specs.Changes.{Wave, wave_of}
 use Rattle.iv_expr.specs.declared.tree.Cond.{Cond}
 use Rattle.iv_expr.specs.declared.tree.ExprFault.{ExprFault}
 use Rattle.iv_expr.specs.declared.tree.ExprFault.TheVariants.{OutOfRange, Misfit, NoMemory}
@@ -45,24 +46,26 @@ with_cause (Err fault) = Err (cause_of fault)
 
 -- whether a condition takes effect: only where it is true
 abbrev pub holds : Scope → Cond → Result Bool Cause
-holds s c = elim (truth s c) [ Ok t ↦ Ok (is_true t) | Err fault ↦ Err (cause_of fault) ]
+holds scope condition = elim (truth scope condition) [ Ok t ↦ Ok (is_true t) | Err fault ↦ Err (cause_of fault) ]
 
 -- the column at a place of a table
 abbrev pub column_at : Schema → ℕ → ℕ → Option Column
-column_at c t place = elim (slice_get c.tables t) [ Some table ↦ slice_get table.columns place | None ↦ None ]
+column_at schema table place = elim (slice_get schema.tables table) [ Some t ↦ slice_get t.columns place | None ↦ None ]
 
--- a value for a column (9.2 "Store assignment")
-abbrev pub fitted : Option Column → Value → Result Value Cause
-fitted None v = Err WrongShape
-fitted (Some column) v = elim (fit_of v column.kind) [ Yes ↦ Ok v | WrongKind ↦ Err WrongShape | TooLong ↦ Err TextTooLong ]
+-- a value for a column ("Store assignment")
+abbrev pub value_for_column : Option Column → Value → Result Value Cause
+value_for_column None v = Err WrongShape
+value_for_column (Some column) v =
+    elim (fit_of v column.kind) [ Yes ↦ Ok v | WrongKind ↦ Err WrongShape | TooLong ↦ Err TextTooLong ]
 
 -- a value that was evaluated, or its fault, for a column of a table
-abbrev pub stored : Context → ℕ → ℕ → Result Value ExprFault → Result Value Cause
-stored w t column v = and_then (with_cause v) (fitted (column_at w.schema t column))
+abbrev pub stored_value : Context → ℕ → ℕ → Result Value ExprFault → Result Value Cause
+stored_value context table column evaluated =
+    and_then (with_cause evaluated) (value_for_column (column_at context.schema table column))
 
 -- values for columns of a table, one after another: each is evaluated and then fitted
-abbrev pub assigned : Context → ℕ → List (ℕ × Result Value ExprFault) → Result (List (ℕ × Value)) Cause
-assigned w t pairs = each (λ p. and_then (stored w t p.0 p.1) (λ v. Ok (p.0, v))) pairs
+abbrev pub stored_values : Context → ℕ → List (ℕ × Result Value ExprFault) → Result (List (ℕ × Value)) Cause
+stored_values context table pairs = each (λ p. and_then (stored_value context table p.0 p.1) (λ v. Ok (p.0, v))) pairs
 
 -- the row with these columns set
 abbrev pub with_columns : List Value → List (ℕ × Value) → List Value
@@ -70,77 +73,90 @@ with_columns row pairs = fold (λ r p. slice_set r p.0 p.1) row pairs
 
 -- ---- rows
 
--- those of a list where the condition is true of the row; it is taken at all of them, and a fault at any is a fault of the whole
-abbrev pub kept : {A : Type 0} → A × Bool → Option A
-kept p = if p.1 then Some p.0 else None
+abbrev pub element_where_true : {A : Type 0} → A × Bool → Option A
+element_where_true p = if p.1 then Some p.0 else None
 
+-- those of a list where the condition is true of the row; it is taken at all of them, and a fault at any is a fault of the whole
 abbrev pub where_true : {A : Type 0} → (A → List Value) → Scope → Cond → List A → Result (List A) Cause
-where_true row_of s c xs =
-    and_then (each (λ x. and_then (holds (within s (row_of x)) c) (λ b. Ok (x, b))) xs) (λ pairs. Ok (filter_map kept pairs))
+where_true row_of scope condition xs =
+    and_then (each (λ x. and_then (holds (within scope (row_of x)) condition) (λ b. Ok (x, b))) xs) (λ pairs.
+    Ok (filter_map element_where_true pairs))
 
 -- the rows of a table where the condition is true
-abbrev pub matching : Scope → Cond → List StoredRow → Result (List StoredRow) Cause
-matching s c rows = where_true (λ r. r.values) s c rows
+abbrev pub matching_rows : Scope → Cond → List StoredRow → Result (List StoredRow) Cause
+matching_rows scope condition rows = where_true (λ r. r.values) scope condition rows
 
 -- what a query gives of a row
 abbrev pub outputs_of : Scope → Outputs → List Value → List (Result Value ExprFault)
-outputs_of s Star row = map (λ v. Ok v) row
-outputs_of s (Values es) row = map (value (within s row)) es
+outputs_of scope Star row = map (λ v. Ok v) row
+outputs_of scope (Values expressions) row = map (value (within scope row)) expressions
 
 -- ---- INSERT
 
 -- the defaults of a table's columns
 abbrev pub defaults_of : Schema → ℕ → List Value
-defaults_of c t = elim (slice_get c.tables t) [ Some table ↦ map (λ column. column.default) table.columns | None ↦ [] ]
+defaults_of schema table = elim (slice_get schema.tables table) [ Some t ↦ map (λ column. column.default) t.columns | None ↦ [] ]
 
 -- the columns that values are for, each with its value
-abbrev pub paired : InsertColumns → List (Result Value ExprFault) → List (ℕ × Result Value ExprFault)
-paired columns.All values = enumerate_from 0 values
-paired (columns.Listed places) values = zip places values
+abbrev pub values_by_column : InsertColumns → List (Result Value ExprFault) → List (ℕ × Result Value ExprFault)
+values_by_column columns.All values = enumerate_from 0 values
+values_by_column (columns.Listed places) values = zip places values
 
 -- the row of these values; a column that isn't listed takes its default
 abbrev pub row_of_values : Schema → ℕ → InsertColumns → List (ℕ × Value) → List Value
-row_of_values c t columns.All pairs = map (λ p. p.1) pairs
-row_of_values c t (columns.Listed places) pairs = with_columns (defaults_of c t) pairs
+row_of_values schema table columns.All pairs = map (λ p. p.1) pairs
+row_of_values schema table (columns.Listed places) pairs = with_columns (defaults_of schema table) pairs
 
 -- a new row, which has no number yet
 abbrev pub insertion : ℕ → List Value → Change
-insertion t values = record { table = t; row = 0; old = None; new = Some values }
+insertion table values = record { table = table; row = 0; old = None; new = Some values }
 
-abbrev pub inserted : Context → ℕ → InsertColumns → List (Result Value ExprFault) → Result Change Cause
-inserted w t cs values = and_then (assigned w t (paired cs values)) (λ pairs. Ok (insertion t (row_of_values w.schema t cs pairs)))
+-- the insertion of a row that has these values in these columns
+abbrev pub insertion_of : Context → ℕ → InsertColumns → List (Result Value ExprFault) → Result Change Cause
+insertion_of context table listed values =
+    and_then (stored_values context table (values_by_column listed values)) (λ pairs.
+    Ok (insertion table (row_of_values context.schema table listed pairs)))
 
-abbrev pub proposed_rows : Context → Scope → ℕ → InsertColumns → InsertRows → Result (List Change) Cause
-proposed_rows w s t cs (rows.Values tuples) = each (λ es. inserted w t cs (map (value s) es)) tuples
-proposed_rows w s t cs (rows.Query outputs range filter) =
-    and_then (where_true (λ row. row) s filter (range_rows s range)) (each (λ row. inserted w t cs (outputs_of s outputs row)))
+abbrev pub proposed_insertions : Context → Scope → ℕ → InsertColumns → InsertRows → Result (List Change) Cause
+proposed_insertions context scope table listed (rows.Values tuples) =
+    each (λ tuple. insertion_of context table listed (map (value scope) tuple)) tuples
+proposed_insertions context scope table listed (rows.Query outputs range filter) =
+    and_then (where_true (λ row. row) scope filter (range_rows scope range))
+    (each (λ row. insertion_of context table listed (outputs_of scope outputs row)))
 
 -- ---- UPDATE and DELETE
 
--- the values are evaluated at the row as it is before the statement
-abbrev pub updated : Context → Scope → List Setting → StoredRow → Result Change Cause
-updated w s settings r =
-    and_then (assigned w r.table (map (λ x. (x.column, value (within s r.values) x.value)) settings)) (λ pairs.
-    Ok (record { table = r.table; row = r.number; old = Some r.values; new = Some (with_columns r.values pairs) }))
+-- the update of a row; the values are evaluated at the row as it is before the statement
+abbrev pub update_of : Context → Scope → List Setting → StoredRow → Result Change Cause
+update_of context scope settings row =
+    and_then
+    (stored_values context row.table (map (λ s. (s.column, value (within scope row.values) s.value)) settings)) (λ pairs.
+    Ok (record { table = row.table; row = row.number; old = Some row.values; new = Some (with_columns row.values pairs) }))
 
 abbrev pub deletion : StoredRow → Change
-deletion r = record { table = r.table; row = r.number; old = Some r.values; new = None }
+deletion row = record { table = row.table; row = row.number; old = Some row.values; new = None }
 
 -- ---- the statement
 
--- The changes that a statement proposes, in the order of its rows.
-abbrev pub proposed : Context → Database → Frame → DataStatement → Result (List Change) Cause
-proposed w db f (data_statement.Insert t cs source) = proposed_rows w (scope_of f db.rows) t cs source
-proposed w db f (data_statement.Update t settings filter) =
-    and_then (matching (scope_of f db.rows) filter (table_rows db.rows t)) (each (updated w (scope_of f db.rows) settings))
-proposed w db f (data_statement.Delete t filter) =
-    and_then (matching (scope_of f db.rows) filter (table_rows db.rows t)) (λ found. Ok (map deletion found))
+-- the changes that a statement proposes, in the order of its rows
+abbrev pub proposed_changes : Context → Database → Frame → DataStatement → Result (List Change) Cause
+proposed_changes context db frame (data_statement.Insert table listed source) =
+    proposed_insertions context (scope_of frame db.rows) table listed source
+proposed_changes context db frame (data_statement.Update table settings filter) =
+    and_then (matching_rows (scope_of frame db.rows) filter (table_rows db.rows table))
+    (each (update_of context (scope_of frame db.rows) settings))
+proposed_changes context db frame (data_statement.Delete table filter) =
+    and_then (matching_rows (scope_of frame db.rows) filter (table_rows db.rows table)) (λ found. Ok (map deletion found))
+
+-- The wave that a statement proposes.
+abbrev pub proposed_wave : Context → Database → Frame → DataStatement → Result Wave Cause
+proposed_wave context db frame statement = and_then (proposed_changes context db frame statement) (λ changes. Ok (wave_of changes))
 
 -- the table that a statement changes, and how
 abbrev pub table_of : DataStatement → ℕ
-table_of (data_statement.Insert t _ _) = t
-table_of (data_statement.Update t _ _) = t
-table_of (data_statement.Delete t _) = t
+table_of (data_statement.Insert table _ _) = table
+table_of (data_statement.Update table _ _) = table
+table_of (data_statement.Delete table _) = table
 
 abbrev pub event_of : DataStatement → TriggerEvent
 event_of (data_statement.Insert _ _ _) = event.Insert

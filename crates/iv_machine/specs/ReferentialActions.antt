@@ -1,5 +1,5 @@
--- Referential actions: which referenced keys a wave lost, which rows RESTRICT protects, and the next wave (11.8 "referential
--- constraint definition").
+-- Referential actions: which referenced keys a wave lost, which rows RESTRICT protects, what the other actions do to rows, and the
+-- wave that follows (ISO/IEC 9075-2:1999, "Referential constraint definition").
 use Rattle.std.specs.Prelude.{ℕ, Bool, true, false, ◌&&◌, not, if◌then◌else◌, ◌==◌, nat_lt, List, [], ◌∷◌, map, filter, filter_map, flat_map, zip, Option, Some, None, Result, Ok}
 use Rattle.std.specs.List.{list_any, enumerate_from}
 use Rattle.iv_value.specs.declared.value.Value.{Value}
@@ -7,6 +7,7 @@ use Rattle.iv_value.specs.declared.value.Value.TheVariants.{Null}
 use Rattle.iv_value.specs.Values.{is_same, all_same}
 use Rattle.iv_expr.specs.declared.row.StoredRow.{StoredRow}
 use Rattle.iv_expr.specs.declared.row.Change.{Change}
+use Rattle.iv_expr.specs.Changes.{Wave, wave_of}
 use Rattle.iv_expr.specs.Scopes.{table_rows}
 use Rattle.iv_syntax.specs.declared.table.ReferentialAction.{ReferentialAction}
 use Rattle.iv_syntax.specs.declared.table.ReferentialAction.TheVariants as action
@@ -18,14 +19,32 @@ use Rattle.iv_catalogue.specs.declared.constraint.ForeignKey.{ForeignKey}
 use Rattle.iv_catalogue.specs.declared.cause.Fault.{Fault}
 use Rattle.iv_catalogue.specs.declared.cause.Cause.TheVariants.{Restrict, ActionConflict}
 use Rattle.iv_machine.specs.declared.database.Database.{Database}
+use Rattle.iv_machine.specs.declared.effect.Effect.{Effect}
+use Rattle.iv_machine.specs.declared.effect.Effect.TheVariants.{DeleteRow, SetColumns}
 use Rattle.iv_machine.specs.Databases.{row_at, value_at, key_of, none_null, holds_key, fault_at, first}
 use Rattle.iv_machine.specs.Context.{Context, Failure, unless_first}
 use Rattle.iv_machine.specs.Proposals.{with_columns, defaults_of}
+
+-- ---- foreign keys
 
 -- the foreign key that a rule is, where it is one
 abbrev pub foreign_key : Rule → Option ForeignKey
 foreign_key (rule.ForeignKey fk) = Some fk
 foreign_key _ = None
+
+-- A foreign key, with its number among the constraints and the table that it is on.
+pub record Reference : Type 0 where
+  pub id : ℕ
+  pub table : ℕ
+  pub key : ForeignKey
+
+-- the foreign key that a constraint is, where it is one
+abbrev pub reference : ℕ × Constraint → Option Reference
+reference k = elim (foreign_key k.1.rule) [ Some fk ↦ Some (record { id = k.0; table = k.1.table; key = fk }) | None ↦ None ]
+
+-- The foreign keys among the constraints, by creation.
+abbrev pub references : List Constraint → List Reference
+references constraints = filter_map reference (enumerate_from 0 constraints)
 
 -- ---- lost keys
 
@@ -34,21 +53,27 @@ pub data Loss : Type 0 where
   deleted : Loss
   updated : List Value → Loss
 
+-- Which referenced keys were lost: of a foreign key and a key, how that key was lost, if it was.
+abbrev pub LostKeys : Type 0
+LostKeys = ForeignKey → List Value → Option Loss
+
 -- how a referenced row lost its key from one database to the next, if it did
-abbrev pub lost_by : List StoredRow → ForeignKey → StoredRow → Option Loss
-lost_by later fk r = elim (row_at later r.number) [
+abbrev pub loss_of_row : List StoredRow → ForeignKey → StoredRow → Option Loss
+loss_of_row later fk before = elim (row_at later before.number) [
   | None ↦ Some deleted
-  | Some after ↦ if all_same (key_of fk.key after.values) (key_of fk.key r.values) then None else Some (updated (key_of fk.key after.values))
+  | Some after ↦ if all_same (key_of fk.key after.values) (key_of fk.key before.values) then None else Some (updated (key_of fk.key after.values))
 ]
 
--- How a key that no column makes null was lost, if it was: by the row of the least number that lost it.
-abbrev pub lost : List StoredRow → List StoredRow → ForeignKey → List Value → Option Loss
-lost rows later fk key = first (filter_map (lost_by later fk) (filter (λ r. holds_key fk.key key r.values) (table_rows rows fk.referenced)))
+-- The keys that were lost from one database to the next: a key by the row of the least number that lost it.
+abbrev pub lost_keys : List StoredRow → List StoredRow → LostKeys
+lost_keys rows later fk key =
+    first (filter_map (loss_of_row later fk) (filter (λ r. holds_key fk.key key r.values) (table_rows rows fk.referenced)))
 
--- how the key that a referencing row holds was lost, if it holds one that was
-abbrev pub lost_to : List StoredRow → List StoredRow → ForeignKey → StoredRow → Option Loss
-lost_to rows later fk r = if none_null (key_of fk.columns r.values) then lost rows later fk (key_of fk.columns r.values) else None
+-- how the key that a row refers to was lost, if it was; a key with a null refers to no row
+abbrev pub lost_reference : LostKeys → ForeignKey → StoredRow → Option Loss
+lost_reference lost fk row = if none_null (key_of fk.columns row.values) then lost fk (key_of fk.columns row.values) else None
 
+-- the action for a loss
 abbrev pub action_on : ForeignKey → Loss → ReferentialAction
 action_on fk deleted = fk.on_delete
 action_on fk (updated key) = fk.on_update
@@ -59,98 +84,112 @@ abbrev pub is_restrict : ReferentialAction → Bool
 is_restrict action.Restrict = true
 is_restrict _ = false
 
-abbrev pub is_restricted : List StoredRow → List StoredRow → ForeignKey → StoredRow → Bool
-is_restricted rows later fk r = elim (lost_to rows later fk r) [ Some loss ↦ is_restrict (action_on fk loss) | None ↦ false ]
+-- a row refers to a key that was lost under RESTRICT
+abbrev pub is_restricted : LostKeys → ForeignKey → StoredRow → Bool
+is_restricted lost fk row = elim (lost_reference lost fk row) [ Some loss ↦ is_restrict (action_on fk loss) | None ↦ false ]
 
-abbrev pub restricted_by : List StoredRow → List StoredRow → ℕ × Constraint → List Fault
-restricted_by rows later c =
-    elim (foreign_key c.1.rule) [ Some fk ↦ map (fault_at c.0) (filter (is_restricted rows later fk) (table_rows rows c.1.table)) | None ↦ [] ]
-
--- The rows that held a key which was lost under RESTRICT, by the foreign key's creation, then by row.
-abbrev pub restricted : List StoredRow → List StoredRow → List Constraint → List Fault
-restricted rows later constraints = flat_map (restricted_by rows later) (enumerate_from 0 constraints)
+-- The rows that refer to keys lost under RESTRICT, by the foreign key's creation, then by row.
+abbrev pub restricted_rows : LostKeys → List Constraint → List StoredRow → List Fault
+restricted_rows lost constraints rows =
+    flat_map (λ k. map (fault_at k.id) (filter (is_restricted lost k.key) (table_rows rows k.table))) (references constraints)
 
 -- ---- CASCADE, SET NULL and SET DEFAULT
 
--- What a referential action does to a referencing row.
-pub data Effect : Type 0 where
-  delete_row : Effect
-  set_columns : List (ℕ × Value) → Effect
-
 -- CASCADE deletes the row, or copies the whole new key
 abbrev pub cascade : ForeignKey → Loss → Effect
-cascade fk deleted = delete_row
-cascade fk (updated key) = set_columns (zip fk.columns key)
+cascade fk deleted = DeleteRow
+cascade fk (updated key) = SetColumns (zip fk.columns key)
 
--- what an action does to a row of this table
-abbrev pub effect_by : Schema → ℕ → ForeignKey → Loss → ReferentialAction → Option Effect
-effect_by c t fk loss action.NoAction = None
-effect_by c t fk loss action.Restrict = None
-effect_by c t fk loss action.Cascade = Some (cascade fk loss)
-effect_by c t fk loss action.SetNull = Some (set_columns (map (λ column. (column, Null)) fk.columns))
-effect_by c t fk loss action.SetDefault = Some (set_columns (map (λ column. (column, value_at (defaults_of c t) column)) fk.columns))
+-- what an action does to a row that refers to a key which was lost so
+abbrev pub effects_of_action : Schema → Reference → Loss → ReferentialAction → List Effect
+effects_of_action schema k loss action.NoAction = []
+effects_of_action schema k loss action.Restrict = []
+effects_of_action schema k loss action.Cascade = cascade k.key loss ∷ []
+effects_of_action schema k loss action.SetNull = SetColumns (map (λ column. (column, Null)) k.key.columns) ∷ []
+effects_of_action schema k loss action.SetDefault =
+    SetColumns (map (λ column. (column, value_at (defaults_of schema k.table) column)) k.key.columns) ∷ []
 
--- what a foreign key does to a row that holds the same key before and after, where that key was lost
-abbrev pub effect_on : Schema → List StoredRow → List StoredRow → ForeignKey → StoredRow → StoredRow → Option Effect
-effect_on c rows later fk r after =
-    if all_same (key_of fk.columns r.values) (key_of fk.columns after.values)
-    then elim (lost_to rows later fk r) [ Some loss ↦ effect_by c r.table fk loss (action_on fk loss) | None ↦ None ]
-    else None
+-- what a foreign key does to a row, from how the key that it refers to was lost, if it was
+abbrev pub effects_of_loss : Schema → Reference → Option Loss → List Effect
+effects_of_loss schema k None = []
+effects_of_loss schema k (Some loss) = effects_of_action schema k loss (action_on k.key loss)
 
-abbrev pub effect_of : Schema → List StoredRow → List StoredRow → StoredRow → StoredRow → ℕ × Constraint → Option (ℕ × Effect)
-effect_of c rows later r after k =
-    if k.1.table == r.table
-    then elim (foreign_key k.1.rule) [ Some fk ↦ elim (effect_on c rows later fk r after) [ Some effect ↦ Some (k.0, effect) | None ↦ None ] | None ↦ None ]
-    else None
+-- the foreign key is on the row's table, and the row refers to the same key before and after
+abbrev pub keeps_reference : StoredRow → StoredRow → Reference → Bool
+keeps_reference before after k =
+    (k.table == before.table) && all_same (key_of k.key.columns before.values) (key_of k.key.columns after.values)
 
--- what all foreign keys do to a row of the later database, by their creation
-abbrev pub effects : Schema → List StoredRow → List StoredRow → StoredRow → List (ℕ × Effect)
-effects c rows later after = elim (row_at rows after.number) [ Some r ↦ filter_map (effect_of c rows later r after) (enumerate_from 0 c.constraints) | None ↦ [] ]
+-- What all foreign keys do to a row: each of those on its table whose lost key it holds before and after, by creation, with its
+-- effect.
+abbrev pub effects : Schema → LostKeys → StoredRow → StoredRow → List (ℕ × Effect)
+effects schema lost before after =
+    flat_map (λ k. map (λ effect. (k.id, effect)) (effects_of_loss schema k (lost_reference lost k.key before)))
+    (filter (keeps_reference before after) (references schema.constraints))
+
+-- so of a row of the later database, with the row that it was before, where it was there
+abbrev pub effects_on : Schema → LostKeys → Option StoredRow → StoredRow → List (ℕ × Effect)
+effects_on schema lost None after = []
+effects_on schema lost (Some before) after = effects schema lost before after
 
 abbrev pub is_deletion : Effect → Bool
-is_deletion delete_row = true
-is_deletion (set_columns _) = false
+is_deletion DeleteRow = true
+is_deletion (SetColumns _) = false
 
 abbrev pub columns_set : Effect → List (ℕ × Value)
-columns_set delete_row = []
-columns_set (set_columns pairs) = pairs
+columns_set DeleteRow = []
+columns_set (SetColumns pairs) = pairs
 
--- the change of a row that these effects make: a deletion wins over all else
+-- one of these effects deletes the row
+abbrev pub have_deletion : List (ℕ × Effect) → Bool
+have_deletion es = list_any (λ e. is_deletion e.1) es
+
+-- the values of a row after these effects, if they leave it: a deletion wins over all else
+abbrev pub values_after : List Value → List (ℕ × Effect) → Option (List Value)
+values_after values es = if have_deletion es then None else Some (with_columns values (flat_map (λ e. columns_set e.1) es))
+
+-- the change of a row by these effects, where there are any
 abbrev pub change_by : StoredRow → List (ℕ × Effect) → Option Change
-change_by r [] = None
-change_by r (e ∷ es) =
-    Some (record {
-      table = r.table;
-      row = r.number;
-      old = Some r.values;
-      new = if list_any (λ x. is_deletion x.1) (e ∷ es) then None else Some (with_columns r.values (flat_map (λ x. columns_set x.1) (e ∷ es)));
-    })
+change_by row [] = None
+change_by row (e ∷ es) =
+    Some (record { table = row.table; row = row.number; old = Some row.values; new = values_after row.values (e ∷ es) })
 
--- The wave that follows from the keys lost between two databases, by row.
-abbrev pub next_wave : Schema → List StoredRow → List StoredRow → List Change
-next_wave c rows later = filter_map (λ r. change_by r (effects c rows later r)) later
+-- The wave that follows from lost keys: the changes of the rows of the later database by their effects, by row.
+abbrev pub next_wave : Schema → LostKeys → List StoredRow → List StoredRow → Wave
+next_wave schema lost rows later =
+    wave_of (filter_map (λ after. change_by after (effects_on schema lost (row_at rows after.number) after)) later)
 
 -- ---- conflicts
 
+-- one of the pairs sets the same column to another value
+abbrev pub is_set_otherwise : List (ℕ × Value) → ℕ × Value → Bool
+is_set_otherwise pairs own = list_any (λ p. (p.0 == own.0) && not (is_same p.1 own.1)) pairs
+
 -- two effects set one column to different values
 abbrev pub disagree : Effect → Effect → Bool
-disagree d e = list_any (λ x. list_any (λ y. (x.0 == y.0) && not (is_same x.1 y.1)) (columns_set e)) (columns_set d)
+disagree earlier own = list_any (is_set_otherwise (columns_set earlier)) (columns_set own)
 
--- of the effects on a row that none deletes, that of this foreign key disagrees with one of an earlier foreign key
+-- Of the effects on a row: none deletes it, this foreign key has one, and some earlier foreign key's sets a column of it otherwise.
 abbrev pub has_conflict : ℕ → List (ℕ × Effect) → Bool
 has_conflict id es =
-    not (list_any (λ e. is_deletion e.1) es)
-    && list_any (λ e. (e.0 == id) && list_any (λ earlier. nat_lt earlier.0 id && disagree earlier.1 e.1) es) es
+    not (have_deletion es)
+    && list_any (λ own. (own.0 == id) && list_any (λ earlier. nat_lt earlier.0 id && disagree earlier.1 own.1) es) es
 
 -- The foreign keys that disagree with an earlier one, by creation, each with the rows at which they do.
-abbrev pub conflicts : Schema → List StoredRow → List StoredRow → List Fault
-conflicts c rows later =
-    flat_map (λ k. map (fault_at k.0) (filter (λ r. has_conflict k.0 (effects c rows later r)) later)) (enumerate_from 0 c.constraints)
+abbrev pub conflicts : Schema → LostKeys → List StoredRow → List StoredRow → List Fault
+conflicts schema lost rows later =
+    flat_map
+    (λ k. map (fault_at k.id) (filter (λ after. has_conflict k.id (effects_on schema lost (row_at rows after.number) after)) later))
+    (references schema.constraints)
 
 -- ---- what follows a wave
 
--- The next wave, unless RESTRICT forbids this one or two foreign keys disagree.
-abbrev pub followed : Context → Database → Database → Result (List Change) Failure
-followed w db later =
-    unless_first later Restrict (restricted db.rows later.rows w.schema.constraints)
-    (unless_first later ActionConflict (conflicts w.schema db.rows later.rows) (Ok (next_wave w.schema db.rows later.rows)))
+-- the next wave by these lost keys, unless RESTRICT forbids them or two foreign keys disagree
+abbrev pub wave_by : Context → LostKeys → Database → Database → Result Wave Failure
+wave_by context lost db later =
+    unless_first later Restrict (restricted_rows lost context.schema.constraints db.rows)
+    (unless_first later ActionConflict (conflicts context.schema lost db.rows later.rows)
+    (Ok (next_wave context.schema lost db.rows later.rows)))
+
+-- The wave that follows one which led from a database to a later one.
+abbrev pub following_wave : Context → Database → Database → Result Wave Failure
+following_wave context db later = wave_by context (lost_keys db.rows later.rows) db later

@@ -1,63 +1,108 @@
 -- The waves of a data statement, one after another until nothing follows, and the net change of them all.
-use Rattle.std.specs.Prelude.{ℕ, zero, suc, ◌+◌, ◌-◌, Bool, ◌&&◌, if◌then◌else◌, nat_lt, List, [], ◌∷◌, ◌++◌, length, map, filter, Option, Some, None, is_none, Result, Ok}
+use Rattle.std.specs.Prelude.{ℕ, zero, suc, ◌+◌, ◌-◌, Bool, true, false, ◌&&◌, if◌then◌else◌, nat_lt, List, [], ◌∷◌, ◌++◌, map, filter, Option, Some, None, is_none, Result, Ok}
 use Rattle.std.specs.List.{list_any}
 use Rattle.iv_value.specs.declared.value.Value.{Value}
 use Rattle.iv_expr.specs.declared.row.StoredRow.{StoredRow}
 use Rattle.iv_expr.specs.declared.row.Change.{Change}
+use Rattle.iv_expr.specs.Changes.{Wave, wave_of}
 use Rattle.iv_expr.specs.Evaluation.{and_then}
 use Rattle.iv_catalogue.specs.declared.cause.Cause.TheVariants.{TooManyChanges, TransactionTooLarge, Limit}
 use Rattle.iv_machine.specs.declared.database.Database.{Database}
-use Rattle.iv_machine.specs.Databases.{row_at, in_wave, applied}
-use Rattle.iv_machine.specs.Context.{Context, Failure, fails}
-use Rattle.iv_machine.specs.BeforeTriggers.{before}
-use Rattle.iv_machine.specs.ReferentialActions.{followed}
+use Rattle.iv_machine.specs.Bounds.{most_changes_in_a_transaction, last_row_number}
+use Rattle.iv_machine.specs.Databases.{row_at, has_change, size, database_after}
+use Rattle.iv_machine.specs.Context.{Context, Failure, fails, with_count}
+use Rattle.iv_machine.specs.BeforeTriggers.{wave_after_triggers}
+use Rattle.iv_machine.specs.ReferentialActions.{following_wave}
 
--- new rows take the numbers that follow
-abbrev pub numbered : ℕ → List Change → List Change
-numbered next [] = []
-numbered next (c ∷ wave) = if is_none c.old then record c { row = next } ∷ numbered (next + 1) wave else c ∷ numbered next wave
+-- ---- one wave
 
-abbrev pub is_above : ℕ → List Change → Bool
-is_above last wave = list_any (λ c. nat_lt last c.row) wave
+-- the changes with row numbers: new rows take this number and those that follow
+abbrev pub with_numbers : ℕ → List Change → List Change
+with_numbers next [] = []
+with_numbers next (c ∷ changes) =
+    if is_none c.old then record c { row = next } ∷ with_numbers (next + 1) changes else c ∷ with_numbers next changes
 
--- A wave as it is applied. It takes its size from the budget, then from the 1,048,576 changes of a transaction; then new rows
--- take numbers, of which 9,223,372,036,854,775,807 is the last; then the BEFORE row triggers run.
-abbrev pub entered : Context → Database → ℕ → List Change → Result (List Change) Failure
-entered w db budget wave =
-    if nat_lt budget (length wave) then fails db TooManyChanges
-    else (if nat_lt 1048576 (db.count + length wave) then fails db TransactionTooLarge
-    else (if is_above 9223372036854775807 (numbered db.next wave) then fails db Limit
-    else before w db (numbered db.next wave)))
+abbrev pub numbered_wave : ℕ → Wave → Wave
+numbered_wave next wave = record wave { changes = with_numbers next wave.changes }
+
+-- one of these changes is of a row above the last number that a row may have
+abbrev pub is_beyond_last_row : List Change → Bool
+is_beyond_last_row changes = list_any (λ c. nat_lt last_row_number c.row) changes
+
+-- A wave as it is applied. It takes its size from the budget, then from the changes of a transaction; then new rows take numbers;
+-- then the BEFORE row triggers run.
+abbrev pub wave_as_applied : Context → Database → ℕ → Wave → Result Wave Failure
+wave_as_applied context db budget wave =
+    if nat_lt budget (size wave) then fails db TooManyChanges
+    else (if nat_lt most_changes_in_a_transaction (db.count + size wave) then fails db TransactionTooLarge
+    else (if is_beyond_last_row (numbered_wave db.next wave).changes then fails db Limit
+    else with_count db (wave_after_triggers context db.rows (numbered_wave db.next wave))))
+
+-- a wave as it was applied, and the wave that follows
+pub record AppliedWave : Type 0 where
+  pub wave : Wave
+  pub next : Wave
+
+-- One wave: what is applied of it, and what follows.
+abbrev pub one_wave : Context → Database → ℕ → Wave → Result AppliedWave Failure
+one_wave context db budget wave =
+    and_then (wave_as_applied context db budget wave) (λ applied.
+    and_then (following_wave context db (database_after db applied)) (λ next. Ok (record { wave = applied; next = next })))
+
+-- ---- all waves
 
 -- the last database, the waves as they were applied, and the rest of the budget
-pub record Settled : Type 0 where
+pub record SettledWaves : Type 0 where
   pub last : Database
-  pub waves : List (List Change)
+  pub waves : List Wave
   pub rest : ℕ
 
--- The waves, until one is empty. Each takes one or more from the budget, so the budget counts the recursion too.
-abbrev pub settle : ℕ → Context → Database → ℕ → List Change → Result Settled Failure
-settle fuel w db budget [] = Ok (record { last = db; waves = []; rest = budget })
-settle zero w db budget (c ∷ cs) = fails db TooManyChanges
-settle (suc fuel) w db budget (c ∷ cs) =
-    and_then (entered w db budget (c ∷ cs)) (λ wave.
-    and_then (followed w db (applied db wave)) (λ next.
-    and_then (settle fuel w (applied db wave) (budget - length wave) next) (λ s. Ok (record s { waves = wave ∷ s.waves }))))
+-- What settles a wave in a database within a budget.
+abbrev pub Settles : Type 0
+Settles = Database → ℕ → Wave → Result SettledWaves Failure
 
-abbrev pub settled : Context → Database → ℕ → List Change → Result Settled Failure
-settled w db budget wave = settle budget w db budget wave
+abbrev pub is_empty : List Change → Bool
+is_empty [] = true
+is_empty (c ∷ changes) = false
+
+-- An empty wave ends. Of another, one wave is made, and the rest is settled with what it leaves of the budget.
+abbrev pub settled_by : Settles → Context → Settles
+settled_by settled context db budget wave =
+    if is_empty wave.changes then Ok (record { last = db; waves = []; rest = budget })
+    else and_then (one_wave context db budget wave) (λ one.
+    and_then (settled (database_after db one.wave) (budget - size one.wave) one.next) (λ s.
+    Ok (record s { waves = one.wave ∷ s.waves })))
+
+-- so with at most so many waves
+abbrev pub settled_within : ℕ → Context → Settles
+settled_within zero context = settled_by (λ db budget wave. fails db TooManyChanges) context
+settled_within (suc most) context = settled_by (settled_within most context) context
+
+-- The waves, until one is empty. Each takes one or more from the budget, so there are at most as many as the budget has.
+abbrev pub settled_waves : Context → Settles
+settled_waves context db budget wave = settled_within budget context db budget wave
 
 -- ---- the net change
 
-abbrev pub in_waves : List (List Change) → ℕ → Bool
-in_waves waves n = list_any (λ wave. in_wave wave n) waves
+-- one of these waves changes the row of this number
+abbrev pub in_waves : List Wave → ℕ → Bool
+in_waves waves number = list_any (λ wave. has_change wave.changes number) waves
 
-abbrev pub values_in : List StoredRow → ℕ → Option (List Value)
-values_in rows n = elim (row_at rows n) [ Some r ↦ Some r.values | None ↦ None ]
+abbrev pub values_at : List StoredRow → ℕ → Option (List Value)
+values_at rows number = elim (row_at rows number) [ Some r ↦ Some r.values | None ↦ None ]
+
+-- a row that was there at first, with its values in the later database
+abbrev pub net_change : List StoredRow → StoredRow → Change
+net_change later r = record { table = r.table; row = r.number; old = Some r.values; new = values_at later r.number }
+
+-- a row that was not there at first
+abbrev pub net_insertion : StoredRow → Change
+net_insertion r = record { table = r.table; row = r.number; old = None; new = Some r.values }
 
 -- Each row of the waves with its values in the first database and in the last: in both, an update, even to equal values; in the
 -- first alone, a deletion; in the last alone, an insertion. By row.
-abbrev pub net : List StoredRow → List StoredRow → List (List Change) → List Change
-net rows later waves =
-    map (λ r. record { table = r.table; row = r.number; old = Some r.values; new = values_in later r.number }) (filter (λ r. in_waves waves r.number) rows)
-    ++ map (λ r. record { table = r.table; row = r.number; old = None; new = Some r.values }) (filter (λ r. in_waves waves r.number && is_none (row_at rows r.number)) later)
+abbrev pub net_wave : List StoredRow → List StoredRow → List Wave → Wave
+net_wave rows later waves =
+    wave_of
+    (map (net_change later) (filter (λ r. in_waves waves r.number) rows)
+    ++ map net_insertion (filter (λ r. in_waves waves r.number && is_none (row_at rows r.number)) later))

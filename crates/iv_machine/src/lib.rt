@@ -3,6 +3,7 @@
 
 mod answer;
 mod database;
+mod effect;
 mod laws;
 mod limits;
 mod scan;
@@ -12,7 +13,11 @@ mod wave;
 
 pub use answer::Answer;
 pub use database::{Database, Which};
+pub use effect::Effect;
 pub use laws::{plans_keep_the_occasion, reached_states_are_sound, worked_scripts};
-pub use limits::Limits;
+pub use limits::{
+    FEWEST_CHANGES_IN_A_STATEMENT, GREATEST_DEPTH, LAST_ROW_NUMBER, LEAST_DEPTH, Limits,
+    MOST_CHANGES_IN_A_STATEMENT, MOST_CHANGES_IN_A_TRANSACTION,
+};
 pub use scan::{count_faults, first_fault, list_faults, satisfies};
-pub use wave::applied;
+pub use wave::database_after;

@@ -2,11 +2,11 @@
 ghost use Rattle.std.specs.Prelude.{◌≡◌};
 
 use crate::{
-    Database, Limits, Which, applied, count_faults, first_fault, list_faults,
+    Database, Limits, Which, count_faults, database_after, first_fault, list_faults,
     plans_keep_the_occasion, reached_states_are_sound, satisfies, worked_scripts,
 };
 use iv_catalogue::{Constraint, Fault, ForeignKey, Rule};
-use iv_expr::{Change, Comparison, Cond, Expr, Row, StoredRow, TableId};
+use iv_expr::{Change, Comparison, Cond, Expr, Row, StoredRow, TableId, Wave};
 use iv_syntax::{ConstraintMode, MatchType, Name, ReferentialAction};
 use iv_value::{Text, Value};
 use sqlite_items::Items;
@@ -216,12 +216,12 @@ fn a_wave_adds_replaces_and_leaves_out(rt: HostRuntime) -> Result<(), Fail> {
         next: 8,
         count: 2,
     };
-    let wave = [
-        change(0, 9, None, Some(numbers(alloc, 90)?)),
-        change(1, 5, Some(numbers(alloc, 1)?), None),
-        change(0, 2, Some(numbers(alloc, 1)?), Some(numbers(alloc, 20)?)),
-    ];
-    let later = applied(alloc, &database, &wave)?;
+    let mut wave = Wave::new(alloc);
+    let replaced = change(0, 2, Some(numbers(alloc, 1)?), Some(numbers(alloc, 20)?));
+    wave.push(replaced)?;
+    wave.push(change(1, 5, Some(numbers(alloc, 1)?), None))?;
+    wave.push(change(0, 9, None, Some(numbers(alloc, 90)?)))?;
+    let later = database_after(alloc, &database, &wave)?;
     let found = shown(alloc, later.rows.as_slice())?;
     assert_eq!(rt;
         found.as_str(),

@@ -25,7 +25,7 @@ use Rattle.iv_machine.specs.declared.answer.Answer.TheVariants.{Changed, Rows}
 use Rattle.iv_machine.specs.declared.database.Database.{Database}
 use Rattle.iv_machine.specs.declared.database.Which.TheVariants.{Immediate}
 use Rattle.iv_machine.specs.Context.{Failure, fails}
-use Rattle.iv_machine.specs.Databases.{scan, scan_from, chosen_violations, violations, is_chosen, initial_modes, first}
+use Rattle.iv_machine.specs.Databases.{scan, chosen_violations, violations, is_chosen, initial_modes, first}
 use Rattle.iv_machine.specs.Levels.{Finished}
 use Rattle.iv_machine.specs.Machine.{State, changed, answered, selected, first_violation, commit_by, commit_outcome, rollback_by, rollback_outcome, ended, performed}
 use Rattle.iv_machine.specs.Invariants.{Sound}
@@ -33,7 +33,7 @@ use Rattle.iv_machine.proofs.Orders.{with_row, new_row_of}
 use Rattle.iv_machine.specs.Fitting.{Suits, literals, insert_one, TableFits, SelectFits}
 use Rattle.iv_session.specs.Performing.{Performs}
 use Rattle.iv_machine.proofs.Plain.{plain_checked}
-use Rattle.iv_machine.proofs.Scans.{more_rows, none_of_some}
+use Rattle.iv_machine.proofs.Scans.{scan_from, more_rows, none_of_some}
 use Rattle.iv_machine.proofs.Selected.{all_selected}
 use Rattle.iv_machine.proofs.Sound.{created_sound, rollback_sound, commit_sound, performed_sound, insert_is_plain}
 use Rattle.iv_session.specs.declared.session.Start.{Start}

@@ -1,4 +1,4 @@
-use Rattle.iv_laws.proofs.Budgeting.{settled_takes, nested_takes, level_takes}
+use Rattle.iv_laws.proofs.Budgeting.{waves_take, nested_takes, level_takes}
 use Rattle.iv_laws.proofs.laws.budget_falls.Goals as goal
 
 pub returns-clause-level : goal.returns-clause-level
@@ -8,4 +8,4 @@ pub returns-clause-nested : goal.returns-clause-nested
 returns-clause-nested c = nested_takes
 
 pub returns-clause-waves : goal.returns-clause-waves
-returns-clause-waves c = settled_takes
+returns-clause-waves c = waves_take

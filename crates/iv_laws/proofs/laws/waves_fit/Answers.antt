@@ -1,8 +1,8 @@
-use Rattle.iv_laws.proofs.FittingWaves.{waves_fit, level_numbers, nested_numbers, no_rows_numbered}
+use Rattle.iv_laws.proofs.FittingWaves.{waves_are_a_chain, level_numbers, nested_numbers, no_rows_numbered}
 use Rattle.iv_laws.proofs.laws.waves_fit.Goals as goal
 
 pub returns-clause-waves : goal.returns-clause-waves
-returns-clause-waves c = waves_fit
+returns-clause-waves c = waves_are_a_chain
 
 pub returns-clause-level : goal.returns-clause-level
 returns-clause-level c = level_numbers

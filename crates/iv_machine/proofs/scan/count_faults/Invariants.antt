@@ -1,5 +1,6 @@
 use Rattle.std.proofs.Common.{◌≡◌, ◌+◌, ◌-◌, ◌≤◌, ◌^◌, min, drop, length}
-use Rattle.iv_machine.specs.Databases.{scan, scan_from, is_chosen}
+use Rattle.iv_machine.specs.Databases.{scan, is_chosen}
+use Rattle.iv_machine.proofs.Scans.{scan_from}
 use Rattle.iv_machine.proofs.scan.count_faults.Given as goal
 
 abbrev pub invariant-loop-constraint : goal.invariant-loop-constraint

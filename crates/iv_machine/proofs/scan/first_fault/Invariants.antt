@@ -1,5 +1,6 @@
 use Rattle.std.proofs.Common.{◌≡◌, drop}
-use Rattle.iv_machine.specs.Databases.{first, scan, scan_from, is_chosen}
+use Rattle.iv_machine.specs.Databases.{first, scan, is_chosen}
+use Rattle.iv_machine.proofs.Scans.{scan_from}
 use Rattle.iv_machine.proofs.scan.first_fault.Given as goal
 
 abbrev pub invariant-loop-constraint : goal.invariant-loop-constraint

@@ -4,8 +4,8 @@ use Rattle.iv_machine.proofs.wave.new_rows.Given as goal
 
 abbrev pub invariant-loop-left : goal.invariant-loop-left
 invariant-loop-left l = record {
-  within : l.left ≤ length l.wave;
-  done : l.rows.items ≡ in_order (filter_map new_row (drop l.left l.wave));
+  within : l.left ≤ length l.changes;
+  done : l.rows.items ≡ in_order (filter_map new_row (drop l.left l.changes));
 }
 
 abbrev pub decreases-loop-left : goal.decreases-loop-left
