@@ -1,8 +1,8 @@
 -- Each resolved statement leads from a state that resolved statements reach to one of which the same holds.
-use Rattle.std.proofs.Common.{◌≡◌, refl, ℕ, ◌-◌, ◌≤◌, true, not, ◌==◌, List, [], ◌∷◌, ◌++◌, length, length-append, find, Option, Some, None, is_some, unwrap_or, Result, Ok, Err, sym, ap, subst, ◌∙◌, arith}
+use Rattle.std.proofs.Common.{if◌then◌else◌, filter, ◌+◌, Bool, ◌≡◌, refl, ℕ, ◌-◌, ◌≤◌, true, not, ◌==◌, List, [], ◌∷◌, ◌++◌, length, length-append, find, Option, Some, None, is_some, unwrap_or, Result, Ok, Err, sym, ap, subst, ◌∙◌, arith}
 use Rattle.iv_expr.specs.Scopes.{no_frame}
 use Rattle.iv_syntax.specs.declared.statement.ConstraintMode.{ConstraintMode}
-use Rattle.iv_catalogue.specs.Catalogues.{Schema, with_table, with_constraint, with_trigger, without_trigger}
+use Rattle.iv_catalogue.specs.Catalogues.{NumbersRise, TriggersNumbered, Schema, with_table, with_constraint, with_trigger, without_trigger}
 use Rattle.iv_catalogue.specs.declared.catalogue.Table.{Table}
 use Rattle.iv_catalogue.specs.declared.constraint.Constraint.{Constraint}
 use Rattle.iv_catalogue.specs.declared.cause.Cause.{Cause}
@@ -24,10 +24,11 @@ use Rattle.iv_machine.specs.declared.database.Database.{Database}
 use Rattle.iv_machine.specs.Context.{Failure}
 use Rattle.iv_machine.specs.Databases.{scan, is_deferred, first}
 use Rattle.iv_machine.specs.Levels.{Finished, level}
-use Rattle.iv_machine.specs.Machine.{State, Outcome, Found, empty_state, accept, refuse, refuse_first, context_of, changed, answered, selected, counted, ended, rolled_back, first_violation, commit_state, savepoint_named, without_name, released, returned, is_deferrable, members, with_modes, made_immediate, modes_set, constraints_set, with_schema, defined, queried, transacted, performed, transaction_cause, unless}
+use Rattle.iv_machine.specs.Machine.{State, Outcome, Found, empty_state, accept, refuse, refuse_first, context_of, changed, answered, selected, counted, ended, rollback_by, commit_by, first_violation, savepoint_named, without_name, released, returned, is_deferrable, members, with_modes, made_immediate, modes_set, constraints_set, with_schema, defined, queried, transacted, performed, transaction_cause, plan_occasion, unless}
+use Rattle.iv_machine.specs.Fitting.{Upon}
 use Rattle.iv_machine.specs.Proposals.{table_of}
-use Rattle.iv_machine.proofs.Scans.{Upon, more_constraints}
-use Rattle.iv_laws.specs.Reached.{IsThere, BodyFits, AllOn, SchemaPlanFits, Fits, plan_occasion, planned, reached, AllFit, PlannedStatesAreSound}
+use Rattle.iv_machine.proofs.Scans.{more_constraints}
+use Rattle.iv_laws.specs.Reached.{IsThere, BodyFits, AllOn, SchemaPlanFits, Fits, planned, reached, AllFit, PlannedStatesAreSound}
 use Rattle.iv_laws.proofs.Checking.{level_checks}
 use Rattle.iv_laws.proofs.FittingWaves.{level_numbers}
 use Rattle.iv_laws.proofs.PlacedRows.{Placed, placed_below, placed_more, level_places}
@@ -54,7 +55,7 @@ table_reachable s t ks e on h =
           (placed_below (length s.schema.tables) s.database.rows free.placed) (upon_of (length s.schema.tables) ks on) ∙ free.unviolated;
       numbered = free.numbered;
       placed = placed_more (length s.schema.tables) (length (s.schema.tables ++ t ∷ [])) s.database.rows longer free.placed;
-    }) (triggers_fit_more s.schema (with_table s.schema t ks) s.schema.triggers longer h.bodies) h
+    }) (triggers_fit_more s.schema (with_table s.schema t ks) s.schema.triggers longer h.bodies) h.triggers h
 
 added_reachable : (s : State) (k : Constraint) (fault : Option Fault) → s.start ≡ None
     → first (scan s.database.rows (with_constraint s.schema k).constraints (λ id. id == length s.schema.constraints)) ≡ fault → Reachable s
@@ -66,31 +67,54 @@ added_reachable s k None e is h =
       unviolated = one_more s.database.rows s.schema.constraints k free.unviolated (no_first _ is);
       numbered = free.numbered;
       placed = free.placed;
-    }) (triggers_fit_more s.schema (with_constraint s.schema k) s.schema.triggers (omega arith) h.bodies) h
+    }) (triggers_fit_more s.schema (with_constraint s.schema k) s.schema.triggers (omega arith) h.bodies) h.triggers h
 
 triggers_both : (c : Schema) (ts : List Trigger) (t : Trigger) → TriggersFit c ts → BodyFits c t.body → TriggersFit c (ts ++ t ∷ [])
 triggers_both c [] t h k = (k, tt)
 triggers_both c (x ∷ ts) t h k = (h.0, triggers_both c ts t h.1 k)
 
+-- ---- the numbers of triggers
+
+rise_from_lower : (low other : ℕ) (ts : List Trigger) (created : ℕ) → low ≤ other → NumbersRise other ts created → NumbersRise low ts created
+rise_from_lower low other [] created le h = omega (arith, le, h)
+rise_from_lower low other (t ∷ ts) created le h = (omega (arith, le, h.0), h.1)
+
+-- one more, of which the number is how many were created
+rise_more : (low : ℕ) (ts : List Trigger) (created : ℕ) (t : Trigger) → t.id ≡ created → NumbersRise low ts created → NumbersRise low (ts ++ t ∷ []) (created + 1)
+rise_more low [] created t e h = (omega (arith, e, h), omega (arith, e))
+rise_more low (x ∷ ts) created t e h = (h.0, rise_more (x.id + 1) ts created t e h.1)
+
+rise_filter : (keeps : Trigger → Bool) (low : ℕ) (ts : List Trigger) (created : ℕ) → NumbersRise low ts created → NumbersRise low (filter keeps ts) created
+rise_filter keeps low [] created h = h
+rise_filter keeps low (t ∷ ts) created h =
+    let rest = rise_filter keeps (t.id + 1) ts created h.1 in
+    elim (keeps t) as (λ b. NumbersRise low (if b then t ∷ filter keeps ts else filter keeps ts) created) [
+      | true ↦ (h.0, rest)
+      | false ↦ rise_from_lower low (t.id + 1) (filter keeps ts) created (omega (arith, h.0)) rest
+    ]
+
 -- other triggers
-triggers_reachable : (s : State) (c : Schema) → s.start ≡ None → c.tables ≡ s.schema.tables → c.constraints ≡ s.schema.constraints → TriggersFit s.schema c.triggers → Reachable s
+triggers_reachable : (s : State) (c : Schema) → s.start ≡ None → c.tables ≡ s.schema.tables → c.constraints ≡ s.schema.constraints → TriggersFit s.schema c.triggers
+    → TriggersNumbered c → Reachable s
     → Reachable (with_schema s c)
-triggers_reachable s c e tables constraints fit h =
+triggers_reachable s c e tables constraints fit numbers h =
     let free = outside_faultless s e h in
     schema_reachable s c e (record {
       unviolated = ap (λ cs. scan s.database.rows cs (λ _. true)) constraints ∙ free.unviolated;
       numbered = free.numbered;
       placed = subst (λ ts. Placed (length ts) s.database.rows) (sym tables) free.placed;
-    }) (triggers_fit_more s.schema c c.triggers (omega (arith, ap length tables)) fit) h
+    }) (triggers_fit_more s.schema c c.triggers (omega (arith, ap length tables)) fit) numbers h
 
 defined_reachable : (s : State) (p : SchemaPlan) → s.start ≡ None → SchemaPlanFits s.schema p → Reachable s → Reachable (defined s p).state
 defined_reachable s (schema.CreateTable t ks) e u h = table_reachable s t ks e u h
 defined_reachable s (schema.AddConstraint k) e u h =
     added_reachable s k (first (scan s.database.rows (with_constraint s.schema k).constraints (λ id. id == length s.schema.constraints))) e refl h
 defined_reachable s (schema.CreateTrigger t) e u h =
-    triggers_reachable s (with_trigger s.schema t) e refl refl (triggers_both s.schema s.schema.triggers t h.bodies u) h
+    triggers_reachable s (with_trigger s.schema t) e refl refl (triggers_both s.schema s.schema.triggers (record t { id = s.schema.created }) h.bodies u)
+    (rise_more 0 s.schema.triggers s.schema.created (record t { id = s.schema.created }) refl h.triggers) h
 defined_reachable s (schema.DropTrigger id) e u h =
-    triggers_reachable s (without_trigger s.schema id) e refl refl (triggers_filter s.schema (λ t. not (t.id == id)) s.schema.triggers h.bodies) h
+    triggers_reachable s (without_trigger s.schema id) e refl refl (triggers_filter s.schema (λ t. not (t.id == id)) s.schema.triggers h.bodies)
+    (rise_filter (λ t. not (t.id == id)) 0 s.schema.triggers s.schema.created h.triggers) h
 
 -- ---- INSERT, UPDATE, DELETE and SELECT
 
@@ -114,20 +138,15 @@ queried_reachable s (query.Count t filter) h = answered_reachable s (counted s t
 
 -- ---- COMMIT and ROLLBACK
 
-rolled_back_reachable : (s : State) → Reachable s → Reachable (rolled_back s)
-rolled_back_reachable s h =
-    elim s.start as (λ o. Faultless s.schema (unwrap_or o s.database) → Reachable (elim o [ Some d ↦ ended s d | None ↦ s ])) [
-      | Some d ↦ λ free. ended_reachable s d free h
-      | None ↦ λ free. h
-    ] h.first
+rollback_reachable : (s : State) (start : Option Database) → Faultless s.schema (unwrap_or start s.database) → Reachable s → Reachable (rollback_by s start).state
+rollback_reachable s None free h = h
+rollback_reachable s (Some d) free h = ended_reachable s d free h
 
-committed_reachable : (s : State) (f : Option Fault) → first_violation s ≡ f → Reachable s → Reachable (commit_state s f)
-committed_reachable s None e h =
-    elim s.start as (λ o. Reachable (elim o [ Some d ↦ ended s s.database | None ↦ s ])) [
-      | Some d ↦ ended_reachable s s.database (record { unviolated = no_first _ e; numbered = h.now.numbered; placed = h.now.placed }) h
-      | None ↦ h
-    ]
-committed_reachable s (Some f) e h = rolled_back_reachable s h
+commit_reachable : (s : State) (start : Option Database) (f : Option Fault) → first_violation s ≡ f → Faultless s.schema (unwrap_or start s.database) → Reachable s
+    → Reachable (commit_by s start f).state
+commit_reachable s None f e free h = h
+commit_reachable s (Some d) None e free h = ended_reachable s s.database (record { unviolated = no_first _ e; numbered = h.now.numbered; placed = h.now.placed }) h
+commit_reachable s (Some d) (Some f) e free h = ended_reachable s d free h
 
 -- ---- savepoints
 
@@ -168,10 +187,10 @@ transaction_keeps : (s : State) (p : TransactionPlan) (start : Option Database) 
     → Reachable (unless s (transaction_cause (is_some start) (plan_occasion (plan.Transaction p))) (transacted s p)).state
 transaction_keeps s transaction.Start None e h = begun_reachable s s.database h.now h
 transaction_keeps s transaction.Start (Some d) e h = h
-transaction_keeps s transaction.Commit None e h = committed_reachable s (first_violation s) refl h
-transaction_keeps s transaction.Commit (Some d) e h = committed_reachable s (first_violation s) refl h
-transaction_keeps s transaction.Rollback None e h = rolled_back_reachable s h
-transaction_keeps s transaction.Rollback (Some d) e h = rolled_back_reachable s h
+transaction_keeps s transaction.Commit None e h = commit_reachable s s.start (first_violation s) refl h.first h
+transaction_keeps s transaction.Commit (Some d) e h = commit_reachable s s.start (first_violation s) refl h.first h
+transaction_keeps s transaction.Rollback None e h = rollback_reachable s s.start h.first h
+transaction_keeps s transaction.Rollback (Some d) e h = rollback_reachable s s.start h.first h
 transaction_keeps s (transaction.Savepoint name) None e h = h
 transaction_keeps s (transaction.Savepoint name) (Some d) e h =
     inside_reachable s d s.database s.modes (record { name = name; database = s.database; modes = s.modes } ∷ without_name name s.savepoints) e h.now

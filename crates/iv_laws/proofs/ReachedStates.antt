@@ -2,13 +2,14 @@
 use Rattle.std.proofs.Common.{◌≡◌, refl, ℕ, true, false, not, if◌then◌else◌, List, [], ◌∷◌, length, Some, None, unwrap_or, sym, ap, subst, ◌∙◌, arith}
 use Rattle.std.specs.Str.{bytes_eq}
 use Rattle.iv_syntax.specs.declared.statement.ConstraintMode.{ConstraintMode}
-use Rattle.iv_catalogue.specs.Catalogues.{Schema}
+use Rattle.iv_catalogue.specs.Catalogues.{Schema, TriggersNumbered}
 use Rattle.iv_machine.specs.declared.database.Database.{Database}
-use Rattle.iv_machine.specs.declared.database.Which.TheVariants.{Immediate}
+use Rattle.iv_machine.specs.declared.database.Which.TheVariants.{Immediate, Deferred}
 use Rattle.iv_machine.specs.Bounds.{Bounds}
 use Rattle.iv_machine.specs.Databases.{scan, is_chosen, initial_modes}
-use Rattle.iv_machine.specs.Laws.{IsSound}
+use Rattle.iv_machine.specs.Laws.{IsSound, EachSaveHolds}
 use Rattle.iv_machine.specs.Machine.{Savepoint, State, Found, empty_state, starting, begun, ended, savepoint_named, without_name, with_schema}
+use Rattle.iv_machine.proofs.Modes.{none_where_none_deferred}
 use Rattle.iv_machine.proofs.Scans.{none_of_some}
 use Rattle.iv_laws.specs.FittingWaves.{Numbered}
 use Rattle.iv_laws.proofs.RowNumbers.{some_none, some_same}
@@ -55,10 +56,15 @@ named_firm c name (y ∷ xs) x e h =
       | false ↦ λ is. named_firm c name xs x is h.1
     ] e
 
+each_save_holds : (c : Schema) (xs : List Savepoint) → AllFirm c xs → EachSaveHolds c xs
+each_save_holds c [] h = tt
+each_save_holds c (x ∷ xs) h = (h.0.immediate, each_save_holds c xs h.1)
+
 -- ---- states
 
 -- The database is firm under the modes, and so is each savepoint's; that at the start of the transaction, or that outside of one,
--- violates nothing; outside, modes are initial and there is no savepoint; and the triggers' bodies fit.
+-- violates nothing; outside, modes are initial and there is no savepoint; no change stands at the start; and the triggers' bodies fit and their numbers
+-- rise.
 pub record Reachable (s : State) : Type 0 where
   pub now : Firm s.schema s.modes s.database
   pub first : Faultless s.schema (starting s)
@@ -66,6 +72,8 @@ pub record Reachable (s : State) : Type 0 where
   pub unsaved : s.start ≡ None → s.savepoints ≡ []
   pub saves : AllFirm s.schema s.savepoints
   pub bodies : TriggersFit s.schema s.schema.triggers
+  pub uncounted : (starting s).count ≡ 0
+  pub triggers : TriggersNumbered s.schema
 
 pub empty_reachable : (limits : Bounds) → Reachable (empty_state limits)
 empty_reachable limits = record {
@@ -75,6 +83,8 @@ empty_reachable limits = record {
   unsaved = λ e. refl;
   saves = tt;
   bodies = tt;
+  uncounted = refl;
+  triggers = omega arith;
 }
 
 -- outside a transaction the database is the one that it would start from
@@ -87,22 +97,35 @@ outside_faultless s e h = subst (Faultless s.schema) (outside_same s e) h.first
 pub reachable_is_sound : (s : State) → Reachable s → IsSound s
 reachable_is_sound s h = record {
   immediate = h.now.immediate;
-  outside = λ e. (outside_faultless s e h).unviolated;
-  modes = h.initial;
+  deferred = (
+    none_of_some s.database.rows (is_chosen s.modes Deferred) s.schema.constraints,
+    none_where_none_deferred s.database.rows s.modes s.schema.constraints h.now.immediate,
+  );
+  outside = λ e. record {
+    unviolated = (outside_faultless s e h).unviolated;
+    initial = h.initial e;
+    unsaved = h.unsaved e;
+    uncounted = ap (λ d. d.count) (sym (outside_same s e)) ∙ h.uncounted;
+  };
+  saves = each_save_holds s.schema s.savepoints h.saves;
   rising = h.now.numbered;
+  triggers = h.triggers;
 }
 
 -- ---- what leads from one state to another
 
 -- another catalogue, outside a transaction
-pub schema_reachable : (s : State) (c : Schema) → s.start ≡ None → Faultless c s.database → TriggersFit c c.triggers → Reachable s → Reachable (with_schema s c)
-schema_reachable s c e free fit h = record {
+pub schema_reachable : (s : State) (c : Schema) → s.start ≡ None → Faultless c s.database → TriggersFit c c.triggers → TriggersNumbered c → Reachable s
+    → Reachable (with_schema s c)
+schema_reachable s c e free fit numbers h = record {
   now = faultless_firm c (initial_modes c.constraints) s.database free;
   first = subst (Faultless c) (sym (outside_same s e)) free;
   initial = λ none. refl;
   unsaved = h.unsaved;
   saves = subst (AllFirm c) (sym (h.unsaved e)) tt;
   bodies = fit;
+  uncounted = h.uncounted;
+  triggers = numbers;
 }
 
 -- the beginning of a transaction, or a later database in it
@@ -114,6 +137,8 @@ begun_reachable s db now h = record {
   unsaved = λ none. absurd (some_none (starting s) none);
   saves = h.saves;
   bodies = h.bodies;
+  uncounted = h.uncounted;
+  triggers = h.triggers;
 }
 
 -- the end of a transaction
@@ -127,6 +152,8 @@ ended_reachable s db free h =
       unsaved = λ none. refl;
       saves = tt;
       bodies = h.bodies;
+      uncounted = refl;
+      triggers = h.triggers;
     }
 
 -- another database, other modes and other savepoints in a transaction
@@ -139,4 +166,6 @@ inside_reachable s start db modes saves e now firm h = record {
   unsaved = λ none. absurd (some_none start (sym e ∙ none));
   saves = firm;
   bodies = h.bodies;
+  uncounted = subst (λ d. d.count ≡ 0) (ap (λ o. unwrap_or o s.database) e ∙ sym (ap (λ o. unwrap_or o db) e)) h.uncounted;
+  triggers = h.triggers;
 }

@@ -12,7 +12,7 @@ use Rattle.iv_catalogue.specs.declared.plan.TransactionPlan.{TransactionPlan}
 use Rattle.iv_catalogue.specs.declared.plan.TransactionPlan.TheVariants as transaction
 use Rattle.iv_machine.specs.Bounds.{Bounds}
 use Rattle.iv_machine.specs.Laws.{IsSound}
-use Rattle.iv_machine.specs.Machine.{State, Occasion, outside, inside, beginning, always, Outcome, empty_state, is_open, transaction_cause, unless, performed}
+use Rattle.iv_machine.specs.Machine.{State, Outcome, empty_state, is_open, transaction_cause, plan_occasion, unless, performed}
 use Rattle.iv_machine.specs.Proposals.{table_of}
 
 -- ---- what resolution sees to: the tables that are changed are there, and the constraints of a new table are on it
@@ -40,18 +40,6 @@ Fits c (plan.Change statement) = IsThere c (table_of statement)
 Fits c _ = Unit {0}
 
 -- ---- resolved statements one after another
-
-abbrev pub transaction_occasion : TransactionPlan → Occasion
-transaction_occasion transaction.Start = beginning
-transaction_occasion transaction.Commit = always
-transaction_occasion transaction.Rollback = always
-transaction_occasion _ = inside
-
--- that of the statements which a plan comes from
-abbrev pub plan_occasion : Plan → Occasion
-plan_occasion (plan.Schema _) = outside
-plan_occasion (plan.Transaction p) = transaction_occasion p
-plan_occasion _ = always
 
 -- what a resolved statement does, or why it is refused for the transaction that is open or isn't
 abbrev pub planned : State → Plan → Outcome

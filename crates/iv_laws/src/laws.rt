@@ -82,8 +82,11 @@ pub fn deletion_closure()
 {}
 
 /// In every state that resolved statements reach from an empty one, with any constraints, modes,
-/// savepoints and triggers, no immediate constraint is violated, and outside a transaction none at all.
-/// They and the bodies of triggers change only tables that are there, and the constraints of a new table
+/// savepoints and triggers, no immediate constraint is violated, so that none is violated exactly where no
+/// deferred one is; no immediate one is violated in a savepoint's database either, under its own modes.
+/// Outside a transaction no constraint is violated, modes are initial, there is no savepoint, and no row
+/// change stands. The numbers of triggers are distinct, below the number of triggers ever created. The
+/// statements and the bodies of triggers change only tables that are there, and the constraints of a new table
 /// are on it.
 pub fn planned_states_are_sound()
     ensures { PlannedStatesAreSound }
