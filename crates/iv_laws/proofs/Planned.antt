@@ -1,5 +1,5 @@
 -- Each resolved statement leads from a state that resolved statements reach to one of which the same holds.
-use Rattle.std.proofs.Common.{if◌then◌else◌, filter, ◌+◌, Bool, ◌≡◌, refl, ℕ, ◌-◌, ◌≤◌, true, not, ◌==◌, List, [], ◌∷◌, ◌++◌, length, length-append, find, Option, Some, None, is_some, unwrap_or, Result, Ok, Err, sym, ap, subst, ◌∙◌, arith}
+use Rattle.std.proofs.Common.{true, false, if◌then◌else◌, filter, ◌+◌, Bool, ◌≡◌, refl, ℕ, ◌-◌, ◌≤◌, true, not, ◌==◌, List, [], ◌∷◌, ◌++◌, length, length-append, find, Option, Some, None, is_some, unwrap_or, Result, Ok, Err, sym, ap, subst, ◌∙◌, arith}
 use Rattle.iv_expr.specs.Scopes.{no_frame}
 use Rattle.iv_syntax.specs.declared.statement.ConstraintMode.{ConstraintMode}
 use Rattle.iv_catalogue.specs.Catalogues.{NumbersRise, TriggersNumbered, Schema, with_table, with_constraint, with_trigger, without_trigger}
@@ -24,7 +24,7 @@ use Rattle.iv_machine.specs.declared.database.Database.{Database}
 use Rattle.iv_machine.specs.Context.{Failure}
 use Rattle.iv_machine.specs.Databases.{scan, is_deferred, first}
 use Rattle.iv_machine.specs.Levels.{Finished, level}
-use Rattle.iv_machine.specs.Machine.{State, Outcome, Found, empty_state, accept, refuse, refuse_first, context_of, changed, answered, selected, counted, ended, rollback_by, commit_by, first_violation, savepoint_named, without_name, released, returned, is_deferrable, members, with_modes, made_immediate, modes_set, constraints_set, with_schema, defined, queried, transacted, performed, transaction_cause, plan_occasion, unless}
+use Rattle.iv_machine.specs.Machine.{State, Outcome, Found, empty_state, accept, refuse, refuse_first, context_of, changed, answered, selected, counted, rollback_by, commit_by, first_violation, savepoint_named, without_name, released, returned, is_deferrable, members, with_modes, made_immediate, modes_set, constraints_set, with_schema, defined, queried, transacted, performed, transaction_cause, plan_occasion, unless}
 use Rattle.iv_machine.specs.Fitting.{Upon}
 use Rattle.iv_machine.specs.Proposals.{table_of}
 use Rattle.iv_machine.proofs.Scans.{more_constraints}

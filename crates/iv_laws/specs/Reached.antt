@@ -8,8 +8,6 @@ use Rattle.iv_catalogue.specs.declared.plan.Plan.{Plan}
 use Rattle.iv_catalogue.specs.declared.plan.Plan.TheVariants as plan
 use Rattle.iv_catalogue.specs.declared.plan.SchemaPlan.{SchemaPlan}
 use Rattle.iv_catalogue.specs.declared.plan.SchemaPlan.TheVariants as schema
-use Rattle.iv_catalogue.specs.declared.plan.TransactionPlan.{TransactionPlan}
-use Rattle.iv_catalogue.specs.declared.plan.TransactionPlan.TheVariants as transaction
 use Rattle.iv_machine.specs.Bounds.{Bounds}
 use Rattle.iv_machine.specs.Laws.{IsSound}
 use Rattle.iv_machine.specs.Machine.{State, Outcome, empty_state, is_open, transaction_cause, plan_occasion, unless, performed}
