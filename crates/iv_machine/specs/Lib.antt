@@ -9,8 +9,3 @@ pub mod Levels
 pub mod Machine
 pub mod Invariants
 pub mod Laws
-pub mod WorkedPlans
-pub mod WorkedScripts
-pub mod WorkedConstraints
-pub mod WorkedActions
-pub mod WorkedTriggers

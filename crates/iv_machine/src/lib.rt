@@ -12,7 +12,7 @@ mod wave;
 
 pub use answer::Answer;
 pub use database::{Database, Which};
-pub use laws::{reached_states_are_sound, worked_scripts};
+pub use laws::reached_states_are_sound;
 pub use limits::Limits;
 pub use scan::{count_faults, first_fault, list_faults, satisfies};
 pub use wave::applied;

@@ -3,7 +3,7 @@ ghost use Rattle.std.specs.Prelude.{◌≡◌};
 
 use crate::{
     Database, Limits, Which, applied, count_faults, first_fault, list_faults,
-    reached_states_are_sound, satisfies, worked_scripts,
+    reached_states_are_sound, satisfies,
 };
 use iv_catalogue::{Constraint, Fault, ForeignKey, Rule};
 use iv_expr::{Change, Comparison, Cond, Expr, Row, StoredRow, TableId};
@@ -235,5 +235,4 @@ fn a_wave_adds_replaces_and_leaves_out(rt: HostRuntime) -> Result<(), Fail> {
 #[test]
 fn laws_are_called(rt: HostRuntime) {
     reached_states_are_sound();
-    worked_scripts();
 }
