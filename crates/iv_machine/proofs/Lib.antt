@@ -1,4 +1,3 @@
-pub mod Worked
 pub mod Firsts
 pub mod Scans
 pub mod Orders

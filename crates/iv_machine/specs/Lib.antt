@@ -10,8 +10,3 @@ pub mod Machine
 pub mod Invariants
 pub mod Fitting
 pub mod Laws
-pub mod WorkedPlans
-pub mod WorkedScripts
-pub mod WorkedConstraints
-pub mod WorkedActions
-pub mod WorkedTriggers

@@ -1,9 +1,5 @@
 //! Laws of the machine, as contracts of functions that do nothing.
 ghost use Rattle.iv_machine.specs.Laws.{PlansKeepTheOccasion, ReachedStatesAreSound};
-ghost use Rattle.iv_machine.specs.WorkedActions.{WorkedActions};
-ghost use Rattle.iv_machine.specs.WorkedConstraints.{WorkedConstraints};
-ghost use Rattle.iv_machine.specs.WorkedScripts.{WorkedScripts};
-ghost use Rattle.iv_machine.specs.WorkedTriggers.{WorkedTriggers};
 
 /// In every state that a run of statements reaches from an empty one no immediate constraint is
 /// violated, so that no constraint is violated exactly where no deferred one is. Outside a transaction no
@@ -16,12 +12,4 @@ pub fn reached_states_are_sound()
 /// one, or always.
 pub fn plans_keep_the_occasion()
     ensures { PlansKeepTheOccasion }
-{}
-
-/// Worked scripts answer what they should.
-pub fn worked_scripts()
-    ensures scripts { WorkedScripts }
-    ensures constraints { WorkedConstraints }
-    ensures actions { WorkedActions }
-    ensures triggers { WorkedTriggers }
 {}

@@ -3,7 +3,7 @@ ghost use Rattle.std.specs.Prelude.{◌≡◌};
 
 use crate::{
     Database, Limits, Which, count_faults, database_after, first_fault, list_faults,
-    plans_keep_the_occasion, reached_states_are_sound, satisfies, worked_scripts,
+    plans_keep_the_occasion, reached_states_are_sound, satisfies,
 };
 use iv_catalogue::{Constraint, Fault, ForeignKey, Rule};
 use iv_expr::{Change, Comparison, Cond, Expr, Row, StoredRow, TableId, Wave};
@@ -236,5 +236,4 @@ fn a_wave_adds_replaces_and_leaves_out(rt: HostRuntime) -> Result<(), Fail> {
 fn laws_are_called(rt: HostRuntime) {
     plans_keep_the_occasion();
     reached_states_are_sound();
-    worked_scripts();
 }

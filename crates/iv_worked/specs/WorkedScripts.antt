@@ -1,6 +1,6 @@
--- Worked scripts: what the machine answers to two lists of statements.
-use Rattle.std.specs.Prelude.{◌≡◌, ℕ, pos, List, [], ◌∷◌, Option, Some, None, Result, Ok, codes}
-use Rattle.iv_value.specs.declared.value.Value.TheVariants.{Null, Int}
+-- Worked scripts: what the machine answers to lists of statements.
+use Rattle.std.specs.Prelude.{◌≡◌, ℕ, List, [], ◌∷◌, Option, Some, None, codes}
+use Rattle.iv_value.specs.declared.value.Value.TheVariants.{Null}
 use Rattle.iv_expr.specs.declared.tree.Comparison.{Comparison}
 use Rattle.iv_expr.specs.declared.tree.Comparison.TheVariants.{Less, Greater}
 use Rattle.iv_syntax.specs.declared.tree.Expression.{Expression}
@@ -19,34 +19,37 @@ use Rattle.iv_syntax.specs.declared.statement.SelectList.TheVariants.{Star}
 use Rattle.iv_syntax.specs.declared.statement.Select.TheVariants as select
 use Rattle.iv_syntax.specs.declared.statement.Statement.{Statement}
 use Rattle.iv_syntax.specs.declared.statement.Statement.TheVariants as statement
-use Rattle.iv_catalogue.specs.declared.cause.Cause.TheVariants.{Violation, CommitRefused}
-use Rattle.iv_catalogue.specs.declared.cause.Refusal.{Refusal}
-use Rattle.iv_catalogue.specs.Refusals.{refused}
-use Rattle.iv_machine.specs.declared.answer.Answer.{Answer}
-use Rattle.iv_machine.specs.declared.answer.Answer.TheVariants.{Done, Changed, Rows}
-use Rattle.iv_machine.specs.Bounds.{Bounds}
-use Rattle.iv_machine.specs.Machine.{empty_state, run}
+use Rattle.iv_catalogue.specs.declared.cause.Cause.TheVariants.{Duplicate, InTransaction, Violation, CommitRefused}
+use Rattle.iv_worked.specs.WorkedAnswers.{ok, ok_rows, rows, rows_of, fault, refused, answers_to}
 
 -- name INTEGER
 abbrev pub column : List ℕ → TableElement
-column name = element.Column (record { name = name; kind = Integer; default = None; constraints = [] })
+column name = element.Column
+    (record { name = name; kind = Integer; default = None; constraints = [] })
 
 -- CHECK (A op number)
 abbrev pub check : Option (List ℕ) → Comparison → ℕ → Option ConstraintMode → TableElement
 check name op n mode =
     element.Constraint (record {
       name = name;
-      rule = Check (condition.Compare op (expression.Column (record { qualifier = None; name = codes "A" })) (expression.Number n));
+      rule = Check
+          (condition.Compare op (expression.Column (record { qualifier = None; name = codes "A" }))
+          (expression.Number n));
       time = record { deferrable = None; initially = mode };
     })
 
 -- INSERT INTO T VALUES (literal)
 abbrev pub insert_one : Expression → Statement
-insert_one e = statement.Insert (insert.Rows (codes "T") None (source.Values ((value.Value e ∷ []) ∷ [])))
+insert_one e = statement.Insert
+    (insert.Rows (codes "T") None (source.Values ((value.Value e ∷ []) ∷ [])))
 
 -- SELECT * FROM T
 abbrev pub select_all : Statement
 select_all = statement.Select (select.Rows Star (record { table = codes "T"; alias = None }) None)
+
+-- CREATE TABLE T (A INTEGER)
+abbrev pub a_table : Statement
+a_table = statement.CreateTable (codes "T") (column (codes "A") ∷ [])
 
 -- CREATE TABLE T (A INTEGER, CHECK (A > 0)); INSERT INTO T VALUES (1); COMMIT; SELECT * FROM T;
 abbrev pub check_insert_commit_select : List Statement
@@ -54,23 +57,30 @@ check_insert_commit_select =
     statement.CreateTable (codes "T") (column (codes "A") ∷ check None Greater 0 None ∷ [])
     ∷ insert_one (expression.Number 1) ∷ statement.Commit ∷ select_all ∷ []
 
--- CREATE TABLE T (A INT, CONSTRAINT POS CHECK (A > 0) INITIALLY DEFERRED, CONSTRAINT BIG CHECK (A < 9));
--- INSERT INTO T VALUES (0); INSERT INTO T VALUES (9); COMMIT; INSERT INTO T VALUES (NULL); COMMIT; SELECT * FROM T;
+-- CREATE TABLE T (A INT, CONSTRAINT POS CHECK (A > 0) INITIALLY DEFERRED, CONSTRAINT BIG CHECK (A <
+-- 9)); INSERT INTO T VALUES (0); INSERT INTO T VALUES (9); COMMIT; INSERT INTO T VALUES (NULL);
+-- COMMIT; SELECT * FROM T;
 abbrev pub two_checks_one_deferred : List Statement
 two_checks_one_deferred =
-    statement.CreateTable (codes "T") (column (codes "A") ∷ check (Some (codes "POS")) Greater 0 (Some Deferred) ∷ check (Some (codes "BIG")) Less 9 None ∷ [])
+    statement.CreateTable (codes "T")
+    (column (codes "A") ∷ check (Some (codes "POS")) Greater 0 (Some Deferred)
+    ∷ check (Some (codes "BIG")) Less 9 None ∷ [])
     ∷ insert_one (expression.Number 0) ∷ insert_one (expression.Number 9) ∷ statement.Commit
     ∷ insert_one expression.Null ∷ statement.Commit ∷ select_all ∷ []
 
-abbrev pub usual_limits : Bounds
-usual_limits = record { depth = 16; changes = 65536 }
-
-abbrev pub answers : List Statement → List (Result Answer Refusal)
-answers statements = (run (empty_state usual_limits) statements).0
+-- CREATE TABLE T (A INTEGER); INSERT INTO T VALUES (1); CREATE TABLE T (A INTEGER); ROLLBACK;
+-- CREATE TABLE T (A INTEGER);
+abbrev pub table_created_again : List Statement
+table_created_again =
+    a_table ∷ insert_one (expression.Number 1) ∷ a_table ∷ statement.Rollback ∷ a_table ∷ []
 
 -- The constraint POS has the number 0, and BIG the number 1.
 pub record WorkedScripts : Type 0 where
-  pub one_check : answers check_insert_commit_select ≡ Ok Done ∷ Ok (Changed 1) ∷ Ok Done ∷ Ok (Rows ((Int (pos 1) ∷ []) ∷ [])) ∷ []
-  pub two_checks : answers two_checks_one_deferred
-      ≡ Ok Done ∷ Ok (Changed 1) ∷ refused (Violation (record { constraint = 1; row = 2 })) ∷ refused (CommitRefused (record { constraint = 0; row = 1 }))
-      ∷ Ok (Changed 1) ∷ Ok Done ∷ Ok (Rows ((Null ∷ []) ∷ [])) ∷ []
+  pub one_check : answers_to check_insert_commit_select
+      ≡ ok ∷ ok_rows 1 ∷ ok ∷ rows_of ((1 ∷ []) ∷ []) ∷ []
+  pub two_checks : answers_to two_checks_one_deferred
+      ≡ ok ∷ ok_rows 1 ∷ refused (Violation (fault 1 2)) ∷ refused (CommitRefused (fault 0 1))
+      ∷ ok_rows 1 ∷ ok ∷ rows ((Null ∷ []) ∷ []) ∷ []
+  -- that a transaction is open is told before all else
+  pub table_in_transaction : answers_to table_created_again
+      ≡ ok ∷ ok_rows 1 ∷ refused InTransaction ∷ ok ∷ refused Duplicate ∷ []

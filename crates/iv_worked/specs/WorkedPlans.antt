@@ -1,15 +1,18 @@
--- Words for worked scripts: plans as short as their statements, and what the machine answers to a list of them.
-use Rattle.std.specs.Prelude.{ℕ, pos, Bool, List, [], ◌∷◌, Some, Result, Ok, Err, codes}
-use Rattle.iv_value.specs.declared.value.Value.{Value}
-use Rattle.iv_value.specs.declared.value.Value.TheVariants.{Null, Int}
-use Rattle.iv_value.specs.declared.value.Kind.TheVariants.{Integer}
+-- Words for worked scripts: plans as short as their statements. Constraints, tables and triggers
+-- have numbers from 0.
+use Rattle.std.specs.Prelude.{ℕ, pos, Bool, List, [], ◌∷◌, map, codes}
+use Rattle.iv_value.specs.declared.value.Value.TheVariants.{Null, Int, Text}
+use Rattle.iv_value.specs.declared.value.Kind.TheVariants.{Integer, Varchar}
 use Rattle.iv_expr.specs.declared.tree.Expr.{Expr}
 use Rattle.iv_expr.specs.declared.tree.Expr.TheVariants as expr
+use Rattle.iv_expr.specs.declared.tree.Side.TheVariants.{Old, New}
+use Rattle.iv_expr.specs.declared.tree.Range.{Range}
 use Rattle.iv_expr.specs.declared.tree.Comparison.{Comparison}
 use Rattle.iv_expr.specs.declared.tree.Cond.{Cond}
 use Rattle.iv_expr.specs.declared.tree.Cond.TheVariants.{Always, Compare}
 use Rattle.iv_syntax.specs.declared.statement.ConstraintMode.{ConstraintMode}
 use Rattle.iv_syntax.specs.declared.statement.ConstraintMode.TheVariants as mode
+use Rattle.iv_syntax.specs.declared.table.MatchType.{MatchType}
 use Rattle.iv_syntax.specs.declared.table.MatchType.TheVariants.{Simple}
 use Rattle.iv_syntax.specs.declared.table.ReferentialAction.{ReferentialAction}
 use Rattle.iv_syntax.specs.declared.trigger.ActionTime.{ActionTime}
@@ -19,10 +22,8 @@ use Rattle.iv_catalogue.specs.declared.catalogue.Column.{Column}
 use Rattle.iv_catalogue.specs.declared.constraint.Constraint.{Constraint}
 use Rattle.iv_catalogue.specs.declared.constraint.Rule.{Rule}
 use Rattle.iv_catalogue.specs.declared.constraint.Rule.TheVariants as rule
-use Rattle.iv_catalogue.specs.declared.cause.Cause.{Cause}
-use Rattle.iv_catalogue.specs.declared.cause.Fault.{Fault}
-use Rattle.iv_catalogue.specs.declared.cause.Refusal.{Refusal}
 use Rattle.iv_catalogue.specs.declared.plan.BodyStatement.{BodyStatement}
+use Rattle.iv_catalogue.specs.declared.plan.BodyStatement.TheVariants as body
 use Rattle.iv_catalogue.specs.declared.plan.ConstraintSet.TheVariants as set
 use Rattle.iv_catalogue.specs.declared.plan.DataStatement.{DataStatement}
 use Rattle.iv_catalogue.specs.declared.plan.DataStatement.TheVariants as data_statement
@@ -35,21 +36,32 @@ use Rattle.iv_catalogue.specs.declared.plan.Plan.TheVariants as plan
 use Rattle.iv_catalogue.specs.declared.plan.SchemaPlan.TheVariants as schema
 use Rattle.iv_catalogue.specs.declared.plan.QueryPlan.TheVariants as query
 use Rattle.iv_catalogue.specs.declared.plan.TransactionPlan.TheVariants as transaction
-use Rattle.iv_machine.specs.declared.answer.Answer.{Answer}
-use Rattle.iv_machine.specs.declared.answer.Answer.TheVariants.{Done, Changed, Rows}
-use Rattle.iv_machine.specs.Machine.{State, Outcome, Work, empty_state, performed}
 
 -- ---- expressions and conditions
 
 abbrev pub number : ℕ → Expr
 number n = expr.Literal (Int (pos n))
 
+abbrev pub numbers : List ℕ → List Expr
+numbers ns = map number ns
+
 abbrev pub null : Expr
 null = expr.Literal Null
+
+abbrev pub text : List ℕ → Expr
+text bytes = expr.Literal (Text bytes)
 
 -- a column of the innermost range
 abbrev pub column : ℕ → Expr
 column place = expr.Column 0 place
+
+-- a column of the row variable OLD
+abbrev pub old : ℕ → Expr
+old place = expr.Variable Old place
+
+-- a column of the row variable NEW
+abbrev pub new : ℕ → Expr
+new place = expr.Variable New place
 
 abbrev pub where_column : Comparison → ℕ → ℕ → Cond
 where_column op place n = Compare op (column place) (number n)
@@ -63,8 +75,12 @@ integer = record { name = codes "A"; kind = Integer; default = Null }
 abbrev pub integer_default : ℕ → Column
 integer_default n = record { name = codes "A"; kind = Integer; default = Int (pos n) }
 
+abbrev pub varchar : ℕ → Column
+varchar n = record { name = codes "M"; kind = Varchar n; default = Null }
+
 abbrev pub constraint_on : ℕ → Rule → Bool → ConstraintMode → Constraint
-constraint_on table r deferrable m = record { name = codes "C"; table = table; rule = r; deferrable = deferrable; initially = m }
+constraint_on table r deferrable m =
+    record { name = codes "C"; table = table; rule = r; deferrable = deferrable; initially = m }
 
 abbrev pub not_deferrable : ℕ → Rule → Constraint
 not_deferrable table r = constraint_on table r Bool.false mode.Immediate
@@ -75,17 +91,90 @@ deferrable table r = constraint_on table r Bool.true mode.Immediate
 abbrev pub initially_deferred : ℕ → Rule → Constraint
 initially_deferred table r = constraint_on table r Bool.true mode.Deferred
 
+-- columns that refer to columns of a table: ON DELETE, then ON UPDATE
+abbrev pub foreign_key :
+    List ℕ → ℕ → List ℕ → MatchType → ReferentialAction → ReferentialAction → Rule
+foreign_key columns table key matching delete update =
+    rule.ForeignKey (record {
+      columns = columns;
+      referenced = table;
+      key = key;
+      matching = matching;
+      on_delete = delete;
+      on_update = update;
+    })
+
 -- a foreign key of one column, MATCH SIMPLE
 abbrev pub references : ℕ → ℕ → ℕ → ReferentialAction → ReferentialAction → Rule
 references place table key delete update =
-    rule.ForeignKey (record { columns = place ∷ []; referenced = table; key = key ∷ []; matching = Simple; on_delete = delete; on_update = update })
+    foreign_key (place ∷ []) table (key ∷ []) Simple delete update
 
 abbrev pub create_table : List Column → List Constraint → Plan
-create_table columns constraints = plan.Schema (schema.CreateTable (record { name = codes "T"; columns = columns }) constraints)
+create_table columns constraints =
+    plan.Schema (schema.CreateTable (record { name = codes "T"; columns = columns }) constraints)
+
+abbrev pub add_constraint : Constraint → Plan
+add_constraint k = plan.Schema (schema.AddConstraint k)
+
+-- ---- data statements
+
+abbrev pub setting : ℕ → Expr → Setting
+setting place e = record { column = place; value = e }
+
+-- VALUES, for all columns
+abbrev pub insertion_of : ℕ → List (List Expr) → DataStatement
+insertion_of table tuples = data_statement.Insert table insert_columns.All
+    (insert_rows.Values tuples)
+
+-- INSERT INTO .. SELECT .. FROM a range, for all columns
+abbrev pub insertion_from : ℕ → Range → List Expr → DataStatement
+insertion_from table range es =
+    data_statement.Insert table insert_columns.All
+    (insert_rows.Query (outputs.Values es) range Always)
+
+abbrev pub update_of : ℕ → List Setting → Cond → DataStatement
+update_of table settings filter = data_statement.Update table settings filter
+
+abbrev pub deletion_of : ℕ → Cond → DataStatement
+deletion_of table filter = data_statement.Delete table filter
+
+abbrev pub insert : ℕ → List (List Expr) → Plan
+insert table tuples = plan.Change (insertion_of table tuples)
+
+-- VALUES with one tuple
+abbrev pub insert_row : ℕ → List Expr → Plan
+insert_row table es = insert table (es ∷ [])
+
+-- VALUES with one tuple of one value
+abbrev pub insert_one : ℕ → Expr → Plan
+insert_one table e = insert_row table (e ∷ [])
+
+-- VALUES with one tuple, for these columns
+abbrev pub insert_listed : ℕ → List ℕ → List Expr → Plan
+insert_listed table places es =
+    plan.Change
+    (data_statement.Insert table (insert_columns.Listed places) (insert_rows.Values (es ∷ [])))
+
+abbrev pub insert_from : ℕ → Range → List Expr → Plan
+insert_from table range es = plan.Change (insertion_from table range es)
+
+abbrev pub update : ℕ → List Setting → Cond → Plan
+update table settings filter = plan.Change (update_of table settings filter)
+
+-- UPDATE of one column in all rows
+abbrev pub update_all : ℕ → ℕ → Expr → Plan
+update_all table place e = update table (setting place e ∷ []) Always
+
+abbrev pub delete : ℕ → Cond → Plan
+delete table filter = plan.Change (deletion_of table filter)
+
+abbrev pub delete_all : ℕ → Plan
+delete_all table = delete table Always
 
 -- ---- triggers
 
-abbrev pub create_trigger : ℕ → ℕ → ActionTime → TriggerEvent → Granularity → Cond → List BodyStatement → Plan
+abbrev pub create_trigger :
+    ℕ → ℕ → ActionTime → TriggerEvent → Granularity → Cond → List BodyStatement → Plan
 create_trigger id table time event granularity when_true statements =
     plan.Schema (schema.CreateTrigger (record {
       id = id;
@@ -98,33 +187,23 @@ create_trigger id table time event granularity when_true statements =
       body = statements;
     }))
 
-abbrev pub add_constraint : Constraint → Plan
-add_constraint k = plan.Schema (schema.AddConstraint k)
-
 abbrev pub drop_trigger : ℕ → Plan
 drop_trigger id = plan.Schema (schema.DropTrigger id)
 
--- ---- data statements
+-- INSERT of one tuple, in a body
+abbrev pub inserts : ℕ → List Expr → BodyStatement
+inserts table es = body.Data (insertion_of table (es ∷ []))
 
-abbrev pub setting : ℕ → Expr → Setting
-setting place e = record { column = place; value = e }
+-- INSERT of what a range holds, in a body
+abbrev pub inserts_from : ℕ → Range → List Expr → BodyStatement
+inserts_from table range es = body.Data (insertion_from table range es)
 
--- VALUES, for all columns
-abbrev pub insertion_of : ℕ → List (List Expr) → DataStatement
-insertion_of table tuples = data_statement.Insert table insert_columns.All (insert_rows.Values tuples)
+-- SET of a column of NEW, in a body
+abbrev pub sets : ℕ → Expr → BodyStatement
+sets place e = body.Set (setting place e)
 
-abbrev pub insert : ℕ → List (List Expr) → Plan
-insert table tuples = plan.Change (insertion_of table tuples)
-
--- VALUES with one tuple of one value
-abbrev pub insert_one : ℕ → Expr → Plan
-insert_one table e = insert table ((e ∷ []) ∷ [])
-
-abbrev pub update : ℕ → List Setting → Cond → Plan
-update table settings filter = plan.Change (data_statement.Update table settings filter)
-
-abbrev pub delete : ℕ → Cond → Plan
-delete table filter = plan.Change (data_statement.Delete table filter)
+abbrev pub signals : BodyStatement
+signals = body.Signal (codes "stop")
 
 -- ---- other statements
 
@@ -140,8 +219,11 @@ count_all table = plan.Query (query.Count table Always)
 abbrev pub set_all : ConstraintMode → Plan
 set_all m = plan.Transaction (transaction.SetConstraints set.All m)
 
+abbrev pub set_these : List ℕ → ConstraintMode → Plan
+set_these ids m = plan.Transaction (transaction.SetConstraints (set.Named ids) m)
+
 abbrev pub set_one : ℕ → ConstraintMode → Plan
-set_one id m = plan.Transaction (transaction.SetConstraints (set.Named (id ∷ [])) m)
+set_one id m = set_these (id ∷ []) m
 
 abbrev pub start : Plan
 start = plan.Transaction transaction.Start
@@ -160,59 +242,3 @@ release name = plan.Transaction (transaction.Release name)
 
 abbrev pub rollback_to : List ℕ → Plan
 rollback_to name = plan.Transaction (transaction.RollbackTo name)
-
--- ---- answers
-
-abbrev pub Answered : Type 0
-Answered = Result Answer Refusal
-
-abbrev pub ok : Answered
-ok = Ok Done
-
-abbrev pub ok_rows : ℕ → Answered
-ok_rows n = Ok (Changed n)
-
--- rows of integers
-abbrev pub int : ℕ → Value
-int n = Int (pos n)
-
-abbrev pub rows : List (List Value) → Answered
-rows values = Ok (Rows values)
-
-abbrev pub fault : ℕ → ℕ → Fault
-fault id row = record { constraint = id; row = row }
-
-abbrev pub refused_in : ℕ → Cause → Answered
-refused_in trigger cause = Err (record { cause = cause; trigger = Some trigger })
-
--- ---- what the machine answers
-
-abbrev pub outcomes : State → List Plan → List Outcome
-outcomes s [] = []
-outcomes s (p ∷ ps) = let o : Outcome = performed s p in o ∷ outcomes o.state ps
-
-abbrev pub answers_of : List Outcome → List Answered
-answers_of [] = []
-answers_of (o ∷ os) = o.answer ∷ answers_of os
-
-abbrev pub works_of : List Outcome → List Work
-works_of [] = []
-works_of (o ∷ os) = o.work ∷ works_of os
-
--- under the usual limits
-abbrev pub answers : List Plan → List Answered
-answers plans = answers_of (outcomes (empty_state (record { depth = 16; changes = 65536 })) plans)
-
--- where triggers may nest so deep
-abbrev pub answers_deep : ℕ → List Plan → List Answered
-answers_deep depth plans = answers_of (outcomes (empty_state (record { depth = depth; changes = 65536 })) plans)
-
--- under a budget of so many changes
-abbrev pub answers_within : ℕ → List Plan → List Answered
-answers_within changes plans = answers_of (outcomes (empty_state (record { depth = 16; changes = changes })) plans)
-
-abbrev pub works_within : ℕ → List Plan → List Work
-works_within changes plans = works_of (outcomes (empty_state (record { depth = 16; changes = changes })) plans)
-
-abbrev pub work : ℕ → ℕ → Work
-work changes undone = record { changes = changes; undone = undone }

@@ -1,0 +1,14 @@
+pub mod WorkedPlans
+pub mod WorkedAnswers
+pub mod WorkedScripts
+pub mod WorkedConstraints
+pub mod WorkedActions
+pub mod WorkedTriggers
+pub mod WorkedStatements
+pub mod WorkedKeys
+pub mod WorkedTransactions
+pub mod WorkedEffects
+pub mod WorkedBeforeTriggers
+pub mod WorkedTransitions
+pub mod WorkedLimits
+pub mod WorkedOccasions

@@ -1,0 +1,9 @@
+//! Worked scripts: what the machine answers to lists of statements, as the contract of a function that does
+//! nothing.
+#![tactic(auto)]
+
+mod laws;
+#[cfg(test)]
+mod tests;
+
+pub use laws::worked_scripts;

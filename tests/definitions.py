@@ -1,0 +1,111 @@
+#!/usr/bin/env python3
+"""Changes the machine's definitions, one change at a time on a copy, and looks whether a worked script notices.
+
+  tests/definitions.py [--only WORD]
+The changes are those of definitions.edits beside this file. Each takes a quarter of a minute; `out/` of the crates
+below iv_machine has to be there, as `rt all check` leaves it. The last line is `N passed, N failed`."""
+import argparse
+import os
+import re
+import shutil
+import subprocess
+import tempfile
+
+HERE = os.path.dirname(os.path.abspath(__file__))
+CRATES = os.path.join(HERE, '..', 'crates')
+BELOW = ['iv_value', 'iv_expr', 'iv_syntax', 'iv_catalogue']
+
+
+def read(path):
+    with open(path, encoding='utf-8') as file:
+        return file.read()
+
+
+def write(path, text):
+    with open(path, 'w', encoding='utf-8') as file:
+        file.write(text)
+
+
+def changes():
+    """The changes by name: a name, then a file, and pairs of an old text and a new one, each of one line."""
+    found, path, old = {}, None, None
+    for line in read(os.path.join(HERE, 'definitions.edits')).splitlines():
+        key, _, text = line.partition(': ')
+        if key == 'change':
+            pairs = found[text] = []
+        elif key == 'file':
+            path = text
+        elif key == 'old':
+            old = text
+        elif key == 'new':
+            pairs.append((path, old, text))
+    return found
+
+
+def copied(room):
+    """The repository as far as iv_worked, where iv_machine has its definitions and the types that they name, without proofs."""
+    listed = [line for line in read(os.path.join(HERE, '../crates.txt')).splitlines() if line.split(':')[0] in BELOW + ['iv_machine', 'iv_worked']]
+    write(os.path.join(room, 'crates.txt'), '\n'.join(listed) + '\n')
+    for name in BELOW:
+        shutil.copytree(os.path.join(CRATES, name), os.path.join(room, 'crates', name), symlinks=True)
+    machine, worked = os.path.join(room, 'crates/iv_machine'), os.path.join(room, 'crates/iv_worked')
+    shutil.copytree(os.path.join(CRATES, 'iv_machine/specs'), machine + '/specs')
+    shutil.copytree(os.path.join(CRATES, 'iv_worked'), worked, ignore=shutil.ignore_patterns('out'))
+    texts = [read(os.path.join(folder, name)) for folder in (machine + '/specs', worked + '/specs') for name in os.listdir(folder)]
+    modules = set(re.findall(r'Rattle\.iv_machine\.specs\.declared\.(\w+)\.', '\n'.join(texts)))
+    os.mkdir(machine + '/src')
+    for name in modules:
+        shutil.copy(os.path.join(CRATES, 'iv_machine/src', name + '.rt'), machine + '/src')
+    library = read(os.path.join(CRATES, 'iv_machine/src/lib.rt')).splitlines()
+    kept = [line for line in library if not re.match(r'(pub )?(mod|use) |#\[cfg', line) or re.match(r'(mod|pub use) (%s)\b' % '|'.join(modules), line)]
+    write(machine + '/src/lib.rt', '\n'.join(kept) + '\n')
+    return machine, worked
+
+
+def checked(worked):
+    """Whether the crate is proved, and the scripts that are refused."""
+    done = subprocess.run(['rt', 'check', '--jobs', '1'], cwd=worked, capture_output=True, text=True, timeout=1200)
+    lines = read(worked + '/proofs/Worked.antt').splitlines()
+    places = sorted({int(n) for n in re.findall(r'proofs/Worked\.antt:(\d+):', done.stdout + done.stderr)})
+    names = [lines[n - 1].split('=')[0].strip() for n in places if '= refl' in lines[n - 1]]
+    return done.returncode == 0, names
+
+
+def tried(machine, worked, pairs):
+    """The scripts that notice the change, or why it can't be made."""
+    kept = {}
+    try:
+        for path, old, new in pairs:
+            path = os.path.join(machine, path)
+            text = read(path)
+            kept.setdefault(path, text)
+            if text.count(old) != 1:
+                return 'its old text stands %d times in %s: %s' % (text.count(old), os.path.basename(path), old)
+            write(path, text.replace(old, new))
+        proved, names = checked(worked)
+        return names or ('no script notices it' if proved else 'the definitions with it are refused, and no script is')
+    finally:
+        for path, text in kept.items():
+            write(path, text)
+
+
+def main():
+    parser = argparse.ArgumentParser()
+    parser.add_argument('--only', default='')
+    only, passed, failed = parser.parse_args().only, 0, 0
+    with tempfile.TemporaryDirectory(prefix='definitions-') as room:
+        machine, worked = copied(room)
+        if not checked(worked)[0]:
+            raise SystemExit('the worked scripts are not proved as they are')
+        for name, pairs in changes().items():
+            if only in name:
+                said = tried(machine, worked, pairs)
+                good = isinstance(said, list)
+                passed, failed = passed + good, failed + (not good)
+                print('%s: %s' % (name, 'noticed by ' + ', '.join(said) if good else 'FAILED: ' + said), flush=True)
+    print('%d passed, %d failed' % (passed, failed))
+    raise SystemExit(int(failed > 0))
+
+
+if __name__ == '__main__':
+    main()
