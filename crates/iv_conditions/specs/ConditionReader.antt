@@ -61,7 +61,8 @@ null_test limit a ws =
     (if_some (after kind.Null ws) (condition_fits limit (IsNull a)) None)
 
 abbrev pub comparison_from : ℕ → Comparison → Expression → List Word → FoundItem
-comparison_from limit o a ws = then_read (read_expression limit ws) (λ b. condition_fits limit (Compare o a b))
+comparison_from limit o a ws =
+    then_read (read_expression limit ws) (λ b. condition_fits limit (Compare o a b))
 
 -- the predicate that begins with this value, or the value alone
 abbrev pub predicate_from : ℕ → Expression → List Word → FoundItem
@@ -154,7 +155,8 @@ abbrev pub more_by : Connective → ℕ → (List Word → FoundItem) → ℕ �
 more_by k limit operands zero i ws = if_some (after_truth k i ws) (λ rest. None) (Some (i, ws))
 more_by k limit operands (suc n) i ws =
     if_some (after_truth k i ws)
-    (λ rest. then_read (operands rest) (λ j more. then_read (connection_from k limit i j more) (more_by k limit operands n)))
+    (λ rest. then_read (operands rest) (λ j more.
+    then_read (connection_from k limit i j more) (more_by k limit operands n)))
     (Some (i, ws))
 
 abbrev pub chain_by : Connective → ℕ → (List Word → FoundItem) → List Word → FoundItem

@@ -30,7 +30,8 @@ column_tree q n = Column (record { qualifier = q; name = n })
 -- the column that begins with this name
 abbrev pub column_from : List ℕ → List Word → FoundExpression
 column_from n ws =
-    if_some (after kind.Period ws) (λ rest. then_read (after_name rest) (λ m more. Some (column_tree (Some n) m, more)))
+    if_some (after kind.Period ws)
+    (λ rest. then_read (after_name rest) (λ m more. Some (column_tree (Some n) m, more)))
     (Some (column_tree None n, ws))
 
 -- a number, a text, NULL or a column
@@ -47,7 +48,9 @@ close_group limit e ws = if_some (after kind.RightParenthesis ws) (fits limit (g
 
 abbrev pub primary_by : ℕ → (List Word → FoundExpression) → List Word → FoundExpression
 primary_by limit inner ws =
-    if_some (after kind.LeftParenthesis ws) (λ rest. then_read (inner rest) (close_group limit)) (simple ws)
+    if_some (after kind.LeftParenthesis ws)
+    (λ rest. then_read (inner rest) (close_group limit))
+    (simple ws)
 
 abbrev pub factor_by : ℕ → (List Word → FoundExpression) → List Word → FoundExpression
 factor_by limit primaries ws =

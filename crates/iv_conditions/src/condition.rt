@@ -229,8 +229,8 @@ fn item<'a>(
     }
 }
 
-/// The condition at the front of the tokens of `text`, as long as it can be, and the tokens after it.
-/// `None` where there is none, or where its tree is deeper than `DEEPEST`.
+/// The condition at the front of the tokens of `text`, as long as it can be, and the tokens after
+/// it. `None` where there is none, or where its tree is deeper than `DEEPEST`.
 pub fn read_condition<'a>(
     alloc: Global,
     text: &str,
@@ -253,9 +253,9 @@ pub fn read_condition<'a>(
     }
 }
 
-/// FROM, a table, its alias and WHERE with a condition at the front of the tokens of `text`, as long as they
-/// can be, and the tokens after them. `None` where there is no FROM, or where the condition is deeper than
-/// `DEEPEST`.
+/// FROM, a table, its alias and WHERE with a condition at the front of the tokens of `text`, as long
+/// as they can be, and the tokens after them. `None` where there is no FROM, or where the condition is
+/// deeper than `DEEPEST`.
 pub fn read_from<'a>(
     alloc: Global,
     text: &str,

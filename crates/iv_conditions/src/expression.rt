@@ -197,7 +197,8 @@ fn close<'a>(
     limit: u8,
     inside: ExpressionPart<'a>,
 ) -> Result<Option<ExpressionPart<'a>>, AllocError>
-    ensures { (text : List ℕ) → IfOk result (λ r. expression_found text r ≡ close_group limit inside.entry.tree (words text inside.entry.rest.now)) }
+    ensures { (text : List ℕ) → IfOk result (λ r. expression_found text r
+        ≡ close_group limit inside.entry.tree (words text inside.entry.rest.now)) }
 {
     match after(Kind::RightParenthesis, inside.rest) {
         Some(rest) => make_group(alloc, limit, inside, rest),
@@ -349,8 +350,8 @@ pub fn expression<'a>(
     }
 }
 
-/// The expression at the front of the tokens of `text`, as long as it can be, and the tokens after it.
-/// `None` where there is none, or where its tree is deeper than `DEEPEST`.
+/// The expression at the front of the tokens of `text`, as long as it can be, and the tokens after
+/// it. `None` where there is none, or where its tree is deeper than `DEEPEST`.
 pub fn read_expression<'a>(
     alloc: Global,
     text: &str,

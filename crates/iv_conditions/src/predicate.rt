@@ -124,7 +124,8 @@ fn compare<'a>(
     tokens: &'a [Token],
 ) -> Result<Option<ItemPart<'a>>, AllocError>
     requires { limit ≤ DEEPEST }
-    ensures { IfOk result (λ r. item_found text.now r ≡ comparison_from limit by left.entry.tree (words text.now tokens.now)) }
+    ensures { IfOk result (λ r. item_found text.now r
+        ≡ comparison_from limit by left.entry.tree (words text.now tokens.now)) }
 {
     match expression(alloc, limit, text, tokens)? {
         Some(right) => {
@@ -151,7 +152,8 @@ fn test_whole<'a>(
     value: ExpressionPart<'a>,
 ) -> Result<Option<ItemPart<'a>>, AllocError>
     requires { limit ≤ DEEPEST }
-    ensures { IfOk result (λ r. item_found text.now r ≡ predicate_from limit value.entry.tree (words text.now value.entry.rest.now)) }
+    ensures { IfOk result (λ r. item_found text.now r
+        ≡ predicate_from limit value.entry.tree (words text.now value.entry.rest.now)) }
 {
     if let Some((by, rest)) = comparison(value.rest) {
         return compare(alloc, limit, by, value, text, rest);
@@ -255,7 +257,9 @@ fn connect<'a>(
     left: ConditionPart<'a>,
     right: ConditionPart<'a>,
 ) -> Result<Option<ItemPart<'a>>, AllocError>
-    ensures { (text : List ℕ) → IfOk result (λ r. item_found text r ≡ condition_fits limit (connection connective left.entry.tree right.entry.tree) (words text right.entry.rest.now)) }
+    ensures { (text : List ℕ) → IfOk result (λ r. item_found text r
+        ≡ condition_fits limit (connection connective left.entry.tree right.entry.tree)
+        (words text right.entry.rest.now)) }
 {
     let below = left.depth.max(right.depth);
     let ConditionPart {
@@ -294,7 +298,9 @@ fn join_right<'a>(
     left: ConditionPart<'a>,
     right: ItemPart<'a>,
 ) -> Result<Option<ItemPart<'a>>, AllocError>
-    ensures { (text : List ℕ) → IfOk result (λ r. item_found text r ≡ connection_from connective limit (Truth left.entry.tree) right.entry.item (words text right.entry.rest.now)) }
+    ensures { (text : List ℕ) → IfOk result (λ r. item_found text r
+        ≡ connection_from connective limit (Truth left.entry.tree) right.entry.item
+        (words text right.entry.rest.now)) }
 {
     match truth(right) {
         Some(right) => connect(alloc, limit, connective, left, right),
@@ -310,7 +316,9 @@ fn join<'a>(
     left: ItemPart<'a>,
     right: ItemPart<'a>,
 ) -> Result<Option<ItemPart<'a>>, AllocError>
-    ensures { (text : List ℕ) → IfOk result (λ r. item_found text r ≡ connection_from connective limit left.entry.item right.entry.item (words text right.entry.rest.now)) }
+    ensures { (text : List ℕ) → IfOk result (λ r. item_found text r
+        ≡ connection_from connective limit left.entry.item right.entry.item
+        (words text right.entry.rest.now)) }
 {
     match truth(left) {
         Some(left) => join_right(alloc, limit, connective, left, right),
@@ -326,7 +334,9 @@ pub fn join_found<'a>(
     left: ItemPart<'a>,
     right: Result<Option<ItemPart<'a>>, AllocError>,
 ) -> Result<Option<ItemPart<'a>>, AllocError>
-    ensures { (text : List ℕ) (found : FoundItem) → IfOk right.entry (λ o. item_found text o ≡ found) → IfOk result (λ r. item_found text r ≡ then_read found (connection_from connective limit left.entry.item)) }
+    ensures { (text : List ℕ) (found : FoundItem) → IfOk right.entry (λ o. item_found text o ≡ found)
+        → IfOk result (λ r. item_found text r
+        ≡ then_read found (connection_from connective limit left.entry.item)) }
 {
     match right {
         Ok(Some(right)) => join(alloc, limit, connective, left, right),

@@ -1,4 +1,5 @@
--- The longest first: which characters are a token, and which are the longest run at the front of others.
+-- The longest first: which characters are a token, and which are the longest run at the front of
+-- others.
 use Rattle.std.specs.Prelude.{◌≡◌, ℕ, ◌≤◌, Bool, true, ◌&&◌, not, nat_eq, if◌then◌else◌, Some, List, [], ◌∷◌, ◌++◌, length}
 use Rattle.std.specs.List.{list_all}
 use Rattle.iv_lex.specs.declared.kind.Kind.{Kind}
@@ -44,11 +45,12 @@ pub data IsRun (bs : List ℕ) : Type 0 where
   open_text : IsOpenText bs → IsRun bs
   symbol : (k : Kind) → IsSymbol bs k → IsRun bs
 
--- These characters are one token, of this kind: a word that isn't too long, which is the reserved word
--- that it is or else a name; a number by its value, that isn't too large; a text; or a symbol.
+-- These characters are one token, of this kind: a word that isn't too long, which is the reserved
+-- word that it is or else a name; a number by its value that isn't too large; a text; or a symbol.
 pub data IsToken (bs : List ℕ) (k : Kind) : Type 0 where
   a_word : IsWord bs → length bs ≤ LONGEST_WORD → k ≡ word_kind bs → IsToken bs k
-  a_number : IsDigits bs → value_from 0 bs ≤ GREATEST_NUMBER → k ≡ kind.Number (value_from 0 bs) → IsToken bs k
+  a_number : IsDigits bs → value_from 0 bs ≤ GREATEST_NUMBER → k ≡ kind.Number (value_from 0 bs)
+      → IsToken bs k
   a_text : IsText bs → k ≡ kind.Quoted → IsToken bs k
   a_symbol : IsSymbol bs k → IsToken bs k
 

@@ -116,7 +116,8 @@ kind_spelling _ = []
 -- the first of these words that this word is but for the case of its letters; a name where it is none
 abbrev pub word_among : List Kind → List ℕ → Kind
 word_among [] word = kind.Name
-word_among (k ∷ ks) word = if str_eq_ignore_ascii_case word (kind_spelling k) then k else word_among ks word
+word_among (k ∷ ks) word =
+    if str_eq_ignore_ascii_case word (kind_spelling k) then k else word_among ks word
 
 -- the reserved word or the name that a word is
 unfoldable pub word_kind : List ℕ → Kind

@@ -52,7 +52,8 @@ value_from before (d ∷ ds) = value_from (before * 10 + (d - 48)) ds
 -- the number that digits write, where it isn't too large
 abbrev pub number_kind : List ℕ → Option Kind
 number_kind digits =
-    if nat_le (value_from 0 digits) GREATEST_NUMBER then Some (kind.Number (value_from 0 digits)) else None
+    if nat_le (value_from 0 digits) GREATEST_NUMBER then Some (kind.Number (value_from 0 digits))
+    else None
 
 -- the reserved word or the name that a word is, where it isn't too long
 abbrev pub short_word : List ℕ → Option Kind
@@ -135,7 +136,8 @@ with_token t l = record { tokens = t ∷ l.tokens; fault = l.fault }
 -- the token at a place and what follows it, or the fault there
 abbrev pub token_then : ℕ → Front → (ℕ → Lexed) → Lexed
 token_then at None rest = no_tokens (Some at)
-token_then at (Some p) rest = with_token (record { kind = p.0; start = at; end = at + p.1 }) (rest p.1)
+token_then at (Some p) rest =
+    with_token (record { kind = p.0; start = at; end = at + p.1 }) (rest p.1)
 
 abbrev pub after_gap : ℕ → ℕ → List ℕ → (ℕ → List ℕ → Lexed) → Lexed
 after_gap n at bs next =

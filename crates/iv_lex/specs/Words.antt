@@ -5,9 +5,10 @@ use Rattle.iv_lex.specs.declared.kind.Kind.{Kind}
 use Rattle.iv_lex.specs.declared.kind.Kind.TheVariants as kind
 use Rattle.iv_lex.specs.declared.token.Token.{Token}
 
--- A name folded to upper case, a number by its value, a text with each doubled quote made one, or the
--- symbol or reserved word that it is. A name or a text whose characters the text doesn't have is plain,
--- too, and no rule of the grammar takes it; the tokens of a text all have theirs (Characters.antt).
+-- A name folded to upper case, a number by its value, a text with each doubled quote made one, or
+-- the symbol or reserved word that it is. A name or a text whose characters the text doesn't have is
+-- plain, too, and no rule of the grammar takes it. The tokens of a text all have their characters
+-- (IsTokens.antt).
 pub data Word : Type 0 where
   name : List ℕ → Word
   number : ℕ → Word
@@ -32,12 +33,15 @@ slice text start end = take (end - start) (drop start text)
 -- whether a character of the text begins at a place, or the text ends there
 abbrev pub is_boundary : List ℕ → ℕ → Bool
 is_boundary text at =
-    nat_le at (length text) && (nat_lt (slice_index text at) 128 || nat_le 192 (slice_index text at))
+    nat_le at (length text)
+    && (nat_lt (slice_index text at) 128 || nat_le 192 (slice_index text at))
 
--- the characters from one place up to another; none where that isn't a part of the text, or cuts a character
+-- the characters from one place up to another; none where that isn't a part of the text, or cuts a
+-- character
 abbrev pub characters : List ℕ → ℕ → ℕ → Option (List ℕ)
 characters text start end =
-    if nat_le start end && (is_boundary text start && is_boundary text end) then Some (slice text start end) else None
+    if nat_le start end && (is_boundary text start && is_boundary text end)
+    then Some (slice text start end) else None
 
 -- the characters of a name, folded to upper case
 abbrev pub folded_text : List ℕ → Token → Option (List ℕ)

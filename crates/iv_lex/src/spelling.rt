@@ -24,8 +24,8 @@ fn characters(text: &str, start: usize, end: usize) -> Option<&str>
     }
 }
 
-/// The characters of a name, folded to upper case. `None` where the token's place isn't a part of the text,
-/// or cuts a character.
+/// The characters of a name, folded to upper case. `None` where the token's place isn't a part of the
+/// text, or cuts a character.
 pub fn folded_text(alloc: Global, text: &str, token: Token) -> Result<Option<Text>, AllocError>
     ensures { IfOk result (λ found. found ≡ folded_text text.now token) }
 {
@@ -52,8 +52,8 @@ fn with_single_quotes(alloc: Global, quoted: &str) -> Result<String, AllocError>
     quoted.replace(alloc, "''", "'")
 }
 
-/// The characters between the quotes of a text, with one quote for each two. `None` where the token's
-/// place isn't a part of the text, or cuts a character.
+/// The characters between the quotes of a text, with one quote for each two. `None` where the
+/// token's place isn't a part of the text, or cuts a character.
 pub fn unquoted_text(alloc: Global, text: &str, token: Token) -> Result<Option<Text>, AllocError>
     ensures { IfOk result (λ found. found ≡ unquoted_text text.now token) }
 {

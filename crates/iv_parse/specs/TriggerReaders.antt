@@ -26,7 +26,9 @@ some_items (r ∷ rs) ws = Some (r ∷ rs, ws)
 
 unfoldable pub read_referencing : List Word → FoundPart (List Referencing)
 read_referencing ws =
-    if_some (after kind.Referencing ws) (λ rest. then_read (read_sequence read_referencing_item (length rest) rest) some_items) (Some ([], ws))
+    if_some (after kind.Referencing ws)
+    (λ rest. then_read (read_sequence read_referencing_item (length rest) rest) some_items)
+    (Some ([], ws))
 
 -- after FOR EACH
 unfoldable pub read_each : List Word → FoundPart Granularity
@@ -119,7 +121,8 @@ trigger_of n o table m body =
     record { name = n; time = o.0; event = o.1; table = table; referencing = m.0; granularity = m.1; when = m.2; body = body }
 
 -- from what follows the table on
-unfoldable pub read_trigger_rest : List ℕ → ActionTime × TriggerEvent → List ℕ → List Word → FoundPart TriggerDefinition
+unfoldable pub read_trigger_rest : List ℕ → ActionTime × TriggerEvent → List ℕ → List Word
+    → FoundPart TriggerDefinition
 read_trigger_rest n o table ws =
     then_read (read_middle ws) (λ m a. then_read (read_body a) (λ body rest. Some (trigger_of n o table m body, rest)))
 

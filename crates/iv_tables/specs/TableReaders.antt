@@ -129,7 +129,9 @@ read_referential_action ws =
 unfoldable pub read_on : Kind → List Word → FoundPart (Option ReferentialAction)
 read_on event ws =
     if_some (after kind.On ws)
-    (λ rest. if_some (after event rest) (λ more. then_read (read_referential_action more) (λ a left. Some (Some a, left))) (Some (None, ws)))
+    (λ rest. if_some (after event rest)
+    (λ more. then_read (read_referential_action more) (λ a left. Some (Some a, left)))
+    (Some (None, ws)))
     (Some (None, ws))
 
 unfoldable pub read_actions : List Word → FoundPart (Option ReferentialAction × Option ReferentialAction)
@@ -171,7 +173,8 @@ read_column_rule ws =
     if_some (after kind.References ws) (λ rest. then_read (read_references rest) (λ r more. Some (Some (column_rule.References r), more)))
     (read_condition_rule ws)
 
-abbrev pub column_constraint_of : Option (List ℕ) → Option ColumnRule → List Word → FoundPart (Option ColumnConstraint)
+abbrev pub column_constraint_of : Option (List ℕ) → Option ColumnRule → List Word
+    → FoundPart (Option ColumnConstraint)
 column_constraint_of n (Some r) ws = then_read (read_time ws) (λ t rest. Some (Some (record { name = n; rule = r; time = t }), rest))
 column_constraint_of None None ws = Some (None, ws)
 column_constraint_of (Some n) None ws = None
