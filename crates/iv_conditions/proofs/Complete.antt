@@ -12,7 +12,7 @@ use Rattle.iv_syntax.specs.declared.tree.Expression.TheVariants.{Number, Text, N
 use Rattle.iv_conditions.specs.Trees.{group, signed, product, sum}
 use Rattle.iv_conditions.specs.After.{after, after_name, if_some, then_read}
 use Rattle.iv_conditions.specs.Expressions.{expression, term, factor, primary, sign_kind, qualifier_spelling, spelling, depth, Formed, EndsPrimary, EndsTerm, EndsExpression}
-use Rattle.iv_conditions.specs.ExpressionReader.{Found, fits, after_sign, column_of, simple, closed, more_factors, more_terms, expression_over, read_primary, read_factor, read_term, read_expression}
+use Rattle.iv_conditions.specs.ExpressionReader.{FoundExpression, fits, after_sign, column_tree, simple, close_group, more_factors, more_terms, expression_over, read_primary, read_factor, read_term, read_expression}
 
 pub fits_ok : (d : ℕ) (e : Expression) (ws : List Word) → depth e ≤ d → fits d e ws ≡ Some (e, ws)
 fits_ok d e ws h = rw (le-leb (depth e) d h) refl
@@ -20,23 +20,23 @@ fits_ok d e ws h = rw (le-leb (depth e) d h) refl
 pub no_sign : (ws : List Word) → EndsExpression ws → after_sign ws ≡ None
 no_sign ws h = rw (h.1, h.2) refl
 
-pub stop_factors : (d : ℕ) (F : List Word → Found) (n : ℕ) (a : Expression) (ws : List Word) → EndsTerm ws → more_factors d F n a ws ≡ Some (a, ws)
+pub stop_factors : (d : ℕ) (F : List Word → FoundExpression) (n : ℕ) (a : Expression) (ws : List Word) → EndsTerm ws → more_factors d F n a ws ≡ Some (a, ws)
 stop_factors d F zero a ws h = ap (λ o. if_some o (λ rest. None) (Some (a, ws))) h.1
 stop_factors d F (suc n) a ws h =
     ap (λ o. if_some o (λ rest. then_read (F rest) (λ b more. then_read (fits d (product a b) more) (more_factors d F n))) (Some (a, ws))) h.1
 
-pub stop_terms : (d : ℕ) (F : List Word → Found) (n : ℕ) (a : Expression) (ws : List Word) → EndsExpression ws → more_terms d F n a ws ≡ Some (a, ws)
+pub stop_terms : (d : ℕ) (F : List Word → FoundExpression) (n : ℕ) (a : Expression) (ws : List Word) → EndsExpression ws → more_terms d F n a ws ≡ Some (a, ws)
 stop_terms d F zero a ws h = ap (λ o. if_some o (λ p. None) (Some (a, ws))) (no_sign ws h)
 stop_terms d F (suc n) a ws h =
     ap (λ o. if_some o (λ p. then_read (F p.1) (λ b more. then_read (fits d (sum p.0 a b) more) (more_terms d F n))) (Some (a, ws))) (no_sign ws h)
 
 -- one more operand is taken
-pub step_factor : (d : ℕ) (F : List Word → Found) (n : ℕ) (a b : Expression) (ws rest : List Word) → 1 ≤ n → F ws ≡ Some (b, rest) → depth (product a b) ≤ d
+pub step_factor : (d : ℕ) (F : List Word → FoundExpression) (n : ℕ) (a b : Expression) (ws rest : List Word) → 1 ≤ n → F ws ≡ Some (b, rest) → depth (product a b) ≤ d
     → (m : ℕ) × (n ≡ suc m) × (more_factors d F n a (plain kind.Asterisk ∷ ws) ≡ more_factors d F m (product a b) rest)
 step_factor d F zero a b ws rest h e f = absurd (omega arith)
 step_factor d F (suc m) a b ws rest h e f = (m, refl, rw (e, fits_ok d (product a b) rest f) refl)
 
-pub step_term : (s : Sign) (d : ℕ) (F : List Word → Found) (n : ℕ) (a b : Expression) (ws rest : List Word) → 1 ≤ n → F ws ≡ Some (b, rest) → depth (sum s a b) ≤ d
+pub step_term : (s : Sign) (d : ℕ) (F : List Word → FoundExpression) (n : ℕ) (a b : Expression) (ws rest : List Word) → 1 ≤ n → F ws ≡ Some (b, rest) → depth (sum s a b) ≤ d
     → (m : ℕ) × (n ≡ suc m) × (more_terms d F n a (plain (sign_kind s) ∷ ws) ≡ more_terms d F m (sum s a b) rest)
 step_term s d F zero a b ws rest h e f = absurd (omega arith)
 step_term sign.Plus d F (suc m) a b ws rest h e f = (m, refl, rw (e, fits_ok d (sum sign.Plus a b) rest f) refl)
@@ -75,13 +75,13 @@ from_factor e p f = record {
 }
 
 -- a tree of depth one is read at any depth but 0
-pub primary_at : (d : ℕ) (ws : List Word) (f : Found) → 1 ≤ d → ((m : ℕ) → read_primary (suc m) ws ≡ f) → read_primary d ws ≡ f
+pub primary_at : (d : ℕ) (ws : List Word) (f : FoundExpression) → 1 ≤ d → ((m : ℕ) → read_primary (suc m) ws ≡ f) → read_primary d ws ≡ f
 primary_at zero ws f h e = absurd (omega arith)
 primary_at (suc m) ws f h e = e m
 
 pub column_read : (q : Option (List ℕ)) (n : List ℕ) (rest : List Word) → EndsPrimary rest
-    → simple ((qualifier_spelling q ++ name n ∷ []) ++ rest) ≡ Some (column_of q n, rest)
-column_read None n rest h = ap (λ o. if_some o (λ r. then_read (after_name r) (λ m more. Some (column_of (Some n) m, more))) (Some (column_of None n, rest))) h
+    → simple ((qualifier_spelling q ++ name n ∷ []) ++ rest) ≡ Some (column_tree q n, rest)
+column_read None n rest h = ap (λ o. if_some o (λ r. then_read (after_name r) (λ m more. Some (column_tree (Some n) m, more))) (Some (column_tree None n, rest))) h
 column_read (Some q) n rest h = refl
 
 -- what a column begins with
@@ -94,7 +94,7 @@ pub column_primary : (c : ColumnName) (d : ℕ) → 1 ≤ d → (rest : List Wor
 unfolding read_primary
 column_primary c zero h rest a = absurd (omega arith)
 column_primary c (suc d) h rest a =
-    ap (λ o. if_some o (λ r. then_read (expression_over d (read_primary d) r) (closed (suc d))) (simple (spelling (Column c) ++ rest))) (column_first c.qualifier c.name rest).0
+    ap (λ o. if_some o (λ r. then_read (expression_over d (read_primary d) r) (close_group (suc d))) (simple (spelling (Column c) ++ rest))) (column_first c.qualifier c.name rest).0
     ∙ column_read c.qualifier c.name rest a
 
 pub column_factor : (c : ColumnName) (d : ℕ) → 1 ≤ d → (rest : List Word) → EndsPrimary rest → read_factor d (spelling (Column c) ++ rest) ≡ Some (Column c, rest)
@@ -110,7 +110,7 @@ group_read a f c (suc d) h rest =
     let inner = c.expression_read f d (omega arith) (plain kind.RightParenthesis ∷ rest) (refl, refl) in
     let left : read_expression d (spelling a ++ plain kind.RightParenthesis ∷ rest) ≡ Some (a, plain kind.RightParenthesis ∷ rest) =
     inner.2 ∙ stop_terms d (read_term d) inner.0 a (plain kind.RightParenthesis ∷ rest) ((refl, refl), refl, refl) in
-    rw (append_assoc (spelling a) (plain kind.RightParenthesis ∷ []) rest) (ap (λ o. then_read o (closed (suc d))) left ∙ fits_ok (suc d) (group a) rest h)
+    rw (append_assoc (spelling a) (plain kind.RightParenthesis ∷ []) rest) (ap (λ o. then_read o (close_group (suc d))) left ∙ fits_ok (suc d) (group a) rest h)
 
 pub signed_read : (s : Sign) (a : Expression) → Formed primary a → Complete a → (d : ℕ) → depth (signed s a) ≤ d → (rest : List Word) → EndsPrimary rest
     → read_factor d (spelling (signed s a) ++ rest) ≡ Some (signed s a, rest)

@@ -22,7 +22,7 @@ use Rattle.iv_conditions.specs.After.{after, after_name, if_some, then_read}
 use Rattle.iv_conditions.specs.Expressions.{expression, term, factor, primary, sign_kind, qualifier_spelling, spelling, depth, Formed, EndsPrimary, EndsTerm, EndsExpression}
 use Rattle.iv_conditions.specs.ExpressionReader.{after_sign, more_factors, more_terms, read_factor, read_term}
 use Rattle.iv_conditions.specs.Conditions.{comparison_kind, AliasSpelled, RangeSpelled, exists_spelling, Spelled, condition_depth, condition, conjunction, negation, test, ConditionFormed, EndsConjunction, EndsCondition, EndsFrom}
-use Rattle.iv_conditions.specs.ConditionReader.{FoundItem, as_item, condition_fits, on_value, close_item, tested, compared, alias_from, range_from, with_condition, where_from, from_by, exists_over, close_exists, exists_by, lead_term_by, lead_expression_by, negate, connective_kind, connected, joined, more_by, read_lead, lead_factor, read_test, read_negation, read_conjunction, read_item}
+use Rattle.iv_conditions.specs.ConditionReader.{FoundItem, as_item, condition_fits, on_value, close_item, predicate_from, comparison_from, alias_from, range_from, with_condition, where_from, from_by, exists_over, close_exists, exists_by, lead_term_by, lead_expression_by, negate, connective_kind, connection, connection_from, more_by, read_lead, lead_factor, read_test, read_negation, read_conjunction, read_item}
 use Rattle.iv_conditions.proofs.Complete.{fits_ok, stop_factors, stop_terms, step_factor, step_term, complete, expression_whole, column_read, column_first, sign_ends}
 use Rattle.iv_conditions.proofs.Parts.{sign_found}
 use Rattle.iv_conditions.proofs.ConditionSteps.{lead_simple, factor_signed, factor_lead, negation_not, negation_plain, conjunction_step, item_step}
@@ -88,9 +88,9 @@ lead_whole e l f d h rest a =
     found.2 ∙ ap as_item (stop_terms d (read_term d) found.0 e rest a)
 
 -- a test that begins with a value goes on with it
-pub test_of_value : (d : ℕ) (e : Expression) (ws rest : List Word) → lead_expression d ws ≡ Some (Value e, rest) → read_test d ws ≡ tested d e rest
+pub test_of_value : (d : ℕ) (e : Expression) (ws rest : List Word) → lead_expression d ws ≡ Some (Value e, rest) → read_test d ws ≡ predicate_from d e rest
 unfolding read_test
-test_of_value d e ws rest h = ap (λ o. then_read o (on_value (tested d))) h
+test_of_value d e ws rest h = ap (λ o. then_read o (on_value (predicate_from d))) h
 
 pub value_stops : (k : Connective) (d : ℕ) (F : List Word → FoundItem) (n : ℕ) (e : Expression) (ws : List Word) → more_by k d F n (Value e) ws ≡ Some (Value e, ws)
 value_stops k d F zero e ws = refl
@@ -187,21 +187,21 @@ lead (sum s a b) = record {
 pub stop_more : (k : Connective) (d : ℕ) (F : List Word → FoundItem) (n : ℕ) (a : Condition) (ws : List Word) → after (connective_kind k) ws ≡ None → more_by k d F n (Truth a) ws ≡ Some (Truth a, ws)
 stop_more k d F zero a ws h = ap (λ o. if_some o (λ rest. None) (Some (Truth a, ws))) h
 stop_more k d F (suc n) a ws h =
-    ap (λ o. if_some o (λ rest. then_read (F rest) (λ j more. then_read (joined k d (Truth a) j more) (more_by k d F n))) (Some (Truth a, ws))) h
+    ap (λ o. if_some o (λ rest. then_read (F rest) (λ j more. then_read (connection_from k d (Truth a) j more) (more_by k d F n))) (Some (Truth a, ws))) h
 
 pub connective_first : (k : Connective) (ws : List Word) → after (connective_kind k) (plain (connective_kind k) ∷ ws) ≡ Some ws
 connective_first And ws = refl
 connective_first Or ws = refl
 
-pub step_more : (k : Connective) (d : ℕ) (F : List Word → FoundItem) (n : ℕ) (a b : Condition) (ws rest : List Word) → 1 ≤ n → F ws ≡ Some (Truth b, rest) → condition_depth (connected k a b) ≤ d
-    → (m : ℕ) × (n ≡ suc m) × (more_by k d F n (Truth a) (plain (connective_kind k) ∷ ws) ≡ more_by k d F m (Truth (connected k a b)) rest)
+pub step_more : (k : Connective) (d : ℕ) (F : List Word → FoundItem) (n : ℕ) (a b : Condition) (ws rest : List Word) → 1 ≤ n → F ws ≡ Some (Truth b, rest) → condition_depth (connection k a b) ≤ d
+    → (m : ℕ) × (n ≡ suc m) × (more_by k d F n (Truth a) (plain (connective_kind k) ∷ ws) ≡ more_by k d F m (Truth (connection k a b)) rest)
 step_more k d F zero a b ws rest h e f = absurd (omega arith)
 step_more k d F (suc m) a b ws rest h e f = (
   m,
   refl,
-  ap (λ o. if_some o (λ r. then_read (F r) (λ j more. then_read (joined k d (Truth a) j more) (more_by k d F m))) (Some (Truth a, plain (connective_kind k) ∷ ws))) (connective_first k ws)
-      ∙ (ap (λ o. then_read o (λ j more. then_read (joined k d (Truth a) j more) (more_by k d F m))) e
-      ∙ ap (λ o. then_read o (more_by k d F m)) (condition_fits_ok d (connected k a b) rest f)),
+  ap (λ o. if_some o (λ r. then_read (F r) (λ j more. then_read (connection_from k d (Truth a) j more) (more_by k d F m))) (Some (Truth a, plain (connective_kind k) ∷ ws))) (connective_first k ws)
+      ∙ (ap (λ o. then_read o (λ j more. then_read (connection_from k d (Truth a) j more) (more_by k d F m))) e
+      ∙ ap (λ o. then_read o (more_by k d F m)) (condition_fits_ok d (connection k a b) rest f)),
 )
 
 pub record ConditionComplete (c : Condition) : Type 0 where
@@ -248,7 +248,7 @@ comparison_ends comparison.LessEqual ws = ((refl, refl), refl, refl)
 comparison_ends comparison.Greater ws = ((refl, refl), refl, refl)
 comparison_ends comparison.GreaterEqual ws = ((refl, refl), refl, refl)
 
-pub tested_by : (o : Comparison) (d : ℕ) (a : Expression) (ws : List Word) → tested d a (plain (comparison_kind o) ∷ ws) ≡ compared d o a ws
+pub tested_by : (o : Comparison) (d : ℕ) (a : Expression) (ws : List Word) → predicate_from d a (plain (comparison_kind o) ∷ ws) ≡ comparison_from d o a ws
 tested_by comparison.Equal d a ws = refl
 tested_by comparison.NotEqual d a ws = refl
 tested_by comparison.Less d a ws = refl
@@ -292,7 +292,7 @@ not_null_read a f front s d h rest ends =
 pub test_of_truth : (d : ℕ) (c : Condition) (ws rest : List Word) → after_sign ws ≡ None → read_lead d ws ≡ Some (Truth c, rest) → read_test d ws ≡ Some (Truth c, rest)
 unfolding read_test
 test_of_truth d c ws rest s h =
-    ap (λ o. then_read (then_read (then_read o (on_value (λ e more. as_item (more_factors d (read_factor d) d e more)))) (on_value (λ e more. as_item (more_terms d (read_term d) d e more)))) (on_value (tested d)))
+    ap (λ o. then_read (then_read (then_read o (on_value (λ e more. as_item (more_factors d (read_factor d) d e more)))) (on_value (λ e more. as_item (more_terms d (read_term d) d e more)))) (on_value (predicate_from d)))
     (sym (factor_lead d ws (sym s)) ∙ h)
 
 pub condition_item : (c : Condition) → ConditionComplete c → ConditionFormed condition c → (front : List Word) → Spelled c front → (d : ℕ) → condition_depth c ≤ d → (rest : List Word)

@@ -19,9 +19,9 @@ use Rattle.iv_conditions.specs.Trees.{group, enclosed, negated, both, either, ex
 use Rattle.iv_conditions.specs.After.{after, after_name, then_read}
 use Rattle.iv_conditions.specs.ItemDepth.{where_depth}
 use Rattle.iv_conditions.specs.Expressions.{Rule, expression, term, factor, primary, spelling, Formed}
-use Rattle.iv_conditions.specs.ExpressionReader.{Found, fits, after_sign, simple, more_factors, more_terms, read_factor, read_term, read_expression}
+use Rattle.iv_conditions.specs.ExpressionReader.{FoundExpression, fits, after_sign, simple, more_factors, more_terms, read_factor, read_term, read_expression}
 use Rattle.iv_conditions.specs.Conditions.{comparison_kind, AliasSpelled, exists_spelling, Spelled, condition_depth, ConditionRule, condition, conjunction, negation, test, ConditionFormed, IsFrom}
-use Rattle.iv_conditions.specs.ConditionReader.{FoundItem, as_item, condition_fits, on_value, enclose, close_item, after_comparison, null_test, compared, tested, alias_from, range_from, with_condition, where_from, from_by, exists_over, after_select, close_exists, exists_by, lead_by, lead_factor_by, lead_term_by, lead_expression_by, test_by, negate, negation_by, connective_kind, connected, joined, more_by, chain_by, item_over, read_lead, lead_factor, read_test, read_negation, read_conjunction, read_item}
+use Rattle.iv_conditions.specs.ConditionReader.{FoundItem, as_item, condition_fits, on_value, enclose, close_item, after_comparison, null_test, comparison_from, predicate_from, alias_from, range_from, with_condition, where_from, from_by, exists_over, after_select, close_exists, exists_by, lead_by, lead_factor_by, lead_term_by, lead_expression_by, test_by, negate, negation_by, connective_kind, connection, connection_from, more_by, chain_by, item_over, read_lead, lead_factor, read_test, read_negation, read_conjunction, read_item}
 use Rattle.iv_conditions.proofs.Parts.{some_same, if_some_has, after_is, after_name_is}
 use Rattle.iv_conditions.proofs.Sound.{Read, Good, fits_good, factor_primary, term_factor, expression_term, simple_good, more_factors_good, more_terms_good, factor_sound, term_sound, expression_sound}
 
@@ -41,7 +41,7 @@ GoodItem r s d ws (Some (Truth c, rest)) = ReadCondition s d ws c rest
 abbrev pub ItemSound : Rule → ConditionRule → ℕ → (List Word → FoundItem) → Type 0
 ItemSound r s d F = (ws : List Word) → GoodItem r s d ws (F ws)
 
-pub as_item_good : (r : Rule) (s : ConditionRule) (d : ℕ) (ws : List Word) (o : Found) → Good r d ws o → GoodItem r s d ws (as_item o)
+pub as_item_good : (r : Rule) (s : ConditionRule) (d : ℕ) (ws : List Word) (o : FoundExpression) → Good r d ws o → GoodItem r s d ws (as_item o)
 as_item_good r s d ws None h = tt
 as_item_good r s d ws (Some p) h = h
 
@@ -50,7 +50,7 @@ pub item_then_good : (r q : Rule) (s t : ConditionRule) (d c : ℕ) (ws js : Lis
 item_then_good r q s t d c ws js None f h g = tt
 item_then_good r q s t d c ws js (Some p) f h g = g p.0 p.1 h
 
-pub found_then_good : (r q : Rule) (t : ConditionRule) (d c : ℕ) (ws js : List Word) (o : Found) (f : Expression → List Word → FoundItem) → Good r d ws o
+pub found_then_good : (r q : Rule) (t : ConditionRule) (d c : ℕ) (ws js : List Word) (o : FoundExpression) (f : Expression → List Word → FoundItem) → Good r d ws o
     → ((e : Expression) (rest : List Word) → Read r d ws e rest → GoodItem q t c js (f e rest)) → GoodItem q t c js (then_read o f)
 found_then_good r q t d c ws js None f h g = tt
 found_then_good r q t d c ws js (Some p) f h g = g p.0 p.1 h
@@ -145,7 +145,7 @@ after_comparison_is [] p h = absurd (none-some p h)
 after_comparison_is _ p h = absurd (none-some p h)
 
 pub compared_good : (d : ℕ) (ws : List Word) (a : Expression) (rest : List Word) (p : Comparison × List Word) → Read expression d ws a rest → rest ≡ plain (comparison_kind p.0) ∷ p.1
-    → GoodItem expression test d ws (compared d p.0 a p.1)
+    → GoodItem expression test d ws (comparison_from d p.0 a p.1)
 compared_good d ws a rest p r e =
     found_then_good expression expression test d d p.1 ws (read_expression d p.1) (λ b. condition_fits d (Compare p.0 a b)) (expression_sound d p.1)
     (λ b more rb. condition_fits_good expression test d ws (Compare p.0 a b) more (spelling a ++ plain (comparison_kind p.0) ∷ spelling b) (r.formed, rb.formed) refl
@@ -165,7 +165,7 @@ null_test_good d ws a rest js r e =
     ∙ sym (append_assoc (spelling a) (plain kind.Is ∷ plain kind.Null ∷ []) left))))
     (λ _. tt))
 
-pub tested_good : (d : ℕ) (ws : List Word) (a : Expression) (rest : List Word) → Read expression d ws a rest → GoodItem expression test d ws (tested d a rest)
+pub tested_good : (d : ℕ) (ws : List Word) (a : Expression) (rest : List Word) → Read expression d ws a rest → GoodItem expression test d ws (predicate_from d a rest)
 tested_good d ws a rest r =
     if_some_has (GoodItem expression test d ws) (after_comparison rest) _ _
     (λ p e. compared_good d ws a rest p r (after_comparison_is rest p e))
@@ -174,8 +174,8 @@ tested_good d ws a rest r =
     (λ _. r))
 
 pub test_sound : (d : ℕ) (L : List Word → FoundItem) → ItemSound expression test d L → ItemSound expression test d (test_by d L)
-test_sound d L h ws = item_then_good expression expression test test d d ws ws (L ws) (on_value (tested d)) (h ws)
-    (λ i rest g. on_value_good expression expression test d ws (tested d) i rest g (λ e r. tested_good d ws e rest r))
+test_sound d L h ws = item_then_good expression expression test test d d ws ws (L ws) (on_value (predicate_from d)) (h ws)
+    (λ i rest g. on_value_good expression expression test d ws (predicate_from d) i rest g (λ e r. tested_good d ws e rest r))
 
 pub negate_good : (d : ℕ) (all ws : List Word) (i : Item) (rest : List Word) → all ≡ plain kind.Not ∷ ws → GoodItem expression test d ws (Some (i, rest)) → GoodItem expression negation d all (negate d i rest)
 negate_good d all ws (Value e) rest a h = tt
@@ -201,19 +201,19 @@ pub chain_operand : (k : Connective) (c : Condition) → ConditionFormed (operan
 chain_operand And c h = conjunction_negation c h
 chain_operand Or c h = condition_conjunction c h
 
-pub connected_formed : (k : Connective) (a b : Condition) → ConditionFormed (chain_rule k) a → ConditionFormed (operand_rule k) b → ConditionFormed (chain_rule k) (connected k a b)
+pub connected_formed : (k : Connective) (a b : Condition) → ConditionFormed (chain_rule k) a → ConditionFormed (operand_rule k) b → ConditionFormed (chain_rule k) (connection k a b)
 connected_formed And a b f g = (tt, f, g)
 connected_formed Or a b f g = (tt, f, g)
 
-pub connected_spelled : (k : Connective) (a b : Condition) (left right : List Word) → Spelled a left → Spelled b right → Spelled (connected k a b) (left ++ plain (connective_kind k) ∷ right)
+pub connected_spelled : (k : Connective) (a b : Condition) (left right : List Word) → Spelled a left → Spelled b right → Spelled (connection k a b) (left ++ plain (connective_kind k) ∷ right)
 connected_spelled And a b left right f g = (left, right, f, g, refl)
 connected_spelled Or a b left right f g = (left, right, f, g, refl)
 
 pub joined_good : (k : Connective) (d : ℕ) (all : List Word) (a : Condition) (ws rest : List Word) (j : Item) (more : List Word) → ReadCondition (chain_rule k) d all a ws
-    → ws ≡ plain (connective_kind k) ∷ rest → GoodItem expression (operand_rule k) d rest (Some (j, more)) → GoodItem expression (chain_rule k) d all (joined k d (Truth a) j more)
+    → ws ≡ plain (connective_kind k) ∷ rest → GoodItem expression (operand_rule k) d rest (Some (j, more)) → GoodItem expression (chain_rule k) d all (connection_from k d (Truth a) j more)
 joined_good k d all a ws rest (Value e) more r h g = tt
 joined_good k d all a ws rest (Truth b) more r h g =
-    condition_fits_good expression (chain_rule k) d all (connected k a b) more (r.front ++ plain (connective_kind k) ∷ g.front) (connected_formed k a b r.formed g.formed)
+    condition_fits_good expression (chain_rule k) d all (connection k a b) more (r.front ++ plain (connective_kind k) ∷ g.front) (connected_formed k a b r.formed g.formed)
     (connected_spelled k a b r.front g.front r.spelled g.spelled)
     (r.whole ∙ (ap (λ l. r.front ++ l) (h ∙ ap (λ l. plain (connective_kind k) ∷ l) g.whole) ∙ sym (append_assoc r.front (plain (connective_kind k) ∷ g.front) more)))
 
@@ -225,8 +225,8 @@ more_good k d F h zero all (Truth a) ws r =
     if_some_has (GoodItem expression (chain_rule k) d all) (after (connective_kind k) ws) (λ rest. None) (Some (Truth a, ws)) (λ rest e. tt) (λ _. r)
 more_good k d F h (suc n) all (Truth a) ws r =
     if_some_has (GoodItem expression (chain_rule k) d all) (after (connective_kind k) ws) _ (Some (Truth a, ws))
-    (λ rest e. item_then_good expression expression (operand_rule k) (chain_rule k) d d rest all (F rest) (λ j more. then_read (joined k d (Truth a) j more) (more_by k d F n)) (h rest)
-    (λ j more g. item_then_good expression expression (chain_rule k) (chain_rule k) d d all all (joined k d (Truth a) j more) (more_by k d F n)
+    (λ rest e. item_then_good expression expression (operand_rule k) (chain_rule k) d d rest all (F rest) (λ j more. then_read (connection_from k d (Truth a) j more) (more_by k d F n)) (h rest)
+    (λ j more g. item_then_good expression expression (chain_rule k) (chain_rule k) d d all all (connection_from k d (Truth a) j more) (more_by k d F n)
     (joined_good k d all a ws rest j more r (after_is (connective_kind k) ws rest e) g)
     (λ i left q. more_good k d F h n all i left q)))
     (λ _. r)

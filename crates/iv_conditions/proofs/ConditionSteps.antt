@@ -17,38 +17,38 @@ use Rattle.iv_conditions.specs.Conditions.{condition_depth}
 use Rattle.iv_conditions.proofs.Parts.{some_same}
 use Rattle.iv_conditions.specs.After.{after, if_some, then_read}
 use Rattle.iv_conditions.specs.ExpressionReader.{after_sign, simple, more_factors, more_terms, read_factor, read_term}
-use Rattle.iv_conditions.specs.ConditionReader.{FoundItem, as_item, on_value, close_item, tested, exists_by, exists_over, item_over, negate, after_truth, joined, condition_fits, connected, truth_alone, more_by, value_test, lead_factor, read_lead, read_test, read_negation, read_conjunction, read_item}
+use Rattle.iv_conditions.specs.ConditionReader.{FoundItem, as_item, on_value, close_item, predicate_from, exists_by, exists_over, item_over, negate, after_truth, connection_from, condition_fits, connection, truth_alone, more_by, value_test, lead_factor, read_lead, read_test, read_negation, read_conjunction, read_item}
 
 -- a value, its further factors, its further terms, its predicate
 pub value_none : (d : ℕ) (e : Expression) (ws : List Word) → None ≡ more_factors d (read_factor d) d e ws → None ≡ value_test d e ws
 unfolding value_test
-value_none d e ws h = ap (λ o. then_read (then_read (as_item o) (on_value (λ a rest. as_item (more_terms d (read_term d) d a rest)))) (on_value (tested d))) h
+value_none d e ws h = ap (λ o. then_read (then_read (as_item o) (on_value (λ a rest. as_item (more_terms d (read_term d) d a rest)))) (on_value (predicate_from d))) h
 
 pub value_term : (d : ℕ) (e t : Expression) (ws rest : List Word) → Some (t, rest) ≡ more_factors d (read_factor d) d e ws
     → None ≡ more_terms d (read_term d) d t rest → None ≡ value_test d e ws
 unfolding value_test
 value_term d e t ws rest h g =
-    ap (λ o. then_read (as_item o) (on_value (tested d))) g
-    ∙ ap (λ o. then_read (then_read (as_item o) (on_value (λ a left. as_item (more_terms d (read_term d) d a left)))) (on_value (tested d))) h
+    ap (λ o. then_read (as_item o) (on_value (predicate_from d))) g
+    ∙ ap (λ o. then_read (then_read (as_item o) (on_value (λ a left. as_item (more_terms d (read_term d) d a left)))) (on_value (predicate_from d))) h
 
 pub value_whole : (d : ℕ) (e t w : Expression) (ws rest left : List Word) → Some (t, rest) ≡ more_factors d (read_factor d) d e ws
-    → Some (w, left) ≡ more_terms d (read_term d) d t rest → tested d w left ≡ value_test d e ws
+    → Some (w, left) ≡ more_terms d (read_term d) d t rest → predicate_from d w left ≡ value_test d e ws
 unfolding value_test
 value_whole d e t w ws rest left h g =
-    ap (λ o. then_read (as_item o) (on_value (tested d))) g
-    ∙ ap (λ o. then_read (then_read (as_item o) (on_value (λ a more. as_item (more_terms d (read_term d) d a more)))) (on_value (tested d))) h
+    ap (λ o. then_read (as_item o) (on_value (predicate_from d))) g
+    ∙ ap (λ o. then_read (then_read (as_item o) (on_value (λ a more. as_item (more_terms d (read_term d) d a more)))) (on_value (predicate_from d))) h
 
-pub connected_depth : (k : Connective) (a b : Condition) → condition_depth (connected k a b) ≡ 1 + max (condition_depth a) (condition_depth b)
+pub connected_depth : (k : Connective) (a b : Condition) → condition_depth (connection k a b) ≡ 1 + max (condition_depth a) (condition_depth b)
 connected_depth And a b = refl
 connected_depth Or a b = refl
 
 -- what stands beside a condition
 pub joined_truth : (k : Connective) (d : ℕ) (a b : Condition) (j : Item) (ws rest : List Word) → Some (b, rest) ≡ truth_alone j ws
-    → condition_fits d (connected k a b) rest ≡ joined k d (Truth a) j ws
-joined_truth k d a b (Truth c) ws rest h = ap (λ (p : Condition × List Word). condition_fits d (connected k a p.0) p.1) (some_same (b, rest) (c, ws) h)
+    → condition_fits d (connection k a b) rest ≡ connection_from k d (Truth a) j ws
+joined_truth k d a b (Truth c) ws rest h = ap (λ (p : Condition × List Word). condition_fits d (connection k a p.0) p.1) (some_same (b, rest) (c, ws) h)
 joined_truth k d a b (Value e) ws rest h = absurd (none-some (b, rest) (sym h))
 
-pub joined_value : (k : Connective) (d : ℕ) (a : Condition) (j : Item) (ws : List Word) → None ≡ truth_alone j ws → None ≡ joined k d (Truth a) j ws
+pub joined_value : (k : Connective) (d : ℕ) (a : Condition) (j : Item) (ws : List Word) → None ≡ truth_alone j ws → None ≡ connection_from k d (Truth a) j ws
 joined_value k d a (Truth c) ws h = absurd (none-some (c, ws) h)
 joined_value k d a (Value e) ws h = refl
 
@@ -56,7 +56,7 @@ pub truth_is : (i : Item) (a : Condition) (ws rest : List Word) → Some (a, res
 truth_is (Truth c) a ws rest h = ap (λ (p : Condition × List Word). Truth p.0) (some_same (a, rest) (c, ws) h)
 truth_is (Value e) a ws rest h = absurd (none-some (a, rest) (sym h))
 
-pub value_joined : (k : Connective) (d : ℕ) (i j : Item) (ws more : List Word) → None ≡ truth_alone i ws → None ≡ joined k d i j more
+pub value_joined : (k : Connective) (d : ℕ) (i j : Item) (ws more : List Word) → None ≡ truth_alone i ws → None ≡ connection_from k d i j more
 value_joined k d (Truth c) j ws more h = absurd (none-some (c, ws) h)
 value_joined k d (Value e) j ws more h = refl
 
@@ -108,7 +108,7 @@ unfolding lead_factor
 factor_lead d ws h = ap (λ o. if_some o (λ q. as_item (read_factor d ws)) (read_lead d ws)) h
 
 pub staged : (d : ℕ) (o : FoundItem) → then_read o (on_value (value_test d))
-    ≡ then_read (then_read (then_read o (on_value (λ e rest. as_item (more_factors d (read_factor d) d e rest)))) (on_value (λ e rest. as_item (more_terms d (read_term d) d e rest)))) (on_value (tested d))
+    ≡ then_read (then_read (then_read o (on_value (λ e rest. as_item (more_factors d (read_factor d) d e rest)))) (on_value (λ e rest. as_item (more_terms d (read_term d) d e rest)))) (on_value (predicate_from d))
 unfolding value_test
 staged d None = refl
 staged d (Some (Value e, ws)) = refl
@@ -137,7 +137,7 @@ item_step d ws = refl
 pub more_stop : (k : Connective) (d : ℕ) (F : List Word → FoundItem) (n : ℕ) (i : Item) (ws : List Word) → None ≡ after_truth k i ws → Some (i, ws) ≡ more_by k d F n i ws
 more_stop k d F zero i ws h = ap (λ o. if_some o (λ r. None) (Some (i, ws))) h
 more_stop k d F (suc n) i ws h =
-    ap (λ o. if_some o (λ r. then_read (F r) (λ j more. then_read (joined k d i j more) (more_by k d F n))) (Some (i, ws))) h
+    ap (λ o. if_some o (λ r. then_read (F r) (λ j more. then_read (connection_from k d i j more) (more_by k d F n))) (Some (i, ws))) h
 
 pub more_zero : (k : Connective) (d : ℕ) (F : List Word → FoundItem) (n : ℕ) (i : Item) (ws rest : List Word) → n ≡ 0 → Some rest ≡ after_truth k i ws → None ≡ more_by k d F n i ws
 more_zero k d F zero i ws rest n h = ap (λ o. if_some o (λ r. None) (Some (i, ws))) h
@@ -148,10 +148,10 @@ read_twice None f g = refl
 read_twice (Some p) f g = refl
 
 pub more_step : (k : Connective) (d : ℕ) (F : List Word → FoundItem) (n : ℕ) (i : Item) (ws rest : List Word) → n ≢ 0 → Some rest ≡ after_truth k i ws
-    → then_read (then_read (F rest) (joined k d i)) (more_by k d F (n - 1)) ≡ more_by k d F n i ws
+    → then_read (then_read (F rest) (connection_from k d i)) (more_by k d F (n - 1)) ≡ more_by k d F n i ws
 more_step k d F zero i ws rest n h = absurd (n refl)
 more_step k d F (suc m) i ws rest n h =
     let e : suc m - 1 ≡ m = omega arith in
-    ap (λ q. then_read (then_read (F rest) (joined k d i)) (more_by k d F q)) e
-    ∙ (read_twice (F rest) (joined k d i) (more_by k d F m)
-    ∙ ap (λ o. if_some o (λ r. then_read (F r) (λ j more. then_read (joined k d i j more) (more_by k d F m))) (Some (i, ws))) h)
+    ap (λ q. then_read (then_read (F rest) (connection_from k d i)) (more_by k d F q)) e
+    ∙ (read_twice (F rest) (connection_from k d i) (more_by k d F m)
+    ∙ ap (λ o. if_some o (λ r. then_read (F r) (λ j more. then_read (connection_from k d i j more) (more_by k d F m))) (Some (i, ws))) h)

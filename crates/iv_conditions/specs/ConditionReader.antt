@@ -17,13 +17,13 @@ use Rattle.iv_conditions.specs.declared.item.Connective.TheVariants.{And, Or}
 use Rattle.iv_conditions.specs.Trees.{group, enclosed, negated, both, either, exists_where}
 use Rattle.iv_conditions.specs.After.{after, after_name, if_some, then_read}
 use Rattle.iv_conditions.specs.Conditions.{condition_depth}
-use Rattle.iv_conditions.specs.ExpressionReader.{Found, fits, after_sign, simple, more_factors, more_terms, read_factor, read_term, read_expression}
+use Rattle.iv_conditions.specs.ExpressionReader.{FoundExpression, fits, after_sign, simple, more_factors, more_terms, read_factor, read_term, read_expression}
 
 -- an item and the words that are left, or none
 abbrev pub FoundItem : Type 0
 FoundItem = Option (Item × List Word)
 
-abbrev pub as_item : Found → FoundItem
+abbrev pub as_item : FoundExpression → FoundItem
 as_item None = None
 as_item (Some p) = Some (Value p.0, p.1)
 
@@ -60,13 +60,14 @@ null_test limit a ws =
     if_some (after kind.Not ws) (λ rest. if_some (after kind.Null rest) (condition_fits limit (IsNotNull a)) None)
     (if_some (after kind.Null ws) (condition_fits limit (IsNull a)) None)
 
-abbrev pub compared : ℕ → Comparison → Expression → List Word → FoundItem
-compared limit o a ws = then_read (read_expression limit ws) (λ b. condition_fits limit (Compare o a b))
+abbrev pub comparison_from : ℕ → Comparison → Expression → List Word → FoundItem
+comparison_from limit o a ws =
+    then_read (read_expression limit ws) (λ b. condition_fits limit (Compare o a b))
 
 -- the predicate that begins with this value, or the value alone
-abbrev pub tested : ℕ → Expression → List Word → FoundItem
-tested limit a ws =
-    if_some (after_comparison ws) (λ p. compared limit p.0 a p.1)
+abbrev pub predicate_from : ℕ → Expression → List Word → FoundItem
+predicate_from limit a ws =
+    if_some (after_comparison ws) (λ p. comparison_from limit p.0 a p.1)
     (if_some (after kind.Is ws) (null_test limit a) (Some (Value a, ws)))
 
 -- an alias, with AS or without, where there is one
@@ -122,7 +123,7 @@ abbrev pub lead_expression_by : ℕ → (List Word → FoundItem) → List Word 
 lead_expression_by limit terms ws = then_read (terms ws) (on_value (λ e rest. as_item (more_terms limit (read_term limit) limit e rest)))
 
 abbrev pub test_by : ℕ → (List Word → FoundItem) → List Word → FoundItem
-test_by limit expressions ws = then_read (expressions ws) (on_value (tested limit))
+test_by limit expressions ws = then_read (expressions ws) (on_value (predicate_from limit))
 
 abbrev pub negate : ℕ → Item → List Word → FoundItem
 negate limit (Value e) ws = None
@@ -135,26 +136,27 @@ abbrev pub connective_kind : Connective → Kind
 connective_kind And = kind.And
 connective_kind Or = kind.Or
 
-abbrev pub connected : Connective → Condition → Condition → Condition
-connected And a b = both a b
-connected Or a b = either a b
+abbrev pub connection : Connective → Condition → Condition → Condition
+connection And a b = both a b
+connection Or a b = either a b
 
 -- the connective after a condition; a value has none after it
 abbrev pub after_truth : Connective → Item → List Word → Option (List Word)
 after_truth k (Value e) ws = None
 after_truth k (Truth c) ws = after (connective_kind k) ws
 
-abbrev pub joined : Connective → ℕ → Item → Item → List Word → FoundItem
-joined k limit (Truth a) (Truth b) ws = condition_fits limit (connected k a b) ws
-joined k limit (Truth a) (Value e) ws = None
-joined k limit (Value e) j ws = None
+abbrev pub connection_from : Connective → ℕ → Item → Item → List Word → FoundItem
+connection_from k limit (Truth a) (Truth b) ws = condition_fits limit (connection k a b) ws
+connection_from k limit (Truth a) (Value e) ws = None
+connection_from k limit (Value e) j ws = None
 
 -- the operands that follow, of which there are at most so many
 abbrev pub more_by : Connective → ℕ → (List Word → FoundItem) → ℕ → Item → List Word → FoundItem
 more_by k limit operands zero i ws = if_some (after_truth k i ws) (λ rest. None) (Some (i, ws))
 more_by k limit operands (suc n) i ws =
     if_some (after_truth k i ws)
-    (λ rest. then_read (operands rest) (λ j more. then_read (joined k limit i j more) (more_by k limit operands n)))
+    (λ rest. then_read (operands rest) (λ j more.
+    then_read (connection_from k limit i j more) (more_by k limit operands n)))
     (Some (i, ws))
 
 abbrev pub chain_by : Connective → ℕ → (List Word → FoundItem) → List Word → FoundItem
@@ -178,7 +180,7 @@ lead_factor d = lead_factor_by d (read_lead d)
 unfoldable pub value_test : ℕ → Expression → List Word → FoundItem
 value_test d e ws =
     then_read (then_read (as_item (more_factors d (read_factor d) d e ws)) (on_value (λ a rest. as_item (more_terms d (read_term d) d a rest))))
-    (on_value (tested d))
+    (on_value (predicate_from d))
 
 unfoldable pub read_test : ℕ → List Word → FoundItem
 read_test d = test_by d (lead_expression_by d (lead_term_by d (lead_factor d)))

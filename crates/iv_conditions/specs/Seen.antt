@@ -4,7 +4,7 @@ use denote.Ref.{Bor}
 use Rattle.iv_lex.specs.declared.token.Token.{Token}
 use Rattle.iv_lex.specs.Words.{Word, words}
 use Rattle.iv_conditions.specs.declared.expression_part.ExpressionPart.{ExpressionPart}
-use Rattle.iv_conditions.specs.ExpressionReader.{Found}
+use Rattle.iv_conditions.specs.ExpressionReader.{FoundExpression}
 
 -- the words of the tokens that are left
 abbrev pub rest_words : List ℕ → Option (Bor (List Token)) → Option (List Word)
@@ -16,6 +16,6 @@ abbrev pub with_words : {A : Type 0} → List ℕ → Option (A × Bor (List Tok
 with_words text None = None
 with_words text (Some p) = Some (p.0, words text p.1.now)
 
-abbrev pub expression_found : List ℕ → Option ExpressionPart → Found
+abbrev pub expression_found : List ℕ → Option ExpressionPart → FoundExpression
 expression_found text None = None
 expression_found text (Some p) = Some (p.tree, words text p.rest.now)

@@ -14,6 +14,7 @@ use crate::from_part::FromPart;
 use crate::front::{after, select, sign};
 use crate::item::Connective;
 use crate::item_part::ItemPart;
+use crate::limits::DEEPEST;
 use crate::predicate::{
     close_item, connective_after, discard, go_on, join_found, negate, truth, value_item,
 };
@@ -21,7 +22,7 @@ use iv_lex::{Kind, Token};
 use iv_syntax::{Condition, RangeName};
 use std::alloc::{AllocError, Global};
 
-/// What stands first in a test.
+// What stands first in a test.
 #[cycle(condition)]
 fn lead<'a>(
     alloc: Global,
@@ -29,7 +30,7 @@ fn lead<'a>(
     text: &str,
     tokens: &'a [Token],
 ) -> Result<Option<ItemPart<'a>>, AllocError>
-    requires { limit ≤ 64 }
+    requires { limit ≤ DEEPEST }
     ensures { IfOk result (λ r. item_found text.now r ≡ read_lead limit (words text.now tokens.now)) }
 {
     if limit == 0 {
@@ -47,7 +48,7 @@ fn lead<'a>(
     }
 }
 
-/// EXISTS; the tokens are those after it.
+// EXISTS; the tokens are those after it.
 #[cycle(condition)]
 fn exists<'a>(
     alloc: Global,
@@ -55,7 +56,7 @@ fn exists<'a>(
     text: &str,
     tokens: &'a [Token],
 ) -> Result<Option<ItemPart<'a>>, AllocError>
-    requires low { limit ≤ 64 }
+    requires low { limit ≤ DEEPEST }
     requires some { 0 < limit }
     ensures { IfOk result (λ r. item_found text.now r ≡ exists_by limit (read_item (limit - 1)) (words text.now tokens.now)) }
 {
@@ -68,7 +69,7 @@ fn exists<'a>(
     }
 }
 
-/// FROM, a table, its alias and WHERE with a condition.
+// FROM, a table, its alias and WHERE with a condition.
 #[cycle(condition)]
 fn from_range<'a>(
     alloc: Global,
@@ -76,7 +77,7 @@ fn from_range<'a>(
     text: &str,
     tokens: &'a [Token],
 ) -> Result<Option<FromPart<'a>>, AllocError>
-    requires { limit ≤ 64 }
+    requires { limit ≤ DEEPEST }
     ensures { IfOk result (λ r. from_found text.now r ≡ from limit (words text.now tokens.now)) }
 {
     let Some(rest) = after(Kind::From, tokens) else {
@@ -91,7 +92,7 @@ fn from_range<'a>(
     }
 }
 
-/// The factor that stands first in a test, or a condition.
+// The factor that stands first in a test, or a condition.
 #[cycle(condition)]
 fn lead_factor<'a>(
     alloc: Global,
@@ -99,7 +100,7 @@ fn lead_factor<'a>(
     text: &str,
     tokens: &'a [Token],
 ) -> Result<Option<ItemPart<'a>>, AllocError>
-    requires { limit ≤ 64 }
+    requires { limit ≤ DEEPEST }
     ensures { IfOk result (λ r. item_found text.now r ≡ lead_factor_of limit (words text.now tokens.now)) }
 {
     match sign(tokens) {
@@ -115,7 +116,7 @@ fn test<'a>(
     text: &str,
     tokens: &'a [Token],
 ) -> Result<Option<ItemPart<'a>>, AllocError>
-    requires { limit ≤ 64 }
+    requires { limit ≤ DEEPEST }
     ensures { IfOk result (λ r. item_found text.now r ≡ read_test limit (words text.now tokens.now)) }
 {
     match lead_factor(alloc, limit, &*text, tokens)? {
@@ -131,7 +132,7 @@ fn negation<'a>(
     text: &str,
     tokens: &'a [Token],
 ) -> Result<Option<ItemPart<'a>>, AllocError>
-    requires { limit ≤ 64 }
+    requires { limit ≤ DEEPEST }
     ensures { IfOk result (λ r. item_found text.now r ≡ read_negation limit (words text.now tokens.now)) }
 {
     let Some(rest) = after(Kind::Not, tokens) else {
@@ -143,7 +144,7 @@ fn negation<'a>(
     }
 }
 
-/// The negations that follow, of which there are at most so many.
+// The negations that follow, of which there are at most so many.
 #[cycle(condition)]
 fn negations<'a>(
     alloc: Global,
@@ -152,8 +153,8 @@ fn negations<'a>(
     text: &str,
     left: ItemPart<'a>,
 ) -> Result<Option<ItemPart<'a>>, AllocError>
-    requires low { limit ≤ 64 }
-    requires few { most ≤ 64 }
+    requires low { limit ≤ DEEPEST }
+    requires few { most ≤ DEEPEST }
     ensures { IfOk result (λ r. item_found text.now r ≡ more_by And limit (read_negation limit) most left.entry.item (words text.now left.entry.rest.now)) }
 {
     let Some(rest) = connective_after(Connective::And, &left) else {
@@ -176,7 +177,7 @@ fn conjunction<'a>(
     text: &str,
     tokens: &'a [Token],
 ) -> Result<Option<ItemPart<'a>>, AllocError>
-    requires { limit ≤ 64 }
+    requires { limit ≤ DEEPEST }
     ensures { IfOk result (λ r. item_found text.now r ≡ read_conjunction limit (words text.now tokens.now)) }
 {
     match negation(alloc, limit, &*text, tokens)? {
@@ -185,7 +186,7 @@ fn conjunction<'a>(
     }
 }
 
-/// The conjunctions that follow, of which there are at most so many.
+// The conjunctions that follow, of which there are at most so many.
 #[cycle(condition)]
 fn conjunctions<'a>(
     alloc: Global,
@@ -194,8 +195,8 @@ fn conjunctions<'a>(
     text: &str,
     left: ItemPart<'a>,
 ) -> Result<Option<ItemPart<'a>>, AllocError>
-    requires low { limit ≤ 64 }
-    requires few { most ≤ 64 }
+    requires low { limit ≤ DEEPEST }
+    requires few { most ≤ DEEPEST }
     ensures { IfOk result (λ r. item_found text.now r ≡ more_by Or limit (read_conjunction limit) most left.entry.item (words text.now left.entry.rest.now)) }
 {
     let Some(rest) = connective_after(Connective::Or, &left) else {
@@ -211,7 +212,7 @@ fn conjunctions<'a>(
     }
 }
 
-/// A value or a condition.
+// A value or a condition.
 #[cycle(condition)]
 fn item<'a>(
     alloc: Global,
@@ -219,7 +220,7 @@ fn item<'a>(
     text: &str,
     tokens: &'a [Token],
 ) -> Result<Option<ItemPart<'a>>, AllocError>
-    requires { limit ≤ 64 }
+    requires { limit ≤ DEEPEST }
     ensures { IfOk result (λ r. item_found text.now r ≡ read_item limit (words text.now tokens.now)) }
 {
     match conjunction(alloc, limit, &*text, tokens)? {
@@ -228,16 +229,16 @@ fn item<'a>(
     }
 }
 
-/// The condition at the front of the tokens of `text`, as long as it can be, and the tokens after it. None where there
-/// is none, or where its tree is deeper than 64.
+/// The condition at the front of the tokens of `text`, as long as it can be, and the tokens after
+/// it. `None` where there is none, or where its tree is deeper than `DEEPEST`.
 pub fn read_condition<'a>(
     alloc: Global,
     text: &str,
     tokens: &'a [Token],
 ) -> Result<Option<(Condition, &'a [Token])>, AllocError>
-    ensures { IfOk result (λ r. with_words text.now r ≡ read 64 (words text.now tokens.now)) }
+    ensures { IfOk result (λ r. with_words text.now r ≡ read DEEPEST (words text.now tokens.now)) }
 {
-    let Some(found) = item(alloc, 64, text, tokens)? else {
+    let Some(found) = item(alloc, DEEPEST, text, tokens)? else {
         return Ok(None);
     };
     match truth(found) {
@@ -252,16 +253,17 @@ pub fn read_condition<'a>(
     }
 }
 
-/// FROM, a table, its alias and WHERE with a condition at the front of the tokens of `text`, as long as they can be,
-/// and the tokens after them. None where there is no FROM, or where the condition is deeper than 64.
+/// FROM, a table, its alias and WHERE with a condition at the front of the tokens of `text`, as long
+/// as they can be, and the tokens after them. `None` where there is no FROM, or where the condition is
+/// deeper than `DEEPEST`.
 pub fn read_from<'a>(
     alloc: Global,
     text: &str,
     tokens: &'a [Token],
 ) -> Result<Option<((RangeName, Option<Condition>), &'a [Token])>, AllocError>
-    ensures { IfOk result (λ r. with_words text.now r ≡ from 64 (words text.now tokens.now)) }
+    ensures { IfOk result (λ r. with_words text.now r ≡ from DEEPEST (words text.now tokens.now)) }
 {
-    match from_range(alloc, 64, text, tokens)? {
+    match from_range(alloc, DEEPEST, text, tokens)? {
         Some(
             FromPart {
                 range,

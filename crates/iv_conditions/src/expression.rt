@@ -3,16 +3,18 @@ ghost use Rattle.std.specs.Prelude.{◌≡◌, ℕ, ◌+◌, ◌≤◌, List, If
 ghost use Rattle.iv_lex.specs.Words.{words};
 ghost use Rattle.iv_conditions.specs.Trees.{group, signed, product, sum};
 ghost use Rattle.iv_conditions.specs.Expressions.{depth as depth_of};
-ghost use Rattle.iv_conditions.specs.ExpressionReader.{column_from, simple as simple_at, closed, fits, more_factors, more_terms, read_primary, read_factor, read_term, read_expression as read};
+ghost use Rattle.iv_conditions.specs.ExpressionReader.{column_from, simple as simple_at, close_group, fits, more_factors, more_terms, read_primary, read_factor, read_term, read_expression as read};
 ghost use Rattle.iv_conditions.specs.Seen.{expression_found, with_words};
 
 use crate::expression_part::ExpressionPart;
 use crate::front::{after, name, sign};
+use crate::limits::DEEPEST;
 use crate::make::{group_of, product_of, signed_of, sum_of};
 use iv_lex::{Kind, Token, unquoted_text};
 use iv_syntax::{ColumnName, Expression, Name, Sign};
 use std::alloc::{AllocError, Global};
 
+/// The expression in parentheses, where it is not too deep.
 pub fn make_group<'a>(
     alloc: Global,
     limit: u8,
@@ -136,7 +138,7 @@ fn leaf<'a>(tree: Expression, rest: &'a [Token]) -> ExpressionPart<'a>
     }
 }
 
-/// The column whose first name was read.
+// The column whose first name was read.
 fn column<'a>(
     alloc: Global,
     text: &str,
@@ -177,10 +179,10 @@ pub fn simple<'a>(
     };
     match first.kind {
         Kind::Number(number) => Ok(Some(leaf(Expression::Number(number), rest))),
-        Kind::Quoted => {
-            let quoted = unquoted_text(alloc, text, *first)?;
-            Ok(Some(leaf(Expression::Text(quoted), rest)))
-        }
+        Kind::Quoted => match unquoted_text(alloc, text, *first)? {
+            Some(quoted) => Ok(Some(leaf(Expression::Text(quoted), rest))),
+            None => Ok(None),
+        },
         Kind::Null => Ok(Some(leaf(Expression::Null, rest))),
         Kind::Name => match name(alloc, text, tokens)? {
             Some((first, rest)) => column(alloc, text, first, rest),
@@ -195,7 +197,8 @@ fn close<'a>(
     limit: u8,
     inside: ExpressionPart<'a>,
 ) -> Result<Option<ExpressionPart<'a>>, AllocError>
-    ensures { (text : List ℕ) → IfOk result (λ r. expression_found text r ≡ closed limit inside.entry.tree (words text inside.entry.rest.now)) }
+    ensures { (text : List ℕ) → IfOk result (λ r. expression_found text r
+        ≡ close_group limit inside.entry.tree (words text inside.entry.rest.now)) }
 {
     match after(Kind::RightParenthesis, inside.rest) {
         Some(rest) => make_group(alloc, limit, inside, rest),
@@ -206,6 +209,7 @@ fn close<'a>(
     }
 }
 
+/// A primary: a number, a text, NULL, a column or an expression in parentheses.
 #[cycle(expression)]
 pub fn primary<'a>(
     alloc: Global,
@@ -213,7 +217,7 @@ pub fn primary<'a>(
     text: &str,
     tokens: &'a [Token],
 ) -> Result<Option<ExpressionPart<'a>>, AllocError>
-    requires { limit ≤ 64 }
+    requires { limit ≤ DEEPEST }
     ensures { IfOk result (λ r. expression_found text.now r ≡ read_primary limit (words text.now tokens.now)) }
 {
     if limit == 0 {
@@ -228,6 +232,7 @@ pub fn primary<'a>(
     }
 }
 
+/// A factor: a primary, with or without a sign.
 #[cycle(expression)]
 pub fn factor<'a>(
     alloc: Global,
@@ -235,7 +240,7 @@ pub fn factor<'a>(
     text: &str,
     tokens: &'a [Token],
 ) -> Result<Option<ExpressionPart<'a>>, AllocError>
-    requires { limit ≤ 64 }
+    requires { limit ≤ DEEPEST }
     ensures { IfOk result (λ r. expression_found text.now r ≡ read_factor limit (words text.now tokens.now)) }
 {
     match sign(tokens) {
@@ -247,6 +252,7 @@ pub fn factor<'a>(
     }
 }
 
+/// The product of what was read and of the factors after it, each after an asterisk.
 #[cycle(expression)]
 pub fn factors<'a>(
     alloc: Global,
@@ -255,8 +261,8 @@ pub fn factors<'a>(
     text: &str,
     left: ExpressionPart<'a>,
 ) -> Result<Option<ExpressionPart<'a>>, AllocError>
-    requires low { limit ≤ 64 }
-    requires few { most ≤ 64 }
+    requires low { limit ≤ DEEPEST }
+    requires few { most ≤ DEEPEST }
     ensures { IfOk result (λ r. expression_found text.now r ≡ more_factors limit (read_factor limit) most left.entry.tree (words text.now left.entry.rest.now)) }
 {
     let Some(rest) = after(Kind::Asterisk, left.rest) else {
@@ -278,6 +284,7 @@ pub fn factors<'a>(
     }
 }
 
+/// A term: factors with asterisks between them.
 #[cycle(expression)]
 pub fn term<'a>(
     alloc: Global,
@@ -285,7 +292,7 @@ pub fn term<'a>(
     text: &str,
     tokens: &'a [Token],
 ) -> Result<Option<ExpressionPart<'a>>, AllocError>
-    requires { limit ≤ 64 }
+    requires { limit ≤ DEEPEST }
     ensures { IfOk result (λ r. expression_found text.now r ≡ read_term limit (words text.now tokens.now)) }
 {
     match factor(alloc, limit, &*text, tokens)? {
@@ -294,6 +301,7 @@ pub fn term<'a>(
     }
 }
 
+/// The sum of what was read and of the terms after it, each with its sign.
 #[cycle(expression)]
 pub fn terms<'a>(
     alloc: Global,
@@ -302,8 +310,8 @@ pub fn terms<'a>(
     text: &str,
     left: ExpressionPart<'a>,
 ) -> Result<Option<ExpressionPart<'a>>, AllocError>
-    requires low { limit ≤ 64 }
-    requires few { most ≤ 64 }
+    requires low { limit ≤ DEEPEST }
+    requires few { most ≤ DEEPEST }
     ensures { IfOk result (λ r. expression_found text.now r ≡ more_terms limit (read_term limit) most left.entry.tree (words text.now left.entry.rest.now)) }
 {
     let Some((sign, rest)) = sign(left.rest) else {
@@ -325,6 +333,7 @@ pub fn terms<'a>(
     }
 }
 
+/// An expression: terms with signs between them.
 #[cycle(expression)]
 pub fn expression<'a>(
     alloc: Global,
@@ -332,7 +341,7 @@ pub fn expression<'a>(
     text: &str,
     tokens: &'a [Token],
 ) -> Result<Option<ExpressionPart<'a>>, AllocError>
-    requires { limit ≤ 64 }
+    requires { limit ≤ DEEPEST }
     ensures { IfOk result (λ r. expression_found text.now r ≡ read limit (words text.now tokens.now)) }
 {
     match term(alloc, limit, &*text, tokens)? {
@@ -341,16 +350,16 @@ pub fn expression<'a>(
     }
 }
 
-/// The expression at the front of the tokens of `text`, as long as it can be, and the tokens after it. None where
-/// there is none, or where its tree is deeper than 64.
+/// The expression at the front of the tokens of `text`, as long as it can be, and the tokens after
+/// it. `None` where there is none, or where its tree is deeper than `DEEPEST`.
 pub fn read_expression<'a>(
     alloc: Global,
     text: &str,
     tokens: &'a [Token],
 ) -> Result<Option<(Expression, &'a [Token])>, AllocError>
-    ensures { IfOk result (λ r. with_words text.now r ≡ read 64 (words text.now tokens.now)) }
+    ensures { IfOk result (λ r. with_words text.now r ≡ read DEEPEST (words text.now tokens.now)) }
 {
-    match expression(alloc, 64, text, tokens)? {
+    match expression(alloc, DEEPEST, text, tokens)? {
         Some(
             ExpressionPart {
                 tree,

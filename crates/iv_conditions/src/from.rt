@@ -17,7 +17,7 @@ use iv_lex::{Kind, Token};
 use iv_syntax::{Name, RangeName};
 use std::alloc::{AllocError, Global};
 
-/// An alias, with AS or without, where there is one.
+// An alias, with AS or without, where there is one.
 fn alias<'a>(
     alloc: Global,
     text: &str,

@@ -55,7 +55,10 @@ pub fn name<'a>(
     if first.kind != Kind::Name {
         return Ok(None);
     }
-    Ok(Some((Name::new(folded_text(alloc, text, *first)?), rest)))
+    match folded_text(alloc, text, *first)? {
+        Some(name) => Ok(Some((Name::new(name), rest))),
+        None => Ok(None),
+    }
 }
 
 /// A comparison at the front, and the tokens after it.

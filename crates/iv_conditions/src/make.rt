@@ -1,7 +1,7 @@
 //! Trees made of trees.
 ghost use Rattle.std.specs.Prelude.{◌≡◌, IfOk};
 ghost use Rattle.iv_conditions.specs.Trees.{group, signed, product, sum, enclosed, negated, both, either, exists_where};
-ghost use Rattle.iv_conditions.specs.ConditionReader.{connected, exists_over};
+ghost use Rattle.iv_conditions.specs.ConditionReader.{connection, exists_over};
 
 use crate::item::Connective;
 use iv_syntax::{Condition, Expression, RangeName, Sign};
@@ -21,6 +21,7 @@ fn boxes<T: Drop>(alloc: Global, a: T, b: T) -> Result<(Boxed<T>, Boxed<T>), All
     }
 }
 
+/// The expression in parentheses.
 #[tactic(auto, using(crate::proofs::Bridges::group_is))]
 pub fn group_of(alloc: Global, a: Expression) -> Result<Expression, AllocError>
     ensures { IfOk result (λ e. e ≡ group a) }
@@ -28,6 +29,7 @@ pub fn group_of(alloc: Global, a: Expression) -> Result<Expression, AllocError>
     Ok(Expression::Group(Boxed::new(alloc, a)?))
 }
 
+/// The sign and its operand.
 #[tactic(auto, using(crate::proofs::Bridges::signed_is))]
 pub fn signed_of(alloc: Global, sign: Sign, a: Expression) -> Result<Expression, AllocError>
     ensures { IfOk result (λ e. e ≡ signed sign a) }
@@ -35,6 +37,7 @@ pub fn signed_of(alloc: Global, sign: Sign, a: Expression) -> Result<Expression,
     Ok(Expression::Signed(sign, Boxed::new(alloc, a)?))
 }
 
+/// The product of two expressions.
 #[tactic(auto, using(crate::proofs::Bridges::product_is))]
 pub fn product_of(alloc: Global, a: Expression, b: Expression) -> Result<Expression, AllocError>
     ensures { IfOk result (λ e. e ≡ product a b) }
@@ -43,6 +46,7 @@ pub fn product_of(alloc: Global, a: Expression, b: Expression) -> Result<Express
     Ok(Expression::Product(a, b))
 }
 
+/// The sum or the difference of two expressions.
 #[tactic(auto, using(crate::proofs::Bridges::sum_is))]
 pub fn sum_of(
     alloc: Global,
@@ -56,6 +60,7 @@ pub fn sum_of(
     Ok(Expression::Sum(sign, a, b))
 }
 
+/// The condition in parentheses.
 #[tactic(auto, using(crate::proofs::Bridges::enclosed_is))]
 pub fn enclosed_of(alloc: Global, a: Condition) -> Result<Condition, AllocError>
     ensures { IfOk result (λ c. c ≡ enclosed a) }
@@ -63,6 +68,7 @@ pub fn enclosed_of(alloc: Global, a: Condition) -> Result<Condition, AllocError>
     Ok(Condition::Group(Boxed::new(alloc, a)?))
 }
 
+/// NOT and its condition.
 #[tactic(auto, using(crate::proofs::Bridges::negated_is))]
 pub fn negated_of(alloc: Global, a: Condition) -> Result<Condition, AllocError>
     ensures { IfOk result (λ c. c ≡ negated a) }
@@ -86,13 +92,14 @@ fn either_of(alloc: Global, a: Condition, b: Condition) -> Result<Condition, All
     Ok(Condition::Or(a, b))
 }
 
+/// Two conditions with AND or OR between them.
 pub fn connected_of(
     alloc: Global,
     connective: Connective,
     a: Condition,
     b: Condition,
 ) -> Result<Condition, AllocError>
-    ensures { IfOk result (λ c. c ≡ connected connective a b) }
+    ensures { IfOk result (λ c. c ≡ connection connective a b) }
 {
     match connective {
         Connective::And => both_of(alloc, a, b),
@@ -100,6 +107,7 @@ pub fn connected_of(
     }
 }
 
+/// EXISTS over a table, with its condition where there is one.
 #[tactic(auto, using(crate::proofs::Bridges::exists_where_is))]
 pub fn exists_of(
     alloc: Global,

@@ -5,7 +5,7 @@ ghost use Rattle.iv_conditions.specs.After.{then_read};
 ghost use Rattle.iv_lex.specs.Words.{words};
 ghost use Rattle.iv_conditions.specs.ItemDepth.{item_depth};
 ghost use Rattle.iv_conditions.specs.Conditions.{condition_depth};
-ghost use Rattle.iv_conditions.specs.ConditionReader.{FoundItem, as_item, condition_fits, on_value, enclose as enclosed_item, close_item as closed_item, null_test, compared, tested, value_test, negate as negated_item, after_truth, connected, joined, truth_alone};
+ghost use Rattle.iv_conditions.specs.ConditionReader.{FoundItem, as_item, condition_fits, on_value, enclose as enclosed_item, close_item as closed_item, null_test, comparison_from, predicate_from, value_test, negate as negated_item, after_truth, connection, connection_from, truth_alone};
 ghost use Rattle.iv_conditions.specs.Seen.{expression_found, rest_words};
 ghost use Rattle.iv_conditions.specs.SeenItem.{condition_found, item_found};
 
@@ -15,12 +15,14 @@ use crate::expression_part::ExpressionPart;
 use crate::front::{after, comparison};
 use crate::item::{Connective, Item};
 use crate::item_part::ItemPart;
+use crate::limits::DEEPEST;
 use crate::make::{connected_of, enclosed_of, negated_of};
 use iv_expr::Comparison;
 use iv_lex::{Kind, Token};
 use iv_syntax::Condition;
 use std::alloc::{AllocError, Global};
 
+/// The value that was found, as an item.
 pub fn value_item(found: Option<ExpressionPart<'_>>) -> Option<ItemPart<'_>>
     ensures { (text : List ℕ) → item_found text result ≡ as_item (expression_found text found.entry) }
 {
@@ -72,6 +74,7 @@ fn enclose<'a>(
     }
 }
 
+/// The item in parentheses, where one closes.
 pub fn close_item<'a>(
     alloc: Global,
     limit: u8,
@@ -85,7 +88,7 @@ pub fn close_item<'a>(
     }
 }
 
-/// IS [NOT] NULL; the tokens are those after IS.
+// IS [NOT] NULL; the tokens are those after IS.
 fn test_null<'a>(limit: u8, value: ExpressionPart<'a>, tokens: &'a [Token]) -> Option<ItemPart<'a>>
     ensures { (text : List ℕ) → item_found text result ≡ null_test limit value.entry.tree (words text tokens.now) }
 {
@@ -120,8 +123,9 @@ fn compare<'a>(
     text: &str,
     tokens: &'a [Token],
 ) -> Result<Option<ItemPart<'a>>, AllocError>
-    requires { limit ≤ 64 }
-    ensures { IfOk result (λ r. item_found text.now r ≡ compared limit by left.entry.tree (words text.now tokens.now)) }
+    requires { limit ≤ DEEPEST }
+    ensures { IfOk result (λ r. item_found text.now r
+        ≡ comparison_from limit by left.entry.tree (words text.now tokens.now)) }
 {
     match expression(alloc, limit, text, tokens)? {
         Some(right) => {
@@ -140,15 +144,16 @@ fn compare<'a>(
     }
 }
 
-/// The predicate that begins with this value, or the value alone.
+// The predicate that begins with this value, or the value alone.
 fn test_whole<'a>(
     alloc: Global,
     limit: u8,
     text: &str,
     value: ExpressionPart<'a>,
 ) -> Result<Option<ItemPart<'a>>, AllocError>
-    requires { limit ≤ 64 }
-    ensures { IfOk result (λ r. item_found text.now r ≡ tested limit value.entry.tree (words text.now value.entry.rest.now)) }
+    requires { limit ≤ DEEPEST }
+    ensures { IfOk result (λ r. item_found text.now r
+        ≡ predicate_from limit value.entry.tree (words text.now value.entry.rest.now)) }
 {
     if let Some((by, rest)) = comparison(value.rest) {
         return compare(alloc, limit, by, value, text, rest);
@@ -159,14 +164,14 @@ fn test_whole<'a>(
     }
 }
 
-/// The test that begins with this factor, or the value alone.
+// The test that begins with this factor, or the value alone.
 fn test_value<'a>(
     alloc: Global,
     limit: u8,
     text: &str,
     value: ExpressionPart<'a>,
 ) -> Result<Option<ItemPart<'a>>, AllocError>
-    requires { limit ≤ 64 }
+    requires { limit ≤ DEEPEST }
     ensures { IfOk result (λ r. item_found text.now r ≡ value_test limit value.entry.tree (words text.now value.entry.rest.now)) }
 {
     match factors(alloc, limit, limit, text, value)? {
@@ -185,7 +190,7 @@ pub fn go_on<'a>(
     text: &str,
     found: ItemPart<'a>,
 ) -> Result<Option<ItemPart<'a>>, AllocError>
-    requires { limit ≤ 64 }
+    requires { limit ≤ DEEPEST }
     ensures { IfOk result (λ r. item_found text.now r ≡ on_value (value_test limit) found.entry.item (words text.now found.entry.rest.now)) }
 {
     let ItemPart { item, depth, rest } = found;
@@ -201,6 +206,7 @@ pub fn go_on<'a>(
     }
 }
 
+/// NOT and the condition that was found after it.
 pub fn negate<'a>(
     alloc: Global,
     limit: u8,
@@ -251,7 +257,9 @@ fn connect<'a>(
     left: ConditionPart<'a>,
     right: ConditionPart<'a>,
 ) -> Result<Option<ItemPart<'a>>, AllocError>
-    ensures { (text : List ℕ) → IfOk result (λ r. item_found text r ≡ condition_fits limit (connected connective left.entry.tree right.entry.tree) (words text right.entry.rest.now)) }
+    ensures { (text : List ℕ) → IfOk result (λ r. item_found text r
+        ≡ condition_fits limit (connection connective left.entry.tree right.entry.tree)
+        (words text right.entry.rest.now)) }
 {
     let below = left.depth.max(right.depth);
     let ConditionPart {
@@ -268,6 +276,7 @@ fn connect<'a>(
     Ok(fit(limit, tree, below, rest))
 }
 
+/// Nothing, in place of what was found.
 pub fn discard(found: ItemPart<'_>) -> Option<ItemPart<'_>>
     ensures { result ≡ None }
 {
@@ -289,7 +298,9 @@ fn join_right<'a>(
     left: ConditionPart<'a>,
     right: ItemPart<'a>,
 ) -> Result<Option<ItemPart<'a>>, AllocError>
-    ensures { (text : List ℕ) → IfOk result (λ r. item_found text r ≡ joined connective limit (Truth left.entry.tree) right.entry.item (words text right.entry.rest.now)) }
+    ensures { (text : List ℕ) → IfOk result (λ r. item_found text r
+        ≡ connection_from connective limit (Truth left.entry.tree) right.entry.item
+        (words text right.entry.rest.now)) }
 {
     match truth(right) {
         Some(right) => connect(alloc, limit, connective, left, right),
@@ -297,7 +308,7 @@ fn join_right<'a>(
     }
 }
 
-/// Two conditions joined by AND or OR.
+// Two conditions joined by AND or OR.
 fn join<'a>(
     alloc: Global,
     limit: u8,
@@ -305,7 +316,9 @@ fn join<'a>(
     left: ItemPart<'a>,
     right: ItemPart<'a>,
 ) -> Result<Option<ItemPart<'a>>, AllocError>
-    ensures { (text : List ℕ) → IfOk result (λ r. item_found text r ≡ joined connective limit left.entry.item right.entry.item (words text right.entry.rest.now)) }
+    ensures { (text : List ℕ) → IfOk result (λ r. item_found text r
+        ≡ connection_from connective limit left.entry.item right.entry.item
+        (words text right.entry.rest.now)) }
 {
     match truth(left) {
         Some(left) => join_right(alloc, limit, connective, left, right),
@@ -321,7 +334,9 @@ pub fn join_found<'a>(
     left: ItemPart<'a>,
     right: Result<Option<ItemPart<'a>>, AllocError>,
 ) -> Result<Option<ItemPart<'a>>, AllocError>
-    ensures { (text : List ℕ) (found : FoundItem) → IfOk right.entry (λ o. item_found text o ≡ found) → IfOk result (λ r. item_found text r ≡ then_read found (joined connective limit left.entry.item)) }
+    ensures { (text : List ℕ) (found : FoundItem) → IfOk right.entry (λ o. item_found text o ≡ found)
+        → IfOk result (λ r. item_found text r
+        ≡ then_read found (connection_from connective limit left.entry.item)) }
 {
     match right {
         Ok(Some(right)) => join(alloc, limit, connective, left, right),

@@ -349,3 +349,26 @@ fn a_constraint_is_added(rt: HostRuntime) -> Result<(), Fail> {
     }
     Ok(())
 }
+
+// What `insert` finds in one text by the tokens of another.
+fn insert_elsewhere(alloc: Global, source: &str, text: &str) -> Result<String, AllocError> {
+    let lexed = tokens(alloc, source)?;
+    insert_in(alloc, text, lexed.tokens.as_slice())
+}
+
+#[test]
+fn names_of_another_text_are_none(rt: HostRuntime) -> Result<(), Fail> {
+    // The name of the table is looked for at byte 5 of these texts.
+    for (text, wanted) in [
+        ("INTO u DEFAULT VALUES", "U defaults, 0"),
+        ("INTO u", "U defaults, 0"),
+        ("INTO ", "none"),
+        ("", "none"),
+        ("INT\u{e9}\u{e9}", "none"),
+        ("INTO \u{e9}", "none"),
+    ] {
+        let found = insert_elsewhere(rt.alloc(), "INTO t DEFAULT VALUES", text)?;
+        assert_eq!(rt; found.as_str(), wanted, "in {text}");
+    }
+    Ok(())
+}

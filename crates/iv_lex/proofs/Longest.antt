@@ -1,29 +1,25 @@
 -- Tokens are the longest runs.
-use Rattle.std.proofs.Common.{◌≡◌, ℕ, zero, suc, ◌+◌, ◌-◌, ◌^◌, ◌≤◌, Bool, true, false, not, ◌&&◌, ◌||◌, Option, Some, None, option_map, unwrap_or, List, [], ◌∷◌, ◌++◌, length, drop, take, refl, sym, ◌∙◌, ap, subst, arith, nat_le, nat_eq, append_assoc, length-append}
+use Rattle.std.proofs.Common.{◌≡◌, ℕ, suc, ◌+◌, ◌≤◌, Bool, true, false, not, ◌&&◌, ◌||◌, Option, Some, None, option_map, unwrap_or, List, [], ◌∷◌, ◌++◌, length, drop, take, refl, sym, ◌∙◌, ap, subst, arith, nat_le, nat_eq, append_assoc, length-append}
 use Rattle.std.specs.Prelude.{slice_index, if◌then◌else◌}
 use Rattle.std.specs.List.{list_all, prefix_len}
 use Rattle.std.proofs.lemmas.Grind.{common_steps}
 use Rattle.std.proofs.lemmas.Bool.Decides.{nat_tests}
 use Rattle.iv_lex.specs.declared.kind.Kind.{Kind}
 use Rattle.iv_lex.specs.declared.kind.Kind.TheVariants as kind
+use Rattle.iv_lex.specs.declared.limits.TheConstants.{LONGEST_WORD, GREATEST_NUMBER}
 use Rattle.iv_lex.proofs.Scanning.{map_twice}
 use Rattle.iv_lex.specs.Reserved.{word_kind}
-use Rattle.iv_lex.specs.Tokens.{is_letter, is_digit, is_word_byte, front_length, value_from, single_symbol, double_symbol, closing, symbol_by, quoted_by, sized, word_at, number_at, symbol_at, token_at, gap, Front, no_tokens, continued, tokens_from}
-use Rattle.iv_lex.specs.declared.token.Token.{Token}
-use Rattle.iv_lex.specs.declared.lexer.Lexed.{Lexed}
-use Rattle.iv_lex.specs.Words.{slice}
-use Rattle.std.specs.List.{All}
-use Rattle.std.proofs.lemmas.List.Elements.{All-nil, All-cons}
-use Rattle.iv_lex.specs.Longest.{TokensAreLongest, FaultIsNoToken, IsWord, IsDigits, quotes_doubled, IsText, IsSymbol, one, two, IsRun, IsToken, IsLongestRun}
+use Rattle.iv_lex.specs.Tokens.{is_letter, is_digit, is_word_byte, front_length, value_from, single_symbol, double_symbol, closing, symbol_by, quoted_by, with_length, word_at, number_at, symbol_at, token_at}
+use Rattle.iv_lex.specs.Longest.{IsWord, IsDigits, quotes_doubled, IsText, IsSymbol, one, two, IsRun, IsToken, IsLongestRun}
 use Rattle.iv_lex.specs.Longest.IsToken.{a_word, a_number, a_text, a_symbol}
 use Rattle.iv_lex.specs.Longest.IsRun.{word, digits, text, open_text, symbol}
 
 -- how many bytes at the front pass the test, by recursion
-front : (ℕ → Bool) → List ℕ → ℕ
+pub front : (ℕ → Bool) → List ℕ → ℕ
 front p [] = 0
 front p (b ∷ bs) = if p b then suc (front p bs) else 0
 
-front_within : (p : ℕ → Bool) (bs : List ℕ) → front p bs ≤ length bs
+pub front_within : (p : ℕ → Bool) (bs : List ℕ) → front p bs ≤ length bs
 unfolding front
 front_within p [] = omega arith
 front_within p (b ∷ bs) = elim (p b) as (λ x. (if x then suc (front p bs) else 0) ≤ suc (length bs)) [ true ↦ omega (arith, front_within p bs) | false ↦ omega arith ]
@@ -38,7 +34,7 @@ prefix_is p (b ∷ bs) =
 length_is : (n m : ℕ) → n ≤ m → unwrap_or (if nat_le (suc n) m then Some n else None) m ≡ n
 length_is n m h = grind (arith, nat_tests)
 
-front_is : (p : ℕ → Bool) (bs : List ℕ) → front_length p bs ≡ front p bs
+pub front_is : (p : ℕ → Bool) (bs : List ℕ) → front_length p bs ≡ front p bs
 front_is p bs =
     ap (λ n. unwrap_or (if nat_le (suc n) (length bs) then Some n else None) (length bs)) (prefix_is p bs) ∙ length_is (front p bs) (length bs) (front_within p bs)
 
@@ -69,35 +65,35 @@ unfolding front
 front_all p [] = refl
 front_all p (b ∷ bs) = front_step p b bs (p b) refl (front_all p bs)
 
-no_digit : (b : ℕ) → is_letter b ≡ true → is_digit b ≡ true → ⊥
+pub no_digit : (b : ℕ) → is_letter b ≡ true → is_digit b ≡ true → ⊥
 no_digit b h g = grind (arith, nat_tests)
 
-no_quote : (b : ℕ) → is_letter b ≡ true → b ≡ 39 → ⊥
+pub no_quote : (b : ℕ) → is_letter b ≡ true → b ≡ 39 → ⊥
 no_quote b h g = grind (arith, nat_tests)
 
-digit_no_quote : (b : ℕ) → is_digit b ≡ true → b ≡ 39 → ⊥
+pub digit_no_quote : (b : ℕ) → is_digit b ≡ true → b ≡ 39 → ⊥
 digit_no_quote b h g = grind (arith, nat_tests)
 
 no_double : (a b : ℕ) → nat_eq a 60 ≡ false → nat_eq a 62 ≡ false → double_symbol a b ≡ None
 no_double a b f g = rw (f, g)
 
-letter_no_double : (a b : ℕ) (k : Kind) → is_letter a ≡ true → double_symbol a b ≡ Some k → ⊥
+pub letter_no_double : (a b : ℕ) (k : Kind) → is_letter a ≡ true → double_symbol a b ≡ Some k → ⊥
 letter_no_double a b k h g =
     let e : double_symbol a b ≡ None = no_double a b (grind (arith, nat_tests)) (grind (arith, nat_tests)) in
     cc
 
-digit_no_double : (a b : ℕ) (k : Kind) → is_digit a ≡ true → double_symbol a b ≡ Some k → ⊥
+pub digit_no_double : (a b : ℕ) (k : Kind) → is_digit a ≡ true → double_symbol a b ≡ Some k → ⊥
 digit_no_double a b k h g =
     let e : double_symbol a b ≡ None = no_double a b (grind (arith, nat_tests)) (grind (arith, nat_tests)) in
     cc
 
-letter_no_single : (a : ℕ) → is_letter a ≡ true → single_symbol a ≡ None
+pub letter_no_single : (a : ℕ) → is_letter a ≡ true → single_symbol a ≡ None
 letter_no_single a h = grind (arith, nat_tests)
 
-digit_no_single : (a : ℕ) → is_digit a ≡ true → single_symbol a ≡ None
+pub digit_no_single : (a : ℕ) → is_digit a ≡ true → single_symbol a ≡ None
 digit_no_single a h = grind (arith, nat_tests)
 
-head : (b c : ℕ) (bs cs : List ℕ) → b ∷ bs ≡ c ∷ cs → b ≡ c
+pub head : (b c : ℕ) (bs cs : List ℕ) → b ∷ bs ≡ c ∷ cs → b ≡ c
 head b c bs cs e = ap (λ l. slice_index l 0) e
 
 tail : (b c : ℕ) (bs cs : List ℕ) → b ∷ bs ≡ c ∷ cs → bs ≡ cs
@@ -173,14 +169,14 @@ same_longest bs f g l m =
     sym (whole_front f l.rest) ∙ ap (take (length f)) (sym l.whole ∙ m.whole) ∙ ap (λ k. take k (g ++ m.rest)) n ∙ whole_front g m.rest
 
 -- a quote that ends a text, and what the text holds
-record Ends (bs : List ℕ) (n : ℕ) : Type 0 where
-  inside : List ℕ
-  more : List ℕ
-  doubled : quotes_doubled inside ≡ true
-  whole : bs ≡ inside ++ 39 ∷ more
-  count : n ≡ length inside + 1
+pub record Ends (bs : List ℕ) (n : ℕ) : Type 0 where
+  pub inside : List ℕ
+  pub more : List ℕ
+  pub doubled : quotes_doubled inside ≡ true
+  pub whole : bs ≡ inside ++ 39 ∷ more
+  pub count : n ≡ length inside + 1
 
-is_quote : (b : ℕ) → nat_eq b 39 ≡ true → b ≡ 39
+pub is_quote : (b : ℕ) → nat_eq b 39 ≡ true → b ≡ 39
 is_quote b h = grind (arith, nat_tests)
 
 some_same : (a b : ℕ) → ◌≡◌ {A = Option ℕ} (Some a) (Some b) → a ≡ b
@@ -241,7 +237,7 @@ ends_by b c n bs true true e g f1 f2 h = ends_after b c n bs (closing bs) e g f1
 ends_by b c n bs true false e g f1 f2 h = ends_here b n (c ∷ bs) e h
 ends_by b c n bs false y e g f1 f2 h = ends_later b n (c ∷ bs) (closing (c ∷ bs)) e f2 h
 
-ends : (bs : List ℕ) (n : ℕ) → closing bs ≡ Some n → Ends bs n
+pub ends : (bs : List ℕ) (n : ℕ) → closing bs ≡ Some n → Ends bs n
 ends [] n h = absurd (cc)
 ends (b ∷ []) n h = ends_single b n (nat_eq b 39) refl h
 ends (b ∷ c ∷ bs) n h = ends_by b c n bs (nat_eq b 39) (nat_eq c 39) refl refl (λ m. ends bs m) (λ m. ends (c ∷ bs) m) h
@@ -335,10 +331,10 @@ text_taken bs n h =
     ap (λ m. take m (39 ∷ bs)) k ∙ ap (λ z. 39 ∷ take n z) r.whole ∙ ap (λ z. 39 ∷ z) (taken r.inside r.more n r.count)
 
 -- a first byte that begins neither a word nor a number nor a text
-record IsOther (b : ℕ) : Type 0 where
-  no_letter : is_letter b ≡ false
-  no_digit : is_digit b ≡ false
-  no_quote : nat_eq b 39 ≡ false
+pub record IsOther (b : ℕ) : Type 0 where
+  pub no_letter : is_letter b ≡ false
+  pub no_digit : is_digit b ≡ false
+  pub no_quote : nat_eq b 39 ≡ false
 
 other_word : (b : ℕ) → IsOther b → is_letter b ≡ true → ⊥
 other_word b o h = let e = o.no_letter in cc
@@ -378,7 +374,7 @@ double_longer : (b : ℕ) (bs longer more : List ℕ) → IsOther b → b ∷ bs
 double_longer b bs [] more o e r = omega arith
 double_longer b bs (c ∷ cs) more o e r = double_length b cs o (subst (λ z. IsRun (z ∷ cs)) (sym (head b c bs (cs ++ more) e)) r)
 
-no_second : (b : ℕ) → double_symbol b 0 ≡ None
+pub no_second : (b : ℕ) → double_symbol b 0 ≡ None
 no_second b = grind (arith, nat_tests)
 
 -- what a front is: the longest run, and a token of its kind
@@ -408,7 +404,7 @@ double_good b (c ∷ bs) k o h = (
   a_symbol (two b c refl h),
 )
 
-pair_same : (p q : Kind × ℕ) → ◌≡◌ {A = Option (Kind × ℕ)} (Some p) (Some q) → p ≡ q
+pub pair_same : (p q : Kind × ℕ) → ◌≡◌ {A = Option (Kind × ℕ)} (Some p) (Some q) → p ≡ q
 pair_same p q h = ap (λ o. unwrap_or o p) h
 
 symbol_good : (b : ℕ) (bs : List ℕ) (p : Kind × ℕ) (x y : Option Kind) → IsOther b → double_symbol b (slice_index bs 0) ≡ x → single_symbol b ≡ y → symbol_by x y ≡ Some p → IsGood (b ∷ bs) p
@@ -419,7 +415,7 @@ symbol_good b bs p None None o h s e = absurd (cc)
 le_true : (a b : ℕ) → nat_le a b ≡ true → a ≤ b
 le_true a b h = grind (arith, nat_tests)
 
-word_by : (bs : List ℕ) (n : ℕ) (p : Kind × ℕ) (x : Bool) → nat_le (length (take n bs)) 128 ≡ x → sized n (if x then Some (word_kind (take n bs)) else None) ≡ Some p
+word_by : (bs : List ℕ) (n : ℕ) (p : Kind × ℕ) (x : Bool) → nat_le (length (take n bs)) LONGEST_WORD ≡ x → with_length n (if x then Some (word_kind (take n bs)) else None) ≡ Some p
     → IsLongestRun bs (take n bs) → IsWord (take n bs) → IsGood bs p
 word_by bs n p true e h l w = subst (IsGood bs) (pair_same (word_kind (take n bs), n) p h) (l, a_word w (le_true _ _ e) refl)
 word_by bs n p false e h l w = absurd (cc)
@@ -428,10 +424,10 @@ word_good : (b : ℕ) (bs : List ℕ) (p : Kind × ℕ) → is_letter b ≡ true
 word_good b bs p e h =
     let t = sym (word_taken b bs e) in
     let n : ℕ = front_length is_word_byte (b ∷ bs) in
-    word_by (b ∷ bs) n p (nat_le (length (take n (b ∷ bs))) 128) refl h
+    word_by (b ∷ bs) n p (nat_le (length (take n (b ∷ bs))) LONGEST_WORD) refl h
     (subst (IsLongestRun (b ∷ bs)) t (word_longest b bs e)) (subst IsWord t (e, front_all is_word_byte bs))
 
-number_by : (bs : List ℕ) (n : ℕ) (p : Kind × ℕ) (x : Bool) → nat_le (value_from 0 (take n bs)) (2 ^ 63 - 1) ≡ x → sized n (if x then Some (kind.Number (value_from 0 (take n bs))) else None) ≡ Some p
+number_by : (bs : List ℕ) (n : ℕ) (p : Kind × ℕ) (x : Bool) → nat_le (value_from 0 (take n bs)) (GREATEST_NUMBER) ≡ x → with_length n (if x then Some (kind.Number (value_from 0 (take n bs))) else None) ≡ Some p
     → IsLongestRun bs (take n bs) → IsDigits (take n bs) → IsGood bs p
 number_by bs n p true e h l w = subst (IsGood bs) (pair_same (kind.Number (value_from 0 (take n bs)), n) p h) (l, a_number w (le_true _ _ e) refl)
 number_by bs n p false e h l w = absurd (cc)
@@ -440,7 +436,7 @@ number_good : (b : ℕ) (bs : List ℕ) (p : Kind × ℕ) → is_digit b ≡ tru
 number_good b bs p e h =
     let t = sym (number_taken b bs e) in
     let n : ℕ = front_length is_digit (b ∷ bs) in
-    number_by (b ∷ bs) n p (nat_le (value_from 0 (take n (b ∷ bs))) (2 ^ 63 - 1)) refl h
+    number_by (b ∷ bs) n p (nat_le (value_from 0 (take n (b ∷ bs))) (GREATEST_NUMBER)) refl h
     (subst (IsLongestRun (b ∷ bs)) t (number_longest b bs e)) (subst IsDigits t (e, front_all is_digit bs))
 
 text_by : (bs : List ℕ) (p : Kind × ℕ) (o : Option ℕ) → closing bs ≡ o → quoted_by o ≡ Some p → IsGood (39 ∷ bs) p
@@ -471,21 +467,21 @@ yes_le a b h = grind (arith, nat_tests)
 empty : (c : ℕ) (cs : List ℕ) → [] ≡ c ∷ cs → ⊥
 empty c cs e = absurd (omega (arith, ap length e))
 
-not_empty : (k : Kind) → IsToken [] k → ⊥
+pub not_empty : (k : Kind) → IsToken [] k → ⊥
 not_empty k (a_word w l e) = w
 not_empty k (a_number d l e) = d
 not_empty k (a_text (inside, q, w) e) = empty 39 _ w
 not_empty k (a_symbol (one a w s)) = empty a _ w
 not_empty k (a_symbol (two a b w s)) = empty a _ w
 
-letter_token : (b : ℕ) (fs : List ℕ) (k : Kind) → is_letter b ≡ true → IsToken (b ∷ fs) k → length (b ∷ fs) ≤ 128
+letter_token : (b : ℕ) (fs : List ℕ) (k : Kind) → is_letter b ≡ true → IsToken (b ∷ fs) k → length (b ∷ fs) ≤ LONGEST_WORD
 letter_token b fs k h (a_word w l e) = l
 letter_token b fs k h (a_number d l e) = absurd (no_digit b h d.0)
 letter_token b fs k h (a_text (inside, q, w) e) = absurd (no_quote b h (head b 39 fs _ w))
 letter_token b fs k h (a_symbol (one a w s)) = omega (arith, ap length w)
 letter_token b fs k h (a_symbol (two a c w s)) = omega (arith, ap length w)
 
-digit_token : (b : ℕ) (fs : List ℕ) (k : Kind) → is_digit b ≡ true → IsToken (b ∷ fs) k → value_from 0 (b ∷ fs) ≤ 2 ^ 63 - 1
+digit_token : (b : ℕ) (fs : List ℕ) (k : Kind) → is_digit b ≡ true → IsToken (b ∷ fs) k → value_from 0 (b ∷ fs) ≤ GREATEST_NUMBER
 digit_token b fs k h (a_word w l e) = absurd (no_digit b w.0 h)
 digit_token b fs k h (a_number d l e) = l
 digit_token b fs k h (a_text (inside, q, w) e) = absurd (digit_no_quote b h (head b 39 fs _ w))
@@ -502,22 +498,22 @@ text_token fs k (a_symbol (one a w s)) =
 text_token fs k (a_symbol (two a c w s)) =
     absurd (let f : double_symbol 39 c ≡ Some k = subst (λ z. double_symbol z c ≡ Some k) (sym (head 39 a fs _ w)) s in cc)
 
-symbol_token : (b : ℕ) (fs : List ℕ) (k : Kind) → IsOther b → IsToken (b ∷ fs) k → IsSymbol (b ∷ fs) k
+pub symbol_token : (b : ℕ) (fs : List ℕ) (k : Kind) → IsOther b → IsToken (b ∷ fs) k → IsSymbol (b ∷ fs) k
 symbol_token b fs k o (a_word w l e) = absurd (other_word b o w.0)
 symbol_token b fs k o (a_number d l e) = absurd (other_number b o d.0)
 symbol_token b fs k o (a_text (inside, q, w) e) = absurd (other_text b o (head b 39 fs _ w))
 symbol_token b fs k o (a_symbol s) = s
 
-word_bad : (bs f : List ℕ) (n : ℕ) → f ≡ take n bs → length f ≤ 128 → word_at bs n ≡ None → ⊥
+word_bad : (bs f : List ℕ) (n : ℕ) → f ≡ take n bs → length f ≤ LONGEST_WORD → word_at bs n ≡ None → ⊥
 word_bad bs f n e l h =
-    let g : nat_le (length (take n bs)) 128 ≡ true = yes_le _ _ (subst (λ z. length z ≤ 128) e l) in
-    let i : word_at bs n ≡ Some (word_kind (take n bs), n) = ap (λ x. sized n (if x then Some (word_kind (take n bs)) else None)) g in
+    let g : nat_le (length (take n bs)) LONGEST_WORD ≡ true = yes_le _ _ (subst (λ z. length z ≤ LONGEST_WORD) e l) in
+    let i : word_at bs n ≡ Some (word_kind (take n bs), n) = ap (λ x. with_length n (if x then Some (word_kind (take n bs)) else None)) g in
     absurd (cc)
 
-number_bad : (bs f : List ℕ) (n : ℕ) → f ≡ take n bs → value_from 0 f ≤ 2 ^ 63 - 1 → number_at bs n ≡ None → ⊥
+number_bad : (bs f : List ℕ) (n : ℕ) → f ≡ take n bs → value_from 0 f ≤ GREATEST_NUMBER → number_at bs n ≡ None → ⊥
 number_bad bs f n e l h =
-    let g : nat_le (value_from 0 (take n bs)) (2 ^ 63 - 1) ≡ true = yes_le _ _ (subst (λ z. value_from 0 z ≤ 2 ^ 63 - 1) e l) in
-    let i : number_at bs n ≡ Some (kind.Number (value_from 0 (take n bs)), n) = ap (λ x. sized n (if x then Some (kind.Number (value_from 0 (take n bs))) else None)) g in
+    let g : nat_le (value_from 0 (take n bs)) (GREATEST_NUMBER) ≡ true = yes_le _ _ (subst (λ z. value_from 0 z ≤ GREATEST_NUMBER) e l) in
+    let i : number_at bs n ≡ Some (kind.Number (value_from 0 (take n bs)), n) = ap (λ x. with_length n (if x then Some (kind.Number (value_from 0 (take n bs))) else None)) g in
     absurd (cc)
 
 doubled_by : (b c : ℕ) (bs : List ℕ) (x : Bool) → nat_eq b 39 ≡ x → (if x then nat_eq c 39 && quotes_doubled bs else quotes_doubled (c ∷ bs)) ≡ true
@@ -603,66 +599,3 @@ bad_more (b ∷ bs) fs c k h l t =
 pub bad : (bs front : List ℕ) (k : Kind) → token_at bs ≡ None → IsLongestRun bs front → IsToken front k → ⊥
 bad bs [] k h l t = not_empty k t
 bad bs (c ∷ fs) k h l t = bad_more bs fs c k h l t
-
--- a token of a text is the longest run at its place, and a token
-abbrev pub IsGoodToken : List ℕ → Token → Type 0
-IsGoodToken bytes t = IsLongestRun (drop t.start bytes) (slice bytes t.start t.end) × IsToken (slice bytes t.start t.end) t.kind
-
-dropped : (a b : ℕ) (bytes : List ℕ) → drop b (drop a bytes) ≡ drop (a + b) bytes
-dropped a b bytes = grind (arith, common_steps)
-
-good_token : (at g : ℕ) (bytes : List ℕ) (p : Kind × ℕ) → token_at (drop g (drop at bytes)) ≡ Some p
-    → IsGoodToken bytes (record { kind = p.0; start = at + g; end = at + g + p.1 })
-good_token at g bytes p h =
-    let e : token_at (drop (at + g) bytes) ≡ Some p = ap token_at (sym (dropped at g bytes)) ∙ h in
-    let n : p.1 ≡ at + g + p.1 - (at + g) = omega arith in
-    subst (λ m. IsLongestRun (drop (at + g) bytes) (take m (drop (at + g) bytes)) × IsToken (take m (drop (at + g) bytes)) p.0) n (good (drop (at + g) bytes) p e)
-
-continued_good : (at g : ℕ) (bytes : List ℕ) (o : Front) (next : ℕ → Lexed) → token_at (drop g (drop at bytes)) ≡ o
-    → ((m : ℕ) → All (IsGoodToken bytes) (next m).tokens) → All (IsGoodToken bytes) (continued (at + g) o next).tokens
-continued_good at g bytes None next h f = All-nil (IsGoodToken bytes)
-continued_good at g bytes (Some p) next h f = All-cons (IsGoodToken bytes) _ _ (good_token at g bytes p h) (f p.1)
-
-after_good : (n at g : ℕ) (bytes : List ℕ) (x : Bool) → ((m : ℕ) → All (IsGoodToken bytes) (tokens_from n (at + g + m) (drop (g + m) (drop at bytes))).tokens)
-    → All (IsGoodToken bytes) (if x then no_tokens None else continued (at + g) (token_at (drop g (drop at bytes))) (λ m. tokens_from n (at + g + m) (drop (g + m) (drop at bytes)))).tokens
-after_good n at g bytes true f = All-nil (IsGoodToken bytes)
-after_good n at g bytes false f = continued_good at g bytes (token_at (drop g (drop at bytes))) _ refl f
-
-onward : (at g m : ℕ) (bytes : List ℕ) → drop (g + m) (drop at bytes) ≡ drop (at + g + m) bytes
-onward at g m bytes = dropped at (g + m) bytes ∙ ap (λ k. drop k bytes) (omega arith)
-
-from_good : (n at : ℕ) (bytes : List ℕ) → All (IsGoodToken bytes) (tokens_from n at (drop at bytes)).tokens
-unfolding tokens_from
-from_good zero at bytes = All-nil (IsGoodToken bytes)
-from_good (suc n) at bytes =
-    let g : ℕ = gap false (drop at bytes) in
-    after_good n at g bytes (nat_le (length (drop at bytes)) g)
-    (λ m. subst (λ z. All (IsGoodToken bytes) (tokens_from n (at + g + m) z).tokens) (sym (onward at g m bytes)) (from_good n (at + g + m) bytes))
-
-pub tokens_are_longest : TokensAreLongest
-tokens_are_longest bytes = from_good (length bytes) 0 bytes
-
-continued_fault : (at g place : ℕ) (bytes : List ℕ) (o : Front) (next : ℕ → Lexed) → token_at (drop g (drop at bytes)) ≡ o
-    → ((m : ℕ) → (next m).fault ≡ Some place → token_at (drop place bytes) ≡ None)
-    → (continued (at + g) o next).fault ≡ Some place → token_at (drop place bytes) ≡ None
-continued_fault at g place bytes None next h f e =
-    ap (λ k. token_at (drop k bytes)) (sym (some_same (at + g) place e)) ∙ ap token_at (sym (dropped at g bytes)) ∙ h
-continued_fault at g place bytes (Some p) next h f e = f p.1 e
-
-after_fault : (n at g place : ℕ) (bytes : List ℕ) (x : Bool)
-    → ((m : ℕ) → (tokens_from n (at + g + m) (drop (g + m) (drop at bytes))).fault ≡ Some place → token_at (drop place bytes) ≡ None)
-    → (if x then no_tokens None else continued (at + g) (token_at (drop g (drop at bytes))) (λ m. tokens_from n (at + g + m) (drop (g + m) (drop at bytes)))).fault ≡ Some place
-    → token_at (drop place bytes) ≡ None
-after_fault n at g place bytes true f e = absurd (cc)
-after_fault n at g place bytes false f e = continued_fault at g place bytes (token_at (drop g (drop at bytes))) _ refl f e
-
-from_fault : (n at place : ℕ) (bytes : List ℕ) → (tokens_from n at (drop at bytes)).fault ≡ Some place → token_at (drop place bytes) ≡ None
-unfolding tokens_from
-from_fault zero at place bytes e = absurd (cc)
-from_fault (suc n) at place bytes e =
-    let g : ℕ = gap false (drop at bytes) in
-    after_fault n at g place bytes (nat_le (length (drop at bytes)) g)
-    (λ m f. from_fault n (at + g + m) place bytes (ap (λ z. (tokens_from n (at + g + m) z).fault) (sym (onward at g m bytes)) ∙ f)) e
-
-pub fault_is_no_token : FaultIsNoToken
-fault_is_no_token bytes at e f k l t = bad (drop at bytes) f k (from_fault (length bytes) 0 at bytes e) l t

@@ -1,16 +1,17 @@
 -- One token more.
-use Rattle.std.proofs.Common.{◌≡◌, ℕ, zero, suc, ◌+◌, ◌-◌, ◌*◌, ◌^◌, ◌<◌, ◌≤◌, Option, Some, None, option_map, List, [], ◌∷◌, ◌++◌, length, drop, take, refl, sym, ◌∙◌, ap, subst, arith, true, false, nat_le, append_assoc, append-nil, drop-cons, get_or}
+use Rattle.std.proofs.Common.{◌≡◌, ℕ, zero, suc, ◌+◌, ◌-◌, ◌*◌, ◌<◌, ◌≤◌, Option, Some, None, option_map, List, [], ◌∷◌, ◌++◌, length, drop, take, refl, sym, ◌∙◌, ap, subst, arith, true, false, nat_le, append_assoc, append-nil, drop-cons, get_or}
 use Rattle.std.proofs.lemmas.Grind.{common_steps}
 use Rattle.std.proofs.lemmas.Bool.Decides.{nat_tests}
 use Rattle.iv_lex.specs.declared.kind.Kind.{Kind}
 use Rattle.iv_lex.specs.declared.token.Token.{Token}
 use Rattle.iv_lex.specs.declared.lexer.Lexed.{Lexed}
-use Rattle.iv_lex.specs.Tokens.{tokens_from, after_gap, with_token, no_tokens, gap, token_at, tokens_of, value_from, number_of}
+use Rattle.iv_lex.specs.declared.limits.TheConstants.{GREATEST_NUMBER}
+use Rattle.iv_lex.specs.Tokens.{tokens_from, after_gap, with_token, no_tokens, gap, token_at, tokens_of, value_from, number_kind}
 
 yes_le : (a b : ℕ) → a ≤ b → nat_le a b ≡ true
 yes_le a b h = grind (arith, nat_tests)
 
-from_zero : (n at : ℕ) (bs : List ℕ) → n ≡ 0 → tokens_from n at bs ≡ no_tokens None
+pub from_zero : (n at : ℕ) (bs : List ℕ) → n ≡ 0 → tokens_from n at bs ≡ no_tokens None
 unfolding tokens_from
 from_zero zero at bs h = refl
 from_zero (suc n) at bs h = absurd (omega (arith, h))
@@ -21,14 +22,14 @@ from_step zero at bs h = absurd (omega (arith, h))
 from_step (suc n) at bs h = let e : suc n - 1 ≡ n = omega arith in ap (λ m. after_gap (gap false bs) at bs (tokens_from m)) (sym e)
 
 -- only white space and comments are left
-no_more : (n at : ℕ) (bs : List ℕ) → length bs ≤ gap false bs → tokens_from n at bs ≡ no_tokens None
+pub no_more : (n at : ℕ) (bs : List ℕ) → length bs ≤ gap false bs → tokens_from n at bs ≡ no_tokens None
 no_more zero at bs h = from_zero zero at bs refl
 no_more (suc n) at bs h =
     let f : nat_le (length bs) (gap false bs) ≡ true = yes_le _ _ h in
     from_step (suc n) at bs (omega arith) ∙ rw f
 
 -- no token stands here
-no_token : (n at : ℕ) (bs : List ℕ) → 0 < n → gap false bs < length bs → token_at (drop (gap false bs) bs) ≡ None
+pub no_token : (n at : ℕ) (bs : List ℕ) → 0 < n → gap false bs < length bs → token_at (drop (gap false bs) bs) ≡ None
     → tokens_from n at bs ≡ no_tokens (Some (at + gap false bs))
 no_token n at bs h s t =
     let f : nat_le (length bs) (gap false bs) ≡ false = grind (arith, nat_tests) in
@@ -38,7 +39,7 @@ token : Kind → ℕ → ℕ → Token
 token k start end = record { kind = k; start = start; end = end }
 
 -- a token stands here
-one_token : (n at : ℕ) (bs : List ℕ) (k : Kind) (len : ℕ) → 0 < n → gap false bs < length bs → token_at (drop (gap false bs) bs) ≡ Some (k, len)
+pub one_token : (n at : ℕ) (bs : List ℕ) (k : Kind) (len : ℕ) → 0 < n → gap false bs < length bs → token_at (drop (gap false bs) bs) ≡ Some (k, len)
     → tokens_from n at bs ≡ with_token (record { kind = k; start = at + gap false bs; end = at + gap false bs + len }) (tokens_from (n - 1) (at + gap false bs + len) (drop (gap false bs + len) bs))
 one_token n at bs k len h s t =
     let f : nat_le (length bs) (gap false bs) ≡ false = grind (arith, nat_tests) in
@@ -95,9 +96,9 @@ pub value_grows : (n : ℕ) (ds : List ℕ) → n ≤ value_from n ds
 value_grows n [] = omega arith
 value_grows n (d ∷ ds) = omega (arith, value_grows (n * 10 + (d - 48)) ds)
 
-pub no_number : (ds : List ℕ) (n : ℕ) (rest : List ℕ) → value_from n rest ≡ value_from 0 ds → 2 ^ 63 - 1 < n → number_of ds ≡ None
+pub no_number : (ds : List ℕ) (n : ℕ) (rest : List ℕ) → value_from n rest ≡ value_from 0 ds → GREATEST_NUMBER < n → number_kind ds ≡ None
 no_number ds n rest e h =
-    let f : nat_le (value_from 0 ds) (2 ^ 63 - 1) ≡ false = grind (arith, nat_tests, value_grows n rest) in
+    let f : nat_le (value_from 0 ds) (GREATEST_NUMBER) ≡ false = grind (arith, nat_tests, value_grows n rest) in
     rw f
 
 pub map_twice : (a b : ℕ) (o : Option ℕ) → option_map (λ n. a + n) (option_map (λ n. b + n) o) ≡ option_map (λ n. a + b + n) o
@@ -105,7 +106,7 @@ map_twice a b None = refl
 map_twice a b (Some n) = ap (λ m. Some m) (omega arith)
 
 -- one digit more makes the number too large
-pub too_large : (ds : List ℕ) (n i : ℕ) → value_from n (drop i ds) ≡ value_from 0 ds → i < length ds → 2 ^ 63 - 1 < n * 10 + (get_or ds i 0 - 48) → number_of ds ≡ None
+pub too_large : (ds : List ℕ) (n i : ℕ) → value_from n (drop i ds) ≡ value_from 0 ds → i < length ds → GREATEST_NUMBER < n * 10 + (get_or ds i 0 - 48) → number_kind ds ≡ None
 too_large ds n i e l h =
     let e2 : value_from (n * 10 + (get_or ds i 0 - 48)) (drop (suc i) ds) ≡ value_from 0 ds = ap (value_from n) (sym (drop-cons ds i 0 l)) ∙ e in
     no_number ds (n * 10 + (get_or ds i 0 - 48)) (drop (suc i) ds) e2 h

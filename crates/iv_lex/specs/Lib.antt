@@ -2,3 +2,4 @@ pub mod Words
 pub mod Reserved
 pub mod Tokens
 pub mod Longest
+pub mod IsTokens

@@ -1,11 +1,12 @@
--- The longest first: which characters are a token, and that a token is the longest run that begins at its place.
-use Rattle.std.specs.Prelude.{◌≡◌, ℕ, ◌^◌, ◌-◌, ◌≤◌, Bool, true, ◌&&◌, not, nat_eq, if◌then◌else◌, Some, List, [], ◌∷◌, ◌++◌, length, drop, All}
+-- The longest first: which characters are a token, and which are the longest run at the front of
+-- others.
+use Rattle.std.specs.Prelude.{◌≡◌, ℕ, ◌≤◌, Bool, true, ◌&&◌, not, nat_eq, if◌then◌else◌, Some, List, [], ◌∷◌, ◌++◌, length}
 use Rattle.std.specs.List.{list_all}
 use Rattle.iv_lex.specs.declared.kind.Kind.{Kind}
 use Rattle.iv_lex.specs.declared.kind.Kind.TheVariants as kind
 use Rattle.iv_lex.specs.Reserved.{word_kind}
-use Rattle.iv_lex.specs.Tokens.{is_letter, is_digit, is_word_byte, value_from, single_symbol, double_symbol, tokens_of}
-use Rattle.iv_lex.specs.Words.{slice}
+use Rattle.iv_lex.specs.declared.limits.TheConstants.{LONGEST_WORD, GREATEST_NUMBER}
+use Rattle.iv_lex.specs.Tokens.{is_letter, is_digit, is_word_byte, value_from, single_symbol, double_symbol}
 
 -- a letter or an underscore, and then letters, digits and underscores
 abbrev pub IsWord : List ℕ → Type 0
@@ -44,11 +45,12 @@ pub data IsRun (bs : List ℕ) : Type 0 where
   open_text : IsOpenText bs → IsRun bs
   symbol : (k : Kind) → IsSymbol bs k → IsRun bs
 
--- These characters are one token, of this kind: a word of at most 128, which is the reserved word that it is or else a name; a
--- number by its value, of at most 9,223,372,036,854,775,807; a text; or a symbol.
+-- These characters are one token, of this kind: a word that isn't too long, which is the reserved
+-- word that it is or else a name; a number by its value that isn't too large; a text; or a symbol.
 pub data IsToken (bs : List ℕ) (k : Kind) : Type 0 where
-  a_word : IsWord bs → length bs ≤ 128 → k ≡ word_kind bs → IsToken bs k
-  a_number : IsDigits bs → value_from 0 bs ≤ 2 ^ 63 - 1 → k ≡ kind.Number (value_from 0 bs) → IsToken bs k
+  a_word : IsWord bs → length bs ≤ LONGEST_WORD → k ≡ word_kind bs → IsToken bs k
+  a_number : IsDigits bs → value_from 0 bs ≤ GREATEST_NUMBER → k ≡ kind.Number (value_from 0 bs)
+      → IsToken bs k
   a_text : IsText bs → k ≡ kind.Quoted → IsToken bs k
   a_symbol : IsSymbol bs k → IsToken bs k
 
@@ -58,13 +60,3 @@ pub record IsLongestRun (bs front : List ℕ) : Type 0 where
   pub whole : bs ≡ front ++ rest
   pub run : IsRun front
   pub longest : (longer more : List ℕ) → bs ≡ longer ++ more → IsRun longer → length longer ≤ length front
-
--- each token is the longest run of characters that begins at its place, and a token of its kind
-abbrev pub TokensAreLongest : Type 0
-TokensAreLongest =
-    (text : List ℕ) → All (λ t. IsLongestRun (drop t.start text) (slice text t.start t.end) × IsToken (slice text t.start t.end) t.kind) (tokens_of text).tokens
-
--- where the fault stands no run begins, or the longest one is no token: too long a word, too large a number, or an open text
-abbrev pub FaultIsNoToken : Type 0
-FaultIsNoToken =
-    (text : List ℕ) (at : ℕ) → (tokens_of text).fault ≡ Some at → (front : List ℕ) (k : Kind) → IsLongestRun (drop at text) front → IsToken front k → ⊥

@@ -1,9 +1,10 @@
 -- Tokens: the longest first.
-use Rattle.std.specs.Prelude.{ℕ, zero, suc, ◌+◌, ◌*◌, ◌-◌, ◌^◌, Bool, true, false, not, ◌&&◌, ◌||◌, if◌then◌else◌, nat_le, nat_eq, Option, Some, None, option_map, unwrap_or, List, [], ◌∷◌, length, take, drop, position, slice_index}
+use Rattle.std.specs.Prelude.{ℕ, zero, suc, ◌+◌, ◌*◌, ◌-◌, Bool, true, false, not, ◌&&◌, ◌||◌, if◌then◌else◌, nat_le, nat_eq, Option, Some, None, option_map, unwrap_or, List, [], ◌∷◌, length, take, drop, position, slice_index}
 use Rattle.iv_lex.specs.declared.kind.Kind.{Kind}
 use Rattle.iv_lex.specs.declared.kind.Kind.TheVariants as kind
 use Rattle.iv_lex.specs.declared.token.Token.{Token}
 use Rattle.iv_lex.specs.declared.lexer.Lexed.{Lexed}
+use Rattle.iv_lex.specs.declared.limits.TheConstants.{LONGEST_WORD, GREATEST_NUMBER}
 use Rattle.iv_lex.specs.Reserved.{word_kind}
 
 -- space, tab, CR and LF
@@ -36,7 +37,7 @@ gap_step false byte next =
 
 abbrev pub gap_by : Option Bool → (Bool → ℕ) → ℕ
 gap_by None rest = 0
-gap_by (Some comment) rest = 1 + rest comment
+gap_by (Some comment) rest = suc (rest comment)
 
 -- how many bytes of white space and comments stand at the front, where a comment goes on there or not; a comment ends before LF
 abbrev pub gap : Bool → List ℕ → ℕ
@@ -48,14 +49,15 @@ abbrev pub value_from : ℕ → List ℕ → ℕ
 value_from before [] = before
 value_from before (d ∷ ds) = value_from (before * 10 + (d - 48)) ds
 
--- no number is larger than 9,223,372,036,854,775,807
-abbrev pub number_of : List ℕ → Option Kind
-number_of digits =
-    if nat_le (value_from 0 digits) (2 ^ 63 - 1) then Some (kind.Number (value_from 0 digits)) else None
+-- the number that digits write, where it isn't too large
+abbrev pub number_kind : List ℕ → Option Kind
+number_kind digits =
+    if nat_le (value_from 0 digits) GREATEST_NUMBER then Some (kind.Number (value_from 0 digits))
+    else None
 
--- no word is longer than 128
+-- the reserved word or the name that a word is, where it isn't too long
 abbrev pub short_word : List ℕ → Option Kind
-short_word word = if nat_le (length word) 128 then Some (word_kind word) else None
+short_word word = if nat_le (length word) LONGEST_WORD then Some (word_kind word) else None
 
 -- how many bytes there are up to the quote that ends a text, and with it; two quotes are one of the text
 abbrev pub closing : List ℕ → Option ℕ
@@ -96,23 +98,23 @@ single_symbol a =
 abbrev pub Front : Type 0
 Front = Option (Kind × ℕ)
 
-abbrev pub sized : ℕ → Option Kind → Front
-sized n None = None
-sized n (Some k) = Some (k, n)
+abbrev pub with_length : ℕ → Option Kind → Front
+with_length n None = None
+with_length n (Some k) = Some (k, n)
 
 abbrev pub symbol_by : Option Kind → Option Kind → Front
 symbol_by (Some k) single = Some (k, 2)
-symbol_by None single = sized 1 single
+symbol_by None single = with_length 1 single
 
 abbrev pub quoted_by : Option ℕ → Front
 quoted_by None = None
 quoted_by (Some n) = Some (kind.Quoted, n + 1)
 
 abbrev pub word_at : List ℕ → ℕ → Front
-word_at bs n = sized n (short_word (take n bs))
+word_at bs n = with_length n (short_word (take n bs))
 
 abbrev pub number_at : List ℕ → ℕ → Front
-number_at bs n = sized n (number_of (take n bs))
+number_at bs n = with_length n (number_kind (take n bs))
 
 abbrev pub symbol_at : List ℕ → Front
 symbol_at bs = symbol_by (double_symbol (slice_index bs 0) (slice_index bs 1)) (single_symbol (slice_index bs 0))
@@ -132,14 +134,15 @@ abbrev pub with_token : Token → Lexed → Lexed
 with_token t l = record { tokens = t ∷ l.tokens; fault = l.fault }
 
 -- the token at a place and what follows it, or the fault there
-abbrev pub continued : ℕ → Front → (ℕ → Lexed) → Lexed
-continued at None rest = no_tokens (Some at)
-continued at (Some p) rest = with_token (record { kind = p.0; start = at; end = at + p.1 }) (rest p.1)
+abbrev pub token_then : ℕ → Front → (ℕ → Lexed) → Lexed
+token_then at None rest = no_tokens (Some at)
+token_then at (Some p) rest =
+    with_token (record { kind = p.0; start = at; end = at + p.1 }) (rest p.1)
 
 abbrev pub after_gap : ℕ → ℕ → List ℕ → (ℕ → List ℕ → Lexed) → Lexed
 after_gap n at bs next =
     if nat_le (length bs) n then no_tokens None
-    else continued (at + n) (token_at (drop n bs)) (λ m. next (at + n + m) (drop (n + m) bs))
+    else token_then (at + n) (token_at (drop n bs)) (λ m. next (at + n + m) (drop (n + m) bs))
 
 -- the tokens of bytes that begin at this place, where there are at most so many
 unfoldable pub tokens_from : ℕ → ℕ → List ℕ → Lexed

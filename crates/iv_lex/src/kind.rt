@@ -5,7 +5,7 @@
 pub enum Kind {
     /// A word that is no reserved word.
     Name,
-    /// A number by its value, at most 9,223,372,036,854,775,807.
+    /// A number by its value, at most `GREATEST_NUMBER`.
     Number(u64),
     /// A text between single quotes.
     Quoted,

@@ -4,6 +4,7 @@
 mod kind;
 pub mod laws;
 mod lexer;
+mod limits;
 mod reserved;
 mod scan;
 mod spelling;
@@ -13,5 +14,6 @@ mod token;
 
 pub use kind::Kind;
 pub use lexer::{Lexed, tokens};
+pub use limits::{GREATEST_NUMBER, LONGEST_WORD};
 pub use spelling::{folded_text, unquoted_text};
 pub use token::Token;

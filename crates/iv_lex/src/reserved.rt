@@ -1,7 +1,7 @@
 //! Reserved words.
 ghost use Rattle.std.specs.Prelude.{◌≡◌};
 ghost use Rattle.std.specs.Str.{str_eq_ignore_ascii_case};
-ghost use Rattle.iv_lex.specs.Reserved.{spelled, word_among, word_kind};
+ghost use Rattle.iv_lex.specs.Reserved.{kind_spelling, word_among, word_kind};
 
 use crate::kind::Kind;
 
@@ -85,8 +85,8 @@ const RESERVED: [Kind; 76] = [
 ];
 
 // How a reserved word or a symbol is spelled.
-fn spelled(kind: Kind) -> &'static str
-    ensures { result.now ≡ spelled kind }
+fn kind_spelling(kind: Kind) -> &'static str
+    ensures { result.now ≡ kind_spelling kind }
 {
     match kind {
         Kind::Action => "ACTION",
@@ -193,14 +193,14 @@ fn word_among(kinds: &[Kind], word: &[u8]) -> Kind
     ensures { result ≡ word_among kinds.now word.now }
 {
     for kind in kinds {
-        if is_same_word(word, spelled(*kind)) {
+        if is_same_word(word, kind_spelling(*kind)) {
             return *kind;
         }
     }
     Kind::Name
 }
 
-// The reserved word or the name that a word is, whatever the case of its letters.
+/// The reserved word or the name that a word is, whatever the case of its letters.
 pub fn word_kind(word: &[u8]) -> Kind
     ensures { result ≡ word_kind word.now }
 {

@@ -1,8 +1,9 @@
 //! White space, words, numbers, texts and symbols at the front of bytes.
 ghost use Rattle.std.specs.Prelude.{◌≡◌, ◌+◌, ◌≤◌, ◌<◌, length, position, not, false, slice_index, IfSome, MatchOption, option_map};
-ghost use Rattle.iv_lex.specs.Tokens.{is_space, is_digit, is_letter, is_word_byte, front_length, gap_step, gap, number_of, short_word, closing, text_end, double_symbol, single_symbol, symbol_at, token_at, word_at, number_at, quoted_by};
+ghost use Rattle.iv_lex.specs.Tokens.{is_space, is_digit, is_letter, is_word_byte, front_length, gap_step, gap, number_kind, short_word, closing, text_end, double_symbol, single_symbol, symbol_at, token_at, word_at, number_at, quoted_by};
 
 use crate::kind::Kind;
+use crate::limits::{GREATEST_NUMBER, LONGEST_WORD};
 use crate::reserved::word_kind;
 
 fn is_space(byte: u8) -> bool
@@ -97,15 +98,13 @@ pub fn gap_length(bytes: &[u8]) -> usize
     count
 }
 
-const GREATEST: u128 = 9_223_372_036_854_775_807;
-
 fn number(digits: &[u8]) -> Option<Kind>
-    ensures { result ≡ number_of digits.now }
+    ensures { result ≡ number_kind digits.now }
 {
     let mut value = 0u64;
     for digit in digits {
         let next = u128::from(value) * 10 + u128::from(digit.saturating_sub(48));
-        if next > GREATEST {
+        if next > u128::from(GREATEST_NUMBER) {
             return None;
         }
         value = next as u64;
@@ -116,7 +115,7 @@ fn number(digits: &[u8]) -> Option<Kind>
 fn short_word(word: &[u8]) -> Option<Kind>
     ensures { result ≡ short_word word.now }
 {
-    if word.len() <= 128 {
+    if word.len() <= LONGEST_WORD {
         Some(word_kind(word))
     } else {
         None

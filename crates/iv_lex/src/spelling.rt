@@ -1,86 +1,65 @@
-//! The texts of tokens.
-ghost use Rattle.std.specs.Prelude.{◌≡◌, ◌<◌, [], ◌∷◌, length, IfOk, IfSome, MatchOption, ◌-◌, take, drop};
-ghost use Rattle.iv_lex.specs.Words.{folded, slice, single_quotes, unquoted};
+//! The characters of names and texts.
+ghost use Rattle.std.specs.Prelude.{◌≡◌, ◌+◌, ◌-◌, IfOk, option_copied, string_bytes};
+ghost use Rattle.iv_lex.specs.Words.{is_boundary, characters, folded_text, single_quotes, unquoted_text};
 
 use crate::token::Token;
 use iv_value::Text;
 use std::alloc::{AllocError, Global};
 
-// The bytes from one place up to another, where both stand in the text.
-fn part(text: &[u8], start: usize, end: usize) -> Option<&[u8]>
-    ensures { IfSome result (λ bytes. bytes.now ≡ slice text.now start end) }
+// Whether a character of the text begins at a place, or the text ends there.
+fn is_boundary(text: &str, at: usize) -> bool
+    ensures { result ≡ is_boundary text.now at }
 {
-    if start <= end && end <= text.len() {
+    text.is_char_boundary(at)
+}
+
+// The characters from one place up to another.
+fn characters(text: &str, start: usize, end: usize) -> Option<&str>
+    ensures { option_copied result ≡ characters text.now start end }
+{
+    if start <= end && is_boundary(text, start) && is_boundary(text, end) {
         Some(&text[start..end])
     } else {
         None
     }
 }
 
-fn text_of(alloc: Global, bytes: &[u8]) -> Result<Text, AllocError>
-    ensures { IfOk result (λ t. t ≡ bytes.now) }
+/// The characters of a name, folded to upper case. `None` where the token's place isn't a part of the
+/// text, or cuts a character.
+pub fn folded_text(alloc: Global, text: &str, token: Token) -> Result<Option<Text>, AllocError>
+    ensures { IfOk result (λ found. found ≡ folded_text text.now token) }
 {
-    match std::str::from_utf8(bytes) {
-        Ok(characters) => Text::new(alloc, characters),
-        Err(_) => Err(AllocError),
-    }
-}
-
-/// The characters of a token, folded to upper case. A token that isn't of this text may be refused as if
-/// for want of memory.
-pub fn folded_text(alloc: Global, text: &str, token: Token) -> Result<Text, AllocError>
-    ensures { IfOk result (λ t. t ≡ folded (slice text.now token.start token.end)) }
-{
-    let Some(bytes) = part(text.as_bytes(), token.start, token.end) else {
-        return Err(AllocError);
+    let Some(name) = characters(text, token.start, token.end) else {
+        return Ok(None);
     };
-    let upper = bytes.to_ascii_uppercase(alloc)?;
-    text_of(alloc, &upper)
+    let upper = name.to_ascii_uppercase(alloc)?;
+    Ok(Some(Text::new(alloc, &upper)?))
 }
 
-// The first byte with one quote for each two, and the bytes after it.
-fn first_single(bytes: &[u8]) -> Option<(u8, &[u8])>
-    ensures single { MatchOption result (bytes.now ≡ []) (λ p. single_quotes bytes.now ≡ p.0 ∷ single_quotes p.1.now) }
-    ensures fewer { IfSome result (λ p. length p.1.now < length bytes.now) }
+// The characters after the first byte of a token and before its last.
+fn inner(text: &str, token: Token) -> Option<&str>
+    ensures { option_copied result ≡ characters text.now (token.start + 1) (token.end - 1) }
 {
-    match bytes {
-        [39, 39, rest @ ..] => Some((39, rest)),
-        [first, rest @ ..] => Some((*first, rest)),
-        [] => None,
+    if token.start >= token.end {
+        return None;
     }
+    characters(text, token.start + 1, token.end - 1)
 }
 
-fn with_single_quotes(alloc: Global, bytes: &[u8]) -> Result<Vec<u8>, AllocError>
-    ensures { IfOk result (λ v. v.items ≡ single_quotes bytes.now) }
+fn with_single_quotes(alloc: Global, quoted: &str) -> Result<String, AllocError>
+    ensures { IfOk result (λ single. string_bytes single ≡ single_quotes quoted.now) }
 {
-    let mut single = Vec::new(alloc);
-    let mut rest = bytes;
-    while let Some((first, others)) = first_single(rest) {
-        single.push(first)?;
-        rest = others;
-    }
-    Ok(single)
+    quoted.replace(alloc, "''", "'")
 }
 
-// What stands between the first byte and the last.
-fn inner(bytes: &[u8]) -> &[u8]
-    ensures { result.now ≡ take (length bytes.now - 2) (drop 1 bytes.now) }
+/// The characters between the quotes of a text, with one quote for each two. `None` where the
+/// token's place isn't a part of the text, or cuts a character.
+pub fn unquoted_text(alloc: Global, text: &str, token: Token) -> Result<Option<Text>, AllocError>
+    ensures { IfOk result (λ found. found ≡ unquoted_text text.now token) }
 {
-    if bytes.len() >= 2 {
-        &bytes[1..bytes.len() - 1]
-    } else {
-        &[]
-    }
-}
-
-/// The characters between a token's quotes, with one quote for each two. A token that isn't of this text
-/// may be refused as if for want of memory.
-pub fn unquoted_text(alloc: Global, text: &str, token: Token) -> Result<Text, AllocError>
-    ensures { IfOk result (λ t. t ≡ unquoted (slice text.now token.start token.end)) }
-{
-    let Some(bytes) = part(text.as_bytes(), token.start, token.end) else {
-        return Err(AllocError);
+    let Some(quoted) = inner(text, token) else {
+        return Ok(None);
     };
-    let single = with_single_quotes(alloc, inner(bytes))?;
-    text_of(alloc, &single)
+    let single = with_single_quotes(alloc, quoted)?;
+    Ok(Some(Text::new(alloc, &single)?))
 }

@@ -1,6 +1,6 @@
 //! Tokens and their places.
-use crate::laws::the_longest_first;
-use crate::{Kind, folded_text, tokens, unquoted_text};
+use crate::laws::{characters_of_tokens, tokens_of_a_text};
+use crate::{Kind, Token, folded_text, tokens, unquoted_text};
 use std::test::Fail;
 
 #[test]
@@ -52,13 +52,39 @@ fn names_and_texts(rt: HostRuntime) -> Result<(), Fail> {
         return Ok(());
     };
     let folded = folded_text(rt.alloc(), text, *name)?;
-    assert_eq!(rt; folded.as_str(), "ROW_1");
+    assert_eq!(rt; folded.as_ref().map(|found| found.as_str()), Some("ROW_1"));
     let unquoted = unquoted_text(rt.alloc(), text, *quoted)?;
-    assert_eq!(rt; unquoted.as_str(), "it's");
+    assert_eq!(rt; unquoted.as_ref().map(|found| found.as_str()), Some("it's"));
     Ok(())
 }
 
 #[test]
-fn law_is_called(rt: HostRuntime) {
-    the_longest_first();
+fn places_outside_the_text(rt: HostRuntime) -> Result<(), Fail> {
+    // Where a token begins and ends in a text of nine bytes, with two in the third character.
+    let places = [
+        (0, 10),
+        (9, 10),
+        (3, 2),
+        (10, 10),
+        (0, 3),
+        (3, 9),
+        (usize::MAX, 0),
+        (usize::MAX, usize::MAX),
+    ];
+    for (start, end) in places {
+        let token = Token {
+            kind: Kind::Quoted,
+            start,
+            end,
+        };
+        let folded = folded_text(rt.alloc(), "ab\u{e9}cdefg", token)?;
+        assert!(rt; folded.is_none(), "from {start} to {end}");
+    }
+    Ok(())
+}
+
+#[test]
+fn laws_are_called(rt: HostRuntime) {
+    tokens_of_a_text();
+    characters_of_tokens();
 }

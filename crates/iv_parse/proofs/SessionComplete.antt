@@ -11,7 +11,7 @@ use Rattle.iv_syntax.specs.declared.statement.ConstraintList.TheVariants.{All, N
 use Rattle.iv_conditions.specs.After.{after, if_some, then_read}
 use Rattle.iv_tables.specs.Series.{Optional, read_series}
 use Rattle.iv_tables.specs.Data.{Names}
-use Rattle.iv_tables.specs.DataReaders.{Found, read_name}
+use Rattle.iv_tables.specs.DataReaders.{FoundPart, read_name}
 use Rattle.iv_tables.specs.Tables.{mode_kind}
 use Rattle.iv_tables.specs.TableReaders.{read_mode}
 use Rattle.iv_parse.specs.Statements.{IsConstraintList}
@@ -19,7 +19,7 @@ use Rattle.iv_parse.specs.Readers.{read_drop, read_start, read_commit, read_to, 
 use Rattle.iv_tables.proofs.DataComplete.{names_complete}
 
 -- a rule reads these words of a statement, and leaves the semicolon
-abbrev pub Reads_to_end : (List Word → Found Statement) → List Word → Statement → Type 0
+abbrev pub Reads_to_end : (List Word → FoundPart Statement) → List Word → Statement → Type 0
 Reads_to_end rule front s = (rest : List Word) → rule (front ++ plain kind.Semicolon ∷ rest) ≡ Some (s, plain kind.Semicolon ∷ rest)
 
 pub drop_complete : (n : List ℕ) → Reads_to_end (λ ws. if_some (after kind.Drop ws) read_drop None) (plain kind.Drop ∷ plain kind.Trigger ∷ name n ∷ []) (DropTrigger n)

@@ -24,7 +24,7 @@ use Rattle.iv_conditions.specs.After.{after, if_some, then_read, same}
 use Rattle.iv_tables.specs.Series.{Maybe, Optional, read_sequence, skip}
 use Rattle.iv_tables.specs.Data.{IsInsert}
 use Rattle.iv_tables.specs.DataReaders.{then_word, read_name, read_check}
-use Rattle.iv_tables.specs.ItemReaders.{read_transition, read_item_of, read_item}
+use Rattle.iv_tables.specs.ItemReaders.{read_transition, read_referencing_item_of, read_referencing_item}
 use Rattle.iv_parse.specs.Triggers.{side_kind, IsTransition, IsItem, IsReferencing, IsGranularity, IsWhen, IsAction, IsEndedAction, IsBody, time_kind, event_kind, IsTrigger}
 use Rattle.iv_parse.specs.TriggerReaders.{read_middle, trigger_of, some_items, read_referencing, read_each, read_granularity, read_when, read_set_variable, read_signal, read_other_action, read_delete_action, read_update_action, read_action, read_with_semicolon, read_ended_action, some_actions, read_block, read_single, read_body, read_action_time, read_other_event, read_event, read_occasion, read_trigger_rest, read_trigger}
 use Rattle.iv_tables.proofs.Complete.{Anything}
@@ -52,43 +52,43 @@ transition_reads transition.Row what ws (inl h) e i =
     ∙ ap (λ o. Some (transition.Row, if_some o (λ rest. rest) ws)) i
 transition_reads transition.Row what ws (inr h) e i = ap (λ z. read_transition (z ++ ws)) h
 
-item_of_reads : (r : Referencing) (what word rest : List Word) → IsTransition what r.what → Optional kind.As word → read_item_of r.side (what ++ (word ++ name r.name ∷ rest)) ≡ Some (Some r, rest)
-unfolding read_item_of
+item_of_reads : (r : Referencing) (what word rest : List Word) → IsTransition what r.what → Optional kind.As word → read_referencing_item_of r.side (what ++ (word ++ name r.name ∷ rest)) ≡ Some (Some r, rest)
+unfolding read_referencing_item_of
 item_of_reads r what word rest p o =
     ap (λ x. then_read x (λ w more. then_read (read_name (skip kind.As more)) (named r.side w)))
     (transition_reads r.what what (word ++ name r.name ∷ rest) p (as_begins kind.Table refl r.name word rest o) (as_begins kind.Row refl r.name word rest o))
     ∙ named_reads r.side r.what r.name word rest o
 
-side_reads : (s : Side) (ws : List Word) → read_item (plain (side_kind s) ∷ ws) ≡ read_item_of s ws
-unfolding read_item
+side_reads : (s : Side) (ws : List Word) → read_referencing_item (plain (side_kind s) ∷ ws) ≡ read_referencing_item_of s ws
+unfolding read_referencing_item
 side_reads side.Old ws = refl
 side_reads side.New ws = refl
 
-item_reads : (r : Referencing) (front rest : List Word) → IsItem front r → Anything rest → read_item (front ++ rest) ≡ Some (Some r, rest)
+item_reads : (r : Referencing) (front rest : List Word) → IsItem front r → Anything rest → read_referencing_item (front ++ rest) ≡ Some (Some r, rest)
 item_reads r front rest (what, word, p, o, w) e =
-    ap (λ z. read_item (z ++ rest)) w
+    ap (λ z. read_referencing_item (z ++ rest)) w
     ∙ side_reads r.side ((what ++ (word ++ name r.name ∷ [])) ++ rest)
-    ∙ ap (read_item_of r.side) (append_assoc what (word ++ name r.name ∷ []) rest ∙ ap (λ z. what ++ z) (append_assoc word (name r.name ∷ []) rest))
+    ∙ ap (read_referencing_item_of r.side) (append_assoc what (word ++ name r.name ∷ []) rest ∙ ap (λ z. what ++ z) (append_assoc word (name r.name ∷ []) rest))
     ∙ item_of_reads r what word rest p o
 
-item_parts : Parts IsItem Anything read_item
+item_parts : Parts IsItem Anything read_referencing_item
 item_parts = record { reads = item_reads; begins = λ r f ws p. tt }
 
-no_item : (ws : List Word) → after kind.Old ws ≡ None → after kind.New ws ≡ None → read_item ws ≡ Some (None, ws)
-unfolding read_item
+no_item : (ws : List Word) → after kind.Old ws ≡ None → after kind.New ws ≡ None → read_referencing_item ws ≡ Some (None, ws)
+unfolding read_referencing_item
 no_item ws h i =
-    ap (λ o. if_some o (read_item_of side.Old) (if_some (after kind.New ws) (read_item_of side.New) (Some (None, ws)))) h
-    ∙ ap (λ o. if_some o (read_item_of side.New) (Some (None, ws))) i
+    ap (λ o. if_some o (read_referencing_item_of side.Old) (if_some (after kind.New ws) (read_referencing_item_of side.New) (Some (None, ws)))) h
+    ∙ ap (λ o. if_some o (read_referencing_item_of side.New) (Some (None, ws))) i
 
 referencing_reads : (rs : List Referencing) (front rest : List Word) → IsReferencing front rs → after kind.Referencing rest ≡ None → after kind.Old rest ≡ None → after kind.New rest ≡ None
     → read_referencing (front ++ rest) ≡ Some (rs, rest)
 unfolding read_referencing
 referencing_reads [] front rest p e h i =
     ap (λ z. read_referencing (z ++ rest)) p
-    ∙ ap (λ o. if_some o (λ more. then_read (read_sequence read_item (length more) more) some_items) (Some ([], rest))) e
+    ∙ ap (λ o. if_some o (λ more. then_read (read_sequence read_referencing_item (length more) more) some_items) (Some ([], rest))) e
 referencing_reads (r ∷ rs) front rest (items, p, w) e h i =
     ap (λ z. read_referencing (z ++ rest)) w
-    ∙ ap (λ o. then_read o some_items) (sequence_complete IsItem Anything read_item item_parts (r ∷ rs) items rest p tt (no_item rest h i))
+    ∙ ap (λ o. then_read o some_items) (sequence_complete IsItem Anything read_referencing_item item_parts (r ∷ rs) items rest p tt (no_item rest h i))
 
 granularity_reads : (g : Granularity) (front rest : List Word) → IsGranularity front g → after kind.For rest ≡ None → read_granularity (front ++ rest) ≡ Some (g, rest)
 unfolding read_granularity read_each

@@ -20,7 +20,7 @@ use Rattle.iv_tables.specs.Series.{Sequence, Maybe, InParentheses, Optional, rea
 use Rattle.iv_tables.specs.Data.{IsShallow, IsShallowCondition, IsInsert, IsUpdate, IsDelete}
 use Rattle.iv_tables.specs.DataReaders.{read_name, read_shallow, read_check, read_insert, read_update, read_delete}
 use Rattle.iv_tables.specs.TableReaders.{read_quoted}
-use Rattle.iv_tables.specs.ItemReaders.{read_transition, read_item_of, read_item}
+use Rattle.iv_tables.specs.ItemReaders.{read_transition, read_referencing_item_of, read_referencing_item}
 use Rattle.iv_parse.specs.Triggers.{side_kind, IsTransition, IsItem, IsReferencing, IsGranularity, IsWhen, IsAction, IsEndedAction, IsBody, time_kind, event_kind, IsTrigger}
 use Rattle.iv_parse.specs.TriggerReaders.{read_middle, trigger_of, some_items, read_referencing, read_each, read_granularity, read_when, read_set_variable, read_signal, read_other_action, read_delete_action, read_update_action, read_action, read_with_semicolon, read_ended_action, some_actions, read_block, read_single, read_body, read_action_time, read_other_event, read_event, read_occasion, read_trigger_rest, read_trigger}
 use Rattle.iv_tables.proofs.Fronts.{Good, nothing_good, done_good, after_good, name_good, then_good, made_good, skip_good}
@@ -34,18 +34,18 @@ transition_good ws =
     (skip_good IsTransition kind.Row ws (λ rest. Some (transition.Row, rest))
     (λ front rest o. done_good _ rest transition.Row (subst (λ z. Optional kind.Row z) (sym (append-nil front)) o)))
 
-item_of_good : (s : Side) (ws : List Word) → Good (λ back r. Maybe IsItem (plain (side_kind s) ∷ back) r) ws (read_item_of s ws)
-unfolding read_item_of
+item_of_good : (s : Side) (ws : List Word) → Good (λ back r. Maybe IsItem (plain (side_kind s) ∷ back) r) ws (read_referencing_item_of s ws)
+unfolding read_referencing_item_of
 item_of_good s ws =
     then_good IsTransition _ ws (read_transition ws) _ (transition_good ws)
     (λ w what rest p. skip_good _ kind.As rest (λ left. then_read (read_name left) (λ n more. Some (Some (record { side = s; what = w; name = n }), more)))
     (λ word left o. name_good _ left _ (λ n more. done_good _ more (Some (record { side = s; what = w; name = n })) (what, word, p, o, refl))))
 
-item_good : (ws : List Word) → Good (Maybe IsItem) ws (read_item ws)
-unfolding read_item
+item_good : (ws : List Word) → Good (Maybe IsItem) ws (read_referencing_item ws)
+unfolding read_referencing_item
 item_good ws =
-    after_good (Maybe IsItem) kind.Old ws (read_item_of side.Old) _ (item_of_good side.Old)
-    (after_good (Maybe IsItem) kind.New ws (read_item_of side.New) _ (item_of_good side.New) (done_good (Maybe IsItem) ws None refl))
+    after_good (Maybe IsItem) kind.Old ws (read_referencing_item_of side.Old) _ (item_of_good side.Old)
+    (after_good (Maybe IsItem) kind.New ws (read_referencing_item_of side.New) _ (item_of_good side.New) (done_good (Maybe IsItem) ws None refl))
 
 some_items_good : (front ws : List Word) (rs : List Referencing) → Sequence IsItem front rs → Good (λ back xs. IsReferencing (plain kind.Referencing ∷ (front ++ back)) xs) ws (some_items rs ws)
 some_items_good front ws [] p = nothing_good _ ws
@@ -55,7 +55,7 @@ referencing_good : (ws : List Word) → Good IsReferencing ws (read_referencing 
 unfolding read_referencing
 referencing_good ws =
     after_good IsReferencing kind.Referencing ws _ _
-    (λ rest. then_good (Sequence IsItem) _ rest (read_sequence read_item (length rest) rest) some_items (sequence_good IsItem read_item item_good (length rest) rest)
+    (λ rest. then_good (Sequence IsItem) _ rest (read_sequence read_referencing_item (length rest) rest) some_items (sequence_good IsItem read_referencing_item item_good (length rest) rest)
     (λ rs front more p. some_items_good front more rs p))
     (done_good IsReferencing ws [] refl)
 

@@ -15,102 +15,104 @@ use Rattle.iv_syntax.specs.declared.trigger.TriggerAction.TheVariants as action
 use Rattle.iv_syntax.specs.declared.trigger.TriggerDefinition.{TriggerDefinition}
 use Rattle.iv_conditions.specs.After.{after, if_some, then_read}
 use Rattle.iv_tables.specs.Series.{read_sequence}
-use Rattle.iv_tables.specs.DataReaders.{Found, then_word, read_name, read_shallow, read_check, read_insert, read_update, read_delete}
+use Rattle.iv_tables.specs.DataReaders.{FoundPart, then_word, read_name, read_shallow, read_check, read_insert, read_update, read_delete}
 use Rattle.iv_tables.specs.TableReaders.{read_quoted}
-use Rattle.iv_tables.specs.ItemReaders.{read_item}
+use Rattle.iv_tables.specs.ItemReaders.{read_referencing_item}
 
 -- there is one at least
-abbrev pub some_items : List Referencing → List Word → Found (List Referencing)
+abbrev pub some_items : List Referencing → List Word → FoundPart (List Referencing)
 some_items [] ws = None
 some_items (r ∷ rs) ws = Some (r ∷ rs, ws)
 
-unfoldable pub read_referencing : List Word → Found (List Referencing)
+unfoldable pub read_referencing : List Word → FoundPart (List Referencing)
 read_referencing ws =
-    if_some (after kind.Referencing ws) (λ rest. then_read (read_sequence read_item (length rest) rest) some_items) (Some ([], ws))
+    if_some (after kind.Referencing ws)
+    (λ rest. then_read (read_sequence read_referencing_item (length rest) rest) some_items)
+    (Some ([], ws))
 
 -- after FOR EACH
-unfoldable pub read_each : List Word → Found Granularity
+unfoldable pub read_each : List Word → FoundPart Granularity
 read_each ws =
     if_some (after kind.Row ws) (λ rest. Some (granularity.Row, rest))
     (if_some (after kind.Statement ws) (λ rest. Some (granularity.Statement, rest)) None)
 
-unfoldable pub read_granularity : List Word → Found Granularity
+unfoldable pub read_granularity : List Word → FoundPart Granularity
 read_granularity ws = if_some (after kind.For ws) (λ rest. then_word kind.Each rest read_each) (Some (granularity.Statement, ws))
 
-unfoldable pub read_when : List Word → Found (Option Condition)
+unfoldable pub read_when : List Word → FoundPart (Option Condition)
 read_when ws = if_some (after kind.When ws) (λ rest. then_read (read_check rest) (λ c more. Some (Some c, more))) (Some (None, ws))
 
 -- after SET
-unfoldable pub read_set_variable : List Word → Found TriggerAction
+unfoldable pub read_set_variable : List Word → FoundPart TriggerAction
 read_set_variable ws =
     then_read (read_name ws) (λ r a. then_word kind.Period a (λ b. then_read (read_name b) (λ c d. then_word kind.Equals d
     (λ rest. then_read (read_shallow rest) (λ e more. Some (action.Set r c e, more))))))
 
-unfoldable pub read_signal : List Word → Found TriggerAction
+unfoldable pub read_signal : List Word → FoundPart TriggerAction
 read_signal ws = then_read (read_quoted ws) (λ t rest. Some (action.Signal t, rest))
 
-unfoldable pub read_other_action : List Word → Found TriggerAction
+unfoldable pub read_other_action : List Word → FoundPart TriggerAction
 read_other_action ws =
     if_some (after kind.Signal ws) read_signal
     (if_some (after kind.Set ws) read_set_variable None)
 
-unfoldable pub read_delete_action : List Word → Found TriggerAction
+unfoldable pub read_delete_action : List Word → FoundPart TriggerAction
 read_delete_action ws =
     if_some (after kind.Delete ws) (λ rest. then_read (read_delete rest) (λ d more. Some (action.Delete d, more)))
     (read_other_action ws)
 
-unfoldable pub read_update_action : List Word → Found TriggerAction
+unfoldable pub read_update_action : List Word → FoundPart TriggerAction
 read_update_action ws =
     if_some (after kind.Update ws) (λ rest. then_read (read_update rest) (λ u more. Some (action.Update u, more)))
     (read_delete_action ws)
 
-unfoldable pub read_action : List Word → Found TriggerAction
+unfoldable pub read_action : List Word → FoundPart TriggerAction
 read_action ws =
     if_some (after kind.Insert ws) (λ rest. then_read (read_insert rest) (λ i more. Some (action.Insert i, more)))
     (read_update_action ws)
 
 -- an action and its semicolon
-unfoldable pub read_with_semicolon : List Word → Found TriggerAction
+unfoldable pub read_with_semicolon : List Word → FoundPart TriggerAction
 read_with_semicolon ws = then_read (read_action ws) (λ a rest. then_word kind.Semicolon rest (λ more. Some (a, more)))
 
 -- an action and its semicolon, up to END
-unfoldable pub read_ended_action : List Word → Found (Option TriggerAction)
+unfoldable pub read_ended_action : List Word → FoundPart (Option TriggerAction)
 read_ended_action ws =
     if_some (after kind.End ws) (λ rest. Some (None, ws)) (then_read (read_with_semicolon ws) (λ a rest. Some (Some a, rest)))
 
-abbrev pub some_actions : List TriggerAction → List Word → Found (List TriggerAction)
+abbrev pub some_actions : List TriggerAction → List Word → FoundPart (List TriggerAction)
 some_actions [] ws = None
 some_actions (a ∷ bs) ws = then_word kind.End ws (λ rest. Some (a ∷ bs, rest))
 
 -- after BEGIN
-unfoldable pub read_block : List Word → Found (List TriggerAction)
+unfoldable pub read_block : List Word → FoundPart (List TriggerAction)
 read_block ws = then_word kind.Atomic ws (λ rest. then_read (read_sequence read_ended_action (length rest) rest) some_actions)
 
-unfoldable pub read_single : List Word → Found (List TriggerAction)
+unfoldable pub read_single : List Word → FoundPart (List TriggerAction)
 read_single ws = then_read (read_action ws) (λ a rest. Some (a ∷ [], rest))
 
-unfoldable pub read_body : List Word → Found (List TriggerAction)
+unfoldable pub read_body : List Word → FoundPart (List TriggerAction)
 read_body ws = if_some (after kind.Begin ws) read_block (read_single ws)
 
-unfoldable pub read_action_time : List Word → Found ActionTime
+unfoldable pub read_action_time : List Word → FoundPart ActionTime
 read_action_time ws =
     if_some (after kind.Before ws) (λ rest. Some (action_time.Before, rest))
     (if_some (after kind.After ws) (λ rest. Some (action_time.After, rest)) None)
 
-unfoldable pub read_other_event : List Word → Found TriggerEvent
+unfoldable pub read_other_event : List Word → FoundPart TriggerEvent
 read_other_event ws =
     if_some (after kind.Update ws) (λ rest. Some (event.Update, rest))
     (if_some (after kind.Delete ws) (λ rest. Some (event.Delete, rest)) None)
 
-unfoldable pub read_event : List Word → Found TriggerEvent
+unfoldable pub read_event : List Word → FoundPart TriggerEvent
 read_event ws = if_some (after kind.Insert ws) (λ rest. Some (event.Insert, rest)) (read_other_event ws)
 
 -- the time, the event and ON
-unfoldable pub read_occasion : List Word → Found (ActionTime × TriggerEvent)
+unfoldable pub read_occasion : List Word → FoundPart (ActionTime × TriggerEvent)
 read_occasion ws = then_read (read_action_time ws) (λ t rest. then_read (read_event rest) (λ e more. then_word kind.On more (λ left. Some ((t, e), left))))
 
 -- what stands between the table and the body
-unfoldable pub read_middle : List Word → Found (List Referencing × Granularity × Option Condition)
+unfoldable pub read_middle : List Word → FoundPart (List Referencing × Granularity × Option Condition)
 read_middle ws =
     then_read (read_referencing ws) (λ rs a. then_read (read_granularity a) (λ g b. then_read (read_when b) (λ w rest. Some ((rs, g, w), rest))))
 
@@ -119,11 +121,12 @@ trigger_of n o table m body =
     record { name = n; time = o.0; event = o.1; table = table; referencing = m.0; granularity = m.1; when = m.2; body = body }
 
 -- from what follows the table on
-unfoldable pub read_trigger_rest : List ℕ → ActionTime × TriggerEvent → List ℕ → List Word → Found TriggerDefinition
+unfoldable pub read_trigger_rest : List ℕ → ActionTime × TriggerEvent → List ℕ → List Word
+    → FoundPart TriggerDefinition
 read_trigger_rest n o table ws =
     then_read (read_middle ws) (λ m a. then_read (read_body a) (λ body rest. Some (trigger_of n o table m body, rest)))
 
 -- after TRIGGER
-unfoldable pub read_trigger : List Word → Found TriggerDefinition
+unfoldable pub read_trigger : List Word → FoundPart TriggerDefinition
 read_trigger ws =
     then_read (read_name ws) (λ n a. then_read (read_occasion a) (λ o b. then_read (read_name b) (λ t rest. read_trigger_rest n o t rest)))

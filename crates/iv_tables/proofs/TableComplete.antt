@@ -32,7 +32,7 @@ use Rattle.iv_tables.specs.Series.{Series, Sequence, Maybe, InParentheses, read_
 use Rattle.iv_tables.specs.Data.{Names}
 use Rattle.iv_tables.specs.DataReaders.{then_word, read_name}
 use Rattle.iv_tables.specs.Tables.{mode_kind, IsVarchar, IsType, IsLiteral, IsDefault, IsConstraintName, IsDeferrable, IsInitially, IsTime, match_kind, IsMatch, action_words, IsOn, AreActions, IsReferences, IsColumnRule, IsColumnConstraint, IsTableRule, IsTableConstraint, IsElement}
-use Rattle.iv_tables.specs.TableReaders.{read_length, read_varchar, read_type, read_literal, read_default, read_constraint_name, read_deferrable, read_mode, read_initially, read_time, read_match_type, read_match, read_strict_action, read_action, read_on, read_actions, read_reference_columns, read_references, read_null_rule, read_primary_rule, read_plain_rule, read_condition_rule, read_column_rule, column_constraint_of, read_column_constraint, read_column_constraints, read_column, read_key, read_primary_key, read_foreign_key, read_check_rule, read_unique_rule, read_table_rule, read_table_constraint, read_column_element, read_element, read_elements}
+use Rattle.iv_tables.specs.TableReaders.{read_length, read_varchar, read_type, read_literal, read_default, read_constraint_name, read_deferrable, read_mode, read_initially, read_time, read_match_type, read_match, read_strict_action, read_referential_action, read_on, read_actions, read_reference_columns, read_references, read_null_rule, read_primary_rule, read_plain_rule, read_condition_rule, read_column_rule, column_constraint_of, read_column_constraint, read_column_constraints, read_column, read_key, read_primary_key, read_foreign_key, read_check_rule, read_unique_rule, read_table_rule, read_table_constraint, read_column_element, read_element, read_elements}
 use Rattle.iv_tables.proofs.Complete.{Reads_all, Anything, series_complete, enclosed_complete}
 use Rattle.iv_tables.proofs.OptionalComplete.{maybe_after, either_after, either_order_complete, Parts, sequence_complete}
 use Rattle.iv_tables.proofs.DataComplete.{names_complete, column_list_reads, check_complete, other_word}
@@ -126,8 +126,8 @@ match_reads None front rest p e =
     ∙ ap (λ o. if_some o (λ more. then_read (read_match_type more) (λ m left. Some (Some m, left))) (Some (None, rest))) e
 match_reads (Some m) front rest p e = ap (λ z. read_match (z ++ rest)) p ∙ ap (λ o. then_read o (λ m left. Some (Some m, left))) (match_type_reads m rest)
 
-action_reads : (a : ReferentialAction) (rest : List Word) → read_action (action_words a ++ rest) ≡ Some (a, rest)
-unfolding read_action read_strict_action
+action_reads : (a : ReferentialAction) (rest : List Word) → read_referential_action (action_words a ++ rest) ≡ Some (a, rest)
+unfolding read_referential_action read_strict_action
 action_reads NoAction rest = refl
 action_reads Restrict rest = refl
 action_reads Cascade rest = refl
@@ -149,7 +149,7 @@ update_apart a front rest h = ap (λ z. read_on kind.Delete (z ++ rest)) h ∙ a
 no_on : (event : Kind) (ws : List Word) → after kind.On ws ≡ None → read_on event ws ≡ Some (None, ws)
 unfolding read_on
 no_on event ws e =
-    ap (λ o. if_some o (λ rest. if_some (after event rest) (λ more. then_read (read_action more) (λ a left. Some (Some a, left))) (Some (None, ws))) (Some (None, ws))) e
+    ap (λ o. if_some o (λ rest. if_some (after event rest) (λ more. then_read (read_referential_action more) (λ a left. Some (Some a, left))) (Some (None, ws))) (Some (None, ws))) e
 
 actions_read : (a b : Option ReferentialAction) (front rest : List Word) → AreActions front (a, b) → after kind.On rest ≡ None → read_actions (front ++ rest) ≡ Some ((a, b), rest)
 unfolding read_actions

@@ -21,7 +21,7 @@ use Rattle.iv_tables.specs.Series.{Series, Sequence, Maybe, InParentheses, InEit
 use Rattle.iv_tables.specs.Data.{IsName, Names, IsColumnList, IsShallowCondition}
 use Rattle.iv_tables.specs.DataReaders.{read_name, read_column_list, read_check}
 use Rattle.iv_tables.specs.Tables.{mode_kind, IsVarchar, IsType, IsLiteral, IsDefault, IsConstraintName, IsDeferrable, IsInitially, IsTime, match_kind, IsMatch, action_words, IsOn, AreActions, IsReferences, IsColumnRule, IsColumnConstraint, IsColumn, IsTableRule, IsTableConstraint, IsElement}
-use Rattle.iv_tables.specs.TableReaders.{read_number, read_quoted, read_length, read_varying, read_varchar, read_type, read_literal, read_default, read_constraint_name, read_deferrable, read_mode, read_initially, read_time, read_match_type, read_match, read_set_action, read_strict_action, read_action, read_on, read_actions, read_reference_columns, read_references, read_null_rule, read_primary_rule, read_plain_rule, read_condition_rule, read_column_rule, column_constraint_of, read_column_constraint, read_column_constraints, read_column, read_key, read_primary_key, read_foreign_key, read_check_rule, read_unique_rule, read_table_rule, read_table_constraint, read_column_element, read_element, read_elements}
+use Rattle.iv_tables.specs.TableReaders.{read_number, read_quoted, read_length, read_varying, read_varchar, read_type, read_literal, read_default, read_constraint_name, read_deferrable, read_mode, read_initially, read_time, read_match_type, read_match, read_set_action, read_strict_action, read_referential_action, read_on, read_actions, read_reference_columns, read_references, read_null_rule, read_primary_rule, read_plain_rule, read_condition_rule, read_column_rule, column_constraint_of, read_column_constraint, read_column_constraints, read_column, read_key, read_primary_key, read_foreign_key, read_check_rule, read_unique_rule, read_table_rule, read_table_constraint, read_column_element, read_element, read_elements}
 use Rattle.iv_tables.proofs.Fronts.{Good, nothing_good, done_good, after_good, name_good, then_good, made_good, series_good, enclosed_good, ahead_good}
 use Rattle.iv_tables.proofs.OptionalSound.{IsNumber, IsQuoted, IsSign, number_good, quoted_good, sign_good, found_good, sequence_good, either_order_good}
 use Rattle.iv_tables.proofs.DataSound.{one_name_good, names_good, column_list_good, check_good}
@@ -126,8 +126,8 @@ match_good ws =
 abbrev pub IsAction : List Word → ReferentialAction → Type 0
 IsAction ws a = ws ≡ action_words a
 
-action_good : (ws : List Word) → Good IsAction ws (read_action ws)
-unfolding read_action read_strict_action
+action_good : (ws : List Word) → Good IsAction ws (read_referential_action ws)
+unfolding read_referential_action read_strict_action
 action_good ws =
     after_good IsAction kind.Cascade ws _ _ (λ rest. done_good _ rest Cascade refl)
     (after_good IsAction kind.Set ws read_set_action _
@@ -141,7 +141,7 @@ on_good : (event : Kind) (ws : List Word) → Good (Maybe (IsOn event)) ws (read
 unfolding read_on
 on_good event ws =
     ahead_good (Maybe (IsOn event)) kind.On event ws _ (Some (None, ws))
-    (λ more. made_good IsAction _ more (read_action more) Some (action_good more) (λ a front p. ap (λ z. plain kind.On ∷ plain event ∷ z) p))
+    (λ more. made_good IsAction _ more (read_referential_action more) Some (action_good more) (λ a front p. ap (λ z. plain kind.On ∷ plain event ∷ z) p))
     (done_good (Maybe (IsOn event)) ws None refl)
 
 actions_good : (ws : List Word) → Good AreActions ws (read_actions ws)

@@ -21,6 +21,7 @@ use Rattle.iv_syntax.specs.declared.statement.Select.{Select}
 use Rattle.iv_syntax.specs.declared.statement.Select.TheVariants as select
 use Rattle.iv_conditions.specs.Conditions.{IsCondition, IsFrom, condition_depth}
 use Rattle.iv_conditions.specs.ItemDepth.{where_depth}
+use Rattle.iv_conditions.specs.declared.limits.TheConstants.{DEEPEST}
 use Rattle.iv_tables.specs.Series.{Series, Maybe, InParentheses}
 
 abbrev pub IsName : List Word → List ℕ → Type 0
@@ -30,13 +31,13 @@ IsName ws n = ws ≡ name n ∷ []
 abbrev pub Names : List Word → List (List ℕ) → Type 0
 Names = Series IsName
 
--- an expression whose tree is no deeper than 64
+-- an expression whose tree is no deeper than DEEPEST
 abbrev pub IsShallow : List Word → Expression → Type 0
-IsShallow ws e = IsExpression ws e × (depth e ≤ 64)
+IsShallow ws e = IsExpression ws e × (depth e ≤ DEEPEST)
 
--- a condition whose tree is no deeper than 64
+-- a condition whose tree is no deeper than DEEPEST
 abbrev pub IsShallowCondition : List Word → Condition → Type 0
-IsShallowCondition ws c = IsCondition ws c × (condition_depth c ≤ 64)
+IsShallowCondition ws c = IsCondition ws c × (condition_depth c ≤ DEEPEST)
 
 -- expression | DEFAULT
 abbrev pub IsValue : List Word → ValueOrDefault → Type 0
@@ -52,9 +53,9 @@ abbrev pub IsColumnList : List Word → Option (List (List ℕ)) → Type 0
 IsColumnList ws None = ws ≡ []
 IsColumnList ws (Some ns) = InParentheses Names ws ns
 
--- FROM, a table, its alias and WHERE with a condition no deeper than 64
+-- FROM, a table, its alias and WHERE with a condition no deeper than DEEPEST
 abbrev pub IsShallowFrom : List Word → RangeName × Option Condition → Type 0
-IsShallowFrom ws p = IsFrom ws p.0 p.1 × (where_depth p.1 ≤ 64)
+IsShallowFrom ws p = IsFrom ws p.0 p.1 × (where_depth p.1 ≤ DEEPEST)
 
 -- * | expression {, expression}
 abbrev pub IsSelectList : List Word → SelectList → Type 0

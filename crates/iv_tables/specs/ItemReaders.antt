@@ -9,18 +9,18 @@ use Rattle.iv_syntax.specs.declared.trigger.TransitionName.TheVariants as transi
 use Rattle.iv_syntax.specs.declared.trigger.Referencing.{Referencing}
 use Rattle.iv_conditions.specs.After.{after, if_some, then_read}
 use Rattle.iv_tables.specs.Series.{skip}
-use Rattle.iv_tables.specs.DataReaders.{Found, read_name}
+use Rattle.iv_tables.specs.DataReaders.{FoundPart, read_name}
 
-unfoldable pub read_transition : List Word → Found TransitionName
+unfoldable pub read_transition : List Word → FoundPart TransitionName
 read_transition ws = if_some (after kind.Table ws) (λ rest. Some (transition.Table, rest)) (Some (transition.Row, skip kind.Row ws))
 
 -- after OLD or NEW
-unfoldable pub read_item_of : Side → List Word → Found (Option Referencing)
-read_item_of s ws =
+unfoldable pub read_referencing_item_of : Side → List Word → FoundPart (Option Referencing)
+read_referencing_item_of s ws =
     then_read (read_transition ws) (λ w rest. then_read (read_name (skip kind.As rest)) (λ n more. Some (Some (record { side = s; what = w; name = n }), more)))
 
 -- an item, where one begins
-unfoldable pub read_item : List Word → Found (Option Referencing)
-read_item ws =
-    if_some (after kind.Old ws) (read_item_of side.Old)
-    (if_some (after kind.New ws) (read_item_of side.New) (Some (None, ws)))
+unfoldable pub read_referencing_item : List Word → FoundPart (Option Referencing)
+read_referencing_item ws =
+    if_some (after kind.Old ws) (read_referencing_item_of side.Old)
+    (if_some (after kind.New ws) (read_referencing_item_of side.New) (Some (None, ws)))

@@ -4,7 +4,7 @@ ghost use Rattle.iv_lex.specs.Words.{words};
 ghost use Rattle.iv_conditions.specs.After.{is_plain};
 ghost use Rattle.iv_conditions.specs.Seen.{with_words};
 ghost use Rattle.iv_tables.specs.Series.{read_either_order};
-ghost use Rattle.iv_tables.specs.TableReaders.{read_match_type, read_match, read_set_action, read_strict_action, read_action, read_on, read_actions, read_reference_columns, read_references, read_null_rule, read_primary_rule, read_plain_rule, read_condition_rule, read_column_rule, column_constraint_of, read_column_constraint, read_key, read_primary_key, read_foreign_key, read_check_rule, read_unique_rule, read_table_rule, read_table_constraint};
+ghost use Rattle.iv_tables.specs.TableReaders.{read_match_type, read_match, read_set_action, read_strict_action, read_referential_action, read_on, read_actions, read_reference_columns, read_references, read_null_rule, read_primary_rule, read_plain_rule, read_condition_rule, read_column_rule, column_constraint_of, read_column_constraint, read_key, read_primary_key, read_foreign_key, read_check_rule, read_unique_rule, read_table_rule, read_table_constraint};
 
 use crate::inserting::column_list;
 use crate::parts::ParseSome;
@@ -73,9 +73,9 @@ fn strict_action(tokens: &[Token]) -> Option<(ReferentialAction, &[Token])>
     }
 }
 
-#[tactic(auto, unfolding(crate::specs::TableReaders::read_action))]
+#[tactic(auto, unfolding(crate::specs::TableReaders::read_referential_action))]
 fn action(tokens: &[Token]) -> Option<(ReferentialAction, &[Token])>
-    ensures { (text : List ℕ) → with_words text result ≡ read_action (words text tokens.now) }
+    ensures { (text : List ℕ) → with_words text result ≡ read_referential_action (words text tokens.now) }
 {
     if let Some(rest) = after(Kind::Cascade, tokens) {
         return Some((ReferentialAction::Cascade, rest));

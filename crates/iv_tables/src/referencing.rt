@@ -2,7 +2,7 @@
 ghost use Rattle.std.specs.Prelude.{◌≡◌, IfOk, ℕ, List, Some};
 ghost use Rattle.iv_lex.specs.Words.{words};
 ghost use Rattle.iv_conditions.specs.Seen.{with_words};
-ghost use Rattle.iv_tables.specs.ItemReaders.{read_transition, read_item_of, read_item};
+ghost use Rattle.iv_tables.specs.ItemReaders.{read_transition, read_referencing_item_of, read_referencing_item};
 
 use crate::parts::ParseSome;
 use crate::repeated::skip;
@@ -24,14 +24,14 @@ fn transition(tokens: &[Token]) -> (TransitionName, &[Token])
 }
 
 // An item, after OLD or NEW.
-#[tactic(auto, unfolding(crate::specs::ItemReaders::read_item_of))]
+#[tactic(auto, unfolding(crate::specs::ItemReaders::read_referencing_item_of))]
 fn item_of<'a>(
     alloc: Global,
     text: &str,
     side: Side,
     tokens: &'a [Token],
 ) -> Result<Option<(Option<Referencing>, &'a [Token])>, AllocError>
-    ensures { IfOk result (λ r. with_words text.now r ≡ read_item_of side (words text.now tokens.now)) }
+    ensures { IfOk result (λ r. with_words text.now r ≡ read_referencing_item_of side (words text.now tokens.now)) }
 {
     let (what, rest) = transition(tokens);
     match name(alloc, text, skip(Kind::As, rest))? {
@@ -41,9 +41,9 @@ fn item_of<'a>(
 }
 
 impl ParseSome for Referencing {
-    ghost found_some = { read_item };
+    ghost found_some = { read_referencing_item };
 
-    #[tactic(auto, unfolding(crate::specs::ItemReaders::read_item))]
+    #[tactic(auto, unfolding(crate::specs::ItemReaders::read_referencing_item))]
     fn parse_some<'a>(
         alloc: Global,
         text: &str,

@@ -35,7 +35,10 @@ pub fn quoted<'a>(
         return Ok(None);
     };
     match first.kind {
-        Kind::Quoted => Ok(Some((unquoted_text(alloc, text, *first)?, rest))),
+        Kind::Quoted => match unquoted_text(alloc, text, *first)? {
+            Some(quoted) => Ok(Some((quoted, rest))),
+            None => Ok(None),
+        },
         _ => Ok(None),
     }
 }
