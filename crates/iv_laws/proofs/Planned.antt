@@ -24,7 +24,7 @@ use Rattle.iv_machine.specs.declared.database.Database.{Database}
 use Rattle.iv_machine.specs.Context.{Failure}
 use Rattle.iv_machine.specs.Databases.{scan, is_deferred, first}
 use Rattle.iv_machine.specs.Levels.{Finished, level}
-use Rattle.iv_machine.specs.Machine.{State, Outcome, Found, empty_state, accept, refuse, refuse_first, context_of, changed, answered, selected, counted, rollback_by, commit_by, first_violation, savepoint_named, without_name, released, returned, is_deferrable, members, with_modes, made_immediate, modes_set, constraints_set, with_schema, defined, queried, transacted, performed, transaction_cause, plan_occasion, unless}
+use Rattle.iv_machine.specs.Machine.{State, Outcome, NamedSavepoint, empty_state, accept, refuse, refuse_first, context_of, level_outcome, answer_outcome, rows_answer, count_answer, rollback_by, commit_by, first_violation, savepoint_named, without_name, release_outcome, rollback_to_outcome, is_deferrable, constraints_meant, with_modes, first_made_immediate, modes_outcome, set_constraints_outcome, with_schema, schema_outcome, query_outcome, transaction_outcome, plan_outcome, transaction_cause, plan_occasion, outcome_unless}
 use Rattle.iv_machine.specs.Fitting.{Upon}
 use Rattle.iv_machine.specs.Proposals.{table_of}
 use Rattle.iv_machine.proofs.Scans.{more_constraints}
@@ -105,7 +105,7 @@ triggers_reachable s c e tables constraints fit numbers h =
       placed = subst (λ ts. Placed (length ts) s.database.rows) (sym tables) free.placed;
     }) (triggers_fit_more s.schema c c.triggers (omega (arith, ap length tables)) fit) numbers h
 
-defined_reachable : (s : State) (p : SchemaPlan) → s.start ≡ None → SchemaPlanFits s.schema p → Reachable s → Reachable (defined s p).state
+defined_reachable : (s : State) (p : SchemaPlan) → s.start ≡ None → SchemaPlanFits s.schema p → Reachable s → Reachable (schema_outcome s p).state
 defined_reachable s (schema.CreateTable t ks) e u h = table_reachable s t ks e u h
 defined_reachable s (schema.AddConstraint k) e u h =
     added_reachable s k (first (scan s.database.rows (with_constraint s.schema k).constraints (λ id. id == length s.schema.constraints))) e refl h
@@ -119,7 +119,7 @@ defined_reachable s (schema.DropTrigger id) e u h =
 -- ---- INSERT, UPDATE, DELETE and SELECT
 
 changed_reachable : (s : State) (d : DataStatement) (r : Result Finished Failure)
-    → level (s.limits.depth - 1) (context_of s) d no_frame s.database s.limits.changes ≡ r → IsThere s.schema (table_of d) → Reachable s → Reachable (changed s r).state
+    → level (s.limits.depth - 1) (context_of s) d no_frame s.database s.limits.changes ≡ r → IsThere s.schema (table_of d) → Reachable s → Reachable (level_outcome s r).state
 changed_reachable s d (Err f) e u h = h
 changed_reachable s d (Ok l) e u h =
     begun_reachable s l.database (record {
@@ -128,13 +128,13 @@ changed_reachable s d (Ok l) e u h =
       placed = level_places (s.limits.depth - 1) (context_of s) d no_frame s.database s.limits.changes l h.bodies u e h.now.placed;
     }) h
 
-answered_reachable : (s : State) (r : Result Answer Cause) → Reachable s → Reachable (answered s r).state
+answered_reachable : (s : State) (r : Result Answer Cause) → Reachable s → Reachable (answer_outcome s r).state
 answered_reachable s (Ok a) h = h
 answered_reachable s (Err c) h = h
 
-queried_reachable : (s : State) (p : QueryPlan) → Reachable s → Reachable (queried s p).state
-queried_reachable s (query.Rows t outputs filter) h = answered_reachable s (selected s t outputs filter) h
-queried_reachable s (query.Count t filter) h = answered_reachable s (counted s t filter) h
+queried_reachable : (s : State) (p : QueryPlan) → Reachable s → Reachable (query_outcome s p).state
+queried_reachable s (query.Rows t outputs filter) h = answered_reachable s (rows_answer s t outputs filter) h
+queried_reachable s (query.Count t filter) h = answered_reachable s (count_answer s t filter) h
 
 -- ---- COMMIT and ROLLBACK
 
@@ -150,13 +150,13 @@ commit_reachable s (Some d) (Some f) e free h = ended_reachable s d free h
 
 -- ---- savepoints
 
-released_reachable : (s : State) (start : Database) (name : List ℕ) (found : Option Found) → s.start ≡ Some start
-    → savepoint_named name s.savepoints ≡ found → Reachable s → Reachable (released s found).state
+released_reachable : (s : State) (start : Database) (name : List ℕ) (found : Option NamedSavepoint) → s.start ≡ Some start
+    → savepoint_named name s.savepoints ≡ found → Reachable s → Reachable (release_outcome s found).state
 released_reachable s start name None e is h = h
 released_reachable s start name (Some x) e is h = inside_reachable s start s.database s.modes x.older e h.now (named_firm s.schema name s.savepoints x is h.saves).1 h
 
-returned_reachable : (s : State) (start : Database) (name : List ℕ) (found : Option Found) → s.start ≡ Some start
-    → savepoint_named name s.savepoints ≡ found → Reachable s → Reachable (returned s found).state
+returned_reachable : (s : State) (start : Database) (name : List ℕ) (found : Option NamedSavepoint) → s.start ≡ Some start
+    → savepoint_named name s.savepoints ≡ found → Reachable s → Reachable (rollback_to_outcome s found).state
 returned_reachable s start name None e is h = h
 returned_reachable s start name (Some x) e is h =
     let firm = named_firm s.schema name s.savepoints x is h.saves in
@@ -165,7 +165,7 @@ returned_reachable s start name (Some x) e is h =
 -- ---- SET CONSTRAINTS
 
 modes_reachable : (s : State) (start : Database) (modes : List ConstraintMode) (fault : Option Fault) → s.start ≡ Some start
-    → made_immediate s modes ≡ fault → Reachable s → Reachable (refuse_first s Violation fault (accept (record s { modes = modes }) Done)).state
+    → first_made_immediate s modes ≡ fault → Reachable s → Reachable (refuse_first s Violation fault (accept (record s { modes = modes }) Done)).state
 modes_reachable s start modes (Some f) e is h = h
 modes_reachable s start modes None e is h =
     inside_reachable s start s.database modes s.savepoints e (record {
@@ -174,17 +174,17 @@ modes_reachable s start modes None e is h =
       placed = h.now.placed;
     }) h.saves h
 
-set_reachable : (s : State) (start : Database) (ids : List ℕ) (m : ConstraintMode) → s.start ≡ Some start → Reachable s → Reachable (constraints_set s ids m).state
+set_reachable : (s : State) (start : Database) (ids : List ℕ) (m : ConstraintMode) → s.start ≡ Some start → Reachable s → Reachable (set_constraints_outcome s ids m).state
 set_reachable s start ids m e h =
-    elim (find (λ id. not (is_deferrable s.schema id)) ids) as (λ o. Reachable (elim o as (λ _. Outcome) [ Some id ↦ refuse s (NotDeferrable id) | None ↦ modes_set s (with_modes s.modes ids m) ]).state) [
+    elim (find (λ id. not (is_deferrable s.schema id)) ids) as (λ o. Reachable (elim o as (λ _. Outcome) [ Some id ↦ refuse s (NotDeferrable id) | None ↦ modes_outcome s (with_modes s.modes ids m) ]).state) [
       | Some id ↦ h
-      | None ↦ modes_reachable s start (with_modes s.modes ids m) (made_immediate s (with_modes s.modes ids m)) e refl h
+      | None ↦ modes_reachable s start (with_modes s.modes ids m) (first_made_immediate s (with_modes s.modes ids m)) e refl h
     ]
 
 -- ---- plans
 
 transaction_keeps : (s : State) (p : TransactionPlan) (start : Option Database) → s.start ≡ start → Reachable s
-    → Reachable (unless s (transaction_cause (is_some start) (plan_occasion (plan.Transaction p))) (transacted s p)).state
+    → Reachable (outcome_unless s (transaction_cause (is_some start) (plan_occasion (plan.Transaction p))) (transaction_outcome s p)).state
 transaction_keeps s transaction.Start None e h = begun_reachable s s.database h.now h
 transaction_keeps s transaction.Start (Some d) e h = h
 transaction_keeps s transaction.Commit None e h = commit_reachable s s.start (first_violation s) refl h.first h
@@ -200,10 +200,10 @@ transaction_keeps s (transaction.Release name) (Some d) e h = released_reachable
 transaction_keeps s (transaction.RollbackTo name) None e h = h
 transaction_keeps s (transaction.RollbackTo name) (Some d) e h = returned_reachable s d name (savepoint_named name s.savepoints) e refl h
 transaction_keeps s (transaction.SetConstraints ids m) None e h = h
-transaction_keeps s (transaction.SetConstraints ids m) (Some d) e h = set_reachable s d (members s.schema ids) m e h
+transaction_keeps s (transaction.SetConstraints ids m) (Some d) e h = set_reachable s d (constraints_meant s.schema ids) m e h
 
 plan_keeps : (s : State) (p : Plan) (start : Option Database) → s.start ≡ start → Fits s.schema p → Reachable s
-    → Reachable (unless s (transaction_cause (is_some start) (plan_occasion p)) (performed s p)).state
+    → Reachable (outcome_unless s (transaction_cause (is_some start) (plan_occasion p)) (plan_outcome s p)).state
 plan_keeps s (plan.Schema p) None e u h = defined_reachable s p e u h
 plan_keeps s (plan.Schema p) (Some d) e u h = h
 plan_keeps s (plan.Change d) None e u h = changed_reachable s d (level (s.limits.depth - 1) (context_of s) d no_frame s.database s.limits.changes) refl u h

@@ -8,7 +8,7 @@ use Rattle.iv_machine.specs.declared.database.Which.TheVariants.{Immediate, Defe
 use Rattle.iv_machine.specs.Bounds.{Bounds}
 use Rattle.iv_machine.specs.Databases.{scan, is_chosen, initial_modes}
 use Rattle.iv_machine.specs.Laws.{IsSound, EachSaveHolds}
-use Rattle.iv_machine.specs.Machine.{Savepoint, State, Found, empty_state, starting, begun, ended, savepoint_named, without_name, with_schema}
+use Rattle.iv_machine.specs.Machine.{Savepoint, State, NamedSavepoint, empty_state, start_database, with_transaction, state_at_end, savepoint_named, without_name, with_schema}
 use Rattle.iv_machine.proofs.Modes.{none_where_none_deferred}
 use Rattle.iv_machine.proofs.Scans.{none_of_some}
 use Rattle.iv_laws.specs.FittingWaves.{Numbered}
@@ -48,7 +48,7 @@ without_firm c name (x ∷ xs) h =
     ]
 
 -- the one that is found, and those before it
-pub named_firm : (c : Schema) (name : List ℕ) (xs : List Savepoint) (x : Found) → savepoint_named name xs ≡ Some x → AllFirm c xs → AllFirm c (x.savepoint ∷ x.older)
+pub named_firm : (c : Schema) (name : List ℕ) (xs : List Savepoint) (x : NamedSavepoint) → savepoint_named name xs ≡ Some x → AllFirm c xs → AllFirm c (x.savepoint ∷ x.older)
 named_firm c name [] x e h = absurd (some_none x (sym e))
 named_firm c name (y ∷ xs) x e h =
     elim (bytes_eq name y.name) as (λ b. (if b then Some (record { savepoint = y; older = xs }) else savepoint_named name xs) ≡ Some x → AllFirm c (x.savepoint ∷ x.older)) [
@@ -67,12 +67,12 @@ each_save_holds c (x ∷ xs) h = (h.0.immediate, each_save_holds c xs h.1)
 -- rise.
 pub record Reachable (s : State) : Type 0 where
   pub now : Firm s.schema s.modes s.database
-  pub first : Faultless s.schema (starting s)
+  pub first : Faultless s.schema (start_database s)
   pub initial : s.start ≡ None → s.modes ≡ initial_modes s.schema.constraints
   pub unsaved : s.start ≡ None → s.savepoints ≡ []
   pub saves : AllFirm s.schema s.savepoints
   pub bodies : TriggersFit s.schema s.schema.triggers
-  pub uncounted : (starting s).count ≡ 0
+  pub uncounted : (start_database s).count ≡ 0
   pub triggers : TriggersNumbered s.schema
 
 pub empty_reachable : (limits : Bounds) → Reachable (empty_state limits)
@@ -88,7 +88,7 @@ empty_reachable limits = record {
 }
 
 -- outside a transaction the database is the one that it would start from
-outside_same : (s : State) → s.start ≡ None → starting s ≡ s.database
+outside_same : (s : State) → s.start ≡ None → start_database s ≡ s.database
 outside_same s e = ap (λ o. unwrap_or o s.database) e
 
 pub outside_faultless : (s : State) → s.start ≡ None → Reachable s → Faultless s.schema s.database
@@ -129,12 +129,12 @@ schema_reachable s c e free fit numbers h = record {
 }
 
 -- the beginning of a transaction, or a later database in it
-pub begun_reachable : (s : State) (db : Database) → Firm s.schema s.modes db → Reachable s → Reachable (record (begun s) { database = db })
+pub begun_reachable : (s : State) (db : Database) → Firm s.schema s.modes db → Reachable s → Reachable (record (with_transaction s) { database = db })
 begun_reachable s db now h = record {
   now = now;
   first = h.first;
-  initial = λ none. absurd (some_none (starting s) none);
-  unsaved = λ none. absurd (some_none (starting s) none);
+  initial = λ none. absurd (some_none (start_database s) none);
+  unsaved = λ none. absurd (some_none (start_database s) none);
   saves = h.saves;
   bodies = h.bodies;
   uncounted = h.uncounted;
@@ -142,7 +142,7 @@ begun_reachable s db now h = record {
 }
 
 -- the end of a transaction
-pub ended_reachable : (s : State) (db : Database) → Faultless s.schema db → Reachable s → Reachable (ended s db)
+pub ended_reachable : (s : State) (db : Database) → Faultless s.schema db → Reachable s → Reachable (state_at_end s db)
 ended_reachable s db free h =
     let same : Faultless s.schema (record db { count = 0 }) = record { unviolated = free.unviolated; numbered = free.numbered; placed = free.placed } in
     record {

@@ -10,7 +10,7 @@ use Rattle.iv_catalogue.specs.declared.plan.SchemaPlan.{SchemaPlan}
 use Rattle.iv_catalogue.specs.declared.plan.SchemaPlan.TheVariants as schema
 use Rattle.iv_machine.specs.Bounds.{Bounds}
 use Rattle.iv_machine.specs.Laws.{IsSound}
-use Rattle.iv_machine.specs.Machine.{State, Outcome, empty_state, is_open, transaction_cause, plan_occasion, unless, performed}
+use Rattle.iv_machine.specs.Machine.{State, Outcome, empty_state, is_open, transaction_cause, plan_occasion, outcome_unless, plan_outcome}
 use Rattle.iv_machine.specs.Proposals.{table_of}
 
 -- ---- what resolution sees to: the tables that are changed are there, and the constraints of a new table are on it
@@ -41,7 +41,7 @@ Fits c _ = Unit {0}
 
 -- what a resolved statement does, or why it is refused for the transaction that is open or isn't
 abbrev pub planned : State → Plan → Outcome
-planned s p = unless s (transaction_cause (is_open s) (plan_occasion p)) (performed s p)
+planned s p = outcome_unless s (transaction_cause (is_open s) (plan_occasion p)) (plan_outcome s p)
 
 -- the state after resolved statements, in their order
 abbrev pub reached : State → List Plan → State

@@ -11,7 +11,7 @@ use Rattle.iv_catalogue.specs.declared.plan.Outputs.TheVariants.{Star}
 use Rattle.iv_machine.specs.declared.answer.Answer.TheVariants.{Rows}
 use Rattle.iv_machine.specs.Context.{each}
 use Rattle.iv_machine.specs.Proposals.{with_cause, holds, element_where_true, matching_rows}
-use Rattle.iv_machine.specs.Machine.{State, output_row, selected}
+use Rattle.iv_machine.specs.Machine.{State, output_row, rows_answer}
 
 abbrev told : StoredRow → StoredRow × Bool
 told r = (r, true)
@@ -43,7 +43,7 @@ each_row s (r ∷ rows) =
     ap (λ m. and_then {E = Cause} m (λ y. and_then {E = Cause} (each (λ x. output_row s Star x.values) rows) (λ ys. Ok (y ∷ ys)))) (each_value r.values)
     ∙ ap (λ m. and_then {E = Cause} m (λ ys. Ok (r.values ∷ ys))) (each_row s rows)
 
-pub all_selected : (s : State) (t : ℕ) → selected s t Star Always ≡ Ok (Rows (map (λ r. r.values) (table_rows s.database.rows t)))
+pub all_selected : (s : State) (t : ℕ) → rows_answer s t Star Always ≡ Ok (Rows (map (λ r. r.values) (table_rows s.database.rows t)))
 all_selected s t =
     ap (λ m. and_then {E = Cause} m (λ rows. and_then {E = Cause} (each (λ r. output_row (scope_of no_frame s.database.rows) Star r.values) rows) (λ values. Ok (Rows values))))
     (all_match (scope_of no_frame s.database.rows) (table_rows s.database.rows t))

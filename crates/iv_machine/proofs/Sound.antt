@@ -30,7 +30,7 @@ use Rattle.iv_machine.specs.Bounds.{Bounds, most_changes_in_a_transaction, last_
 use Rattle.iv_machine.specs.Context.{fails}
 use Rattle.iv_machine.specs.Databases.{scan, is_chosen, first, initial_modes}
 use Rattle.iv_machine.specs.Levels.{level}
-use Rattle.iv_machine.specs.Machine.{State, empty_state, starting, is_open, refuse, context_of, changed, data_changed, answered, selected, ended, commit_by, commit_outcome, rollback_by, rollback_outcome, first_violation, with_schema, defined, queried, transacted, performed, performed_where, transaction_cause, occasion_of, unless, step, run}
+use Rattle.iv_machine.specs.Machine.{State, empty_state, start_database, is_open, refuse, context_of, level_outcome, change_outcome, answer_outcome, rows_answer, state_at_end, commit_by, commit_outcome, rollback_by, rollback_outcome, first_violation, with_schema, schema_outcome, query_outcome, transaction_outcome, plan_outcome, resolution_outcome, transaction_cause, occasion_of, outcome_unless, step, run}
 use Rattle.iv_machine.specs.Invariants.{Orderly, AllChecks, TablesOfIntegers, AllIntegers, Plain, Sound}
 use Rattle.iv_machine.specs.Laws.{IsSound, EachSaveHolds, ReachedStatesAreSound}
 use Rattle.iv_machine.proofs.Scans.{none_of_some, more_constraints, below_more, below_both}
@@ -73,20 +73,20 @@ more_orderly : (ts : List Table) (t : Table) (db : Database) → Orderly (length
 more_orderly ts t db h = record { rising = h.rising; below = below_more (length ts) (length (ts ++ t ∷ [])) db.rows (one_longer ts t) h.below }
 
 -- outside a transaction the database is the one that it would start from
-outside_same : (s : State) → s.start ≡ None → starting s ≡ s.database
+outside_same : (s : State) → s.start ≡ None → start_database s ≡ s.database
 outside_same s e = ap (λ o. unwrap_or o s.database) e
 
 pub created_sound : (s : State) (t : Table) (ks : List Constraint) → TableFits s t ks → Sound s → Sound (with_schema s (with_table s.schema t ks))
 created_sound s t ks u h =
-    let clean : scan (starting s).rows (s.schema.constraints ++ ks) (λ _. true) ≡ [] =
-    more_constraints (starting s).rows (λ _. true) (length s.schema.tables) s.schema.constraints ks h.start_orderly.below u.own ∙ h.clean in
+    let clean : scan (start_database s).rows (s.schema.constraints ++ ks) (λ _. true) ≡ [] =
+    more_constraints (start_database s).rows (λ _. true) (length s.schema.tables) s.schema.constraints ks h.start_orderly.below u.own ∙ h.clean in
     let clean_now : scan s.database.rows (s.schema.constraints ++ ks) (λ _. true) ≡ [] =
     ap (λ d. scan d.rows (s.schema.constraints ++ ks) (λ _. true)) (sym (outside_same s u.outside)) ∙ clean in
     record {
       immediate = none_of_some s.database.rows (is_chosen (initial_modes (s.schema.constraints ++ ks)) Immediate) (s.schema.constraints ++ ks) clean_now;
       clean = clean;
       orderly = more_orderly s.schema.tables t s.database h.orderly;
-      start_orderly = more_orderly s.schema.tables t (starting s) h.start_orderly;
+      start_orderly = more_orderly s.schema.tables t (start_database s) h.start_orderly;
       uncounted = h.uncounted;
       plain = record {
         checks = more_checks s.schema.constraints ks h.plain.checks u.checks;
@@ -111,7 +111,7 @@ table_within (x ∷ ts) zero table h = omega arith
 table_within (x ∷ ts) (suc t) table h = let less : t < length ts = table_within ts t table h in omega (arith, less)
 
 checked_sound : (s : State) (t : ℕ) (values : List Value) (rest : ℕ) (f : Option Fault) → t < length s.schema.tables → Sound s
-    → first (scan (with_row s.database t values).rows s.schema.constraints (is_chosen s.modes Immediate)) ≡ f → Sound (changed s (plain_checked (with_row s.database t values) rest f)).state
+    → first (scan (with_row s.database t values).rows s.schema.constraints (is_chosen s.modes Immediate)) ≡ f → Sound (level_outcome s (plain_checked (with_row s.database t values) rest f)).state
 checked_sound s t values rest (Some f) w h e = h
 checked_sound s t values rest None w h e = record {
   immediate = no_first (scan (with_row s.database t values).rows s.schema.constraints (is_chosen s.modes Immediate)) e;
@@ -125,7 +125,7 @@ checked_sound s t values rest None w h e = record {
 }
 
 level_sound : (s : State) (t : ℕ) (values : List Value) (few large last : Bool) → t < length s.schema.tables → Sound s
-    → Sound (changed s (if few then fails s.database TooManyChanges else (if large then fails s.database TransactionTooLarge else (if last then fails s.database Limit
+    → Sound (level_outcome s (if few then fails s.database TooManyChanges else (if large then fails s.database TransactionTooLarge else (if last then fails s.database Limit
     else plain_checked (with_row s.database t values) (s.limits.changes - 2) (first (scan (with_row s.database t values).rows s.schema.constraints (is_chosen s.modes Immediate))))))).state
 level_sound s t values true large last w h = h
 level_sound s t values false true last w h = h
@@ -138,26 +138,26 @@ pub insert_is_plain : (s : State) (t : ℕ) (values : List Value) → Suits s.sc
     → level (s.limits.depth - 1) (context_of s) (insert_one t values) no_frame s.database s.limits.changes ≡ plain_level (context_of s) s.database s.limits.changes t values
 insert_is_plain s t values u h = level_plain (s.limits.depth - 1) (context_of s) s.database s.limits.changes t values u h.plain.checks h.plain.untriggered h.orderly.rising
 
-inserted_sound : (s : State) (t : ℕ) (values : List Value) → Suits s.schema t values → Sound s → Sound (data_changed s (insert_one t values)).state
+inserted_sound : (s : State) (t : ℕ) (values : List Value) → Suits s.schema t values → Sound s → Sound (change_outcome s (insert_one t values)).state
 inserted_sound s t values u h =
-    subst (λ l. Sound (changed s l).state) (sym (insert_is_plain s t values u h))
+    subst (λ l. Sound (level_outcome s l).state) (sym (insert_is_plain s t values u h))
     (level_sound s t values (nat_lt s.limits.changes 2) (nat_lt most_changes_in_a_transaction (s.database.count + 1)) (nat_lt last_row_number s.database.next)
     (table_within s.schema.tables t u.table u.there) h)
 
-changed_sound : (s : State) (d : DataStatement) → ChangeFits s.schema d → Sound s → Sound (data_changed s d).state
+changed_sound : (s : State) (d : DataStatement) → ChangeFits s.schema d → Sound s → Sound (change_outcome s d).state
 changed_sound s (Insert t columns.All (rows.Values (tuple ∷ []))) u h =
-    subst (λ es. Sound (data_changed s (Insert t columns.All (rows.Values (es ∷ [])))).state) (sym u.1) (inserted_sound s t u.0 u.2 h)
+    subst (λ es. Sound (change_outcome s (Insert t columns.All (rows.Values (es ∷ [])))).state) (sym u.1) (inserted_sound s t u.0 u.2 h)
 changed_sound s _ u h = absurd u
 
 -- ---- SELECT
 
-answered_sound : (s : State) (r : Result Answer Cause) → Sound s → Sound (answered s r).state
+answered_sound : (s : State) (r : Result Answer Cause) → Sound s → Sound (answer_outcome s r).state
 answered_sound s (Ok a) h = h
 answered_sound s (Err c) h = h
 
 -- ---- COMMIT and ROLLBACK
 
-ended_sound : (s : State) (d : Database) → scan d.rows s.schema.constraints (λ _. true) ≡ [] → Orderly (length s.schema.tables) d → Plain s.schema → Sound (ended s d)
+ended_sound : (s : State) (d : Database) → scan d.rows s.schema.constraints (λ _. true) ≡ [] → Orderly (length s.schema.tables) d → Plain s.schema → Sound (state_at_end s d)
 ended_sound s d clean orderly plain = record {
   immediate = none_of_some d.rows (is_chosen (initial_modes s.schema.constraints) Immediate) s.schema.constraints clean;
   clean = clean;
@@ -189,38 +189,38 @@ commit_sound s h = commit_by_sound s s.start (first_violation s) refl h.clean h.
 
 -- ---- statements
 
-defined_sound : (s : State) (p : SchemaPlan) → SchemaFits s p → Sound s → Sound (defined s p).state
+defined_sound : (s : State) (p : SchemaPlan) → SchemaFits s p → Sound s → Sound (schema_outcome s p).state
 defined_sound s (schema.CreateTable t ks) u h = created_sound s t ks u h
 defined_sound s _ u h = absurd u
 
-queried_sound : (s : State) (p : QueryPlan) → QueryFits p → Sound s → Sound (queried s p).state
-queried_sound s (query.Rows t outputs filter) u h = answered_sound s (selected s t outputs filter) h
+queried_sound : (s : State) (p : QueryPlan) → QueryFits p → Sound s → Sound (query_outcome s p).state
+queried_sound s (query.Rows t outputs filter) u h = answered_sound s (rows_answer s t outputs filter) h
 queried_sound s _ u h = absurd u
 
-transacted_sound : (s : State) (p : TransactionPlan) → TransactionFits p → Sound s → Sound (transacted s p).state
+transacted_sound : (s : State) (p : TransactionPlan) → TransactionFits p → Sound s → Sound (transaction_outcome s p).state
 transacted_sound s transaction.Commit u h = commit_sound s h
 transacted_sound s transaction.Rollback u h = rollback_sound s h
 transacted_sound s _ u h = absurd u
 
-pub performed_sound : (s : State) (p : Plan) → PlanFits s p → Sound s → Sound (performed s p).state
+pub performed_sound : (s : State) (p : Plan) → PlanFits s p → Sound s → Sound (plan_outcome s p).state
 performed_sound s (plan.Schema p) u h = defined_sound s p u h
 performed_sound s (plan.Change d) u h = changed_sound s d u h
 performed_sound s (plan.Query p) u h = queried_sound s p u h
 performed_sound s (plan.Transaction p) u h = transacted_sound s p u h
 
-where_sound : (s : State) (r : Result Plan Refusal) → AnswerFits s r → Sound s → Sound (performed_where s r).state
+where_sound : (s : State) (r : Result Plan Refusal) → AnswerFits s r → Sound s → Sound (resolution_outcome s r).state
 where_sound s (Ok p) u h = performed_sound s p u h
 where_sound s (Err r) u h = h
 
 unless_sound : (s : State) (st : Statement) (cause : Option Cause) → transaction_cause (is_open s) (occasion_of st) ≡ cause → Sound s
-    → Sound (unless s cause (performed_where s (resolution s.schema st))).state
+    → Sound (outcome_unless s cause (resolution_outcome s (resolution s.schema st))).state
 unless_sound s st (Some cause) e h = h
 unless_sound s st None e h = where_sound s (resolution s.schema st) (resolution_fits s st h.plain e) h
 
 -- a statement keeps it
 pub step_sound : (s : State) (st : Statement) → Sound s → Sound (step s st).state
 step_sound s st h =
-    elim (not (is_taken_up st)) as (λ b. Sound (cond b (refuse s SchemaFault) (unless s (transaction_cause (is_open s) (occasion_of st)) (performed_where s (resolution s.schema st)))).state) [
+    elim (not (is_taken_up st)) as (λ b. Sound (cond b (refuse s SchemaFault) (outcome_unless s (transaction_cause (is_open s) (occasion_of st)) (resolution_outcome s (resolution s.schema st)))).state) [
       | true ↦ h
       | false ↦ unless_sound s st (transaction_cause (is_open s) (occasion_of st)) refl h
     ]

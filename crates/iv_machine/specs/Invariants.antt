@@ -11,7 +11,7 @@ use Rattle.iv_catalogue.specs.declared.constraint.Rule.TheVariants.{Check}
 use Rattle.iv_machine.specs.declared.database.Database.{Database}
 use Rattle.iv_machine.specs.declared.database.Which.TheVariants.{Immediate, All}
 use Rattle.iv_machine.specs.Databases.{scan, is_chosen, initial_modes}
-use Rattle.iv_machine.specs.Machine.{State, starting}
+use Rattle.iv_machine.specs.Machine.{State, start_database}
 
 -- the numbers rise from above the one, and stay below the other
 abbrev pub Rising : ℕ → List StoredRow → ℕ → Type 0
@@ -57,10 +57,10 @@ pub record Plain (c : Schema) : Type 0 where
 -- initial, and there is no savepoint, as long as SET CONSTRAINTS and SAVEPOINT are not taken up.
 pub record Sound (s : State) : Type 0 where
   pub immediate : scan s.database.rows s.schema.constraints (is_chosen s.modes Immediate) ≡ []
-  pub clean : scan (starting s).rows s.schema.constraints (is_chosen s.modes All) ≡ []
+  pub clean : scan (start_database s).rows s.schema.constraints (is_chosen s.modes All) ≡ []
   pub orderly : Orderly (length s.schema.tables) s.database
-  pub start_orderly : Orderly (length s.schema.tables) (starting s)
-  pub uncounted : (starting s).count ≡ 0
+  pub start_orderly : Orderly (length s.schema.tables) (start_database s)
+  pub uncounted : (start_database s).count ≡ 0
   pub plain : Plain s.schema
   pub initial : s.modes ≡ initial_modes s.schema.constraints
   pub unsaved : s.savepoints ≡ []

@@ -68,8 +68,8 @@ abbrev pub is_open : State → Bool
 is_open s = is_some s.start
 
 -- the database at the start of the transaction, or the database where none is open
-abbrev pub starting : State → Database
-starting s = unwrap_or s.start s.database
+abbrev pub start_database : State → Database
+start_database s = unwrap_or s.start s.database
 
 -- ---- outcomes
 
@@ -105,58 +105,58 @@ abbrev pub context_of : State → Context
 context_of s = record { schema = s.schema; modes = s.modes }
 
 -- a data statement outside a transaction begins one ("SQL-transactions")
-abbrev pub begun : State → State
-begun s = record s { start = Some (starting s) }
+abbrev pub with_transaction : State → State
+with_transaction s = record s { start = Some (start_database s) }
 
 -- the row changes that stand in the one count and not in the other are those that the statement made
-abbrev pub changed : State → Result Finished Failure → Outcome
-changed s (Ok l) = record {
+abbrev pub level_outcome : State → Result Finished Failure → Outcome
+level_outcome s (Ok l) = record {
   answer = Ok (Changed l.size);
-  state = record (begun s) { database = l.database };
+  state = record (with_transaction s) { database = l.database };
   work = record { changes = l.database.count - s.database.count; undone = 0 };
 }
-changed s (Err f) = record {
+level_outcome s (Err f) = record {
   answer = Err (record { cause = f.cause; trigger = f.trigger });
   state = s;
   work = record { changes = f.count - s.database.count; undone = f.count - s.database.count };
 }
 
 -- The statement is at depth 1, and has the whole budget.
-abbrev pub data_changed : State → DataStatement → Outcome
-data_changed s d = changed s (level (s.limits.depth - 1) (context_of s) d no_frame s.database s.limits.changes)
+abbrev pub change_outcome : State → DataStatement → Outcome
+change_outcome s d = level_outcome s (level (s.limits.depth - 1) (context_of s) d no_frame s.database s.limits.changes)
 
 -- ---- SELECT ("Query specification")
 
-abbrev pub answered : State → Result Answer Cause → Outcome
-answered s (Ok a) = accept s a
-answered s (Err cause) = refuse s cause
+abbrev pub answer_outcome : State → Result Answer Cause → Outcome
+answer_outcome s (Ok a) = accept s a
+answer_outcome s (Err cause) = refuse s cause
 
 -- the rows of a table where the condition is true, by number
-abbrev pub found : State → ℕ → Cond → Result (List StoredRow) Cause
-found s table filter = matching_rows (scope_of no_frame s.database.rows) filter (table_rows s.database.rows table)
+abbrev pub rows_meant : State → ℕ → Cond → Result (List StoredRow) Cause
+rows_meant s table filter = matching_rows (scope_of no_frame s.database.rows) filter (table_rows s.database.rows table)
 
 -- what is selected of a row
 abbrev pub output_row : Scope → Outputs → List Value → Result (List Value) Cause
 output_row s outputs row = each with_cause (outputs_of s outputs row)
 
-abbrev pub selected : State → ℕ → Outputs → Cond → Result Answer Cause
-selected s table outputs filter =
-    and_then (found s table filter) (λ rows.
+abbrev pub rows_answer : State → ℕ → Outputs → Cond → Result Answer Cause
+rows_answer s table outputs filter =
+    and_then (rows_meant s table filter) (λ rows.
     and_then (each (λ r. output_row (scope_of no_frame s.database.rows) outputs r.values) rows) (λ values. Ok (Rows values)))
 
 -- COUNT(*) gives one row of one integer
-abbrev pub counted : State → ℕ → Cond → Result Answer Cause
-counted s table filter = and_then (found s table filter) (λ rows. Ok (Rows ((Int (pos (length rows)) ∷ []) ∷ [])))
+abbrev pub count_answer : State → ℕ → Cond → Result Answer Cause
+count_answer s table filter = and_then (rows_meant s table filter) (λ rows. Ok (Rows ((Int (pos (length rows)) ∷ []) ∷ [])))
 
 -- ---- the ends of a transaction ("Commit statement", "Rollback statement")
 
 -- The transaction is ended with this database: no change stands, the modes are initial, and there is no savepoint.
-abbrev pub ended : State → Database → State
-ended s db = record s { database = record db { count = 0 }; modes = initial_modes s.schema.constraints; start = None; savepoints = [] }
+abbrev pub state_at_end : State → Database → State
+state_at_end s db = record s { database = record db { count = 0 }; modes = initial_modes s.schema.constraints; start = None; savepoints = [] }
 
 -- The transaction is ended with the database from its start, and every change that stood in it is undone.
-abbrev pub rolled_back : State → Database → Result Answer Refusal → Outcome
-rolled_back s start answer = record { answer = answer; state = ended s start; work = record { changes = 0; undone = s.database.count } }
+abbrev pub undo_outcome : State → Database → Result Answer Refusal → Outcome
+undo_outcome s start answer = record { answer = answer; state = state_at_end s start; work = record { changes = 0; undone = s.database.count } }
 
 -- the first violation of any constraint, by creation, then by row
 abbrev pub first_violation : State → Option Fault
@@ -166,8 +166,8 @@ first_violation s = first (scan s.database.rows s.schema.constraints (is_chosen 
 -- is accepted where no constraint is violated, and the database stays; otherwise it rolls the transaction back.
 abbrev pub commit_by : State → Option Database → Option Fault → Outcome
 commit_by s None violation = accept s Done
-commit_by s (Some start) None = accept (ended s s.database) Done
-commit_by s (Some start) (Some fault) = rolled_back s start (refused (CommitRefused fault))
+commit_by s (Some start) None = accept (state_at_end s s.database) Done
+commit_by s (Some start) (Some fault) = undo_outcome s start (refused (CommitRefused fault))
 
 abbrev pub commit_outcome : State → Outcome
 commit_outcome s = commit_by s s.start (first_violation s)
@@ -175,7 +175,7 @@ commit_outcome s = commit_by s s.start (first_violation s)
 -- ROLLBACK, by the database at the start of an open transaction.
 abbrev pub rollback_by : State → Option Database → Outcome
 rollback_by s None = accept s Done
-rollback_by s (Some start) = rolled_back s start (Ok Done)
+rollback_by s (Some start) = undo_outcome s start (Ok Done)
 
 abbrev pub rollback_outcome : State → Outcome
 rollback_outcome s = rollback_by s s.start
@@ -183,11 +183,11 @@ rollback_outcome s = rollback_by s s.start
 -- ---- savepoints ("Savepoint statement", "Release savepoint statement")
 
 -- a savepoint of that name, and those before it
-pub record Found : Type 0 where
+pub record NamedSavepoint : Type 0 where
   pub savepoint : Savepoint
   pub older : List Savepoint
 
-abbrev pub savepoint_named : List ℕ → List Savepoint → Option Found
+abbrev pub savepoint_named : List ℕ → List Savepoint → Option NamedSavepoint
 savepoint_named name [] = None
 savepoint_named name (x ∷ xs) = if bytes_eq name x.name then Some (record { savepoint = x; older = xs }) else savepoint_named name xs
 
@@ -195,18 +195,18 @@ abbrev pub without_name : List ℕ → List Savepoint → List Savepoint
 without_name name saves = filter (λ x. not (bytes_eq name x.name)) saves
 
 -- a savepoint takes the place of an older one of its name
-abbrev pub saved : State → List ℕ → State
-saved s name = record s { savepoints = record { name = name; database = s.database; modes = s.modes } ∷ without_name name s.savepoints }
+abbrev pub state_with_savepoint : State → List ℕ → State
+state_with_savepoint s name = record s { savepoints = record { name = name; database = s.database; modes = s.modes } ∷ without_name name s.savepoints }
 
 -- the named savepoint and the later ones go
-abbrev pub released : State → Option Found → Outcome
-released s None = refuse s UnknownSavepoint
-released s (Some x) = accept (record s { savepoints = x.older }) Done
+abbrev pub release_outcome : State → Option NamedSavepoint → Outcome
+release_outcome s None = refuse s UnknownSavepoint
+release_outcome s (Some x) = accept (record s { savepoints = x.older }) Done
 
 -- the named savepoint stays and the later ones go
-abbrev pub returned : State → Option Found → Outcome
-returned s None = refuse s UnknownSavepoint
-returned s (Some x) = record {
+abbrev pub rollback_to_outcome : State → Option NamedSavepoint → Outcome
+rollback_to_outcome s None = refuse s UnknownSavepoint
+rollback_to_outcome s (Some x) = record {
   answer = Ok Done;
   state = record s { database = x.savepoint.database; modes = x.savepoint.modes; savepoints = x.savepoint ∷ x.older };
   work = record { changes = 0; undone = s.database.count - x.savepoint.database.count };
@@ -218,26 +218,26 @@ abbrev pub is_deferrable : Schema → ℕ → Bool
 is_deferrable c id = elim (slice_get c.constraints id) [ Some k ↦ k.deferrable | None ↦ false ]
 
 -- the constraints that are meant, in the order of the list
-abbrev pub members : Schema → ConstraintSet → List ℕ
-members c set.All = filter (is_deferrable c) (map (λ k. k.0) (enumerate_from 0 c.constraints))
-members c (set.Named ids) = ids
+abbrev pub constraints_meant : Schema → ConstraintSet → List ℕ
+constraints_meant c set.All = filter (is_deferrable c) (map (λ k. k.0) (enumerate_from 0 c.constraints))
+constraints_meant c (set.Named ids) = ids
 
 abbrev pub with_modes : List ConstraintMode → List ℕ → ConstraintMode → List ConstraintMode
 with_modes modes ids m = fold (λ ms id. slice_set ms id m) modes ids
 
 -- the first violation of a constraint that these modes make immediate
-abbrev pub made_immediate : State → List ConstraintMode → Option Fault
-made_immediate s modes = first (scan s.database.rows s.schema.constraints (λ id. is_deferred s.modes id && not (is_deferred modes id)))
+abbrev pub first_made_immediate : State → List ConstraintMode → Option Fault
+first_made_immediate s modes = first (scan s.database.rows s.schema.constraints (λ id. is_deferred s.modes id && not (is_deferred modes id)))
 
-abbrev pub modes_set : State → List ConstraintMode → Outcome
-modes_set s modes = refuse_first s Violation (made_immediate s modes) (accept (record s { modes = modes }) Done)
+abbrev pub modes_outcome : State → List ConstraintMode → Outcome
+modes_outcome s modes = refuse_first s Violation (first_made_immediate s modes) (accept (record s { modes = modes }) Done)
 
 -- the first that isn't deferrable is told before any violation
-abbrev pub constraints_set : State → List ℕ → ConstraintMode → Outcome
-constraints_set s ids m =
+abbrev pub set_constraints_outcome : State → List ℕ → ConstraintMode → Outcome
+set_constraints_outcome s ids m =
     elim (find (λ id. not (is_deferrable s.schema id)) ids) [
       | Some id ↦ refuse s (NotDeferrable id)
-      | None ↦ modes_set s (with_modes s.modes ids m)
+      | None ↦ modes_outcome s (with_modes s.modes ids m)
     ]
 
 -- ---- the schema
@@ -247,43 +247,43 @@ abbrev pub with_schema : State → Schema → State
 with_schema s c = record s { schema = c; modes = initial_modes c.constraints }
 
 -- a constraint is refused where a row violates it, deferrable or not ("Add table constraint definition")
-abbrev pub added : State → Constraint → Outcome
-added s k =
+abbrev pub add_constraint_outcome : State → Constraint → Outcome
+add_constraint_outcome s k =
     refuse_first s (λ f. AddRefused f.row)
     (first (scan s.database.rows (with_constraint s.schema k).constraints (λ id. id == length s.schema.constraints)))
     (accept (with_schema s (with_constraint s.schema k)) Done)
 
 -- ---- statements
 
-abbrev pub defined : State → SchemaPlan → Outcome
-defined s (schema.CreateTable table constraints) = accept (with_schema s (with_table s.schema table constraints)) Done
-defined s (schema.AddConstraint k) = added s k
-defined s (schema.CreateTrigger t) = accept (with_schema s (with_trigger s.schema t)) Done
-defined s (schema.DropTrigger id) = accept (with_schema s (without_trigger s.schema id)) Done
+abbrev pub schema_outcome : State → SchemaPlan → Outcome
+schema_outcome s (schema.CreateTable table constraints) = accept (with_schema s (with_table s.schema table constraints)) Done
+schema_outcome s (schema.AddConstraint k) = add_constraint_outcome s k
+schema_outcome s (schema.CreateTrigger t) = accept (with_schema s (with_trigger s.schema t)) Done
+schema_outcome s (schema.DropTrigger id) = accept (with_schema s (without_trigger s.schema id)) Done
 
-abbrev pub queried : State → QueryPlan → Outcome
-queried s (query.Rows table outputs filter) = answered s (selected s table outputs filter)
-queried s (query.Count table filter) = answered s (counted s table filter)
+abbrev pub query_outcome : State → QueryPlan → Outcome
+query_outcome s (query.Rows table outputs filter) = answer_outcome s (rows_answer s table outputs filter)
+query_outcome s (query.Count table filter) = answer_outcome s (count_answer s table filter)
 
-abbrev pub transacted : State → TransactionPlan → Outcome
-transacted s transaction.Start = accept (begun s) Done
-transacted s transaction.Commit = commit_outcome s
-transacted s transaction.Rollback = rollback_outcome s
-transacted s (transaction.Savepoint name) = accept (saved s name) Done
-transacted s (transaction.Release name) = released s (savepoint_named name s.savepoints)
-transacted s (transaction.RollbackTo name) = returned s (savepoint_named name s.savepoints)
-transacted s (transaction.SetConstraints ids m) = constraints_set s (members s.schema ids) m
+abbrev pub transaction_outcome : State → TransactionPlan → Outcome
+transaction_outcome s transaction.Start = accept (with_transaction s) Done
+transaction_outcome s transaction.Commit = commit_outcome s
+transaction_outcome s transaction.Rollback = rollback_outcome s
+transaction_outcome s (transaction.Savepoint name) = accept (state_with_savepoint s name) Done
+transaction_outcome s (transaction.Release name) = release_outcome s (savepoint_named name s.savepoints)
+transaction_outcome s (transaction.RollbackTo name) = rollback_to_outcome s (savepoint_named name s.savepoints)
+transaction_outcome s (transaction.SetConstraints ids m) = set_constraints_outcome s (constraints_meant s.schema ids) m
 
 -- What a resolved statement does.
-abbrev pub performed : State → Plan → Outcome
-performed s (plan.Schema p) = defined s p
-performed s (plan.Change d) = data_changed s d
-performed s (plan.Query p) = queried s p
-performed s (plan.Transaction p) = transacted s p
+abbrev pub plan_outcome : State → Plan → Outcome
+plan_outcome s (plan.Schema p) = schema_outcome s p
+plan_outcome s (plan.Change d) = change_outcome s d
+plan_outcome s (plan.Query p) = query_outcome s p
+plan_outcome s (plan.Transaction p) = transaction_outcome s p
 
-abbrev pub performed_where : State → Result Plan Refusal → Outcome
-performed_where s (Ok p) = performed s p
-performed_where s (Err r) = record { answer = Err r; state = s; work = no_work }
+abbrev pub resolution_outcome : State → Result Plan Refusal → Outcome
+resolution_outcome s (Ok p) = plan_outcome s p
+resolution_outcome s (Err r) = record { answer = Err r; state = s; work = no_work }
 
 -- ---- when a statement may run
 
@@ -326,15 +326,15 @@ transaction_cause false inside = Some NoTransaction
 transaction_cause true beginning = Some ActiveTransaction
 transaction_cause _ _ = None
 
-abbrev pub unless : State → Option Cause → Outcome → Outcome
-unless s (Some cause) o = refuse s cause
-unless s None o = o
+abbrev pub outcome_unless : State → Option Cause → Outcome → Outcome
+outcome_unless s (Some cause) o = refuse s cause
+outcome_unless s None o = o
 
 -- What a statement answers, and the state after it. A statement that isn't taken up yet is a SchemaFault before all else.
 abbrev pub step : State → Statement → Outcome
 step s st =
     if not (is_taken_up st) then refuse s SchemaFault
-    else unless s (transaction_cause (is_open s) (occasion_of st)) (performed_where s (resolution s.schema st))
+    else outcome_unless s (transaction_cause (is_open s) (occasion_of st)) (resolution_outcome s (resolution s.schema st))
 
 -- The answers to a list of statements, in their order, and the state after them.
 abbrev pub run : State → List Statement → List (Result Answer Refusal) × State

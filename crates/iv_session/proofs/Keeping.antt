@@ -27,7 +27,7 @@ use Rattle.iv_machine.specs.declared.database.Which.TheVariants.{Immediate}
 use Rattle.iv_machine.specs.Context.{Failure, fails}
 use Rattle.iv_machine.specs.Databases.{scan, chosen_violations, violations, is_chosen, initial_modes, first}
 use Rattle.iv_machine.specs.Levels.{Finished}
-use Rattle.iv_machine.specs.Machine.{State, changed, answered, selected, first_violation, commit_by, commit_outcome, rollback_by, rollback_outcome, ended, performed}
+use Rattle.iv_machine.specs.Machine.{State, level_outcome, answer_outcome, rows_answer, first_violation, commit_by, commit_outcome, rollback_by, rollback_outcome, state_at_end, plan_outcome}
 use Rattle.iv_machine.specs.Invariants.{Sound}
 use Rattle.iv_machine.proofs.Orders.{with_row, new_row_of}
 use Rattle.iv_machine.specs.Fitting.{Suits, literals, insert_one, TableFits, SelectFits}
@@ -74,7 +74,7 @@ undone h start = record { schema = h.schema; limits = h.limits; rows = take star
 abbrev pub done : Held → Held
 done h = record { schema = h.schema; limits = h.limits; rows = h.rows; next = h.next; count = 0; modes = h.modes; start = None }
 
-ended_as : (h : Held) (d : Database) → Kept h → state_of (record { schema = h.schema; limits = h.limits; rows = d.rows; next = d.next; count = 0; modes = h.modes; start = None }) ≡ ended (state_of h) d
+ended_as : (h : Held) (d : Database) → Kept h → state_of (record { schema = h.schema; limits = h.limits; rows = d.rows; next = d.next; count = 0; modes = h.modes; start = None }) ≡ state_at_end (state_of h) d
 ended_as h d k = λ i. record {
   schema = h.schema;
   limits = h.limits;
@@ -128,7 +128,7 @@ map_both f (x ∷ xs) ys = ap (λ l. f x ∷ l) (map_both f xs ys)
 abbrev pub created : Held → Table → List Constraint → Held
 created h t ks = record { schema = with_table h.schema t ks; limits = h.limits; rows = h.rows; next = h.next; count = h.count; modes = h.modes ++ initial_modes ks; start = h.start }
 
-pub created_as : (h : Held) (t : Table) (ks : List Constraint) → Kept h → state_of (created h t ks) ≡ (performed (state_of h) (plan.Schema (schema.CreateTable t ks))).state
+pub created_as : (h : Held) (t : Table) (ks : List Constraint) → Kept h → state_of (created h t ks) ≡ (plan_outcome (state_of h) (plan.Schema (schema.CreateTable t ks))).state
 created_as h t ks k = λ i. record {
   schema = with_table h.schema t ks;
   limits = h.limits;
@@ -151,9 +151,9 @@ pub selects : (s : State) (t : ℕ) (outputs : Outputs) (filter : Cond) → Sele
     → Performs s (plan.Query (query.Rows t outputs filter)) r s
 selects s t Star Always u r e =
     elim (is_memory r) as (λ b. MatchBool b (r ≡ Err out_of_memory) (r ≡ Ok (Rows (map (λ x. x.values) (table_rows s.database.rows t))))
-    → MatchBool b ((s ≡ s) × (r ≡ Err out_of_memory)) ((r ≡ (answered s (selected s t Star Always)).answer) × (s ≡ (answered s (selected s t Star Always)).state))) [
+    → MatchBool b ((s ≡ s) × (r ≡ Err out_of_memory)) ((r ≡ (answer_outcome s (rows_answer s t Star Always)).answer) × (s ≡ (answer_outcome s (rows_answer s t Star Always)).state))) [
       | true ↦ λ m. (refl, m)
-      | false ↦ λ m. (m ∙ sym (ap (λ a. (answered s a).answer) (all_selected s t)), sym (ap (λ a. (answered s a).state) (all_selected s t)))
+      | false ↦ λ m. (m ∙ sym (ap (λ a. (answer_outcome s a).answer) (all_selected s t)), sym (ap (λ a. (answer_outcome s a).state) (all_selected s t)))
     ] e
 selects s t _ _ u r e = absurd u
 
@@ -185,7 +185,7 @@ started h r None w z =
 
 -- the state with the new row is the one that the machine says
 lengthened_as : (h : Held) (t : ℕ) (values : List Value) (rest : ℕ) → Kept h
-    → state_of (lengthened h t values) ≡ (changed (state_of h) (plain_checked (with_row (state_of h).database t values) rest None)).state
+    → state_of (lengthened h t values) ≡ (level_outcome (state_of h) (plain_checked (with_row (state_of h).database t values) rest None)).state
 lengthened_as h t values rest k =
     ap (λ d. record {
       schema = h.schema;
@@ -223,18 +223,18 @@ level_from h t values false false false = refl
 
 -- what the machine makes of the INSERT
 insert_as : (h : Held) (t : ℕ) (values : List Value) → Suits h.schema t values → Kept h
-    → performed (state_of h) (plan.Change (insert_one t values)) ≡ changed (state_of h) (leveled h t values (early (state_of h)) (first_of h t values))
+    → plan_outcome (state_of h) (plan.Change (insert_one t values)) ≡ level_outcome (state_of h) (leveled h t values (early (state_of h)) (first_of h t values))
 insert_as h t values u k =
-    ap (changed (state_of h)) (insert_is_plain (state_of h) t values u k.sound
+    ap (level_outcome (state_of h)) (insert_is_plain (state_of h) t values u k.sound
     ∙ ap (λ l. if nat_lt h.limits.changes 2 then fails (state_of h).database TooManyChanges else (if nat_lt 1048576 (h.count + 1) then fails (state_of h).database TransactionTooLarge
     else (if nat_lt 9223372036854775807 h.next then fails (state_of h).database Limit else plain_checked (with_row (state_of h).database t values) (h.limits.changes - 2) (first l))))
     (alone h (new_row_of t h.next values) k)
     ∙ level_from h t values (nat_lt h.limits.changes 2) (nat_lt 1048576 (h.count + 1)) (nat_lt 9223372036854775807 h.next))
 
 insert_told : (h : Held) (t : ℕ) (values : List Value) (cause : Option Cause) (f : Option Fault) → early (state_of h) ≡ cause → first_of h t values ≡ f → Suits h.schema t values → Kept h
-    → performed (state_of h) (plan.Change (insert_one t values)) ≡ changed (state_of h) (leveled h t values cause f)
+    → plan_outcome (state_of h) (plan.Change (insert_one t values)) ≡ level_outcome (state_of h) (leveled h t values cause f)
 insert_told h t values cause f e q u k =
-    insert_as h t values u k ∙ ap (λ x. changed (state_of h) (leveled h t values x (first_of h t values))) e ∙ ap (λ x. changed (state_of h) (leveled h t values cause x)) q
+    insert_as h t values u k ∙ ap (λ x. level_outcome (state_of h) (leveled h t values x (first_of h t values))) e ∙ ap (λ x. level_outcome (state_of h) (leveled h t values cause x)) q
 
 early_from : (few large last : Bool) (cause : Cause) → (if few then Some TooManyChanges else (if large then Some TransactionTooLarge else (if last then Some Limit else None))) ≡ Some cause → is_memory_cause cause ≡ false
 early_from true large last cause e = let same : TooManyChanges ≡ cause = cc in subst (λ x. is_memory_cause x ≡ false) same refl
@@ -267,7 +267,7 @@ accepted_performs h t values e g u k =
 pub lengthened_kept : (h : Held) (t : ℕ) (values : List Value) → early (state_of h) ≡ None → first_of h t values ≡ None → Suits h.schema t values → Kept h → Kept (lengthened h t values)
 lengthened_kept h t values e g u k =
     let told = insert_told h t values None None e g u k in
-    let sound : Sound (performed (state_of h) (plan.Change (insert_one t values))).state =
+    let sound : Sound (plan_outcome (state_of h) (plan.Change (insert_one t values))).state =
     performed_sound (state_of h) (plan.Change (insert_one t values)) (values, refl, u) k.sound in
     record {
       within = longer h (new_row_of t h.next values) h.start k.within;

@@ -13,7 +13,7 @@ use Rattle.iv_machine.specs.declared.answer.Answer.TheVariants.{Done, Changed, R
 use Rattle.iv_machine.specs.declared.database.Which.TheVariants.{Deferred}
 use Rattle.iv_machine.specs.Bounds.{Bounds}
 use Rattle.iv_machine.specs.Databases.{scan, is_chosen}
-use Rattle.iv_machine.specs.Machine.{State, Outcome, Work, empty_state, performed, run, occasion_of, transaction_cause}
+use Rattle.iv_machine.specs.Machine.{State, Outcome, Work, empty_state, plan_outcome, run, occasion_of, transaction_cause}
 
 -- ---- answers
 
@@ -61,7 +61,7 @@ idle = work 0 0
 
 abbrev pub outcomes : State → List Plan → List Outcome
 outcomes s [] = []
-outcomes s (p ∷ ps) = let o : Outcome = performed s p in o ∷ outcomes o.state ps
+outcomes s (p ∷ ps) = let o : Outcome = plan_outcome s p in o ∷ outcomes o.state ps
 
 abbrev pub answers_of : List Outcome → List Answered
 answers_of os = map (λ o. o.answer) os
@@ -102,7 +102,7 @@ answers_to statements = (run (empty_state usual_limits) statements).0
 
 abbrev pub state_after : State → List Plan → State
 state_after s [] = s
-state_after s (p ∷ ps) = state_after (performed s p).state ps
+state_after s (p ∷ ps) = state_after (plan_outcome s p).state ps
 
 -- the state after these plans, with so many changes standing in the transaction
 abbrev pub standing : ℕ → List Plan → State
