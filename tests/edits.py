@@ -1,0 +1,221 @@
+#!/usr/bin/env python3
+"""Tries the edits of tests/edits/CRATE/*.edit, many in one check: the prover has to refuse each function that is edited.
+
+  tests/edits.py [CRATE..] [--all] [--jobs N] [--keep FOLDER]
+
+An edit has a line `file: src/..`, and pairs of lines `old: TEXT` and `new: TEXT`; each old text stands once in its file.
+A round has at most one edit of a function, and an edit outside of every function has a round of its own; it is made on a copy of the crate, over the work that a check kept, and one
+`rt check` has to name every edited function as refused. The last line is `N passed, N failed`.
+
+The file tests/edits/DIGESTS has a digest for each crate whose edits were all refused: of the edits, of the crate and of
+what it stands on. Where it is still the same the edits aren't tried again, except with --all; where they are tried and
+all are refused it is written anew."""
+import argparse
+import hashlib
+import os
+import re
+import shutil
+import subprocess
+import sys
+import tempfile
+from concurrent.futures import ThreadPoolExecutor
+
+HERE = os.path.dirname(os.path.abspath(__file__))
+ROOT = os.path.dirname(HERE)
+FUNCTION = re.compile(r"^( *)(?:pub(?:\([a-z]+\))? )?(?:const )?fn (\w+)", re.M)
+IMPLEMENTS = re.compile(r"^impl\b(?:<[^{]*?>)? *(?:[\w:<>, ]+ for )?(\w+)", re.M)
+
+
+def read(path):
+    with open(path, encoding="utf-8") as file:
+        return file.read()
+
+
+def write(path, text):
+    with open(path, "w", encoding="utf-8") as file:
+        file.write(text)
+
+
+class Edit:
+    """An edit: its name, its file and the spans of that file that get new texts."""
+
+    def __init__(self, crate, path):
+        self.name = os.path.basename(path)[: -len(".edit")]
+        lines = [line.partition(": ") for line in read(path).splitlines()]
+        self.file = next(text for key, _, text in lines if key == "file")
+        texts = [(key, text) for key, _, text in lines if key in ("old", "new")]
+        source = read(os.path.join(ROOT, "crates", crate, self.file))
+        self.spans = []
+        for (_, old), (_, new) in zip(texts[::2], texts[1::2]):
+            if source.count(old) != 1:
+                raise SystemExit(f"{crate}/{self.name}: its old text stands {source.count(old)} times in {self.file}: {old}")
+            start = source.index(old)
+            self.spans.append((start, start + len(old), new))
+        self.function = enclosing(source, self.spans[0][0]) if self.file.endswith(".rt") else None
+
+    def module(self):
+        """The path of the file's module."""
+        parts = self.file[len("src/") : -len(".rt")].split("/")
+        return [part for part in parts if part not in ("lib", "main")]
+
+
+def enclosing(source, place):
+    """The function that a place of a file is in, after its type where it is a method; none before the first."""
+    found = [match for match in FUNCTION.finditer(source) if match.start() <= place]
+    if not found:
+        return None
+    function = found[-1]
+    if not function[1]:
+        return function[2]
+    blocks = [match for match in IMPLEMENTS.finditer(source) if match.start() <= function.start()]
+    return f"{blocks[-1][1]}::{function[2]}" if blocks else function[2]
+
+
+def rounds_of(edits):
+    """The edits in rounds, each with at most one edit of a function."""
+    rounds = []
+    for edit in edits:
+        for one in rounds:
+            if edit.function and all(other.function and (edit.file, edit.function) != (other.file, other.function) for other in one):
+                one.append(edit)
+                break
+        else:
+            rounds.append([edit])
+    return rounds
+
+
+def below(crate):
+    """The crate and those of the repository that it stands on."""
+    named = {}
+    for line in read(os.path.join(ROOT, "crates.txt")).splitlines():
+        head, _, tail = line.split("#")[0].partition(":")
+        if head.strip():
+            named[head.split()[0]] = tail.split()
+    found, left = set(), [crate]
+    while left:
+        one = left.pop()
+        if one in named and one not in found:
+            found.add(one)
+            left += named[one]
+    return found
+
+
+def digest_of(crate):
+    """A digest of a crate's edits, of the crate, and of the sources and definitions that it stands on."""
+    folders = [os.path.join(HERE, "edits", crate), os.path.join(ROOT, "crates", crate, "proofs")]
+    folders += [os.path.join(ROOT, "crates", name, part) for name in below(crate) for part in ("src", "specs")]
+    digest = hashlib.sha256()
+    for folder in sorted(folders):
+        for place, names, files in os.walk(folder):
+            names.sort()
+            for file in sorted(files):
+                path = os.path.join(place, file)
+                digest.update(os.path.relpath(path, ROOT).encode() + b"\0" + read(path).encode() + b"\0")
+    return digest.hexdigest()
+
+
+def digests():
+    """The digest of each crate whose edits were all refused."""
+    path = os.path.join(HERE, "edits", "DIGESTS")
+    return dict(line.split() for line in read(path).splitlines()) if os.path.exists(path) else {}
+
+
+def remember(crates):
+    """Writes the digests of crates whose edits were all refused, beside those that are there."""
+    known = {**digests(), **{crate: digest_of(crate) for crate in crates}}
+    write(os.path.join(HERE, "edits", "DIGESTS"), "".join(f"{crate} {known[crate]}\n" for crate in sorted(known)))
+
+
+def copied(crate, room):
+    """A copy of the crate and of those below it, with the work that checks kept."""
+    os.makedirs(os.path.join(room, "crates"))
+    names = below(crate)
+    lines = read(os.path.join(ROOT, "crates.txt")).splitlines()
+    write(os.path.join(room, "crates.txt"), "".join(f"{line}\n" for line in lines if line.split(":")[0] in names))
+    for name in names:
+        subprocess.run(["cp", "-a", os.path.join(ROOT, "crates", name), os.path.join(room, "crates", name)], check=True)
+    return os.path.join(room, "crates", crate)
+
+
+def make(crate, copy, edits):
+    """Makes the edits on the copy of the crate, and gives the files that they change."""
+    files = {edit.file for edit in edits}
+    for file in files:
+        source = read(os.path.join(ROOT, "crates", crate, file))
+        spans = sorted(span for edit in edits if edit.file == file for span in edit.spans)
+        for start, end, new in reversed(spans):
+            source = source[:start] + new + source[end:]
+        write(os.path.join(copy, file), source)
+    return files
+
+
+def refused(crate, edit, output):
+    """Whether the check's output has the edited function among those that it refuses for what they do."""
+    words = "(not proved|no proof: expected answers|no proof: in )"
+    if edit.function is None:
+        return re.search(rf"^(fn|struct|enum|impl) .*: {words}", output, re.M) is not None
+    path = r"::".join(map(re.escape, [crate, *edit.module()]))
+    name = r"\w*::".join(re.escape(part) for part in edit.function.split("::"))
+    line = re.compile(rf"^fn {path}::(?:\w+::)*{name}: {words}", re.M)
+    return line.search(output) is not None
+
+
+def tried(crate, copy, edits):
+    """The edits of a round that were not refused, and what the check said."""
+    files = make(crate, copy, edits)
+    ran = subprocess.run(["rt", "check", "--jobs", "1"], cwd=copy, stdin=subprocess.DEVNULL, capture_output=True, text=True, errors="replace", check=False)
+    output = ran.stdout + ran.stderr
+    for file in files:
+        shutil.copy2(os.path.join(ROOT, "crates", crate, file), os.path.join(copy, file))
+    if ran.returncode != 1 or "logic=not-proved" not in output:
+        return edits, output
+    return [edit for edit in edits if not refused(crate, edit, output)], output
+
+
+def all_tried(crate, rounds, room):
+    """Each round of a crate, with the edits of it that were not refused and what the check said."""
+    copy = copied(crate, room)
+    said = [(one, *tried(crate, copy, one)) for one in rounds]
+    shutil.rmtree(room)
+    return said
+
+
+def main():
+    parser = argparse.ArgumentParser()
+    parser.add_argument("crates", nargs="*")
+    parser.add_argument("--all", action="store_true")
+    parser.add_argument("--jobs", type=int, default=os.cpu_count() or 1)
+    parser.add_argument("--keep")
+    words = parser.parse_args()
+    folder = os.path.join(HERE, "edits")
+    crates = words.crates or sorted(name for name in os.listdir(folder) if os.path.isdir(os.path.join(folder, name)))
+    known = {} if words.all else digests()
+    passed = failed = 0
+    with tempfile.TemporaryDirectory(prefix="edits-") as room, ThreadPoolExecutor(words.jobs) as pool:
+        begun = []
+        for crate in crates:
+            names = sorted(name for name in os.listdir(os.path.join(folder, crate)) if name.endswith(".edit"))
+            if known.get(crate) == digest_of(crate):
+                print(f"{crate}: {len(names)} edits were refused over these sources already", flush=True)
+                passed += len(names)
+                continue
+            rounds = rounds_of([Edit(crate, os.path.join(folder, crate, name)) for name in names])
+            begun.append((crate, pool.submit(all_tried, crate, rounds, os.path.join(room, crate))))
+        for crate, done in begun:
+            if not any(kept for _, kept, _ in done.result()):
+                remember([crate])
+            for number, (one, kept, output) in enumerate(done.result()):
+                passed, failed = passed + len(one) - len(kept), failed + len(kept)
+                print(f"{crate}: {len(one) - len(kept)} of {len(one)} refused in one check", flush=True)
+                for edit in kept:
+                    print(f"FAILED: {crate}/{edit.name}: {edit.function} of {edit.file} was not refused")
+                if words.keep:
+                    write(os.path.join(words.keep, f"{crate}-{number}.log"), output)
+                elif kept:
+                    print("\n".join(output.splitlines()[:20]))
+    print(f"{passed} passed, {failed} failed")
+    return int(failed > 0)
+
+
+if __name__ == "__main__":
+    sys.exit(main())
