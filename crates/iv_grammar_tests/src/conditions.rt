@@ -1,9 +1,9 @@
-//! Each public call of `iv_conditions`, at values from outside.
+//! Each public call of `iv_parse_terms`, at values from outside.
 use crate::shown::{show_condition, show_expression, show_range};
-use iv_conditions::{
+use iv_lex::{Token, tokens};
+use iv_parse_terms::{
     condition_laws, expression_laws, from_laws, read_condition, read_expression, read_from,
 };
-use iv_lex::{Token, tokens};
 use iv_syntax::{Condition, Expression, RangeName};
 use std::alloc::{AllocError, Global};
 use std::test::Fail;

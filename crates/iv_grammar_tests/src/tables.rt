@@ -1,12 +1,12 @@
-//! Each public call of `iv_tables`, at values from outside.
+//! Each public call of `iv_parse_data`, at values from outside.
 use iv_lex::{Kind, Token, tokens};
+use iv_parse_data::{
+    alter_table, create_table, delete, enclosed_condition, insert, mode, quoted, select, sequence,
+    series, skip, update,
+};
 use iv_syntax::{
     ConstraintMode, Delete, Insert, InsertSource, Name, Referencing, Select, SelectList, Statement,
     Update,
-};
-use iv_tables::{
-    alter_table, create_table, delete, enclosed_condition, insert, mode, quoted, select, sequence,
-    series, skip, update,
 };
 use std::alloc::{AllocError, Global};
 use std::test::Fail;

@@ -3,10 +3,10 @@ use Rattle.std.proofs.Common.{◌≡◌, ℕ, zero, suc, ◌-◌, ◌<◌, Optio
 use Rattle.iv_lex.specs.declared.kind.Kind.TheVariants as kind
 use Rattle.iv_lex.specs.Words.{Word}
 use Rattle.iv_syntax.specs.declared.trigger.TriggerAction.{TriggerAction}
-use Rattle.iv_conditions.specs.After.{after, if_some, then_read}
-use Rattle.iv_tables.specs.DataReaders.{then_word}
+use Rattle.iv_parse_terms.specs.After.{after, if_some, then_read}
+use Rattle.iv_parse_data.specs.DataReaders.{then_word}
 use Rattle.iv_parse.specs.TriggerReaders.{read_action, read_with_semicolon, read_ended_action}
-use Rattle.iv_tables.proofs.Loops.{Amid, preceded, amid_none, amid_end, amid_more}
+use Rattle.iv_parse_data.proofs.Loops.{Amid, preceded, amid_none, amid_end, amid_more}
 
 -- what is read where END doesn't stand
 ended : (ws : List Word) → None ≡ after kind.End ws → read_ended_action ws ≡ then_read (read_with_semicolon ws) (λ a rest. Some (Some a, rest))

@@ -10,7 +10,7 @@ use Rattle.iv_syntax.specs.declared.statement.Statement.{Statement}
 use Rattle.iv_parse.specs.Readers.{read_statement}
 use Rattle.iv_parse.specs.Script.{AreStatements, BeginsStatement, first_place}
 use Rattle.iv_parse.specs.Laws.{OneStatement, NoOtherBegins, OneScript}
-use Rattle.iv_tables.proofs.Fronts.{same_found}
+use Rattle.iv_parse_data.proofs.Fronts.{same_found}
 use Rattle.iv_parse.proofs.Rules.{statement_complete}
 
 pub no_other_begins : NoOtherBegins

@@ -8,15 +8,15 @@ use Rattle.iv_syntax.specs.declared.statement.ConstraintMode.{ConstraintMode}
 use Rattle.iv_syntax.specs.declared.statement.ConstraintMode.TheVariants.{Immediate, Deferred}
 use Rattle.iv_syntax.specs.declared.statement.ConstraintList.{ConstraintList}
 use Rattle.iv_syntax.specs.declared.statement.ConstraintList.TheVariants.{All, Named}
-use Rattle.iv_conditions.specs.After.{after, if_some, then_read}
-use Rattle.iv_tables.specs.Series.{Optional, read_series}
-use Rattle.iv_tables.specs.Data.{Names}
-use Rattle.iv_tables.specs.DataReaders.{FoundPart, read_name}
-use Rattle.iv_tables.specs.Tables.{mode_kind}
-use Rattle.iv_tables.specs.TableReaders.{read_mode}
+use Rattle.iv_parse_terms.specs.After.{after, if_some, then_read}
+use Rattle.iv_parse_data.specs.Series.{Optional, read_series}
+use Rattle.iv_parse_data.specs.Data.{Names}
+use Rattle.iv_parse_data.specs.DataReaders.{FoundPart, read_name}
+use Rattle.iv_parse_data.specs.Tables.{mode_kind}
+use Rattle.iv_parse_data.specs.TableReaders.{read_mode}
 use Rattle.iv_parse.specs.Statements.{IsConstraintList}
 use Rattle.iv_parse.specs.Readers.{read_drop, read_start, read_commit, read_to, read_rollback, read_savepoint, read_release, read_list, read_set, read_savepoint_rule, read_session_rule}
-use Rattle.iv_tables.proofs.DataComplete.{names_complete}
+use Rattle.iv_parse_data.proofs.DataComplete.{names_complete}
 
 -- a rule reads these words of a statement, and leaves the semicolon
 abbrev pub Reads_to_end : (List Word → FoundPart Statement) → List Word → Statement → Type 0

@@ -7,10 +7,10 @@ use Rattle.iv_syntax.specs.declared.statement.Statement.TheVariants.{DropTrigger
 use Rattle.iv_syntax.specs.declared.statement.Statement.TheVariants as statement
 use Rattle.iv_syntax.specs.declared.statement.ConstraintList.{ConstraintList}
 use Rattle.iv_syntax.specs.declared.statement.ConstraintList.TheVariants.{All, Named}
-use Rattle.iv_tables.specs.Series.{Optional}
+use Rattle.iv_parse_data.specs.Series.{Optional}
 use Rattle.iv_parse.specs.Triggers.{IsTrigger}
-use Rattle.iv_tables.specs.Tables.{mode_kind, IsCreateTable, IsAlterTable}
-use Rattle.iv_tables.specs.Data.{Names, IsInsert, IsUpdate, IsDelete, IsSelect}
+use Rattle.iv_parse_data.specs.Tables.{mode_kind, IsCreateTable, IsAlterTable}
+use Rattle.iv_parse_data.specs.Data.{Names, IsInsert, IsUpdate, IsDelete, IsSelect}
 
 -- ALL | names
 abbrev pub IsConstraintList : List Word → ConstraintList → Type 0

@@ -18,8 +18,8 @@ use Rattle.iv_syntax.specs.declared.trigger.Referencing.{Referencing}
 use Rattle.iv_syntax.specs.declared.trigger.TriggerAction.{TriggerAction}
 use Rattle.iv_syntax.specs.declared.trigger.TriggerAction.TheVariants as action
 use Rattle.iv_syntax.specs.declared.trigger.TriggerDefinition.{TriggerDefinition}
-use Rattle.iv_tables.specs.Series.{Sequence, Maybe, InParentheses, Optional}
-use Rattle.iv_tables.specs.Data.{IsShallow, IsShallowCondition, IsInsert, IsUpdate, IsDelete}
+use Rattle.iv_parse_data.specs.Series.{Sequence, Maybe, InParentheses, Optional}
+use Rattle.iv_parse_data.specs.Data.{IsShallow, IsShallowCondition, IsInsert, IsUpdate, IsDelete}
 
 abbrev pub side_kind : Side → Kind
 side_kind side.Old = kind.Old

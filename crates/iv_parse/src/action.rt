@@ -1,14 +1,14 @@
 //! The actions of a trigger.
 ghost use Rattle.std.specs.Prelude.{◌≡◌, IfOk, ℕ, List, Some, length};
 ghost use Rattle.iv_lex.specs.Words.{words};
-ghost use Rattle.iv_conditions.specs.Seen.{with_words};
-ghost use Rattle.iv_tables.specs.Series.{read_sequence};
+ghost use Rattle.iv_parse_terms.specs.Seen.{with_words};
+ghost use Rattle.iv_parse_data.specs.Series.{read_sequence};
 ghost use Rattle.iv_parse.specs.TriggerReaders.{read_set_variable, read_signal, read_other_action, read_delete_action, read_update_action, read_action, read_ended_action, some_actions, read_block, read_single, read_body};
 
-use iv_conditions::{after, name};
 use iv_lex::{Kind, Token};
+use iv_parse_data::{Parse, delete, insert, quoted, update};
+use iv_parse_terms::{after, name};
 use iv_syntax::{Expression, TriggerAction};
-use iv_tables::{Parse, delete, insert, quoted, update};
 use sqlite_items::Items;
 use std::alloc::{AllocError, Global};
 

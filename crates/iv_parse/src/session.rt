@@ -1,13 +1,13 @@
 //! Statements about transactions, savepoints and constraint modes.
 ghost use Rattle.std.specs.Prelude.{◌≡◌, IfOk, ℕ, List, Some};
 ghost use Rattle.iv_lex.specs.Words.{words};
-ghost use Rattle.iv_conditions.specs.Seen.{with_words};
+ghost use Rattle.iv_parse_terms.specs.Seen.{with_words};
 ghost use Rattle.iv_parse.specs.Readers.{read_drop, read_start, read_commit, read_to, read_rollback_rest, read_rollback, read_savepoint, read_release, read_list, read_set, read_savepoint_rule, read_session_rule};
 
-use iv_conditions::{after, name};
 use iv_lex::{Kind, Token};
+use iv_parse_data::{mode, series, skip};
+use iv_parse_terms::{after, name};
 use iv_syntax::{ConstraintList, Name, Statement};
-use iv_tables::{mode, series, skip};
 use std::alloc::{AllocError, Global};
 
 #[tactic(auto, unfolding(crate::specs::Readers::read_start))]

@@ -1,15 +1,15 @@
 //! Statements.
 ghost use Rattle.std.specs.Prelude.{◌≡◌, IfOk};
 ghost use Rattle.iv_lex.specs.Words.{words};
-ghost use Rattle.iv_conditions.specs.Seen.{with_words};
+ghost use Rattle.iv_parse_terms.specs.Seen.{with_words};
 ghost use Rattle.iv_parse.specs.Readers.{read_drop, read_insert_rule, read_update_rule, read_delete_rule, read_select_rule, read_create, read_definition_rule, read_rule, read_statement};
 
 use crate::session::session_statement;
 use crate::trigger::create_trigger;
-use iv_conditions::{after, name};
 use iv_lex::{Kind, Token};
+use iv_parse_data::{alter_table, create_table, delete, insert, select, update};
+use iv_parse_terms::{after, name};
 use iv_syntax::Statement;
-use iv_tables::{alter_table, create_table, delete, insert, select, update};
 use std::alloc::{AllocError, Global};
 
 #[tactic(auto, unfolding(crate::specs::Readers::read_drop))]

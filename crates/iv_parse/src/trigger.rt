@@ -1,17 +1,17 @@
 //! CREATE TRIGGER.
 ghost use Rattle.std.specs.Prelude.{◌≡◌, IfOk, ℕ, List};
 ghost use Rattle.iv_lex.specs.Words.{words};
-ghost use Rattle.iv_conditions.specs.Seen.{with_words};
+ghost use Rattle.iv_parse_terms.specs.Seen.{with_words};
 ghost use Rattle.iv_parse.specs.TriggerReaders.{some_items, read_referencing, read_each, read_granularity, read_when, read_action_time, read_other_event, read_event, read_occasion, read_middle, trigger_of, read_trigger_rest, read_trigger};
 
 use crate::action::body;
-use iv_conditions::{after, name};
 use iv_lex::{Kind, Token};
+use iv_parse_data::{enclosed_condition, sequence};
+use iv_parse_terms::{after, name};
 use iv_syntax::{
     ActionTime, Condition, Granularity, Name, Referencing, TriggerAction, TriggerDefinition,
     TriggerEvent,
 };
-use iv_tables::{enclosed_condition, sequence};
 use sqlite_items::Items;
 use std::alloc::{AllocError, Global};
 

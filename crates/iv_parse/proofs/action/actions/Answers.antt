@@ -1,6 +1,6 @@
 use Rattle.std.proofs.Common.{arith, sym, ◌∙◌, ap}
 use Rattle.iv_lex.specs.Words.{words}
-use Rattle.iv_conditions.specs.Seen.{with_words}
+use Rattle.iv_parse_terms.specs.Seen.{with_words}
 use Rattle.iv_parse.proofs.Actions.{actions_full, actions_none, actions_open, actions_more, actions_end}
 use Rattle.iv_parse.proofs.action.actions.Goals as goal
 

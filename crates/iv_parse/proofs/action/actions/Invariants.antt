@@ -1,8 +1,8 @@
 use Rattle.std.proofs.Common.{length}
 use Rattle.iv_lex.specs.Words.{words}
-use Rattle.iv_tables.specs.Series.{read_sequence}
+use Rattle.iv_parse_data.specs.Series.{read_sequence}
 use Rattle.iv_parse.specs.TriggerReaders.{read_ended_action}
-use Rattle.iv_tables.proofs.Loops.{Amid}
+use Rattle.iv_parse_data.proofs.Loops.{Amid}
 use Rattle.iv_parse.proofs.action.actions.Given as goal
 
 abbrev pub invariant-loop-items : goal.invariant-loop-items

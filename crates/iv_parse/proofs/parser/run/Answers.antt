@@ -1,7 +1,7 @@
 use Rattle.std.proofs.Common.{length, arith, ap, sym, ◌∙◌}
 use Rattle.std.proofs.lemmas.List.{length-map}
 use Rattle.iv_lex.specs.Words.{words, word_of}
-use Rattle.iv_conditions.specs.Seen.{with_words}
+use Rattle.iv_parse_terms.specs.Seen.{with_words}
 use Rattle.iv_parse.proofs.Runs.{run_more, left_shorter, last_shorter, run_ends}
 use Rattle.iv_parse.proofs.parser.run.Goals as goal
 

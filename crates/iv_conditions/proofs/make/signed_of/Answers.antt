@@ -1,6 +1,0 @@
-use Rattle.std.proofs.Common.{refl}
-use Rattle.iv_conditions.proofs.Bridges.{signed_is}
-use Rattle.iv_conditions.proofs.make.signed_of.Goals as goal
-
-pub returns : goal.returns
-returns c = rw (signed_is, c.in_ok-new.ensures) refl

@@ -1,6 +1,0 @@
-use Rattle.iv_lex.specs.Words.{words}
-use Rattle.iv_conditions.proofs.ConditionSteps.{truth_is}
-use Rattle.iv_conditions.proofs.predicate.join.Goals as goal
-
-pub returns-in-Some : goal.returns-in-Some
-returns-in-Some c = λ text. rw (← truth_is c.args.left.item c.in-Some.left.tree (words text c.args.left.rest.now) (words text c.in-Some.left.rest.now) (c.in-Some.ensures text)) (c.join_right.ensures text)

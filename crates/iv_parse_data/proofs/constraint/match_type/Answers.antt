@@ -1,0 +1,15 @@
+use Rattle.std.proofs.Common.{refl}
+use Rattle.iv_parse_data.specs.TableReaders.{read_match_type}
+use Rattle.iv_parse_data.proofs.constraint.match_type.Goals as goal
+
+pub returns-in-Some : goal.returns-in-Some
+unfolding read_match_type
+returns-in-Some c = λ text. rw (← c.in-Some.ensures text) refl
+
+pub returns-in-Some-after : goal.returns-in-Some-after
+unfolding read_match_type
+returns-in-Some-after c = λ text. rw (← c.in_default.ensures text, ← c.in-Some-after.ensures text) refl
+
+pub returns-in-None : goal.returns-in-None
+unfolding read_match_type
+returns-in-None c = λ text. rw (← c.in_default.ensures text, ← c.in-None.ensures text) refl

@@ -1,0 +1,125 @@
+-- Data statements as they are found at the front of words.
+use Rattle.std.specs.Prelude.{ℕ, Option, Some, None, List}
+use Rattle.iv_lex.specs.declared.kind.Kind.{Kind}
+use Rattle.iv_lex.specs.declared.kind.Kind.TheVariants as kind
+use Rattle.iv_lex.specs.Words.{Word}
+use Rattle.iv_syntax.specs.declared.tree.Expression.{Expression}
+use Rattle.iv_syntax.specs.declared.statement.ValueOrDefault.{ValueOrDefault}
+use Rattle.iv_syntax.specs.declared.statement.ValueOrDefault.TheVariants.{Value, Default}
+use Rattle.iv_syntax.specs.declared.statement.InsertSource.{InsertSource}
+use Rattle.iv_syntax.specs.declared.statement.InsertSource.TheVariants as source
+use Rattle.iv_syntax.specs.declared.statement.Insert.{Insert}
+use Rattle.iv_syntax.specs.declared.statement.Insert.TheVariants.{DefaultValues, Rows}
+use Rattle.iv_parse_terms.specs.declared.limits.TheConstants.{DEEPEST}
+use Rattle.iv_parse_terms.specs.After.{after, after_name, if_some, then_read}
+use Rattle.iv_parse_terms.specs.ExpressionReader.{read_expression}
+use Rattle.iv_parse_terms.specs.ConditionReader.{read_condition, read_from}
+use Rattle.iv_syntax.specs.declared.tree.RangeName.{RangeName}
+use Rattle.iv_syntax.specs.declared.statement.SelectList.{SelectList}
+use Rattle.iv_syntax.specs.declared.statement.SelectList.TheVariants as select_list
+use Rattle.iv_syntax.specs.declared.statement.Assignment.{Assignment}
+use Rattle.iv_syntax.specs.declared.statement.Update.{Update}
+use Rattle.iv_syntax.specs.declared.statement.Delete.{Delete}
+use Rattle.iv_syntax.specs.declared.statement.Select.{Select}
+use Rattle.iv_syntax.specs.declared.statement.Select.TheVariants as select
+use Rattle.iv_syntax.specs.declared.tree.Condition.{Condition}
+use Rattle.iv_parse_data.specs.Series.{read_series, read_closed, read_enclosed}
+
+-- what was found, and the words after it
+abbrev pub FoundPart : Type 0 → Type 0
+FoundPart A = Option (A × List Word)
+
+-- this word, and then what the function finds
+abbrev pub then_word : {A : Type 0} → Kind → List Word → (List Word → FoundPart A) → FoundPart A
+then_word k ws f = if_some (after k ws) f None
+
+abbrev pub read_name : List Word → FoundPart (List ℕ)
+read_name = after_name
+
+unfoldable pub read_shallow : List Word → FoundPart Expression
+read_shallow = read_expression DEEPEST
+
+unfoldable pub read_shallow_condition : List Word → FoundPart Condition
+read_shallow_condition = read_condition DEEPEST
+
+-- ( condition )
+unfoldable pub read_check : List Word → FoundPart Condition
+read_check = read_enclosed read_shallow_condition
+
+unfoldable pub read_value : List Word → FoundPart ValueOrDefault
+read_value ws =
+    if_some (after kind.Default ws) (λ rest. Some (Default, rest))
+    (then_read (read_shallow ws) (λ e rest. Some (Value e, rest)))
+
+unfoldable pub read_tuple : List Word → FoundPart (List ValueOrDefault)
+read_tuple = read_enclosed (read_series read_value)
+
+unfoldable pub read_column_list : List Word → FoundPart (Option (List (List ℕ)))
+read_column_list ws =
+    if_some (after kind.LeftParenthesis ws) (λ rest. then_read (read_closed (read_series read_name) rest) (λ ns more. Some (Some ns, more)))
+    (Some (None, ws))
+
+unfoldable pub read_shallow_from : List Word → FoundPart (RangeName × Option Condition)
+read_shallow_from = read_from DEEPEST
+
+unfoldable pub read_select_list : List Word → FoundPart SelectList
+read_select_list ws =
+    if_some (after kind.Asterisk ws) (λ rest. Some (select_list.Star, rest))
+    (then_read (read_series read_shallow ws) (λ es rest. Some (select_list.Values es, rest)))
+
+-- after SELECT
+unfoldable pub read_select_source : List Word → FoundPart InsertSource
+read_select_source ws =
+    then_read (read_select_list ws) (λ l rest. then_read (read_shallow_from rest) (λ p more. Some (source.Select l p.0 p.1, more)))
+
+unfoldable pub read_source : List Word → FoundPart InsertSource
+read_source ws =
+    if_some (after kind.Values ws) (λ rest. then_read (read_series read_tuple rest) (λ ts more. Some (source.Values ts, more)))
+    (then_word kind.Select ws read_select_source)
+
+unfoldable pub read_insert_rows : List ℕ → List Word → FoundPart Insert
+read_insert_rows t ws =
+    then_read (read_column_list ws) (λ cs rest. then_read (read_source rest) (λ s more. Some (Rows t cs s, more)))
+
+unfoldable pub read_insert_into : List ℕ → List Word → FoundPart Insert
+read_insert_into t ws =
+    if_some (after kind.Default ws) (λ rest. then_word kind.Values rest (λ more. Some (DefaultValues t, more)))
+    (read_insert_rows t ws)
+
+-- INSERT, from INTO on
+unfoldable pub read_insert : List Word → FoundPart Insert
+read_insert ws = then_word kind.Into ws (λ rest. then_read (read_name rest) read_insert_into)
+
+unfoldable pub read_assignment : List Word → FoundPart Assignment
+read_assignment ws =
+    then_read (read_name ws) (λ n rest. then_word kind.Equals rest (λ more. then_read (read_value more) (λ v left. Some (record { column = n; value = v }, left))))
+
+unfoldable pub read_where : List Word → FoundPart (Option Condition)
+read_where ws = if_some (after kind.Where ws) (λ rest. then_read (read_shallow_condition rest) (λ c more. Some (Some c, more))) (Some (None, ws))
+
+unfoldable pub read_assignments : List ℕ → List Word → FoundPart Update
+read_assignments t ws =
+    then_read (read_series read_assignment ws) (λ list rest. then_read (read_where rest) (λ c more. Some (record { table = t; assignments = list; filter = c }, more)))
+
+-- UPDATE, from the table on
+unfoldable pub read_update : List Word → FoundPart Update
+read_update ws = then_read (read_name ws) (λ t rest. then_word kind.Set rest (read_assignments t))
+
+-- DELETE, from FROM on
+unfoldable pub read_delete : List Word → FoundPart Delete
+read_delete ws =
+    then_word kind.From ws (λ rest. then_read (read_name rest) (λ t more. then_read (read_where more) (λ c left. Some (record { table = t; filter = c }, left))))
+
+-- after COUNT
+unfoldable pub read_count : List Word → FoundPart Select
+read_count ws =
+    then_word kind.LeftParenthesis ws (λ a. then_word kind.Asterisk a (λ b. then_word kind.RightParenthesis b
+    (λ rest. then_read (read_shallow_from rest) (λ p more. Some (select.Count p.0 p.1, more)))))
+
+unfoldable pub read_query : List Word → FoundPart Select
+read_query ws =
+    then_read (read_select_list ws) (λ l rest. then_read (read_shallow_from rest) (λ p more. Some (select.Rows l p.0 p.1, more)))
+
+-- after SELECT
+unfoldable pub read_select : List Word → FoundPart Select
+read_select ws = if_some (after kind.Count ws) read_count (read_query ws)

@@ -1,0 +1,234 @@
+//! The types of columns, literals and the times of constraints.
+ghost use Rattle.std.specs.Prelude.{◌≡◌, IfOk, ℕ, List, Bool, Option};
+ghost use Rattle.iv_lex.specs.Words.{words};
+ghost use Rattle.iv_parse_terms.specs.Seen.{with_words};
+ghost use Rattle.iv_parse_data.specs.Series.{read_either_order};
+ghost use Rattle.iv_parse_data.specs.TableReaders.{read_number, read_quoted, read_length, read_varying, read_varchar, read_type, text_or_null, read_literal, read_default, read_constraint_name, read_deferrable, read_mode, read_initially, read_time};
+
+use iv_lex::{Kind, Token, unquoted_text};
+use iv_parse_terms::{after, name, sign};
+use iv_syntax::{ColumnType, ConstraintMode, ConstraintTime, Literal, Name};
+use iv_value::Text;
+use std::alloc::{AllocError, Global};
+
+fn number(tokens: &[Token]) -> Option<(u64, &[Token])>
+    ensures { (text : List ℕ) → with_words text result ≡ read_number (words text tokens.now) }
+{
+    let [first, rest @ ..] = tokens else {
+        return None;
+    };
+    match first.kind {
+        Kind::Number(value) => Some((value, rest)),
+        _ => None,
+    }
+}
+
+/// The text at the front and the tokens after it.
+pub fn quoted<'a>(
+    alloc: Global,
+    text: &str,
+    tokens: &'a [Token],
+) -> Result<Option<(Text, &'a [Token])>, AllocError>
+    ensures { IfOk result (λ r. with_words text.now r ≡ read_quoted (words text.now tokens.now)) }
+{
+    let [first, rest @ ..] = tokens else {
+        return Ok(None);
+    };
+    match first.kind {
+        Kind::Quoted => match unquoted_text(alloc, text, *first)? {
+            Some(quoted) => Ok(Some((quoted, rest))),
+            None => Ok(None),
+        },
+        _ => Ok(None),
+    }
+}
+
+// The number between parentheses.
+#[tactic(auto, unfolding(crate::specs::TableReaders::read_length))]
+fn length(tokens: &[Token]) -> Option<(ColumnType, &[Token])>
+    ensures { (text : List ℕ) → with_words text result ≡ read_length (words text tokens.now) }
+{
+    let rest = after(Kind::LeftParenthesis, tokens)?;
+    let (value, rest) = number(rest)?;
+    let rest = after(Kind::RightParenthesis, rest)?;
+    Some((ColumnType::Varchar(value), rest))
+}
+
+fn varying(tokens: &[Token]) -> Option<(ColumnType, &[Token])>
+    ensures { (text : List ℕ) → with_words text result ≡ read_varying (words text tokens.now) }
+{
+    let rest = after(Kind::Varying, tokens)?;
+    length(rest)
+}
+
+#[tactic(auto, unfolding(crate::specs::TableReaders::read_varchar))]
+fn varchar(tokens: &[Token]) -> Option<(ColumnType, &[Token])>
+    ensures { (text : List ℕ) → with_words text result ≡ read_varchar (words text tokens.now) }
+{
+    if let Some(rest) = after(Kind::Varchar, tokens) {
+        return length(rest);
+    }
+    if let Some(rest) = after(Kind::Character, tokens) {
+        return varying(rest);
+    }
+    match after(Kind::Char, tokens) {
+        Some(rest) => varying(rest),
+        None => None,
+    }
+}
+
+/// The type of a column.
+#[tactic(auto, unfolding(crate::specs::TableReaders::read_type))]
+pub fn column_type(tokens: &[Token]) -> Option<(ColumnType, &[Token])>
+    ensures { (text : List ℕ) → with_words text result ≡ read_type (words text tokens.now) }
+{
+    if let Some(rest) = after(Kind::Integer, tokens) {
+        return Some((ColumnType::Integer, rest));
+    }
+    if let Some(rest) = after(Kind::Int, tokens) {
+        return Some((ColumnType::Integer, rest));
+    }
+    varchar(tokens)
+}
+
+fn text_or_null<'a>(
+    alloc: Global,
+    text: &str,
+    tokens: &'a [Token],
+) -> Result<Option<(Literal, &'a [Token])>, AllocError>
+    ensures { IfOk result (λ r. with_words text.now r ≡ text_or_null (words text.now tokens.now)) }
+{
+    if let Some((value, rest)) = quoted(alloc, text, tokens)? {
+        return Ok(Some((Literal::Text(value), rest)));
+    }
+    match after(Kind::Null, tokens) {
+        Some(rest) => Ok(Some((Literal::Null, rest))),
+        None => Ok(None),
+    }
+}
+
+#[tactic(auto, unfolding(crate::specs::TableReaders::read_literal))]
+fn literal<'a>(
+    alloc: Global,
+    text: &str,
+    tokens: &'a [Token],
+) -> Result<Option<(Literal, &'a [Token])>, AllocError>
+    ensures { IfOk result (λ r. with_words text.now r ≡ read_literal (words text.now tokens.now)) }
+{
+    if let Some((sign, rest)) = sign(tokens) {
+        return match number(rest) {
+            Some((value, rest)) => Ok(Some((Literal::Number(Some(sign), value), rest))),
+            None => Ok(None),
+        };
+    }
+    if let Some((value, rest)) = number(tokens) {
+        return Ok(Some((Literal::Number(None, value), rest)));
+    }
+    text_or_null(alloc, text, tokens)
+}
+
+/// DEFAULT and a literal, where they are given.
+#[tactic(auto, unfolding(crate::specs::TableReaders::read_default))]
+pub fn default<'a>(
+    alloc: Global,
+    text: &str,
+    tokens: &'a [Token],
+) -> Result<Option<(Option<Literal>, &'a [Token])>, AllocError>
+    ensures { IfOk result (λ r. with_words text.now r ≡ read_default (words text.now tokens.now)) }
+{
+    let Some(rest) = after(Kind::Default, tokens) else {
+        return Ok(Some((None, tokens)));
+    };
+    match literal(alloc, text, rest)? {
+        Some((literal, rest)) => Ok(Some((Some(literal), rest))),
+        None => Ok(None),
+    }
+}
+
+/// CONSTRAINT and a name, where they are given.
+#[tactic(auto, unfolding(crate::specs::TableReaders::read_constraint_name))]
+pub fn constraint_name<'a>(
+    alloc: Global,
+    text: &str,
+    tokens: &'a [Token],
+) -> Result<Option<(Option<Name>, &'a [Token])>, AllocError>
+    ensures { IfOk result (λ r. with_words text.now r ≡ read_constraint_name (words text.now tokens.now)) }
+{
+    let Some(rest) = after(Kind::Constraint, tokens) else {
+        return Ok(Some((None, tokens)));
+    };
+    match name(alloc, text, rest)? {
+        Some((name, rest)) => Ok(Some((Some(name), rest))),
+        None => Ok(None),
+    }
+}
+
+// [ NOT ] DEFERRABLE, where it is given.
+#[tactic(auto, unfolding(crate::specs::TableReaders::read_deferrable))]
+fn deferrable(tokens: &[Token]) -> Option<(Option<bool>, &[Token])>
+    ensures { (text : List ℕ) → with_words text result ≡ read_deferrable (words text tokens.now) }
+{
+    if let Some(rest) = after(Kind::Deferrable, tokens) {
+        return Some((Some(true), rest));
+    }
+    let Some(rest) = after(Kind::Not, tokens) else {
+        return Some((None, tokens));
+    };
+    match after(Kind::Deferrable, rest) {
+        Some(rest) => Some((Some(false), rest)),
+        None => Some((None, tokens)),
+    }
+}
+
+/// DEFERRED or IMMEDIATE.
+#[tactic(auto, unfolding(crate::specs::TableReaders::read_mode))]
+pub fn mode(tokens: &[Token]) -> Option<(ConstraintMode, &[Token])>
+    ensures { (text : List ℕ) → with_words text result ≡ read_mode (words text tokens.now) }
+{
+    if let Some(rest) = after(Kind::Deferred, tokens) {
+        return Some((ConstraintMode::Deferred, rest));
+    }
+    match after(Kind::Immediate, tokens) {
+        Some(rest) => Some((ConstraintMode::Immediate, rest)),
+        None => None,
+    }
+}
+
+// INITIALLY and a mode, where they are given.
+#[tactic(auto, unfolding(crate::specs::TableReaders::read_initially))]
+fn initially(tokens: &[Token]) -> Option<(Option<ConstraintMode>, &[Token])>
+    ensures { (text : List ℕ) → with_words text result ≡ read_initially (words text tokens.now) }
+{
+    let Some(rest) = after(Kind::Initially, tokens) else {
+        return Some((None, tokens));
+    };
+    let (mode, rest) = mode(rest)?;
+    Some((Some(mode), rest))
+}
+
+fn time_parts(tokens: &[Token]) -> Option<((Option<bool>, Option<ConstraintMode>), &[Token])>
+    ensures { (text : List ℕ) → with_words text result ≡ read_either_order read_deferrable read_initially (words text tokens.now) }
+{
+    let (before, rest) = deferrable(tokens)?;
+    let (mode, rest) = initially(rest)?;
+    match before {
+        Some(deferrable) => Some(((Some(deferrable), mode), rest)),
+        None => {
+            let (after, rest) = deferrable(rest)?;
+            Some(((after, mode), rest))
+        }
+    }
+}
+
+/// The constraint characteristics, as far as they are given.
+#[tactic(auto, unfolding(crate::specs::TableReaders::read_time))]
+pub fn time(tokens: &[Token]) -> Option<(ConstraintTime, &[Token])>
+    ensures { (text : List ℕ) → with_words text result ≡ read_time (words text tokens.now) }
+{
+    let ((deferrable, initially), rest) = time_parts(tokens)?;
+    let time = ConstraintTime {
+        deferrable,
+        initially,
+    };
+    Some((time, rest))
+}

@@ -1,0 +1,277 @@
+//! Conditions read from tokens.
+ghost use Rattle.std.specs.Prelude.{◌≡◌, ℕ, ◌-◌, ◌≤◌, ◌<◌, IfOk};
+ghost use Rattle.iv_lex.specs.Words.{words};
+ghost use Rattle.iv_parse_terms.specs.declared.item.Connective.TheVariants.{And, Or};
+ghost use Rattle.iv_parse_terms.specs.ConditionReader.{exists_by, more_by, read_lead, lead_factor as lead_factor_of, read_test, read_negation, read_conjunction, read_item, read_from as from, read_condition as read};
+ghost use Rattle.iv_parse_terms.specs.Seen.{with_words};
+ghost use Rattle.iv_parse_terms.specs.SeenItem.{item_found};
+ghost use Rattle.iv_parse_terms.specs.SeenFrom.{from_found};
+
+use crate::condition_part::ConditionPart;
+use crate::expression::{factor, simple};
+use crate::from::{close_exists, range, with_where, without_where};
+use crate::from_part::FromPart;
+use crate::front::{after, select, sign};
+use crate::item::Connective;
+use crate::item_part::ItemPart;
+use crate::limits::DEEPEST;
+use crate::predicate::{
+    close_item, connective_after, discard, go_on, join_found, negate, truth, value_item,
+};
+use iv_lex::{Kind, Token};
+use iv_syntax::{Condition, RangeName};
+use std::alloc::{AllocError, Global};
+
+// What stands first in a test.
+#[cycle(condition)]
+fn lead<'a>(
+    alloc: Global,
+    limit: u8,
+    text: &str,
+    tokens: &'a [Token],
+) -> Result<Option<ItemPart<'a>>, AllocError>
+    requires { limit ≤ DEEPEST }
+    ensures { IfOk result (λ r. item_found text.now r ≡ read_lead limit (words text.now tokens.now)) }
+{
+    if limit == 0 {
+        return Ok(None);
+    }
+    if let Some(rest) = after(Kind::LeftParenthesis, tokens) {
+        return match item(alloc, limit - 1, &*text, rest)? {
+            Some(inside) => close_item(alloc, limit, inside),
+            None => Ok(None),
+        };
+    }
+    match after(Kind::Exists, tokens) {
+        Some(rest) => exists(alloc, limit, &*text, rest),
+        None => Ok(value_item(simple(alloc, &*text, tokens)?)),
+    }
+}
+
+// EXISTS; the tokens are those after it.
+#[cycle(condition)]
+fn exists<'a>(
+    alloc: Global,
+    limit: u8,
+    text: &str,
+    tokens: &'a [Token],
+) -> Result<Option<ItemPart<'a>>, AllocError>
+    requires low { limit ≤ DEEPEST }
+    requires some { 0 < limit }
+    ensures { IfOk result (λ r. item_found text.now r ≡ exists_by limit (read_item (limit - 1)) (words text.now tokens.now)) }
+{
+    let Some(rest) = select(tokens) else {
+        return Ok(None);
+    };
+    match from_range(alloc, limit - 1, &*text, rest)? {
+        Some(found) => close_exists(alloc, limit, found),
+        None => Ok(None),
+    }
+}
+
+// FROM, a table, its alias and WHERE with a condition.
+#[cycle(condition)]
+fn from_range<'a>(
+    alloc: Global,
+    limit: u8,
+    text: &str,
+    tokens: &'a [Token],
+) -> Result<Option<FromPart<'a>>, AllocError>
+    requires { limit ≤ DEEPEST }
+    ensures { IfOk result (λ r. from_found text.now r ≡ from limit (words text.now tokens.now)) }
+{
+    let Some(rest) = after(Kind::From, tokens) else {
+        return Ok(None);
+    };
+    let Some((range, rest)) = range(alloc, &*text, rest)? else {
+        return Ok(None);
+    };
+    match after(Kind::Where, rest) {
+        Some(rest) => with_where(range, item(alloc, limit, &*text, rest)),
+        None => Ok(Some(without_where(range, rest))),
+    }
+}
+
+// The factor that stands first in a test, or a condition.
+#[cycle(condition)]
+fn lead_factor<'a>(
+    alloc: Global,
+    limit: u8,
+    text: &str,
+    tokens: &'a [Token],
+) -> Result<Option<ItemPart<'a>>, AllocError>
+    requires { limit ≤ DEEPEST }
+    ensures { IfOk result (λ r. item_found text.now r ≡ lead_factor_of limit (words text.now tokens.now)) }
+{
+    match sign(tokens) {
+        Some(_) => Ok(value_item(factor(alloc, limit, &*text, tokens)?)),
+        None => lead(alloc, limit, &*text, tokens),
+    }
+}
+
+#[cycle(condition)]
+fn test<'a>(
+    alloc: Global,
+    limit: u8,
+    text: &str,
+    tokens: &'a [Token],
+) -> Result<Option<ItemPart<'a>>, AllocError>
+    requires { limit ≤ DEEPEST }
+    ensures { IfOk result (λ r. item_found text.now r ≡ read_test limit (words text.now tokens.now)) }
+{
+    match lead_factor(alloc, limit, &*text, tokens)? {
+        Some(found) => go_on(alloc, limit, &*text, found),
+        None => Ok(None),
+    }
+}
+
+#[cycle(condition)]
+fn negation<'a>(
+    alloc: Global,
+    limit: u8,
+    text: &str,
+    tokens: &'a [Token],
+) -> Result<Option<ItemPart<'a>>, AllocError>
+    requires { limit ≤ DEEPEST }
+    ensures { IfOk result (λ r. item_found text.now r ≡ read_negation limit (words text.now tokens.now)) }
+{
+    let Some(rest) = after(Kind::Not, tokens) else {
+        return test(alloc, limit, &*text, tokens);
+    };
+    match test(alloc, limit, &*text, rest)? {
+        Some(found) => negate(alloc, limit, found),
+        None => Ok(None),
+    }
+}
+
+// The negations that follow, of which there are at most so many.
+#[cycle(condition)]
+fn negations<'a>(
+    alloc: Global,
+    limit: u8,
+    most: u8,
+    text: &str,
+    left: ItemPart<'a>,
+) -> Result<Option<ItemPart<'a>>, AllocError>
+    requires low { limit ≤ DEEPEST }
+    requires few { most ≤ DEEPEST }
+    ensures { IfOk result (λ r. item_found text.now r ≡ more_by And limit (read_negation limit) most left.entry.item (words text.now left.entry.rest.now)) }
+{
+    let Some(rest) = connective_after(Connective::And, &left) else {
+        return Ok(Some(left));
+    };
+    if most == 0 {
+        return Ok(discard(left));
+    }
+    let right = negation(alloc, limit, &*text, rest);
+    match join_found(alloc, limit, Connective::And, left, right)? {
+        Some(found) => negations(alloc, limit, most - 1, &*text, found),
+        None => Ok(None),
+    }
+}
+
+#[cycle(condition)]
+fn conjunction<'a>(
+    alloc: Global,
+    limit: u8,
+    text: &str,
+    tokens: &'a [Token],
+) -> Result<Option<ItemPart<'a>>, AllocError>
+    requires { limit ≤ DEEPEST }
+    ensures { IfOk result (λ r. item_found text.now r ≡ read_conjunction limit (words text.now tokens.now)) }
+{
+    match negation(alloc, limit, &*text, tokens)? {
+        Some(left) => negations(alloc, limit, limit, &*text, left),
+        None => Ok(None),
+    }
+}
+
+// The conjunctions that follow, of which there are at most so many.
+#[cycle(condition)]
+fn conjunctions<'a>(
+    alloc: Global,
+    limit: u8,
+    most: u8,
+    text: &str,
+    left: ItemPart<'a>,
+) -> Result<Option<ItemPart<'a>>, AllocError>
+    requires low { limit ≤ DEEPEST }
+    requires few { most ≤ DEEPEST }
+    ensures { IfOk result (λ r. item_found text.now r ≡ more_by Or limit (read_conjunction limit) most left.entry.item (words text.now left.entry.rest.now)) }
+{
+    let Some(rest) = connective_after(Connective::Or, &left) else {
+        return Ok(Some(left));
+    };
+    if most == 0 {
+        return Ok(discard(left));
+    }
+    let right = conjunction(alloc, limit, &*text, rest);
+    match join_found(alloc, limit, Connective::Or, left, right)? {
+        Some(found) => conjunctions(alloc, limit, most - 1, &*text, found),
+        None => Ok(None),
+    }
+}
+
+// A value or a condition.
+#[cycle(condition)]
+fn item<'a>(
+    alloc: Global,
+    limit: u8,
+    text: &str,
+    tokens: &'a [Token],
+) -> Result<Option<ItemPart<'a>>, AllocError>
+    requires { limit ≤ DEEPEST }
+    ensures { IfOk result (λ r. item_found text.now r ≡ read_item limit (words text.now tokens.now)) }
+{
+    match conjunction(alloc, limit, &*text, tokens)? {
+        Some(left) => conjunctions(alloc, limit, limit, &*text, left),
+        None => Ok(None),
+    }
+}
+
+/// The condition at the front of the tokens of `text`, as long as it can be, and the tokens after
+/// it. `None` where there is none, or where its tree is deeper than `DEEPEST`.
+pub fn read_condition<'a>(
+    alloc: Global,
+    text: &str,
+    tokens: &'a [Token],
+) -> Result<Option<(Condition, &'a [Token])>, AllocError>
+    ensures { IfOk result (λ r. with_words text.now r ≡ read DEEPEST (words text.now tokens.now)) }
+{
+    let Some(found) = item(alloc, DEEPEST, text, tokens)? else {
+        return Ok(None);
+    };
+    match truth(found) {
+        Some(
+            ConditionPart {
+                tree,
+                depth: _,
+                rest,
+            },
+        ) => Ok(Some((tree, rest))),
+        None => Ok(None),
+    }
+}
+
+/// FROM, a table, its alias and WHERE with a condition at the front of the tokens of `text`, as long
+/// as they can be, and the tokens after them. `None` where there is no FROM, or where the condition is
+/// deeper than `DEEPEST`.
+pub fn read_from<'a>(
+    alloc: Global,
+    text: &str,
+    tokens: &'a [Token],
+) -> Result<Option<((RangeName, Option<Condition>), &'a [Token])>, AllocError>
+    ensures { IfOk result (λ r. with_words text.now r ≡ from DEEPEST (words text.now tokens.now)) }
+{
+    match from_range(alloc, DEEPEST, text, tokens)? {
+        Some(
+            FromPart {
+                range,
+                condition,
+                depth: _,
+                rest,
+            },
+        ) => Ok(Some(((range, condition), rest))),
+        None => Ok(None),
+    }
+}

@@ -1,0 +1,93 @@
+//! What stands at the front of tokens.
+ghost use Rattle.std.specs.Prelude.{◌≡◌, ℕ, List, true, IfOk};
+ghost use Rattle.iv_lex.specs.Words.{words};
+ghost use Rattle.iv_parse_terms.specs.After.{after as words_after, after_name, is_plain, same};
+ghost use Rattle.iv_parse_terms.specs.ExpressionReader.{after_sign};
+ghost use Rattle.iv_parse_terms.specs.ConditionReader.{after_comparison, after_select};
+ghost use Rattle.iv_parse_terms.specs.Seen.{rest_words, with_words};
+
+use iv_expr::Comparison;
+use iv_lex::{Kind, Token, folded_text};
+use iv_syntax::{Name, Sign};
+use std::alloc::{AllocError, Global};
+
+fn is(token: &Token, kind: Kind) -> bool
+    ensures { result ≡ same token.now.kind kind }
+{
+    token.kind == kind
+}
+
+/// The tokens after this symbol or reserved word, where it stands at the front.
+pub fn after(kind: Kind, tokens: &[Token]) -> Option<&[Token]>
+    requires { is_plain kind ≡ true }
+    ensures { (text : List ℕ) → rest_words text result ≡ words_after kind (words text tokens.now) }
+{
+    let Some((first, rest)) = tokens.split_first() else {
+        return None;
+    };
+    if is(first, kind) { Some(rest) } else { None }
+}
+
+/// A sign at the front, and the tokens after it.
+pub fn sign(tokens: &[Token]) -> Option<(Sign, &[Token])>
+    ensures { (text : List ℕ) → with_words text result ≡ after_sign (words text tokens.now) }
+{
+    if let Some(rest) = after(Kind::Plus, tokens) {
+        return Some((Sign::Plus, rest));
+    }
+    match after(Kind::Minus, tokens) {
+        Some(rest) => Some((Sign::Minus, rest)),
+        None => None,
+    }
+}
+
+/// The name at the front, and the tokens after it.
+pub fn name<'a>(
+    alloc: Global,
+    text: &str,
+    tokens: &'a [Token],
+) -> Result<Option<(Name, &'a [Token])>, AllocError>
+    ensures { IfOk result (λ r. with_words text.now r ≡ after_name (words text.now tokens.now)) }
+{
+    let [first, rest @ ..] = tokens else {
+        return Ok(None);
+    };
+    if first.kind != Kind::Name {
+        return Ok(None);
+    }
+    match folded_text(alloc, text, *first)? {
+        Some(name) => Ok(Some((Name::new(name), rest))),
+        None => Ok(None),
+    }
+}
+
+/// A comparison at the front, and the tokens after it.
+pub fn comparison(tokens: &[Token]) -> Option<(Comparison, &[Token])>
+    ensures { (text : List ℕ) → with_words text result ≡ after_comparison (words text tokens.now) }
+{
+    let [first, rest @ ..] = tokens else {
+        return None;
+    };
+    match first.kind {
+        Kind::Equals => Some((Comparison::Equal, rest)),
+        Kind::NotEquals => Some((Comparison::NotEqual, rest)),
+        Kind::Less => Some((Comparison::Less, rest)),
+        Kind::LessEquals => Some((Comparison::LessEqual, rest)),
+        Kind::Greater => Some((Comparison::Greater, rest)),
+        Kind::GreaterEquals => Some((Comparison::GreaterEqual, rest)),
+        _ => None,
+    }
+}
+
+/// The tokens after `( SELECT *`.
+pub fn select(tokens: &[Token]) -> Option<&[Token]>
+    ensures { (text : List ℕ) → rest_words text result ≡ after_select (words text tokens.now) }
+{
+    let Some(rest) = after(Kind::LeftParenthesis, tokens) else {
+        return None;
+    };
+    match after(Kind::Select, rest) {
+        Some(rest) => after(Kind::Asterisk, rest),
+        None => None,
+    }
+}
