@@ -12,7 +12,7 @@ use Rattle.iv_machine.specs.Proposals.{holds}
 use Rattle.iv_machine.specs.BeforeTriggers.{placed_statements}
 use Rattle.iv_machine.specs.Waves.{SettledWaves, settled_waves, net_wave}
 use Rattle.iv_machine.specs.Levels.{Firing, Finished, Standing, Runs, statement_run, firing_run, firings_run, firings, nested_level, level}
-use Rattle.iv_laws.specs.Budgets.{total_in_turn, Counts, statement_total, firing_total, level_total, nested_total, total, sizes, one}
+use Rattle.iv_laws.specs.Budgets.{total_in_turn, Counts, statement_total, firing_total, level_total, nested_total, total, sizes, one_statement}
 use Rattle.iv_laws.proofs.Chains.{not_ok, ok_same, step_of, ok_inside, ok_over}
 use Rattle.iv_laws.proofs.Settling.{applied_is, size_applied, every_settled}
 use Rattle.iv_laws.proofs.Firings.{Steps, steps_of}
@@ -140,12 +140,12 @@ module _ (run : Runs) (count : Counts) (own : List Wave → ℕ) where
 
 steps_took : (run : Runs) (statements changes : Counts) (w : Context) (d : DataStatement) (f : Frame) (db : Database) (budget : ℕ) (done : Finished)
     → RunsTook run statements changes → Steps run w d f db budget done
-    → Took (level_total one run statements w d f db (suc budget)) (level_total sizes run changes w d f db (suc budget)) (suc budget) db.count done.rest done.database.count
+    → Took (level_total one_statement run statements w d f db (suc budget)) (level_total sizes run changes w d f db (suc budget)) (suc budget) db.count done.rest done.database.count
 steps_took run statements changes w d f db budget done took s =
     let waves = waves_took w db budget s.wave s.waves s.is_settled in
     let fired = firings_took run statements changes took (firings w d (net_wave db.rows s.waves.last.rows s.waves.waves))
     (record { database = s.waves.last; budget = s.waves.rest }) s.standing s.is_fired in
-    let all_statements = level_total_is run statements one w d f db budget done s in
+    let all_statements = level_total_is run statements one_statement w d f db budget done s in
     let all_changes = level_total_is run changes sizes w d f db budget done s in
     let rest : done.rest ≡ s.standing.budget = ap (λ x. x.rest) (sym s.is_done) in
     let count : done.database.count ≡ s.standing.database.count = ap (λ x. x.database.count) (sym s.is_done) in
@@ -154,20 +154,20 @@ steps_took run statements changes w d f db budget done took s =
       counted = omega (arith, waves.counted, fired.counted, all_changes, count);
     }
 
-nested_took : (depth : ℕ) (w : Context) → RunsTook (nested_level depth w) (nested_total one depth w) (nested_total sizes depth w)
+nested_took : (depth : ℕ) (w : Context) → RunsTook (nested_level depth w) (nested_total one_statement depth w) (nested_total sizes depth w)
 nested_took zero w trigger d f db budget done e = absurd (not_ok _ done e)
 nested_took (suc depth) w trigger d f db zero done e = absurd (not_ok _ done e)
 nested_took (suc depth) w trigger d f db (suc budget) done e =
-    steps_took (nested_level depth w) (nested_total one depth w) (nested_total sizes depth w) w d f db budget done (nested_took depth w)
+    steps_took (nested_level depth w) (nested_total one_statement depth w) (nested_total sizes depth w) w d f db budget done (nested_took depth w)
     (steps_of (nested_level depth w) w d f db budget done e)
 
 pub nested_takes : (depth : ℕ) (w : Context) (trigger : ℕ) (d : DataStatement) (f : Frame) (db : Database) (budget : ℕ) (done : Finished)
     → nested_level depth w trigger d f db budget ≡ Ok done
-    → done.rest + nested_total one depth w trigger d f db budget + nested_total sizes depth w trigger d f db budget ≡ budget
+    → done.rest + nested_total one_statement depth w trigger d f db budget + nested_total sizes depth w trigger d f db budget ≡ budget
 nested_takes depth w trigger d f db budget done e = (nested_took depth w trigger d f db budget done e).taken
 
 pub level_takes : (deeper : ℕ) (w : Context) (d : DataStatement) (f : Frame) (db : Database) (budget : ℕ) (done : Finished)
-    → level deeper w d f db budget ≡ Ok done → done.rest + total one deeper w d f db budget + total sizes deeper w d f db budget ≡ budget
+    → level deeper w d f db budget ≡ Ok done → done.rest + total one_statement deeper w d f db budget + total sizes deeper w d f db budget ≡ budget
 level_takes deeper w d f db budget done e = nested_takes (suc deeper) w 0 d f db budget done e
 
 pub nested_counts : (depth : ℕ) (w : Context) (trigger : ℕ) (d : DataStatement) (f : Frame) (db : Database) (budget : ℕ) (done : Finished)

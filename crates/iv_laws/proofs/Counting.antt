@@ -19,7 +19,7 @@ use Rattle.iv_machine.specs.Context.{Context, Failure, fails, over, unless_first
 use Rattle.iv_machine.specs.Proposals.{holds, proposed_wave, table_of, event_of}
 use Rattle.iv_machine.specs.BeforeTriggers.{placed_statements, before_statement, wave_after_triggers}
 use Rattle.iv_machine.specs.ReferentialActions.{lost_keys, restricted_rows, conflicts, following_wave}
-use Rattle.iv_machine.specs.Waves.{numbered_wave, is_beyond_last_row, wave_as_applied, one_wave, is_empty, SettledWaves, Settles, settled_by, settled_within, settled_waves, net_wave}
+use Rattle.iv_machine.specs.Waves.{numbered_wave, is_beyond_last_row, wave_as_applied, one_wave, is_empty, SettledWaves, Settles, none_settled, settled_by, settled_within, settled_waves, net_wave}
 use Rattle.iv_machine.specs.Levels.{Firing, Finished, Standing, Runs, statement_run, body_run, firing_run, firings_run, firings, immediate_check, level_steps, nested_level, level}
 use Rattle.iv_laws.proofs.Settling.{nothing_settled, then_settled, then_next}
 
@@ -114,7 +114,7 @@ settled_by_counts rest w db budget wave others = by_empty (is_empty wave.changes
         (others (database_after db one.wave) (budget - size one.wave) one.next) (λ s le2. le2)))
 
 settled_within_counts : (most : ℕ) (w : Context) (db : Database) (budget : ℕ) (wave : Wave) → NoFewer db.count (λ s. s.last.count) (settled_within most w db budget wave)
-settled_within_counts zero w db budget wave = settled_by_counts (λ db' budget' wave'. fails db' TooManyChanges) w db budget wave (λ db' budget' wave'. omega arith)
+settled_within_counts zero w db budget wave = settled_by_counts none_settled w db budget wave (λ db' budget' wave'. omega arith)
 settled_within_counts (suc most) w db budget wave = settled_by_counts (settled_within most w) w db budget wave (settled_within_counts most w)
 
 -- ---- levels

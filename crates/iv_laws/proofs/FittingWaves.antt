@@ -189,7 +189,7 @@ pub waves_are_a_chain : (w : Context) (d : DataStatement) (f : Frame) (db : Data
     → Numbered db → proposed_wave w db f d ≡ Ok wave → settled_waves w db budget wave ≡ Ok s → Chain db s.waves s.last
 waves_are_a_chain w d f db budget wave s h is_proposed e = settled_fits w db budget wave s e h (proposed_ready w db f d wave is_proposed)
 
-chain_ends : (db last : Database) (waves : List Wave) → Chain db waves last → Numbered last
+pub chain_ends : (db last : Database) (waves : List Wave) → Chain db waves last → Numbered last
 chain_ends db last [] h = subst Numbered h.1 h.0
 chain_ends db last (wave ∷ waves) h = chain_ends (database_after db wave) last waves h.2
 

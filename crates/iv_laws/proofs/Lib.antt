@@ -28,3 +28,4 @@ pub mod Scanning
 pub mod ReachedStates
 pub mod Planned
 pub mod WaveEquations
+pub mod NetChanges

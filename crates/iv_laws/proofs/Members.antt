@@ -17,12 +17,12 @@ In x [] = ⊥
 In x (y ∷ ys) = (x ≡ y) ⊎ In x ys
 
 -- an element of a list with what is known of it
-pub record Found {A : Type 0} (xs : List A) (P : A → Type 0) : Type 0 where
+pub record Member {A : Type 0} (xs : List A) (P : A → Type 0) : Type 0 where
   pub element : A
   pub is_in : In element xs
   pub holds : P element
 
-further : {A : Type 0} (x : A) (xs : List A) (P : A → Type 0) → Found xs P → Found (x ∷ xs) P
+further : {A : Type 0} (x : A) (xs : List A) (P : A → Type 0) → Member xs P → Member (x ∷ xs) P
 further x xs P found = record { element = found.element; is_in = inr found.is_in; holds = found.holds }
 
 -- ---- tests
@@ -46,10 +46,10 @@ any_in p x [] i e = absurd i
 any_in p x (y ∷ ys) (inl is) e = ap (λ b. b || list_any p ys) (ap p (sym is) ∙ e)
 any_in p x (y ∷ ys) (inr i) e = elim (p y) as (λ b. (b || list_any p ys) ≡ true) [ true ↦ refl | false ↦ any_in p x ys i e ]
 
-pub of_any : {A : Type 0} (p : A → Bool) (xs : List A) → list_any p xs ≡ true → Found xs (λ x. p x ≡ true)
+pub of_any : {A : Type 0} (p : A → Bool) (xs : List A) → list_any p xs ≡ true → Member xs (λ x. p x ≡ true)
 of_any p [] e = absurd (false_true e)
 of_any p (y ∷ ys) e =
-    elim (p y) as (λ b. p y ≡ b → (b || list_any p ys) ≡ true → Found (y ∷ ys) (λ x. p x ≡ true)) [
+    elim (p y) as (λ b. p y ≡ b → (b || list_any p ys) ≡ true → Member (y ∷ ys) (λ x. p x ≡ true)) [
       | true ↦ λ f _. record { element = y; is_in = inl refl; holds = f }
       | false ↦ λ _ g. further y ys (λ x. p x ≡ true) (of_any p ys g)
     ] refl e
@@ -71,12 +71,12 @@ in_filter_map f x y (z ∷ zs) (inl is) e = subst (λ o. In y (cons_option o (fi
 in_filter_map f x y (z ∷ zs) (inr i) e = in_option y (f z) (filter_map f zs) (in_filter_map f x y zs i e)
 
 of_option : {A B : Type 0} (f : A → Option B) (y : B) (x : A) (xs : List A) (ys : List B) (o : Option B) → f x ≡ o
-    → (In y ys → Found xs (λ z. f z ≡ Some y)) → In y (cons_option o ys) → Found (x ∷ xs) (λ z. f z ≡ Some y)
+    → (In y ys → Member xs (λ z. f z ≡ Some y)) → In y (cons_option o ys) → Member (x ∷ xs) (λ z. f z ≡ Some y)
 of_option f y x xs ys None e rest i = further x xs (λ z. f z ≡ Some y) (rest i)
 of_option f y x xs ys (Some v) e rest (inl is) = record { element = x; is_in = inl refl; holds = e ∙ ap Some (sym is) }
 of_option f y x xs ys (Some v) e rest (inr i) = further x xs (λ z. f z ≡ Some y) (rest i)
 
-pub of_filter_map : {A B : Type 0} (f : A → Option B) (y : B) (xs : List A) → In y (filter_map f xs) → Found xs (λ x. f x ≡ Some y)
+pub of_filter_map : {A B : Type 0} (f : A → Option B) (y : B) (xs : List A) → In y (filter_map f xs) → Member xs (λ x. f x ≡ Some y)
 of_filter_map f y [] i = absurd i
 of_filter_map f y (x ∷ xs) i = of_option f y x xs (filter_map f xs) (f x) refl (of_filter_map f y xs) i
 
@@ -109,13 +109,13 @@ in_flat_map f y x [] i j = absurd i
 in_flat_map f y x (z ∷ xs) (inl is) j = in_left y (f z) (flat_map f xs) (subst (λ v. In y (f v)) is j)
 in_flat_map f y x (z ∷ xs) (inr i) j = in_right y (f z) (flat_map f xs) (in_flat_map f y x xs i j)
 
-pub of_flat_map : {A B : Type 0} (f : A → List B) (y : B) (xs : List A) → In y (flat_map f xs) → Found xs (λ x. In y (f x))
+pub of_flat_map : {A B : Type 0} (f : A → List B) (y : B) (xs : List A) → In y (flat_map f xs) → Member xs (λ x. In y (f x))
 of_flat_map f y [] i = absurd i
 of_flat_map f y (x ∷ xs) i =
     ⊎_elim (λ j. record { element = x; is_in = inl refl; holds = j })
     (λ j. further x xs (λ z. In y (f z)) (of_flat_map f y xs j)) (in_either y (f x) (flat_map f xs) i)
 
-pub of_map : {A B : Type 0} (f : A → B) (y : B) (xs : List A) → In y (map f xs) → Found xs (λ x. y ≡ f x)
+pub of_map : {A B : Type 0} (f : A → B) (y : B) (xs : List A) → In y (map f xs) → Member xs (λ x. y ≡ f x)
 of_map f y [] i = absurd i
 of_map f y (x ∷ xs) (inl is) = record { element = x; is_in = inl refl; holds = is }
 of_map f y (x ∷ xs) (inr i) = further x xs (λ z. y ≡ f z) (of_map f y xs i)
@@ -138,7 +138,7 @@ present_in rows (s ∷ some) r h (inr i) = present_in rows some r h.1 i
 pub rows_in : (rows : List StoredRow) (r : StoredRow) → InOrder rows → In r rows → row_at rows r.number ≡ Some r
 rows_in rows r h i = present_in rows rows r (present_itself rows h) i
 
-pub in_wave_of : (wave : List Change) (n : ℕ) → has_change wave n ≡ true → Found wave (λ c. c.row ≡ n)
+pub in_wave_of : (wave : List Change) (n : ℕ) → has_change wave n ≡ true → Member wave (λ c. c.row ≡ n)
 in_wave_of wave n e =
     let found = of_any (λ c. c.row == n) wave e in
     record { element = found.element; is_in = found.is_in; holds = eqb-true found.element.row n found.holds }

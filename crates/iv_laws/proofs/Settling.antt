@@ -13,7 +13,7 @@ use Rattle.iv_machine.specs.Databases.{size, database_after}
 use Rattle.iv_machine.specs.Context.{Context, Failure, fails, with_count, each}
 use Rattle.iv_machine.specs.BeforeTriggers.{is_before_row, change_after_trigger, changes_after_triggers, wave_after_triggers}
 use Rattle.iv_machine.specs.ReferentialActions.{following_wave}
-use Rattle.iv_machine.specs.Waves.{with_numbers, numbered_wave, is_beyond_last_row, wave_as_applied, AppliedWave, one_wave, is_empty, SettledWaves, Settles, settled_within, settled_waves}
+use Rattle.iv_machine.specs.Waves.{with_numbers, numbered_wave, is_beyond_last_row, wave_as_applied, AppliedWave, one_wave, is_empty, SettledWaves, Settles, none_settled, settled_within, settled_waves}
 use Rattle.iv_laws.proofs.Chains.{not_ok, ok_same, step_of, ok_with_count, length_each}
 
 length_after_triggers : (w : Context) (rows : List StoredRow) (ts : List Trigger) (changes out : List Change)
@@ -148,7 +148,7 @@ module _ (w : Context) (P : Database → ℕ → Wave → SettledWaves → Type 
   pub every_settled_within : (most : ℕ) (db : Database) (budget : ℕ) (wave : Wave) (s : SettledWaves)
       → settled_within most w db budget wave ≡ Ok s → P db budget wave s
   every_settled_within zero db budget wave s e =
-      by_rest (λ db' budget' wave'. fails db' TooManyChanges) db budget wave s (is_empty wave.changes) refl (λ db' budget' wave' s' f. absurd (not_ok _ s' f)) e
+      by_rest none_settled db budget wave s (is_empty wave.changes) refl (λ db' budget' wave' s' f. absurd (not_ok _ s' f)) e
   every_settled_within (suc most) db budget wave s e =
       by_rest (settled_within most w) db budget wave s (is_empty wave.changes) refl (every_settled_within most) e
 

@@ -7,11 +7,10 @@ use Rattle.iv_expr.specs.declared.row.StoredRow.{StoredRow}
 use Rattle.iv_expr.specs.declared.row.Change.{Change}
 use Rattle.iv_expr.specs.Changes.{Wave}
 use Rattle.iv_expr.specs.Evaluation.{and_then}
-use Rattle.iv_catalogue.specs.declared.cause.Cause.TheVariants.{TooManyChanges}
 use Rattle.iv_machine.specs.declared.database.Database.{Database}
 use Rattle.iv_machine.specs.Databases.{row_at, has_change, new_row, size, database_after}
-use Rattle.iv_machine.specs.Context.{Context, Failure, fails}
-use Rattle.iv_machine.specs.Waves.{is_empty, AppliedWave, one_wave, SettledWaves, Settles, settled_by, settled_within, settled_waves}
+use Rattle.iv_machine.specs.Context.{Context, Failure}
+use Rattle.iv_machine.specs.Waves.{is_empty, AppliedWave, one_wave, SettledWaves, Settles, none_settled, settled_by, settled_within, settled_waves}
 use Rattle.iv_laws.specs.RisingRows.{InOrder}
 use Rattle.iv_laws.specs.Reorderings.{Distinct}
 use Rattle.iv_laws.specs.WaveEquations.{row_after}
@@ -78,10 +77,10 @@ same_within : (most other : ℕ) (w : Context) (db : Database) (budget : ℕ) (w
     → settled_within most w db budget wave ≡ settled_within other w db budget wave
 same_within zero zero w db budget wave le le' = refl
 same_within zero (suc other) w db budget wave le le' =
-    same_settled w (λ db' budget' wave'. fails db' TooManyChanges) (settled_within other w) db budget wave
+    same_settled w none_settled (settled_within other w) db budget wave
     (λ db' budget' wave' less. absurd (not_below_none budget' (omega (arith, less, le))))
 same_within (suc most) zero w db budget wave le le' =
-    same_settled w (settled_within most w) (λ db' budget' wave'. fails db' TooManyChanges) db budget wave
+    same_settled w (settled_within most w) none_settled db budget wave
     (λ db' budget' wave' less. absurd (not_below_none budget' (omega (arith, less, le'))))
 same_within (suc most) (suc other) w db budget wave le le' =
     same_settled w (settled_within most w) (settled_within other w) db budget wave
@@ -89,7 +88,7 @@ same_within (suc most) (suc other) w db budget wave le le' =
 
 settled_one_by_one : (budget : ℕ) (w : Context) (db : Database) (wave : Wave) → settled_within budget w db budget wave ≡ settled_by (settled_waves w) w db budget wave
 settled_one_by_one zero w db wave =
-    same_settled w (λ db' budget' wave'. fails db' TooManyChanges) (settled_waves w) db 0 wave (λ db' budget' wave' less. absurd (not_below_none budget' less))
+    same_settled w none_settled (settled_waves w) db 0 wave (λ db' budget' wave' less. absurd (not_below_none budget' less))
 settled_one_by_one (suc budget) w db wave =
     same_settled w (settled_within budget w) (settled_waves w) db (suc budget) wave
     (λ db' budget' wave' less. same_within budget budget' w db' budget' wave' (omega (arith, less)) (omega arith))

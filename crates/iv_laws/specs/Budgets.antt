@@ -76,8 +76,8 @@ sizes [] = 0
 sizes (wave ∷ waves) = size wave + sizes waves
 
 -- one for the waves of each data statement
-abbrev pub one : List Wave → ℕ
-one waves = 1
+abbrev pub one_statement : List Wave → ℕ
+one_statement waves = 1
 
 -- ---- the budget
 
@@ -87,7 +87,7 @@ abbrev pub LevelsTakeFromTheBudget : Type 0
 LevelsTakeFromTheBudget =
     (deeper : ℕ) (context : Context) (statement : DataStatement) (frame : Frame) (db : Database) (budget : ℕ) (done : Finished)
     → level deeper context statement frame db budget ≡ Ok done
-    → done.rest + total one deeper context statement frame db budget + total sizes deeper context statement frame db budget ≡ budget
+    → done.rest + total one_statement deeper context statement frame db budget + total sizes deeper context statement frame db budget ≡ budget
 
 -- So does one of a trigger's body.
 abbrev pub NestedLevelsTakeFromTheBudget : Type 0
@@ -95,7 +95,7 @@ NestedLevelsTakeFromTheBudget =
     (depth : ℕ) (context : Context) (trigger : ℕ) (statement : DataStatement) (frame : Frame) (db : Database) (budget : ℕ)
     (done : Finished)
     → nested_level depth context trigger statement frame db budget ≡ Ok done
-    → done.rest + nested_total one depth context trigger statement frame db budget
+    → done.rest + nested_total one_statement depth context trigger statement frame db budget
     + nested_total sizes depth context trigger statement frame db budget
     ≡ budget
 

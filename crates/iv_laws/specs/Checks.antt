@@ -10,18 +10,18 @@ use Rattle.iv_machine.specs.Levels.{Finished, nested_level, level}
 
 -- no immediate constraint is violated
 abbrev pub IsChecked : Context → Database → Type 0
-IsChecked w db = scan db.rows w.schema.constraints (is_chosen w.modes Immediate) ≡ []
+IsChecked context db = scan db.rows context.schema.constraints (is_chosen context.modes Immediate) ≡ []
 
 -- After an accepted data statement of a script no immediate constraint is violated, whatever was violated before.
 abbrev pub LevelsCheck : Type 0
 LevelsCheck =
-    (deeper : ℕ) (w : Context) (d : DataStatement) (f : Frame) (db : Database) (budget : ℕ) (done : Finished)
-    → level deeper w d f db budget ≡ Ok done
-    → IsChecked w done.database
+    (deeper : ℕ) (context : Context) (statement : DataStatement) (frame : Frame) (db : Database) (budget : ℕ) (done : Finished)
+    → level deeper context statement frame db budget ≡ Ok done
+    → IsChecked context done.database
 
 -- So after one of a trigger's body.
 abbrev pub NestedLevelsCheck : Type 0
 NestedLevelsCheck =
-    (depth : ℕ) (w : Context) (trigger : ℕ) (d : DataStatement) (f : Frame) (db : Database) (budget : ℕ) (done : Finished)
-    → nested_level depth w trigger d f db budget ≡ Ok done
-    → IsChecked w done.database
+    (depth : ℕ) (context : Context) (trigger : ℕ) (statement : DataStatement) (frame : Frame) (db : Database) (budget : ℕ) (done : Finished)
+    → nested_level depth context trigger statement frame db budget ≡ Ok done
+    → IsChecked context done.database

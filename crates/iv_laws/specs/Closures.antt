@@ -38,46 +38,46 @@ no_column_is_set constraints = list_all (λ k. not (sets_columns k.key.on_delete
 
 -- a row holds the key of another by this foreign key, which has ON DELETE CASCADE
 abbrev pub cascades_by : ForeignKey → StoredRow → StoredRow → Bool
-cascades_by fk r other = is_cascade fk.on_delete && ((other.table == fk.referenced) && holds_key fk.columns (key_of fk.key other.values) r.values)
+cascades_by fk row other = is_cascade fk.on_delete && ((other.table == fk.referenced) && holds_key fk.columns (key_of fk.key other.values) row.values)
 
 -- so by some foreign key of its table
 abbrev pub follows : List Constraint → StoredRow → StoredRow → Bool
-follows constraints r other = list_any (λ k. (k.table == r.table) && cascades_by k.key r other) (references constraints)
+follows constraints row other = list_any (λ k. (k.table == row.table) && cascades_by k.key row other) (references constraints)
 
 -- The least set of these rows that has those of a wave, and each row that by a foreign key with ON DELETE CASCADE holds the key
 -- of a row of the set.
 pub data Taken (constraints : List Constraint) (rows : List StoredRow) (wave : Wave) : StoredRow → Type 0 where
-  candidate : (r : StoredRow) → row_at rows r.number ≡ Some r → has_change wave.changes r.number ≡ true → Taken constraints rows wave r
-  referring : (r other : StoredRow) → row_at rows r.number ≡ Some r → follows constraints r other ≡ true
-      → Taken constraints rows wave other → Taken constraints rows wave r
+  candidate : (row : StoredRow) → row_at rows row.number ≡ Some row → has_change wave.changes row.number ≡ true → Taken constraints rows wave row
+  referring : (row other : StoredRow) → row_at rows row.number ≡ Some row → follows constraints row other ≡ true
+      → Taken constraints rows wave other → Taken constraints rows wave row
 
 -- ---- what a DELETE takes away
 
 -- the waves of a DELETE, with what it proposes, are accepted and lead to a last database
 abbrev pub Deletes : Context → ℕ → Cond → Frame → Database → ℕ → Wave → SettledWaves → Type 0
-Deletes w t filter f db budget wave s =
+Deletes context table filter frame db budget wave settled =
     Numbered db
-    × (no_column_is_set w.schema.constraints ≡ true)
-    × (proposed_wave w db f (Delete t filter) ≡ Ok wave)
-    × (settled_waves w db budget wave ≡ Ok s)
+    × (no_column_is_set context.schema.constraints ≡ true)
+    × (proposed_wave context db frame (Delete table filter) ≡ Ok wave)
+    × (settled_waves context db budget wave ≡ Ok settled)
 
 -- Each row of the set is gone.
 abbrev pub TakenRowsAreGone : Type 0
 TakenRowsAreGone =
-    (w : Context) (t : ℕ) (filter : Cond) (f : Frame) (db : Database) (budget : ℕ) (wave : Wave) (s : SettledWaves)
-    → Deletes w t filter f db budget wave s
-    → (r : StoredRow) → Taken w.schema.constraints db.rows wave r → row_at s.last.rows r.number ≡ None
+    (context : Context) (table : ℕ) (filter : Cond) (frame : Frame) (db : Database) (budget : ℕ) (wave : Wave) (settled : SettledWaves)
+    → Deletes context table filter frame db budget wave settled
+    → (row : StoredRow) → Taken context.schema.constraints db.rows wave row → row_at settled.last.rows row.number ≡ None
 
 -- No row that is gone is outside the set.
 abbrev pub GoneRowsAreTaken : Type 0
 GoneRowsAreTaken =
-    (w : Context) (t : ℕ) (filter : Cond) (f : Frame) (db : Database) (budget : ℕ) (wave : Wave) (s : SettledWaves)
-    → Deletes w t filter f db budget wave s
-    → (r : StoredRow) → row_at db.rows r.number ≡ Some r → row_at s.last.rows r.number ≡ None → Taken w.schema.constraints db.rows wave r
+    (context : Context) (table : ℕ) (filter : Cond) (frame : Frame) (db : Database) (budget : ℕ) (wave : Wave) (settled : SettledWaves)
+    → Deletes context table filter frame db budget wave settled
+    → (row : StoredRow) → row_at db.rows row.number ≡ Some row → row_at settled.last.rows row.number ≡ None → Taken context.schema.constraints db.rows wave row
 
 -- Each row that is there was there, with the same values.
 abbrev pub OtherRowsStay : Type 0
 OtherRowsStay =
-    (w : Context) (t : ℕ) (filter : Cond) (f : Frame) (db : Database) (budget : ℕ) (wave : Wave) (s : SettledWaves)
-    → Deletes w t filter f db budget wave s
-    → (r : StoredRow) → row_at s.last.rows r.number ≡ Some r → row_at db.rows r.number ≡ Some r
+    (context : Context) (table : ℕ) (filter : Cond) (frame : Frame) (db : Database) (budget : ℕ) (wave : Wave) (settled : SettledWaves)
+    → Deletes context table filter frame db budget wave settled
+    → (row : StoredRow) → row_at settled.last.rows row.number ≡ Some row → row_at db.rows row.number ≡ Some row

@@ -8,3 +8,4 @@ pub mod Locality
 pub mod Closures
 pub mod Reached
 pub mod WaveEquations
+pub mod NetChanges

@@ -5,6 +5,7 @@ ghost use Rattle.iv_laws.specs.Closures.{TakenRowsAreGone, GoneRowsAreTaken, Oth
 ghost use Rattle.iv_laws.specs.FittingWaves.{WavesAreAChain, LevelsKeepNumbers, NestedLevelsKeepNumbers, NoRowsAreNumbered};
 ghost use Rattle.iv_laws.specs.Holders.{HoldersBeforeAWave, RowsBeforeAWave, KeysAreLostByTheWave, RestrictedRowsFollow, ConflictsFollow, NextWavesFollow, WavesFollowFromWaves};
 ghost use Rattle.iv_laws.specs.Locality.{AChangeIsLocal, ViolationsElsewhereStay};
+ghost use Rattle.iv_laws.specs.NetChanges.{RowsBeforeWaves, RowsAfterWaves, NetChangesFollowFromTheWaves};
 ghost use Rattle.iv_laws.specs.Reached.{PlannedStatesAreSound};
 ghost use Rattle.iv_laws.specs.Reorderings.{AnyOrderGivesTheWave};
 ghost use Rattle.iv_laws.specs.WaveEquations.{RowsAfterAWave, RowsAfterAreInOrder, WavesAreSettledOneByOne};
@@ -51,6 +52,13 @@ pub fn waves_fit()
     ensures level { LevelsKeepNumbers }
     ensures nested { NestedLevelsKeepNumbers }
     ensures start { NoRowsAreNumbered }
+{}
+
+/// The rows before and after a chain of waves, and so its net changes, follow from the waves.
+pub fn net_changes_follow()
+    ensures before { RowsBeforeWaves }
+    ensures after { RowsAfterWaves }
+    ensures net { NetChangesFollowFromTheWaves }
 {}
 
 /// Which rows held a key before a wave, which keys it took away, and what follows it, are told by the rows

@@ -1,7 +1,8 @@
 //! Each law is a call that returns.
 use crate::{
     a_change_is_local, any_order, budget_falls, changes_are_counted, deletion_closure,
-    holders_before_a_wave, level_checks, planned_states_are_sound, waves_fit, waves_one_by_one,
+    holders_before_a_wave, level_checks, net_changes_follow, planned_states_are_sound, waves_fit,
+    waves_one_by_one,
 };
 
 #[test]
@@ -12,6 +13,7 @@ fn laws_are_called(rt: HostRuntime) {
     level_checks();
     any_order();
     waves_fit();
+    net_changes_follow();
     holders_before_a_wave();
     a_change_is_local();
     deletion_closure();

@@ -73,10 +73,14 @@ settled_by settled context db budget wave =
     and_then (settled (database_after db one.wave) (budget - size one.wave) one.next) (λ s.
     Ok (record s { waves = one.wave ∷ s.waves })))
 
+-- where no more waves may come
+abbrev pub none_settled : Settles
+none_settled db budget wave = fails db TooManyChanges
+
 -- so with at most so many waves
 abbrev pub settled_within : ℕ → Context → Settles
-settled_within zero context = settled_by (λ db budget wave. fails db TooManyChanges) context
-settled_within (suc most) context = settled_by (settled_within most context) context
+settled_within zero context db budget wave = settled_by none_settled context db budget wave
+settled_within (suc most) context db budget wave = settled_by (settled_within most context) context db budget wave
 
 -- The waves, until one is empty. Each takes one or more from the budget, so there are at most as many as the budget has.
 abbrev pub settled_waves : Context → Settles

@@ -49,7 +49,8 @@ impl Limits {
     pub fn new(depth: u8, changes: u32) -> Option<Limits>
         ensures { result ≡
             (if nat_le least_depth depth && nat_le depth greatest_depth
-            && nat_le fewest_changes_in_a_statement changes && nat_le changes most_changes_in_a_statement
+            && nat_le fewest_changes_in_a_statement changes
+            && nat_le changes most_changes_in_a_statement
             then Some (record { depth = depth; changes = changes }) else None) }
     {
         let depths = LEAST_DEPTH..=GREATEST_DEPTH;

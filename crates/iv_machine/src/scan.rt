@@ -8,7 +8,7 @@ ghost use Rattle.iv_value.specs.References.{value_of};
 ghost use Rattle.iv_value.specs.Truths.{is_false};
 ghost use Rattle.iv_value.specs.Values.{all_same, is_null};
 ghost use Rattle.iv_expr.specs.Scopes.{table_rows};
-ghost use Rattle.iv_machine.specs.Databases.{value_at, key_of, none_null, all_null, holds_key, is_unique, has_referenced, matches, obeys, satisfies, violates, fault_at, violations, chosen_violations, is_deferred, is_chosen, scan, first};
+ghost use Rattle.iv_machine.specs.Databases.{value_at, key_of, none_null, all_null, shares_key, is_unique, has_referenced, matches, obeys, satisfies, violates, fault_at, violations, chosen_violations, is_deferred, is_chosen, scan, first};
 
 use crate::database::Which;
 use iv_catalogue::{Constraint, ConstraintId, Fault, ForeignKey, Rule};
@@ -65,7 +65,7 @@ fn same_key(columns: &[u32], row: &[Value], others: &[u32], other: &[Value]) -> 
 
 // Whether another row holds this row's key.
 fn is_equal(columns: &[u32], row: &StoredRow, other: &StoredRow) -> bool
-    ensures { result ≡ (not (other.now.number == row.now.number) && holds_key columns.now (key_of columns.now row.now.values) other.now.values) }
+    ensures { result ≡ shares_key columns.now row.now other.now }
 {
     other.number != row.number
         && none_null(columns, other.values.values())
@@ -164,7 +164,8 @@ fn violates(rows: &[StoredRow], constraint: &Constraint, row: &StoredRow) -> boo
 
 // The number of the first row that violates the constraint.
 fn first_row(rows: &[StoredRow], constraint: &Constraint) -> Option<u64>
-    ensures { result ≡ option_map (λ r. r.number) (find (violates rows.now constraint.now) rows.now) }
+    ensures { result ≡
+        option_map (λ r. r.number) (find (violates rows.now constraint.now) rows.now) }
 {
     rows.iter()
         .find(|row| violates(rows, constraint, row))
@@ -180,7 +181,8 @@ fn first_of(
     id: u32,
     constraint: &Constraint,
 ) -> Option<Fault>
-    ensures { result ≡ first (chosen_violations rows.now (is_chosen modes.now which) id constraint.now) }
+    ensures { result ≡
+        first (chosen_violations rows.now (is_chosen modes.now which) id constraint.now) }
 {
     if !is_chosen(modes, which, id) {
         return None;
@@ -236,7 +238,8 @@ fn count_of(
     id: u32,
     constraint: &Constraint,
 ) -> usize
-    ensures { result ≡ length (chosen_violations rows.now (is_chosen modes.now which) id constraint.now) }
+    ensures { result ≡
+        length (chosen_violations rows.now (is_chosen modes.now which) id constraint.now) }
 {
     if is_chosen(modes, which, id) {
         count_rows(rows, constraint)
@@ -253,7 +256,8 @@ pub fn count_faults(
     which: Which,
 ) -> u64
     requires { length constraints.now ≤ 4096 }
-    ensures { result ≡ min (length (scan rows.now constraints.now (is_chosen modes.now which))) (2 ^ 64 - 1) }
+    ensures { result ≡
+        min (length (scan rows.now constraints.now (is_chosen modes.now which))) (2 ^ 64 - 1) }
 {
     let mut id = 0u32;
     let mut count = 0u64;
@@ -271,7 +275,8 @@ fn push_rows(
     id: u32,
     constraint: &Constraint,
 ) -> Result<(), AllocError>
-    ensures { OnOk result (faults.new.items ≡ faults.old.items ++ violations rows.now id constraint.now) }
+    ensures { OnOk result (faults.new.items ≡
+        faults.old.items ++ violations rows.now id constraint.now) }
 {
     for row in rows {
         if violates(rows, constraint, row) {
@@ -293,7 +298,9 @@ fn push_faults(
     id: u32,
     constraint: &Constraint,
 ) -> Result<(), AllocError>
-    ensures { OnOk result (faults.new.items ≡ faults.old.items ++ chosen_violations rows.now (is_chosen modes.now which) id constraint.now) }
+    ensures { OnOk result (faults.new.items ≡
+        faults.old.items
+        ++ chosen_violations rows.now (is_chosen modes.now which) id constraint.now) }
 {
     if is_chosen(modes, which, id) {
         push_rows(faults, rows, id, constraint)
@@ -311,7 +318,8 @@ pub fn list_faults(
     which: Which,
 ) -> Result<Vec<Fault>, AllocError>
     requires { length constraints.now ≤ 4096 }
-    ensures { IfOk result (λ faults. faults.items ≡ scan rows.now constraints.now (is_chosen modes.now which)) }
+    ensures { IfOk result (λ faults. faults.items ≡
+        scan rows.now constraints.now (is_chosen modes.now which)) }
 {
     let mut faults = Vec::new(alloc);
     let mut id = 0u32;

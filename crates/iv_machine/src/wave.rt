@@ -39,7 +39,8 @@ fn place(rows: &[StoredRow], number: u64) -> usize
 
 // Whether the row at a place has this number.
 fn has_number(rows: &[StoredRow], at: usize, number: u64) -> bool
-    ensures value { result ≡ unwrap_or (option_map (λ r. r.number == number) (slice_get rows.now at)) false }
+    ensures value { result ≡
+        unwrap_or (option_map (λ r. r.number == number) (slice_get rows.now at)) false }
     ensures within { IsTrue result → at + 1 ≤ length rows.now }
 {
     match rows.get(at) {
@@ -94,7 +95,8 @@ fn put_outside(
     changes: &[Change],
 ) -> Result<(), AllocError>
     ensures { OnOk result (rows.new.items ≡
-        (if has_change changes.now row.now.number then rows.old.items else rows_with row.now rows.old.items)) }
+        (if has_change changes.now row.now.number then rows.old.items
+        else rows_with row.now rows.old.items)) }
 {
     if has_change(changes, row.number) {
         Ok(())
