@@ -17,3 +17,7 @@ given_count device = device.given
 -- up to which byte its reads have asked
 abbrev pub asked_count : {T : Type 0} → Std T → ℕ
 asked_count device = device.asked
+
+-- how many of its reads have told the end
+abbrev pub ends_count : {T : Type 0} → Std T → ℕ
+ends_count device = device.ends

@@ -2,8 +2,8 @@
 ghost use Rattle.std.specs.Prelude.{◌≡◌, ℕ, ◌+◌, ◌<◌, ◌≤◌, ◌^◌, ◌-◌, List, length, max, Option, None, OnOk, OnErr, IfOk};
 ghost use Rattle.std.specs.Io.{ReadsAtMost, WritesAtMost};
 ghost use Rattle.std.specs.Io.KnownBytes.{ReadConsumes, WriteAppends};
-ghost use Rattle.iv_print.specs.Counts.{counted};
-ghost use Rattle.iv_print.specs.Devices.{inner_of, failed_count, given_count, asked_count};
+ghost use Rattle.iv_print.specs.Counts.{counted, ends_after};
+ghost use Rattle.iv_print.specs.Devices.{inner_of, failed_count, given_count, asked_count, ends_count};
 
 use std::io::{Read, Write};
 
@@ -22,6 +22,9 @@ pub trait Source {
     // up to which byte calls have asked
     ghost asked: { Self → ℕ };
 
+    // how many calls have told the end
+    ghost ends: { Self → ℕ };
+
     // the bytes that reads will give from here on, where they are known
     ghost remaining: { Self → Option (List ℕ) } = { λ _. None };
 
@@ -34,7 +37,9 @@ pub trait Source {
         ensures fails { OnErr result (failed self.new ≡ counted (failed self.old) 1) }
         ensures gives { IfOk result (λ n. given self.new ≡ counted (given self.old) n) }
         ensures gives_none { OnErr result (given self.new ≡ given self.old) }
-        ensures asks { asked self.new ≡ max (asked self.old) (counted (given self.old) (length buffer.old)) };
+        ensures asks { asked self.new ≡ max (asked self.old) (counted (given self.old) (length buffer.old)) }
+        ensures ends { IfOk result (λ n. ends self.new ≡ ends_after (ends self.old) (length buffer.old) n) }
+        ensures ends_none { OnErr result (ends self.new ≡ ends self.old) };
 }
 
 /// Where bytes go. Its count stays at 2^64 - 1 once it is there.
@@ -62,6 +67,7 @@ pub struct Std<T> {
     failed: u64,
     given: u64,
     asked: u64,
+    ends: u64,
 }
 
 impl<T> Std<T> {
@@ -71,12 +77,14 @@ impl<T> Std<T> {
         ensures failed { failed_count result ≡ 0 }
         ensures given { given_count result ≡ 0 }
         ensures asked { asked_count result ≡ 0 }
+        ensures ends { ends_count result ≡ 0 }
     {
         Std {
             inner,
             failed: 0,
             given: 0,
             asked: 0,
+            ends: 0,
         }
     }
 
@@ -96,15 +104,21 @@ impl<R: Read> Source for Std<R> {
 
     ghost asked = { asked_count };
 
+    ghost ends = { ends_count };
+
     ghost remaining = { λ device. R.remaining (inner_of device) };
 
     fn read(&mut self, buffer: &mut [u8]) -> Result<usize, DeviceFault> {
         self.asked = self
             .asked
             .max(self.given.saturating_add(buffer.len() as u64));
+        let has_room = !buffer.is_empty();
         match self.inner.read(buffer) {
             Ok(count) => {
                 self.given = self.given.saturating_add(count as u64);
+                if count == 0 && has_room {
+                    self.ends = self.ends.saturating_add(1);
+                }
                 Ok(count)
             }
             Err(_) => {

@@ -1,5 +1,5 @@
 -- One statement after another.
-use Rattle.std.proofs.Common.{◌≡◌, ℕ, ◌+◌, ◌≤◌, Bool, true, false, if◌then◌else◌, List, [], ◌∷◌, ◌++◌, Option, Result, Ok, Err, ◌∙◌, sym, ap, subst, refl, append_assoc, append-nil, arith}
+use Rattle.std.proofs.Common.{◌≡◌, ℕ, ◌+◌, ◌≤◌, Bool, true, false, if◌then◌else◌, List, [], ◌∷◌, ◌++◌, Option, Result, Ok, Err, ◌∙◌, sym, ap, subst, refl, append_assoc, append-nil, length, length-append, arith}
 use Rattle.std.specs.Io.KnownBytes.{Appends}
 use Rattle.std.proofs.KnownBytes.{Appends-trans, Appends-nil}
 use Rattle.iv_syntax.specs.declared.statement.Statement.{Statement}
@@ -114,6 +114,7 @@ counted_more (false ∷ bs) b = counted_more bs b
 pub record Onward (old now : State) (all rest : List Statement) (n : ℕ) (tally : Tally) (before after : Option (List ℕ)) (failed failed_then : ℕ) : Type 0 where
   pub starves : List Bool
   pub written : List ℕ
+  pub each : length starves ≡ n
   pub starved_is : starved_count starves ≡ tally.starved
   pub appended : Appends before after written
   pub onward : (more : List Bool) → run_from old 0 all (starves ++ more) ≡ following written tally.accepted tally.refused (run_from now n rest more)
@@ -123,6 +124,7 @@ pub onward_start : (s : State) (all : List Statement) (tally : Tally) (a : Optio
 onward_start s all tally a m p q z = record {
   starves = [];
   written = [];
+  each = refl;
   starved_is = sym z;
   appended = Appends-nil a;
   onward = λ more. rw (p, q) (following_none (run_from s 0 all more));
@@ -136,6 +138,7 @@ onward_more old now new all left rest st n t u a before after m k j w e r =
     record {
       starves = w.starves ++ r.starves ∷ [];
       written = w.written ++ lines (n + 1) o;
+      each = omega (arith, length-append w.starves (r.starves ∷ []), w.each);
       starved_is = counted_more w.starves r.starves ∙ ap (λ z. z + (if r.starves then 1 else 0)) w.starved_is ∙ sym r.starved_is;
       appended = Appends-trans a before after w.written (lines (n + 1) o) w.appended r.appended;
       onward = λ more.
@@ -149,12 +152,13 @@ onward_more old now new all left rest st n t u a before after m k j w e r =
       works = r.works ∙ w.works;
     }
 
-pub onward_end : (old now : State) (all rest : List Statement) (n : ℕ) (t : Tally) (a b : Option (List ℕ)) (m k : ℕ) → Onward old now all rest n t a b m k → rest ≡ [] → RanAll old now all t a b m k
-onward_end old now all rest n t a b m k w e =
+pub onward_end : (old now : State) (all rest : List Statement) (n : ℕ) (t : Tally) (a b : Option (List ℕ)) (m k : ℕ) → Onward old now all rest n t a b m k → rest ≡ [] → n ≡ length all → RanAll old now all t a b m k
+onward_end old now all rest n t a b m k w e q =
     let done : run_from old 0 all w.starves ≡ following w.written t.accepted t.refused (record { text = []; state = now; accepted = 0; refused = 0 }) =
     ap (run_from old 0 all) (sym (append-nil w.starves)) ∙ w.onward [] ∙ ap (λ l. following w.written t.accepted t.refused (run_from now n l [])) e in
     record {
       starves = w.starves;
+      each = w.each ∙ q;
       starved_is = w.starved_is;
       accepted_is = ap (λ r. r.accepted) done ∙ none_more t.accepted;
       refused_is = ap (λ r. r.refused) done ∙ none_more t.refused;

@@ -16,6 +16,7 @@ pub ran_parsed : (old new : State) (sts : List Statement) (fault : Option ℕ) (
     → RanParsed old sts fault tally b0 b3 m0 m3
 ran_parsed old new sts fault tally b0 b1 b2 b3 m0 m1 m2 m3 r p q = record {
   starves = r.starves;
+  each = r.each;
   starved_is = r.starved_is;
   accepted_is = r.accepted_is;
   refused_is = r.refused_is;
@@ -31,6 +32,7 @@ ran_script bytes limits sts fault tally a b m n s r = record {
   statements = sts;
   starves = r.starves;
   is_script = s;
+  each = r.each;
   starved_is = r.starved_is;
   accepted_is = r.accepted_is;
   refused_is = r.refused_is;

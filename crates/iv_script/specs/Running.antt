@@ -16,9 +16,10 @@ pub record RanOne (n : ℕ) (old new : State) (st : Statement) (tally tally_then
   pub appended : Appends before after (lines n (outcome starves old st))
   pub works : failed_then ≡ failed
 
--- all statements ran
+-- all statements ran; for each it is chosen whether it wanted memory
 pub record RanAll (old new : State) (sts : List Statement) (tally : Tally) (before after : Option (List ℕ)) (failed failed_then : ℕ) : Type 0 where
   pub starves : List Bool
+  pub each : length starves ≡ length sts
   pub starved_is : starved_count starves ≡ tally.starved
   pub accepted_is : (run_from old 0 sts starves).accepted ≡ tally.accepted
   pub refused_is : (run_from old 0 sts starves).refused ≡ tally.refused
@@ -29,6 +30,7 @@ pub record RanAll (old new : State) (sts : List Statement) (tally : Tally) (befo
 -- the statements ran, and the lines of the script's end were written
 pub record RanParsed (old : State) (sts : List Statement) (fault : Option ℕ) (tally : Tally) (before after : Option (List ℕ)) (failed failed_then : ℕ) : Type 0 where
   pub starves : List Bool
+  pub each : length starves ≡ length sts
   pub starved_is : starved_count starves ≡ tally.starved
   pub accepted_is : (run_from old 0 sts starves).accepted ≡ tally.accepted
   pub refused_is : (run_from old 0 sts starves).refused ≡ tally.refused

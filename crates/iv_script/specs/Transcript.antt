@@ -81,12 +81,13 @@ starved_count [] = 0
 starved_count (true ∷ bs) = 1 + starved_count bs
 starved_count (false ∷ bs) = starved_count bs
 
--- The transcript of these bytes was appended, for some choice of so many statements that want memory, and so many were accepted and
--- refused.
+-- The transcript of these bytes was appended, and so many statements were accepted and refused. For each statement it is chosen
+-- whether it wants memory, and so many do.
 pub record RanScript (bytes : List ℕ) (limits : Bounds) (fault : Option ℕ) (accepted refused starved : ℕ) (before after : Option (List ℕ)) : Type 0 where
   pub statements : List Statement
   pub starves : List Bool
   pub is_script : IsScript bytes statements fault
+  pub each : length starves ≡ length statements
   pub starved_is : starved_count starves ≡ starved
   pub accepted_is : (run_from (empty_state limits) 0 statements starves).accepted ≡ accepted
   pub refused_is : (run_from (empty_state limits) 0 statements starves).refused ≡ refused

@@ -5,10 +5,11 @@ ghost use Rattle.iv_machine.specs.Machine.{empty_state};
 ghost use Rattle.iv_parse.specs.Script.{IsScript};
 ghost use Rattle.iv_print.specs.Counts.{counted};
 ghost use Rattle.iv_print.specs.Writing.{Writes};
+ghost use Rattle.iv_script.specs.Lengths.{Fits, IsExact};
 ghost use Rattle.iv_script.specs.Transcript.{fault_line, end_line, RanScript, RanFed};
 ghost use Rattle.iv_script.specs.Running.{RanParsed};
 
-use crate::read::{LONGEST, ReadEnd, read_script};
+use crate::read::{LONGEST, read_script};
 use crate::statements::{Tally, run_statements};
 use crate::summary::{RunFault, Summary};
 use iv_machine::Limits;
@@ -84,12 +85,8 @@ fn run_text<W: Sink>(
     ensures silent { IfErr result (λ e. e ≢ RunFault.Write → writer.new ≡ writer.old) }
     ensures works { OnOk result (W.failed writer.new ≡ W.failed writer.old) }
 {
-    let Ok(Parsed { statements, fault }) = script(alloc, text) else {
-        return Err(RunFault::NoMemory);
-    };
-    let Ok(mut session) = Session::new(alloc, limits) else {
-        return Err(RunFault::NoMemory);
-    };
+    let Parsed { statements, fault } = script(alloc, text)?;
+    let mut session = Session::new(alloc, limits)?;
     match run_parsed(&mut session, statements.as_slice(), fault, writer) {
         Ok(tally) => Ok(Summary {
             accepted: tally.accepted,
@@ -112,6 +109,7 @@ fn run_bytes<W: Sink>(
     ensures transcript { IfOk result (λ s. RanScript bytes.now limits (option_map (λ f. f.at) s.fault) s.accepted s.refused s.starved (W.contents writer.old) (W.contents writer.new)) }
     ensures fed { IfOk result (λ s. s.starved ≡ 0 → RanFed bytes.now limits (option_map (λ f. f.at) s.fault) (W.contents writer.old) (W.contents writer.new)) }
     ensures utf8 { OnOk result (IsUtf8 bytes.now) }
+    ensures write_utf8 { IsErrOf result RunFault.Write → IsUtf8 bytes.now }
     ensures not_utf8 { IsErrOf result RunFault.NotUtf8 → ¬ (IsUtf8 bytes.now) }
     ensures kinds { IfErr result (λ e. (e ≢ RunFault.Read) × (e ≢ RunFault.TooLong)) }
     ensures write { IsErrOf result RunFault.Write → W.failed writer.new ≡ counted (W.failed writer.old) 1 }
@@ -141,10 +139,18 @@ pub fn run<R: Source, W: Sink>(
     ensures transcript { IfOk result (λ s. IfSome (R.remaining reader.old) (λ bytes. RanScript bytes limits (option_map (λ f. f.at) s.fault) s.accepted s.refused s.starved (W.contents writer.old) (W.contents writer.new))) }
     // Where `starved` is 0 it is the transcript of the machine.
     ensures fed { IfOk result (λ s. s.starved ≡ 0 → IfSome (R.remaining reader.old) (λ bytes. RanFed bytes limits (option_map (λ f. f.at) s.fault) (W.contents writer.old) (W.contents writer.new))) }
-    // A script that ran is short enough and UTF-8.
-    ensures fits { OnOk result (IfSome (R.remaining reader.old) (λ bytes. (length bytes ≤ LONGEST) × IsUtf8 bytes)) }
-    ensures too_long { IsErrOf result RunFault.TooLong → IfSome (R.remaining reader.old) (λ bytes. LONGEST < length bytes) }
-    ensures not_utf8 { IsErrOf result RunFault.NotUtf8 → IfSome (R.remaining reader.old) (λ bytes. (length bytes ≤ LONGEST) × ¬ (IsUtf8 bytes)) }
+    // A script that ran is short enough and UTF-8, and so is one of which a line couldn't be written.
+    ensures fits { OnOk result (IfSome (R.remaining reader.old) (λ bytes. Fits LONGEST bytes)) }
+    ensures write_fits { IsErrOf result RunFault.Write
+        → IfSome (R.remaining reader.old) (λ bytes. Fits LONGEST bytes) }
+    ensures too_long { IsErrOf result RunFault.TooLong
+        → IfSome (R.remaining reader.old) (λ bytes. LONGEST < length bytes) }
+    ensures not_utf8 { IsErrOf result RunFault.NotUtf8
+        → IfSome (R.remaining reader.old) (λ bytes. (length bytes ≤ LONGEST) × ¬ (IsUtf8 bytes)) }
+    // Where every read worked and no memory was refused, a script that is longer is `TooLong`, and else
+    // one that isn't UTF-8 is `NotUtf8`.
+    ensures exact { ¬ (IsErrOf result RunFault.Read) → ¬ (IsErrOf result RunFault.NoMemory)
+        → IfSome (R.remaining reader.old) (λ bytes. IsExact LONGEST bytes result) }
     ensures read { IsErrOf result RunFault.Read → R.failed reader.new ≡ counted (R.failed reader.old) 1 }
     ensures write { IsErrOf result RunFault.Write → W.failed writer.new ≡ counted (W.failed writer.old) 1 }
     ensures silent { IfErr result (λ e. e ≢ RunFault.Write → writer.new ≡ writer.old) }
@@ -153,12 +159,11 @@ pub fn run<R: Source, W: Sink>(
     ensures no_write_failed { ¬ (IsErrOf result RunFault.Write) → W.failed writer.new ≡ W.failed writer.old }
     // No byte is asked for beyond one more than a script may have.
     ensures asked { R.asked reader.new ≤ max (R.asked reader.old) (R.given reader.old + (LONGEST + 1)) }
+    // The end of a script that ran was told once, and no other run is told it twice: after it no read
+    // is made.
+    ensures ended { OnOk result (R.ends reader.new ≡ counted (R.ends reader.old) 1) }
+    ensures ended_once { R.ends reader.new ≤ R.ends reader.old + 1 }
 {
-    let bytes = match read_script(alloc, reader) {
-        Ok(bytes) => bytes,
-        Err(ReadEnd::Fault) => return Err(RunFault::Read),
-        Err(ReadEnd::TooLong) => return Err(RunFault::TooLong),
-        Err(ReadEnd::NoMemory) => return Err(RunFault::NoMemory),
-    };
+    let bytes = read_script(alloc, reader)?;
     run_bytes(alloc, bytes.as_slice(), writer, limits)
 }

@@ -1,5 +1,6 @@
 //! What a run did, or why it didn't.
 use iv_parse::SyntaxFault;
+use std::alloc::AllocError;
 use thiserror::Error;
 
 /// How many statements were accepted and refused, how many of the refused wanted memory, and the fault of
@@ -25,4 +26,15 @@ pub enum RunFault {
     Write,
     #[error("out of memory")]
     NoMemory,
+}
+
+impl From<AllocError> for RunFault {
+    ghost use Rattle.std.specs.Prelude.{◌≡◌};
+    ghost use Rattle.iv_script.specs.declared.summary.RunFault.TheVariants.{NoMemory};
+
+    ghost from_gives = { λ _ e. e ≡ NoMemory };
+
+    fn from(_: AllocError) -> RunFault {
+        RunFault::NoMemory
+    }
 }

@@ -6,6 +6,7 @@ use iv_parse::script;
 use iv_session::Session;
 use std::alloc::Global;
 use std::io;
+use std::io::{ErrorKind, Read, Write};
 use std::test::Fail;
 
 mod outcomes;
@@ -26,6 +27,7 @@ struct ChunkedSource<'a> {
     failed: u64,
     given: u64,
     asked: u64,
+    ends: u64,
 }
 
 impl<'a> Source for ChunkedSource<'a> {
@@ -34,6 +36,8 @@ impl<'a> Source for ChunkedSource<'a> {
     ghost given = { λ s. s.given };
 
     ghost asked = { λ s. s.asked };
+
+    ghost ends = { λ s. s.ends };
 
     fn read(&mut self, buffer: &mut [u8]) -> Result<usize, DeviceFault> {
         self.asked = self
@@ -48,6 +52,9 @@ impl<'a> Source for ChunkedSource<'a> {
         buffer[..count].copy_from_slice(&self.text[..count]);
         self.text = &self.text[count..];
         self.given = self.given.saturating_add(count as u64);
+        if count == 0 && !buffer.is_empty() {
+            self.ends = self.ends.saturating_add(1);
+        }
         Ok(count)
     }
 }
@@ -61,6 +68,7 @@ fn chunks(text: &[u8], fails_at: u64) -> ChunkedSource<'_> {
         failed: 0,
         given: 0,
         asked: 0,
+        ends: 0,
     }
 }
 
@@ -90,6 +98,42 @@ fn drops(fails_at: u64) -> ByteSink {
         fails_at,
         calls: 0,
         failed: 0,
+    }
+}
+
+// A reader and a writer of one byte at a call, of which each second call fails.
+#[derive(Drop)]
+struct InTurn {
+    calls: u64,
+}
+
+impl InTurn {
+    fn works(&mut self) -> io::Result<()> {
+        self.calls = self.calls.saturating_add(1);
+        if self.calls % 2 == 0 {
+            return Err(io::Error::from(ErrorKind::Interrupted));
+        }
+        Ok(())
+    }
+}
+
+impl Read for InTurn {
+    fn read(&mut self, buffer: &mut [u8]) -> io::Result<usize> {
+        self.works()?;
+        let count = buffer.len().min(1);
+        buffer[..count].fill(b'x');
+        Ok(count)
+    }
+}
+
+impl Write for InTurn {
+    fn write(&mut self, bytes: &[u8]) -> io::Result<usize> {
+        self.works()?;
+        Ok(bytes.len().min(1))
+    }
+
+    fn flush(&mut self) -> io::Result<()> {
+        Ok(())
     }
 }
 
@@ -138,6 +182,22 @@ fn tells_a_read_that_fails(rt: HostRuntime) -> Result<(), Fail> {
     let (done, _) = ran(rt.alloc(), &mut chunks(ONE_CHECK.as_bytes(), 5))?;
     assert_eq!(rt; done.is_ok(), true);
     Ok(())
+}
+
+#[test]
+fn device_fails_where_the_one_under_it_does(rt: HostRuntime) {
+    let mut buffer = [0u8; 4];
+    let mut reader = Std::new(InTurn { calls: 0 });
+    let mut writer = Std::new(InTurn { calls: 0 });
+    for call in 0..6u64 {
+        let wanted = if call % 2 == 0 {
+            Ok(1)
+        } else {
+            Err(DeviceFault)
+        };
+        assert_eq!(rt; Source::read(&mut reader, &mut buffer), wanted);
+        assert_eq!(rt; Sink::write(&mut writer, b"xy"), wanted);
+    }
 }
 
 #[test]

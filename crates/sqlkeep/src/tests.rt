@@ -1,6 +1,6 @@
 //! Runs of the program over what it is given in place of standard input, output and error.
-use crate::go;
-use iv_script::Std;
+use crate::{go, status};
+use iv_script::{RunFault, Std};
 use std::alloc::Global;
 use std::io;
 use std::io::{ErrorKind, Read};
@@ -80,6 +80,41 @@ fn fault_of_writing_has_its_line(rt: HostRuntime) -> Result<(), Fail> {
     assert_eq!(rt; status, 2);
     assert_eq!(rt; faults.as_slice(), b"sqlkeep: cannot write\n".as_slice());
     Ok(())
+}
+
+// The status for a fault of a run, and what standard error would tell.
+fn told_of(alloc: Global, fault: RunFault) -> (u8, Vec<u8>) {
+    let mut faults = Vec::new(alloc);
+    let code = status(&mut faults, Err(fault));
+    (code, faults)
+}
+
+#[test]
+fn each_fault_has_its_line(rt: HostRuntime) {
+    let (code, line) = told_of(rt.alloc(), RunFault::Read);
+    assert_eq!(rt; code, 2);
+    assert_eq!(rt;
+        line.as_slice(),
+        b"sqlkeep: cannot read the script\n".as_slice()
+    );
+    let (code, line) = told_of(rt.alloc(), RunFault::TooLong);
+    assert_eq!(rt; code, 2);
+    assert_eq!(rt;
+        line.as_slice(),
+        b"sqlkeep: the script is longer than 1048576 bytes\n".as_slice()
+    );
+    let (code, line) = told_of(rt.alloc(), RunFault::NotUtf8);
+    assert_eq!(rt; code, 2);
+    assert_eq!(rt;
+        line.as_slice(),
+        b"sqlkeep: the script is not UTF-8\n".as_slice()
+    );
+    let (code, line) = told_of(rt.alloc(), RunFault::Write);
+    assert_eq!(rt; code, 2);
+    assert_eq!(rt; line.as_slice(), b"sqlkeep: cannot write\n".as_slice());
+    let (code, line) = told_of(rt.alloc(), RunFault::NoMemory);
+    assert_eq!(rt; code, 2);
+    assert_eq!(rt; line.as_slice(), b"sqlkeep: out of memory\n".as_slice());
 }
 
 #[test]

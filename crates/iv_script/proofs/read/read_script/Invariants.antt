@@ -8,6 +8,7 @@ invariant-loop-script g l = record {
   failed : g.R.Source.failed l.reader ≡ g.R.Source.failed l.initial.reader;
   given : g.R.Source.given l.reader ≤ g.R.Source.given l.initial.reader + length l.script.items;
   asked : g.R.Source.asked l.reader ≤ max (g.R.Source.asked l.initial.reader) (g.R.Source.given l.initial.reader + 1048577);
+  ends : g.R.Source.ends l.reader ≡ g.R.Source.ends l.initial.reader;
   read : Consumes (g.R.Source.remaining l.initial.reader) (g.R.Source.remaining l.reader) l.script.items;
 }
 

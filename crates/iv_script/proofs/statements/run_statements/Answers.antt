@@ -1,4 +1,4 @@
-use Rattle.std.proofs.Common.{◌≡◌, ◌+◌, ◌∷◌, [], rules, arith, length, refl}
+use Rattle.std.proofs.Common.{◌≡◌, ◌+◌, ◌∷◌, [], rules, arith, length, refl, ap}
 use Rattle.std.proofs.lemmas.Grind.{common_steps}
 use Rattle.iv_script.proofs.Runs.{onward_start, onward_more, onward_end, few_more}
 use Rattle.iv_script.proofs.statements.run_statements.Goals as goal
@@ -36,4 +36,4 @@ returns g c =
     let e : c.loop-statement.rest.now ≡ [] = grind (arith, common_steps, c.in_default.ensures.cases) in
     onward_end c.args.session.now c.loop-statement.session c.args.statements.now c.loop-statement.rest.now c.loop-statement.number c.loop-statement.tally
     (g.W.Sink.contents c.args.writer.now) (g.W.Sink.contents c.loop-statement.writer) (g.W.Sink.failed c.args.writer.now) (g.W.Sink.failed c.loop-statement.writer)
-    c.loop-statement.invariant.onward e
+    c.loop-statement.invariant.onward e (omega (arith, c.loop-statement.invariant.counted, ap length e))
