@@ -4,7 +4,7 @@ use Rattle.std.specs.Io.KnownBytes.{Appends}
 use Rattle.std.proofs.KnownBytes.{Appends-trans, Appends-nil}
 use Rattle.iv_syntax.specs.declared.statement.Statement.{Statement}
 use Rattle.iv_catalogue.specs.Catalogues.{Schema}
-use Rattle.iv_catalogue.specs.Resolution.{is_memory}
+use Rattle.iv_catalogue.specs.Refusals.{is_memory}
 use Rattle.iv_catalogue.specs.declared.cause.Cause.{Cause}
 use Rattle.iv_catalogue.specs.declared.cause.Cause.TheVariants as cause
 use Rattle.iv_catalogue.specs.declared.cause.Refusal.{Refusal}
@@ -38,7 +38,7 @@ did_plain old new st r m e = record {
 }
 
 did_refused : (old new : State) (st : Statement) (c : Cause) (t : Option ℕ) → Executes old st (Err (record { cause = c; trigger = t })) new → Did old new st (Err (record { cause = c; trigger = t }))
-did_refused old new st cause.OutOfMemory t e = record { starves = true; same = refl; state_is = e; accepted_is = refl; refused_is = refl; lines_are = λ n s. refl }
+did_refused old new st cause.OutOfMemory t e = record { starves = true; same = refl; state_is = e.0; accepted_is = refl; refused_is = refl; lines_are = λ n s. refl }
 did_refused old new st cause.Unknown t e = did_plain old new st (Err (record { cause = cause.Unknown; trigger = t })) refl e
 did_refused old new st cause.Duplicate t e = did_plain old new st (Err (record { cause = cause.Duplicate; trigger = t })) refl e
 did_refused old new st cause.SchemaFault t e = did_plain old new st (Err (record { cause = cause.SchemaFault; trigger = t })) refl e

@@ -1,6 +1,6 @@
 //! The statements of a script, run one after the other, with the lines of their outcomes.
 ghost use Rattle.std.specs.Prelude.{◌≡◌, ℕ, ◌+◌, ◌<◌, ◌^◌, length, MatchResult, if◌then◌else◌};
-ghost use Rattle.iv_catalogue.specs.Resolution.{is_memory};
+ghost use Rattle.iv_catalogue.specs.Refusals.{is_memory};
 ghost use Rattle.iv_print.specs.Counts.{counted};
 ghost use Rattle.iv_script.specs.Transcript.{accepted_of, refused_of};
 ghost use Rattle.iv_script.specs.Running.{RanOne, RanAll};
