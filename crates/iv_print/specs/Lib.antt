@@ -1,4 +1,5 @@
 pub mod Counts
+pub mod Sinks
 pub mod Devices
 pub mod Writing
 pub mod Lines

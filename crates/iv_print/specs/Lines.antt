@@ -74,7 +74,8 @@ cause_words (cause.AddRefused row) = codes "20 AddRefused"
 cause_words cause.Limit = codes "21 Limit"
 cause_words cause.OutOfMemory = codes "22 OutOfMemory"
 
--- the constraint and the row that a cause speaks of; triggers have no names yet, since no statement makes one
+-- the constraint and the row that a cause speaks of; triggers have no names yet, since no statement
+-- makes one
 abbrev pub details : Schema → Cause → List ℕ
 details s (cause.NotDeferrable c) = constraint_text s c
 details s (cause.Restrict f) = fault_text s f
@@ -87,7 +88,8 @@ details s _ = []
 abbrev pub answer_text : Answer → List ℕ
 answer_text Done = codes " ok\n"
 answer_text (Changed k) = codes " ok " ++ (decimal k ++ codes "\n")
-answer_text (Rows rows) = codes " rows " ++ (decimal (length rows) ++ (codes "\n" ++ flat_map row_text rows))
+answer_text (Rows rows) =
+    codes " rows " ++ (decimal (length rows) ++ (codes "\n" ++ flat_map row_text rows))
 
 abbrev pub refusal_text : Schema → Cause → List ℕ
 refusal_text s c = codes " refused " ++ (cause_words c ++ (details s c ++ codes "\n"))

@@ -3,6 +3,7 @@ ghost use Rattle.std.specs.Prelude.{◌≡◌, ℕ, ◌+◌, ◌<◌, ◌≤◌,
 ghost use Rattle.std.specs.Io.{ReadsAtMost, WritesAtMost};
 ghost use Rattle.std.specs.Io.KnownBytes.{ReadConsumes, WriteAppends};
 ghost use Rattle.iv_print.specs.Counts.{counted, ends_after};
+ghost use Rattle.iv_print.specs.Sinks.{SinkState, sink_state, FailsOnce, FailsNever};
 ghost use Rattle.iv_print.specs.Devices.{inner_of, failed_count, given_count, asked_count, ends_count};
 
 use std::io::{Read, Write};
@@ -37,26 +38,26 @@ pub trait Source {
         ensures fails { OnErr result (failed self.new ≡ counted (failed self.old) 1) }
         ensures gives { IfOk result (λ n. given self.new ≡ counted (given self.old) n) }
         ensures gives_none { OnErr result (given self.new ≡ given self.old) }
-        ensures asks { asked self.new ≡ max (asked self.old) (counted (given self.old) (length buffer.old)) }
-        ensures ends { IfOk result (λ n. ends self.new ≡ ends_after (ends self.old) (length buffer.old) n) }
+        ensures asks { asked self.new
+            ≡ max (asked self.old) (counted (given self.old) (length buffer.old)) }
+        ensures ends { IfOk result (λ n.
+            ends self.new ≡ ends_after (ends self.old) (length buffer.old) n) }
         ensures ends_none { OnErr result (ends self.new ≡ ends self.old) };
 }
 
-/// Where bytes go. Its count stays at 2^64 - 1 once it is there.
+/// Where bytes go. Its count of failed calls stays at 2^64 - 1 once it is there.
 pub trait Sink {
-    // how many calls have failed
-    ghost failed: { Self → ℕ };
-
-    // the bytes that the sink holds, where they are known
-    ghost contents: { Self → Option (List ℕ) } = { λ _. None };
+    // the bytes that the sink holds, where they are known, and how many calls have failed
+    ghost state: { Self → SinkState };
 
     /// Writes some of the bytes, at least one where there are any.
     fn write(&mut self, bytes: &[u8]) -> Result<usize, DeviceFault>
         ensures bound { WritesAtMost result bytes.now }
         ensures some { IfOk result (λ n. 0 < length bytes.now → 0 < n) }
-        ensures bytes { WriteAppends (contents self.old) (contents self.new) result bytes.now }
-        ensures works { OnOk result (failed self.new ≡ failed self.old) }
-        ensures fails { OnErr result (failed self.new ≡ counted (failed self.old) 1) };
+        ensures bytes { WriteAppends (state self.old).contents (state self.new).contents result
+            bytes.now }
+        ensures works { OnOk result (FailsNever (state self.old) (state self.new)) }
+        ensures fails { OnErr result (FailsOnce (state self.old) (state self.new)) };
 }
 
 /// A reader or a writer of the standard library as a device. A call fails where the one under it fails,
@@ -130,9 +131,7 @@ impl<R: Read> Source for Std<R> {
 }
 
 impl<W: Write> Sink for Std<W> {
-    ghost failed = { failed_count };
-
-    ghost contents = { λ device. W.contents (inner_of device) };
+    ghost state = { λ device. sink_state (W.contents (inner_of device)) (failed_count device) };
 
     fn write(&mut self, bytes: &[u8]) -> Result<usize, DeviceFault> {
         match self.inner.write(bytes) {

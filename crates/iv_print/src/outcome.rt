@@ -13,7 +13,7 @@ use iv_machine::Answer;
 use iv_value::Value;
 
 fn write_byte<W: Sink>(sink: &mut W, byte: u8) -> Result<(), DeviceFault>
-    ensures { Writes (W.contents sink.old) (W.contents sink.new) (W.failed sink.old) (W.failed sink.new) result (quote_doubled byte) }
+    ensures { Writes (W.state sink.old) (W.state sink.new) result (quote_doubled byte) }
 {
     if byte == b'\'' {
         write_all(sink, b"''")
@@ -24,7 +24,8 @@ fn write_byte<W: Sink>(sink: &mut W, byte: u8) -> Result<(), DeviceFault>
 
 // The characters with each quote doubled.
 fn write_characters<W: Sink>(sink: &mut W, bytes: &[u8]) -> Result<(), DeviceFault>
-    ensures { Writes (W.contents sink.old) (W.contents sink.new) (W.failed sink.old) (W.failed sink.new) result (flat_map quote_doubled bytes.now) }
+    ensures { Writes (W.state sink.old) (W.state sink.new) result
+        (flat_map quote_doubled bytes.now) }
 {
     let mut rest = bytes;
     while let Some((byte, others)) = rest.split_first() {
@@ -35,7 +36,7 @@ fn write_characters<W: Sink>(sink: &mut W, bytes: &[u8]) -> Result<(), DeviceFau
 }
 
 fn write_text<W: Sink>(sink: &mut W, text: &str) -> Result<(), DeviceFault>
-    ensures { Writes (W.contents sink.old) (W.contents sink.new) (W.failed sink.old) (W.failed sink.new) result
+    ensures { Writes (W.state sink.old) (W.state sink.new) result
         (codes "'" ++ (flat_map quote_doubled text.now ++ codes "'")) }
 {
     write_all(sink, b"'")?;
@@ -44,7 +45,7 @@ fn write_text<W: Sink>(sink: &mut W, text: &str) -> Result<(), DeviceFault>
 }
 
 fn write_value<W: Sink>(sink: &mut W, value: &Value) -> Result<(), DeviceFault>
-    ensures { Writes (W.contents sink.old) (W.contents sink.new) (W.failed sink.old) (W.failed sink.new) result (value_text value.now) }
+    ensures { Writes (W.state sink.old) (W.state sink.new) result (value_text value.now) }
 {
     match value {
         Value::Null => write_all(sink, b"NULL"),
@@ -57,7 +58,7 @@ fn write_value<W: Sink>(sink: &mut W, value: &Value) -> Result<(), DeviceFault>
 }
 
 fn write_further<W: Sink>(sink: &mut W, value: &Value) -> Result<(), DeviceFault>
-    ensures { Writes (W.contents sink.old) (W.contents sink.new) (W.failed sink.old) (W.failed sink.new) result (further_text value.now) }
+    ensures { Writes (W.state sink.old) (W.state sink.new) result (further_text value.now) }
 {
     write_all(sink, b", ")?;
     write_value(sink, value)
@@ -65,7 +66,8 @@ fn write_further<W: Sink>(sink: &mut W, value: &Value) -> Result<(), DeviceFault
 
 // Values, each behind another.
 fn write_more<W: Sink>(sink: &mut W, values: &[Value]) -> Result<(), DeviceFault>
-    ensures { Writes (W.contents sink.old) (W.contents sink.new) (W.failed sink.old) (W.failed sink.new) result (flat_map further_text values.now) }
+    ensures { Writes (W.state sink.old) (W.state sink.new) result
+        (flat_map further_text values.now) }
 {
     let mut rest = values;
     while let Some((value, others)) = rest.split_first() {
@@ -76,7 +78,7 @@ fn write_more<W: Sink>(sink: &mut W, values: &[Value]) -> Result<(), DeviceFault
 }
 
 fn write_values<W: Sink>(sink: &mut W, values: &[Value]) -> Result<(), DeviceFault>
-    ensures { Writes (W.contents sink.old) (W.contents sink.new) (W.failed sink.old) (W.failed sink.new) result (values_text values.now) }
+    ensures { Writes (W.state sink.old) (W.state sink.new) result (values_text values.now) }
 {
     match values {
         [] => write_all(sink, b""),
@@ -88,7 +90,7 @@ fn write_values<W: Sink>(sink: &mut W, values: &[Value]) -> Result<(), DeviceFau
 }
 
 fn write_row<W: Sink>(sink: &mut W, row: &Row) -> Result<(), DeviceFault>
-    ensures { Writes (W.contents sink.old) (W.contents sink.new) (W.failed sink.old) (W.failed sink.new) result (row_text row.now) }
+    ensures { Writes (W.state sink.old) (W.state sink.new) result (row_text row.now) }
 {
     write_all(sink, b"| ")?;
     write_values(sink, row.values())?;
@@ -96,7 +98,7 @@ fn write_row<W: Sink>(sink: &mut W, row: &Row) -> Result<(), DeviceFault>
 }
 
 fn write_rows<W: Sink>(sink: &mut W, rows: &[Row]) -> Result<(), DeviceFault>
-    ensures { Writes (W.contents sink.old) (W.contents sink.new) (W.failed sink.old) (W.failed sink.new) result (flat_map row_text rows.now) }
+    ensures { Writes (W.state sink.old) (W.state sink.new) result (flat_map row_text rows.now) }
 {
     let mut rest = rows;
     while let Some((row, others)) = rest.split_first() {
@@ -111,7 +113,8 @@ fn write_name<W: Sink>(
     constraints: &[Constraint],
     id: ConstraintId,
 ) -> Result<(), DeviceFault>
-    ensures { Writes (W.contents sink.old) (W.contents sink.new) (W.failed sink.old) (W.failed sink.new) result (name_of (slice_get constraints.now id)) }
+    ensures { Writes (W.state sink.old) (W.state sink.new) result
+        (name_of (slice_get constraints.now id)) }
 {
     match constraints.get(id.place() as usize) {
         Some(constraint) => write_all(sink, constraint.name.as_str().as_bytes()),
@@ -124,14 +127,15 @@ fn write_constraint<W: Sink>(
     catalogue: &Catalogue,
     id: ConstraintId,
 ) -> Result<(), DeviceFault>
-    ensures { Writes (W.contents sink.old) (W.contents sink.new) (W.failed sink.old) (W.failed sink.new) result (constraint_text catalogue.now id) }
+    ensures { Writes (W.state sink.old) (W.state sink.new) result
+        (constraint_text catalogue.now id) }
 {
     write_all(sink, b" ")?;
     write_name(sink, catalogue.constraints(), id)
 }
 
 fn write_row_number<W: Sink>(sink: &mut W, row: u64) -> Result<(), DeviceFault>
-    ensures { Writes (W.contents sink.old) (W.contents sink.new) (W.failed sink.old) (W.failed sink.new) result (row_number_text row) }
+    ensures { Writes (W.state sink.old) (W.state sink.new) result (row_number_text row) }
 {
     write_all(sink, b" row ")?;
     write_number(sink, row)
@@ -142,7 +146,7 @@ fn write_fault<W: Sink>(
     catalogue: &Catalogue,
     fault: Fault,
 ) -> Result<(), DeviceFault>
-    ensures { Writes (W.contents sink.old) (W.contents sink.new) (W.failed sink.old) (W.failed sink.new) result (fault_text catalogue.now fault) }
+    ensures { Writes (W.state sink.old) (W.state sink.new) result (fault_text catalogue.now fault) }
 {
     write_constraint(sink, catalogue, fault.constraint)?;
     write_row_number(sink, fault.row)
@@ -184,7 +188,8 @@ fn write_details<W: Sink>(
     catalogue: &Catalogue,
     cause: &Cause,
 ) -> Result<(), DeviceFault>
-    ensures { Writes (W.contents sink.old) (W.contents sink.new) (W.failed sink.old) (W.failed sink.new) result (details catalogue.now cause.now) }
+    ensures { Writes (W.state sink.old) (W.state sink.new) result
+        (details catalogue.now cause.now) }
 {
     match cause {
         Cause::NotDeferrable(id) => write_constraint(sink, catalogue, *id),
@@ -202,7 +207,8 @@ fn write_refusal<W: Sink>(
     catalogue: &Catalogue,
     cause: &Cause,
 ) -> Result<(), DeviceFault>
-    ensures { Writes (W.contents sink.old) (W.contents sink.new) (W.failed sink.old) (W.failed sink.new) result (refusal_text catalogue.now cause.now) }
+    ensures { Writes (W.state sink.old) (W.state sink.new) result
+        (refusal_text catalogue.now cause.now) }
 {
     write_all(sink, b" refused ")?;
     write_all(sink, cause_words(cause).as_bytes())?;
@@ -211,7 +217,7 @@ fn write_refusal<W: Sink>(
 }
 
 fn write_answer<W: Sink>(sink: &mut W, answer: &Answer) -> Result<(), DeviceFault>
-    ensures { Writes (W.contents sink.old) (W.contents sink.new) (W.failed sink.old) (W.failed sink.new) result (answer_text answer.now) }
+    ensures { Writes (W.state sink.old) (W.state sink.new) result (answer_text answer.now) }
 {
     match answer {
         Answer::Done => write_all(sink, b" ok\n"),
@@ -238,7 +244,7 @@ pub fn write_outcome<W: Sink>(
     outcome: &Result<Answer, Refusal>,
     catalogue: &Catalogue,
 ) -> Result<(), DeviceFault>
-    ensures { Writes (W.contents sink.old) (W.contents sink.new) (W.failed sink.old) (W.failed sink.new) result
+    ensures { Writes (W.state sink.old) (W.state sink.new) result
         (line number outcome.now catalogue.now) }
 {
     write_number(sink, number)?;

@@ -7,7 +7,7 @@ use itoa::Buffer;
 
 /// Writes all of the bytes.
 pub fn write_all<W: Sink>(sink: &mut W, bytes: &[u8]) -> Result<(), DeviceFault>
-    ensures { Writes (W.contents sink.old) (W.contents sink.new) (W.failed sink.old) (W.failed sink.new) result bytes.now }
+    ensures { Writes (W.state sink.old) (W.state sink.new) result bytes.now }
 {
     let mut rest = bytes;
     while !rest.is_empty() {
@@ -19,7 +19,7 @@ pub fn write_all<W: Sink>(sink: &mut W, bytes: &[u8]) -> Result<(), DeviceFault>
 
 /// Writes a number in decimal. It takes no memory.
 pub fn write_number<W: Sink>(sink: &mut W, number: u64) -> Result<(), DeviceFault>
-    ensures { Writes (W.contents sink.old) (W.contents sink.new) (W.failed sink.old) (W.failed sink.new) result (decimal number) }
+    ensures { Writes (W.state sink.old) (W.state sink.new) result (decimal number) }
 {
     let mut buffer = Buffer::new();
     write_all(sink, buffer.format(number).as_bytes())

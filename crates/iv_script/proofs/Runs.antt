@@ -11,6 +11,7 @@ use Rattle.iv_catalogue.specs.declared.cause.Refusal.{Refusal}
 use Rattle.iv_machine.specs.declared.answer.Answer.{Answer}
 use Rattle.iv_machine.specs.Machine.{State, Outcome, step, Executes}
 use Rattle.iv_print.specs.Lines.{line}
+use Rattle.iv_print.specs.Sinks.{SinkState}
 use Rattle.iv_print.specs.Writing.{Writes}
 use Rattle.iv_script.specs.declared.statements.Tally.{Tally}
 use Rattle.iv_script.specs.Transcript.{Ran, following, outcome, lines, accepted_of, refused_of, run_from, starved_count}
@@ -66,11 +67,11 @@ did old new st (Ok a) e = did_plain old new st (Ok a) refl e
 did old new st (Err r) e = did_refused old new st r.cause r.trigger e
 
 -- a statement's lines were written, and its outcome was counted
-pub ran_one : (n : ℕ) (old new : State) (st : Statement) (r : Result Answer Refusal) (schema : Schema) (tally tally_then : Tally) (before after : Option (List ℕ)) (failed failed_then : ℕ)
-    → Executes old st r new → schema ≡ new.schema → Writes before after failed failed_then (Ok tt) (line n r schema)
+pub ran_one : (n : ℕ) (old new : State) (st : Statement) (r : Result Answer Refusal) (schema : Schema) (tally tally_then : Tally) (before after : SinkState)
+    → Executes old st r new → schema ≡ new.schema → Writes before after (Ok tt) (line n r schema)
     → tally_then.accepted ≡ tally.accepted + accepted_of r → tally_then.refused ≡ tally.refused + refused_of r → tally_then.starved ≡ tally.starved + (if is_memory r then 1 else 0)
-    → RanOne n old new st tally tally_then before after failed failed_then
-ran_one n old new st r schema tally tally_then before after failed failed_then e q w a f s =
+    → RanOne n old new st tally tally_then before after
+ran_one n old new st r schema tally tally_then before after e q w a f s =
     let d : Did old new st r = did old new st r e in
     record {
       starves = d.starves;
@@ -78,7 +79,7 @@ ran_one n old new st r schema tally tally_then before after failed failed_then e
       accepted_is = a ∙ ap (λ k. tally.accepted + k) d.accepted_is;
       refused_is = f ∙ ap (λ k. tally.refused + k) d.refused_is;
       starved_is = s ∙ ap (λ b. tally.starved + (if b then 1 else 0)) d.same;
-      appended = subst (Appends before after) (d.lines_are n schema ∙ ap (λ c. line n (outcome d.starves old st).answer c) (q ∙ ap (λ t. t.schema) d.state_is)) w.0;
+      appended = subst (Appends before.contents after.contents) (d.lines_are n schema ∙ ap (λ c. line n (outcome d.starves old st).answer c) (q ∙ ap (λ t. t.schema) d.state_is)) w.0;
       works = w.1;
     }
 
@@ -111,36 +112,36 @@ counted_more (true ∷ bs) b = omega (arith, counted_more bs b)
 counted_more (false ∷ bs) b = counted_more bs b
 
 -- these ran, and the rest is left
-pub record Onward (old now : State) (all rest : List Statement) (n : ℕ) (tally : Tally) (before after : Option (List ℕ)) (failed failed_then : ℕ) : Type 0 where
+pub record Onward (old now : State) (all rest : List Statement) (n : ℕ) (tally : Tally) (before after : SinkState) : Type 0 where
   pub starves : List Bool
   pub written : List ℕ
   pub each : length starves ≡ n
   pub starved_is : starved_count starves ≡ tally.starved
-  pub appended : Appends before after written
+  pub appended : Appends before.contents after.contents written
   pub onward : (more : List Bool) → run_from old 0 all (starves ++ more) ≡ following written tally.accepted tally.refused (run_from now n rest more)
-  pub works : failed_then ≡ failed
+  pub works : after.failed ≡ before.failed
 
-pub onward_start : (s : State) (all : List Statement) (tally : Tally) (a : Option (List ℕ)) (m : ℕ) → tally.accepted ≡ 0 → tally.refused ≡ 0 → tally.starved ≡ 0 → Onward s s all all 0 tally a a m m
-onward_start s all tally a m p q z = record {
+pub onward_start : (s : State) (all : List Statement) (tally : Tally) (a : SinkState) → tally.accepted ≡ 0 → tally.refused ≡ 0 → tally.starved ≡ 0 → Onward s s all all 0 tally a a
+onward_start s all tally a p q z = record {
   starves = [];
   written = [];
   each = refl;
   starved_is = sym z;
-  appended = Appends-nil a;
+  appended = Appends-nil a.contents;
   onward = λ more. rw (p, q) (following_none (run_from s 0 all more));
   works = refl;
 }
 
-pub onward_more : (old now new : State) (all left rest : List Statement) (st : Statement) (n : ℕ) (t u : Tally) (a before after : Option (List ℕ)) (m k j : ℕ)
-    → Onward old now all left n t a before m k → left ≡ st ∷ rest → RanOne (n + 1) now new st t u before after k j → Onward old new all rest (n + 1) u a after m j
-onward_more old now new all left rest st n t u a before after m k j w e r =
+pub onward_more : (old now new : State) (all left rest : List Statement) (st : Statement) (n : ℕ) (t u : Tally) (a before after : SinkState)
+    → Onward old now all left n t a before → left ≡ st ∷ rest → RanOne (n + 1) now new st t u before after → Onward old new all rest (n + 1) u a after
+onward_more old now new all left rest st n t u a before after w e r =
     let o : Outcome = outcome r.starves now st in
     record {
       starves = w.starves ++ r.starves ∷ [];
       written = w.written ++ lines (n + 1) o;
       each = omega (arith, length-append w.starves (r.starves ∷ []), w.each);
       starved_is = counted_more w.starves r.starves ∙ ap (λ z. z + (if r.starves then 1 else 0)) w.starved_is ∙ sym r.starved_is;
-      appended = Appends-trans a before after w.written (lines (n + 1) o) w.appended r.appended;
+      appended = Appends-trans a.contents before.contents after.contents w.written (lines (n + 1) o) w.appended r.appended;
       onward = λ more.
           ap (λ l. run_from old 0 all l) (append_assoc w.starves (r.starves ∷ []) more)
           ∙ w.onward (r.starves ∷ more)
@@ -152,8 +153,8 @@ onward_more old now new all left rest st n t u a before after m k j w e r =
       works = r.works ∙ w.works;
     }
 
-pub onward_end : (old now : State) (all rest : List Statement) (n : ℕ) (t : Tally) (a b : Option (List ℕ)) (m k : ℕ) → Onward old now all rest n t a b m k → rest ≡ [] → n ≡ length all → RanAll old now all t a b m k
-onward_end old now all rest n t a b m k w e q =
+pub onward_end : (old now : State) (all rest : List Statement) (n : ℕ) (t : Tally) (a b : SinkState) → Onward old now all rest n t a b → rest ≡ [] → n ≡ length all → RanAll old now all t a b
+onward_end old now all rest n t a b w e q =
     let done : run_from old 0 all w.starves ≡ following w.written t.accepted t.refused (record { text = []; state = now; accepted = 0; refused = 0 }) =
     ap (run_from old 0 all) (sym (append-nil w.starves)) ∙ w.onward [] ∙ ap (λ l. following w.written t.accepted t.refused (run_from now n l [])) e in
     record {
@@ -163,7 +164,7 @@ onward_end old now all rest n t a b m k w e q =
       accepted_is = ap (λ r. r.accepted) done ∙ none_more t.accepted;
       refused_is = ap (λ r. r.refused) done ∙ none_more t.refused;
       state_is = sym (ap (λ r. r.state) done);
-      appended = subst (Appends a b) (sym (append-nil w.written) ∙ sym (ap (λ r. r.text) done)) w.appended;
+      appended = subst (Appends a.contents b.contents) (sym (append-nil w.written) ∙ sym (ap (λ r. r.text) done)) w.appended;
       works = w.works;
     }
 
@@ -180,9 +181,9 @@ one_starved true = omega arith
 one_starved false = omega arith
 
 -- a statement is counted once
-pub few_more : (n k : ℕ) (now new : State) (st : Statement) (t u : Tally) (before after : Option (List ℕ)) (m j : ℕ) → RanOne n now new st t u before after m j
+pub few_more : (n k : ℕ) (now new : State) (st : Statement) (t u : Tally) (before after : SinkState) → RanOne n now new st t u before after
     → t.accepted ≤ k → t.refused ≤ k → t.starved ≤ k → (u.accepted ≤ k + 1) × (u.refused ≤ k + 1) × (u.starved ≤ k + 1)
-few_more n k now new st t u before after m j r a f s = (
+few_more n k now new st t u before after r a f s = (
   omega (arith, r.accepted_is, one_accepted (outcome r.starves now st).answer, a),
   omega (arith, r.refused_is, one_refused (outcome r.starves now st).answer, f),
   omega (arith, r.starved_is, one_starved r.starves, s),

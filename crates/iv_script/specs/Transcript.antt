@@ -1,5 +1,5 @@
 -- The transcript of a script: what its bytes are answered with.
-use Rattle.std.specs.Prelude.{◌≡◌, ℕ, ◌+◌, Bool, true, false, List, [], ◌∷◌, ◌++◌, codes, decimal, Option, Some, None, Result, Ok, Err, length, is_some}
+use Rattle.std.specs.Prelude.{◌≡◌, ℕ, ◌+◌, Bool, true, false, List, [], ◌∷◌, ◌++◌, codes, decimal, Option, Some, None, Result, Ok, Err, length, is_some, option_map}
 use Rattle.std.specs.Io.KnownBytes.{Appends}
 use Rattle.iv_syntax.specs.declared.statement.Statement.{Statement}
 use Rattle.iv_parse.specs.Script.{IsScript}
@@ -9,8 +9,11 @@ use Rattle.iv_machine.specs.declared.answer.Answer.{Answer}
 use Rattle.iv_machine.specs.Bounds.{Bounds}
 use Rattle.iv_machine.specs.Machine.{State, Outcome, refuse, step, empty_state}
 use Rattle.iv_print.specs.Lines.{line}
+use Rattle.iv_print.specs.Sinks.{SinkState}
+use Rattle.iv_script.specs.declared.summary.Summary.{Summary}
 
--- The lines that statements were answered with, the state after them, and how many were accepted and refused.
+-- The lines that statements were answered with, the state after them, and how many were accepted
+-- and refused.
 pub record Ran : Type 0 where
   pub text : List ℕ
   pub state : State
@@ -19,7 +22,12 @@ pub record Ran : Type 0 where
 
 -- what ran before, and then this
 abbrev pub following : List ℕ → ℕ → ℕ → Ran → Ran
-following text accepted refused r = record { text = text ++ r.text; state = r.state; accepted = accepted + r.accepted; refused = refused + r.refused }
+following text accepted refused r = record {
+  text = text ++ r.text;
+  state = r.state;
+  accepted = accepted + r.accepted;
+  refused = refused + r.refused;
+}
 
 abbrev pub accepted_of : Result Answer Refusal → ℕ
 accepted_of (Ok a) = 1
@@ -52,7 +60,8 @@ abbrev pub run_from : State → ℕ → List Statement → List Bool → Ran
 run_from s n [] starves = record { text = []; state = s; accepted = 0; refused = 0 }
 run_from s n (st ∷ sts) starves =
     let o : Outcome = outcome (first_starves starves) s st in
-    following (lines (n + 1) o) (accepted_of o.answer) (refused_of o.answer) (run_from o.state (n + 1) sts (later_starve starves))
+    following (lines (n + 1) o) (accepted_of o.answer) (refused_of o.answer)
+    (run_from o.state (n + 1) sts (later_starve starves))
 
 -- the line of a fault, which stands after so many statements
 abbrev pub fault_line : ℕ → Option ℕ → List ℕ
@@ -68,8 +77,8 @@ end_line false = []
 abbrev pub closing_lines : ℕ → Option ℕ → State → List ℕ
 closing_lines n fault s = fault_line n fault ++ end_line (is_some s.start)
 
--- The transcript of a script that has these statements and this fault, run in a new session with these limits; the list says which
--- statements want memory.
+-- The transcript of a script that has these statements and this fault, run in a new session with
+-- these limits; the list says which statements want memory.
 abbrev pub transcript : Bounds → List Statement → Option ℕ → List Bool → List ℕ
 transcript limits statements fault starves =
     let r : Ran = run_from (empty_state limits) 0 statements starves in
@@ -81,20 +90,28 @@ starved_count [] = 0
 starved_count (true ∷ bs) = 1 + starved_count bs
 starved_count (false ∷ bs) = starved_count bs
 
--- The transcript of these bytes was appended, and so many statements were accepted and refused. For each statement it is chosen
--- whether it wants memory, and so many do.
-pub record RanScript (bytes : List ℕ) (limits : Bounds) (fault : Option ℕ) (accepted refused starved : ℕ) (before after : Option (List ℕ)) : Type 0 where
+-- the place of the script's fault, where it has one
+abbrev pub fault_place : Summary → Option ℕ
+fault_place summary = option_map (λ f. f.at) summary.fault
+
+-- The transcript of these bytes was appended, and the summary tells how many statements were
+-- accepted and refused, and the fault. For each statement it is chosen whether it wants memory, and
+-- as many do as the summary tells.
+pub record RanScript (bytes : List ℕ) (limits : Bounds) (summary : Summary)
+    (before after : SinkState) : Type 0 where
   pub statements : List Statement
   pub starves : List Bool
-  pub is_script : IsScript bytes statements fault
+  pub is_script : IsScript bytes statements (fault_place summary)
   pub each : length starves ≡ length statements
-  pub starved_is : starved_count starves ≡ starved
-  pub accepted_is : (run_from (empty_state limits) 0 statements starves).accepted ≡ accepted
-  pub refused_is : (run_from (empty_state limits) 0 statements starves).refused ≡ refused
-  pub appended : Appends before after (transcript limits statements fault starves)
+  pub starved_is : starved_count starves ≡ summary.starved
+  pub accepted_is : (run_from (empty_state limits) 0 statements starves).accepted ≡ summary.accepted
+  pub refused_is : (run_from (empty_state limits) 0 statements starves).refused ≡ summary.refused
+  pub appended : Appends before.contents after.contents
+      (transcript limits statements (fault_place summary) starves)
 
 -- The transcript of these bytes was appended, and no statement wanted memory.
-pub record RanFed (bytes : List ℕ) (limits : Bounds) (fault : Option ℕ) (before after : Option (List ℕ)) : Type 0 where
+pub record RanFed (bytes : List ℕ) (limits : Bounds) (fault : Option ℕ)
+    (before after : SinkState) : Type 0 where
   pub statements : List Statement
   pub is_script : IsScript bytes statements fault
-  pub appended : Appends before after (transcript limits statements fault [])
+  pub appended : Appends before.contents after.contents (transcript limits statements fault [])

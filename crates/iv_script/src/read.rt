@@ -13,10 +13,13 @@ pub const LONGEST: usize = 1_048_576;
 pub fn read_script<R: Source>(alloc: Global, reader: &mut R) -> Result<Vec<u8>, RunFault>
     ensures all { IfOk result (λ v. IfSome (R.remaining reader.old) (λ xs. v.items ≡ xs)) }
     ensures short { IfOk result (λ v. length v.items ≤ LONGEST) }
-    ensures too_long { IsErrOf result RunFault.TooLong → IfSome (R.remaining reader.old) (λ xs. LONGEST < length xs) }
-    ensures fault { IsErrOf result RunFault.Read → R.failed reader.new ≡ counted (R.failed reader.old) 1 }
+    ensures too_long { IsErrOf result RunFault.TooLong
+        → IfSome (R.remaining reader.old) (λ xs. LONGEST < length xs) }
+    ensures fault { IsErrOf result RunFault.Read
+        → R.failed reader.new ≡ counted (R.failed reader.old) 1 }
     ensures others { ¬ (IsErrOf result RunFault.Read) → R.failed reader.new ≡ R.failed reader.old }
-    ensures asked { R.asked reader.new ≤ max (R.asked reader.old) (R.given reader.old + (LONGEST + 1)) }
+    ensures asked { R.asked reader.new
+        ≤ max (R.asked reader.old) (R.given reader.old + (LONGEST + 1)) }
     ensures kinds { IfErr result (λ e. (e ≢ RunFault.NotUtf8) × (e ≢ RunFault.Write)) }
     ensures ended { OnOk result (R.ends reader.new ≡ counted (R.ends reader.old) 1) }
     ensures not_ended { OnErr result (R.ends reader.new ≡ R.ends reader.old) }

@@ -4,9 +4,10 @@ ghost use Rattle.std.specs.Str.{IsUtf8};
 ghost use Rattle.iv_machine.specs.Machine.{empty_state};
 ghost use Rattle.iv_parse.specs.Script.{IsScript};
 ghost use Rattle.iv_print.specs.Counts.{counted};
+ghost use Rattle.iv_print.specs.Sinks.{FailsOnce, FailsNever};
 ghost use Rattle.iv_print.specs.Writing.{Writes};
 ghost use Rattle.iv_script.specs.Lengths.{Fits, IsExact};
-ghost use Rattle.iv_script.specs.Transcript.{fault_line, end_line, RanScript, RanFed};
+ghost use Rattle.iv_script.specs.Transcript.{fault_line, end_line, fault_place, RanScript, RanFed};
 ghost use Rattle.iv_script.specs.Running.{RanParsed};
 
 use crate::read::{LONGEST, read_script};
@@ -27,7 +28,8 @@ fn write_fault<W: Sink>(
     fault: Option<SyntaxFault>,
 ) -> Result<(), DeviceFault>
     requires { count < 2 ^ 63 }
-    ensures { Writes (W.contents writer.old) (W.contents writer.new) (W.failed writer.old) (W.failed writer.new) result (fault_line count (option_map (λ f. f.at) fault)) }
+    ensures { Writes (W.state writer.old) (W.state writer.new) result
+        (fault_line count (option_map (λ f. f.at) fault)) }
 {
     match fault {
         None => write_all(writer, b""),
@@ -42,7 +44,7 @@ fn write_fault<W: Sink>(
 
 // Writes the line of a transaction that is open at the end.
 fn write_end<W: Sink>(writer: &mut W, is_open: bool) -> Result<(), DeviceFault>
-    ensures { Writes (W.contents writer.old) (W.contents writer.new) (W.failed writer.old) (W.failed writer.new) result (end_line is_open) }
+    ensures { Writes (W.state writer.old) (W.state writer.new) result (end_line is_open) }
 {
     if is_open {
         write_all(writer, b"end rolled back\n")
@@ -60,8 +62,9 @@ fn run_parsed<W: Sink>(
 ) -> Result<Tally, DeviceFault>
     requires { length statements.now < 2 ^ 63 }
     ensures { MatchResult result
-        (λ t. RanParsed session.old statements.now (option_map (λ f. f.at) fault) t (W.contents writer.old) (W.contents writer.new) (W.failed writer.old) (W.failed writer.new))
-        (λ _. W.failed writer.new ≡ counted (W.failed writer.old) 1) }
+        (λ t. RanParsed session.old statements.now (option_map (λ f. f.at) fault) t
+        (W.state writer.old) (W.state writer.new))
+        (λ _. FailsOnce (W.state writer.old) (W.state writer.new)) }
 {
     let tally = run_statements(session, statements, writer)?;
     write_fault(writer, statements.len() as u64, fault)?;
@@ -78,12 +81,16 @@ fn run_text<W: Sink>(
     limits: Limits,
 ) -> Result<Summary, RunFault>
     requires { length text.now ≤ LONGEST }
-    ensures transcript { IfOk result (λ s. RanScript text.now limits (option_map (λ f. f.at) s.fault) s.accepted s.refused s.starved (W.contents writer.old) (W.contents writer.new)) }
-    ensures fed { IfOk result (λ s. s.starved ≡ 0 → RanFed text.now limits (option_map (λ f. f.at) s.fault) (W.contents writer.old) (W.contents writer.new)) }
-    ensures kinds { IfErr result (λ e. (e ≢ RunFault.Read) × (e ≢ RunFault.TooLong) × (e ≢ RunFault.NotUtf8)) }
-    ensures write { IsErrOf result RunFault.Write → W.failed writer.new ≡ counted (W.failed writer.old) 1 }
+    ensures transcript { IfOk result (λ s.
+        RanScript text.now limits s (W.state writer.old) (W.state writer.new)) }
+    ensures fed { IfOk result (λ s. s.starved ≡ 0
+        → RanFed text.now limits (fault_place s) (W.state writer.old) (W.state writer.new)) }
+    ensures kinds { IfErr result (λ e.
+        (e ≢ RunFault.Read) × (e ≢ RunFault.TooLong) × (e ≢ RunFault.NotUtf8)) }
+    ensures write { IsErrOf result RunFault.Write
+        → FailsOnce (W.state writer.old) (W.state writer.new) }
     ensures silent { IfErr result (λ e. e ≢ RunFault.Write → writer.new ≡ writer.old) }
-    ensures works { OnOk result (W.failed writer.new ≡ W.failed writer.old) }
+    ensures works { OnOk result (FailsNever (W.state writer.old) (W.state writer.new)) }
 {
     let Parsed { statements, fault } = script(alloc, text)?;
     let mut session = Session::new(alloc, limits)?;
@@ -106,15 +113,18 @@ fn run_bytes<W: Sink>(
     limits: Limits,
 ) -> Result<Summary, RunFault>
     requires { length bytes.now ≤ LONGEST }
-    ensures transcript { IfOk result (λ s. RanScript bytes.now limits (option_map (λ f. f.at) s.fault) s.accepted s.refused s.starved (W.contents writer.old) (W.contents writer.new)) }
-    ensures fed { IfOk result (λ s. s.starved ≡ 0 → RanFed bytes.now limits (option_map (λ f. f.at) s.fault) (W.contents writer.old) (W.contents writer.new)) }
+    ensures transcript { IfOk result (λ s.
+        RanScript bytes.now limits s (W.state writer.old) (W.state writer.new)) }
+    ensures fed { IfOk result (λ s. s.starved ≡ 0
+        → RanFed bytes.now limits (fault_place s) (W.state writer.old) (W.state writer.new)) }
     ensures utf8 { OnOk result (IsUtf8 bytes.now) }
     ensures write_utf8 { IsErrOf result RunFault.Write → IsUtf8 bytes.now }
     ensures not_utf8 { IsErrOf result RunFault.NotUtf8 → ¬ (IsUtf8 bytes.now) }
     ensures kinds { IfErr result (λ e. (e ≢ RunFault.Read) × (e ≢ RunFault.TooLong)) }
-    ensures write { IsErrOf result RunFault.Write → W.failed writer.new ≡ counted (W.failed writer.old) 1 }
+    ensures write { IsErrOf result RunFault.Write
+        → FailsOnce (W.state writer.old) (W.state writer.new) }
     ensures silent { IfErr result (λ e. e ≢ RunFault.Write → writer.new ≡ writer.old) }
-    ensures works { OnOk result (W.failed writer.new ≡ W.failed writer.old) }
+    ensures works { OnOk result (FailsNever (W.state writer.old) (W.state writer.new)) }
 {
     match from_utf8(bytes) {
         Ok(text) => run_text(alloc, text, writer, limits),
@@ -122,13 +132,13 @@ fn run_bytes<W: Sink>(
     }
 }
 
-/// Reads a whole script, runs it in a new session and writes its transcript. Until the script is read and
-/// parsed and the session is made nothing is run or written. It takes time in proportion to the script and
-/// to the rows that its statements touch.
+/// Reads a whole script, runs it in a new session and writes its transcript. Until the script is
+/// read and parsed and the session is made nothing is run or written. Beside what each statement
+/// takes it takes time in proportion to the script and its transcript.
 ///
-/// A statement that wants memory is refused as an outcome of its own, with the cause 22; the summary's
-/// `starved` counts these, and `refused` counts them too. After `RunFault::Write` nothing is said of how
-/// much was written.
+/// A statement that wants memory is refused as an outcome of its own, with the cause 22; the
+/// summary's `starved` counts these, and `refused` counts them too. After `RunFault::Write` nothing
+/// is said of how much was written.
 pub fn run<R: Source, W: Sink>(
     alloc: Global,
     reader: &mut R,
@@ -136,10 +146,13 @@ pub fn run<R: Source, W: Sink>(
     limits: Limits,
 ) -> Result<Summary, RunFault>
     // What was written is the transcript, for some choice of `starved` statements that want memory.
-    ensures transcript { IfOk result (λ s. IfSome (R.remaining reader.old) (λ bytes. RanScript bytes limits (option_map (λ f. f.at) s.fault) s.accepted s.refused s.starved (W.contents writer.old) (W.contents writer.new))) }
+    ensures transcript { IfOk result (λ s. IfSome (R.remaining reader.old) (λ bytes.
+        RanScript bytes limits s (W.state writer.old) (W.state writer.new))) }
     // Where `starved` is 0 it is the transcript of the machine.
-    ensures fed { IfOk result (λ s. s.starved ≡ 0 → IfSome (R.remaining reader.old) (λ bytes. RanFed bytes limits (option_map (λ f. f.at) s.fault) (W.contents writer.old) (W.contents writer.new))) }
-    // A script that ran is short enough and UTF-8, and so is one of which a line couldn't be written.
+    ensures fed { IfOk result (λ s. s.starved ≡ 0 → IfSome (R.remaining reader.old) (λ bytes.
+        RanFed bytes limits (fault_place s) (W.state writer.old) (W.state writer.new))) }
+    // A script that ran is short enough and UTF-8, and so is one whose transcript couldn't be
+    // written.
     ensures fits { OnOk result (IfSome (R.remaining reader.old) (λ bytes. Fits LONGEST bytes)) }
     ensures write_fits { IsErrOf result RunFault.Write
         → IfSome (R.remaining reader.old) (λ bytes. Fits LONGEST bytes) }
@@ -147,20 +160,25 @@ pub fn run<R: Source, W: Sink>(
         → IfSome (R.remaining reader.old) (λ bytes. LONGEST < length bytes) }
     ensures not_utf8 { IsErrOf result RunFault.NotUtf8
         → IfSome (R.remaining reader.old) (λ bytes. (length bytes ≤ LONGEST) × ¬ (IsUtf8 bytes)) }
-    // Where every read worked and no memory was refused, a script that is longer is `TooLong`, and else
-    // one that isn't UTF-8 is `NotUtf8`.
+    // Where no read failed and no memory was refused, a script that is too long is `TooLong`, and
+    // one that isn't, and isn't UTF-8, is `NotUtf8`.
     ensures exact { ¬ (IsErrOf result RunFault.Read) → ¬ (IsErrOf result RunFault.NoMemory)
         → IfSome (R.remaining reader.old) (λ bytes. IsExact LONGEST bytes result) }
-    ensures read { IsErrOf result RunFault.Read → R.failed reader.new ≡ counted (R.failed reader.old) 1 }
-    ensures write { IsErrOf result RunFault.Write → W.failed writer.new ≡ counted (W.failed writer.old) 1 }
+    ensures read { IsErrOf result RunFault.Read
+        → R.failed reader.new ≡ counted (R.failed reader.old) 1 }
+    ensures write { IsErrOf result RunFault.Write
+        → FailsOnce (W.state writer.old) (W.state writer.new) }
     ensures silent { IfErr result (λ e. e ≢ RunFault.Write → writer.new ≡ writer.old) }
-    // With any other answer no call of that device has failed: after a failed call none is made again.
-    ensures no_read_failed { ¬ (IsErrOf result RunFault.Read) → R.failed reader.new ≡ R.failed reader.old }
-    ensures no_write_failed { ¬ (IsErrOf result RunFault.Write) → W.failed writer.new ≡ W.failed writer.old }
+    // With any other answer no call of that device has failed: after a failed call none is made
+    // again.
+    ensures no_read_failed { ¬ (IsErrOf result RunFault.Read)
+        → R.failed reader.new ≡ R.failed reader.old }
+    ensures no_write_failed { ¬ (IsErrOf result RunFault.Write)
+        → FailsNever (W.state writer.old) (W.state writer.new) }
     // No byte is asked for beyond one more than a script may have.
-    ensures asked { R.asked reader.new ≤ max (R.asked reader.old) (R.given reader.old + (LONGEST + 1)) }
-    // The end of a script that ran was told once, and no other run is told it twice: after it no read
-    // is made.
+    ensures asked { R.asked reader.new
+        ≤ max (R.asked reader.old) (R.given reader.old + (LONGEST + 1)) }
+    // The end of a script that ran was told once, and none is told twice: after it no read is made.
     ensures ended { OnOk result (R.ends reader.new ≡ counted (R.ends reader.old) 1) }
     ensures ended_once { R.ends reader.new ≤ R.ends reader.old + 1 }
 {

@@ -1,7 +1,7 @@
 //! The statements of a script, run one after the other, with the lines of their outcomes.
 ghost use Rattle.std.specs.Prelude.{◌≡◌, ℕ, ◌+◌, ◌<◌, ◌^◌, length, MatchResult, if◌then◌else◌};
 ghost use Rattle.iv_catalogue.specs.Refusals.{is_memory};
-ghost use Rattle.iv_print.specs.Counts.{counted};
+ghost use Rattle.iv_print.specs.Sinks.{FailsOnce};
 ghost use Rattle.iv_script.specs.Transcript.{accepted_of, refused_of};
 ghost use Rattle.iv_script.specs.Running.{RanOne, RanAll};
 
@@ -66,8 +66,8 @@ fn run_one<W: Sink>(
     requires starved { tally.starved < 2 ^ 63 }
     ensures { MatchResult result
         (λ t. RanOne number session.old session.new statement.now tally t
-        (W.contents writer.old) (W.contents writer.new) (W.failed writer.old) (W.failed writer.new))
-        (λ _. W.failed writer.new ≡ counted (W.failed writer.old) 1) }
+        (W.state writer.old) (W.state writer.new))
+        (λ _. FailsOnce (W.state writer.old) (W.state writer.new)) }
 {
     let outcome = session.execute(statement);
     write_outcome(writer, number, &outcome, session.catalogue())?;
@@ -82,8 +82,8 @@ pub fn run_statements<W: Sink>(
 ) -> Result<Tally, DeviceFault>
     ensures { MatchResult result
         (λ t. RanAll session.old session.new statements.now t
-        (W.contents writer.old) (W.contents writer.new) (W.failed writer.old) (W.failed writer.new))
-        (λ _. W.failed writer.new ≡ counted (W.failed writer.old) 1) }
+        (W.state writer.old) (W.state writer.new))
+        (λ _. FailsOnce (W.state writer.old) (W.state writer.new)) }
 {
     let mut rest = statements;
     let mut number = 0u64;

@@ -81,7 +81,10 @@ struct ByteSink {
 }
 
 impl Sink for ByteSink {
-    ghost failed = { λ s. s.failed };
+    ghost use Rattle.std.specs.Prelude.{None};
+    ghost use Rattle.iv_print.specs.Sinks.{sink_state};
+
+    ghost state = { λ s. sink_state None s.failed };
 
     fn write(&mut self, bytes: &[u8]) -> Result<usize, DeviceFault> {
         self.calls = self.calls.saturating_add(1);

@@ -8,6 +8,5 @@ pub loop-byte-preserved : goal.loop-byte-preserved
 loop-byte-preserved g c =
     let e : c.loop-byte.rest.now ≡ c.in-Some.byte.now ∷ c.in-Some.others.now = search rules in
     wrote_step (flat_map quote_doubled c.args.bytes.now) (quote_doubled c.in-Some.byte.now) (flat_map quote_doubled c.in-Some.others.now) (flat_map quote_doubled c.loop-byte.rest.now)
-    (g.W.Sink.contents c.args.sink.now) (g.W.Sink.contents c.loop-byte.sink) (g.W.Sink.contents c.write_byte.new.sink)
-    (g.W.Sink.failed c.args.sink.now) (g.W.Sink.failed c.loop-byte.sink) (g.W.Sink.failed c.write_byte.new.sink)
+    (g.W.Sink.state c.args.sink.now) (g.W.Sink.state c.loop-byte.sink) (g.W.Sink.state c.write_byte.new.sink)
     c.loop-byte.invariant (ap (flat_map quote_doubled) e) c.in_ok-write_byte.ensures

@@ -5,7 +5,7 @@ use Rattle.iv_print.proofs.WriteLemmas.{Wrote}
 use Rattle.iv_print.proofs.outcome.write_characters.Given as goal
 
 abbrev pub invariant-loop-byte : goal.invariant-loop-byte
-invariant-loop-byte g l = Wrote (flat_map quote_doubled l.fn.bytes) (flat_map quote_doubled l.rest) (g.W.Sink.contents l.initial.sink) (g.W.Sink.contents l.sink) (g.W.Sink.failed l.initial.sink) (g.W.Sink.failed l.sink)
+invariant-loop-byte g l = Wrote (flat_map quote_doubled l.fn.bytes) (flat_map quote_doubled l.rest) (g.W.Sink.state l.initial.sink) (g.W.Sink.state l.sink)
 
 abbrev pub decreases-loop-byte : goal.decreases-loop-byte
 decreases-loop-byte g l = length l.rest

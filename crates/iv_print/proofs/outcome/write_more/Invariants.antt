@@ -5,7 +5,7 @@ use Rattle.iv_print.proofs.WriteLemmas.{Wrote}
 use Rattle.iv_print.proofs.outcome.write_more.Given as goal
 
 abbrev pub invariant-loop-value : goal.invariant-loop-value
-invariant-loop-value g l = Wrote (flat_map further_text l.fn.values) (flat_map further_text l.rest) (g.W.Sink.contents l.initial.sink) (g.W.Sink.contents l.sink) (g.W.Sink.failed l.initial.sink) (g.W.Sink.failed l.sink)
+invariant-loop-value g l = Wrote (flat_map further_text l.fn.values) (flat_map further_text l.rest) (g.W.Sink.state l.initial.sink) (g.W.Sink.state l.sink)
 
 abbrev pub decreases-loop-value : goal.decreases-loop-value
 decreases-loop-value g l = length l.rest

@@ -5,7 +5,7 @@ use Rattle.iv_print.proofs.WriteLemmas.{Wrote}
 use Rattle.iv_print.proofs.outcome.write_rows.Given as goal
 
 abbrev pub invariant-loop-row : goal.invariant-loop-row
-invariant-loop-row g l = Wrote (flat_map row_text l.fn.rows) (flat_map row_text l.rest) (g.W.Sink.contents l.initial.sink) (g.W.Sink.contents l.sink) (g.W.Sink.failed l.initial.sink) (g.W.Sink.failed l.sink)
+invariant-loop-row g l = Wrote (flat_map row_text l.fn.rows) (flat_map row_text l.rest) (g.W.Sink.state l.initial.sink) (g.W.Sink.state l.sink)
 
 abbrev pub decreases-loop-row : goal.decreases-loop-row
 decreases-loop-row g l = length l.rest
