@@ -151,10 +151,12 @@ def make(crate, copy, edits):
 
 def refused(crate, edit, output):
     """Whether the check's output has the edited function among those that it refuses for what they do."""
-    words = "(not proved|no proof: expected answers|no proof: in )"
+    words = "(not proved|no proof: expected|no proof: in )"
     if edit.function is None:
         return re.search(rf"^(fn|struct|enum|impl) .*: {words}", output, re.M) is not None
-    path = r"::".join(map(re.escape, [crate, *edit.module()]))
+    # A method is told with the module of its type.
+    module = [] if "::" in edit.function else edit.module()
+    path = "::".join(map(re.escape, [crate, *module]))
     name = r"\w*::".join(re.escape(part) for part in edit.function.split("::"))
     line = re.compile(rf"^fn {path}::(?:\w+::)*{name}: {words}", re.M)
     return line.search(output) is not None
