@@ -9,7 +9,8 @@ use Rattle.iv_value.specs.declared.value.Truth.{Truth}
 use Rattle.iv_expr.specs.declared.tree.ExprFault.{ExprFault}
 use Rattle.iv_value.specs.Truths.{is_true}
 use Rattle.iv_expr.specs.declared.tree.Cond.{Cond}
-use Rattle.iv_expr.specs.Evaluation.{truth, any_from}
+use Rattle.iv_expr.specs.Evaluation.{truth}
+use Rattle.iv_expr.proofs.Anys.{any_from}
 
 -- The rows above a number.
 abbrev pub rows_above : ℕ → List StoredRow → List StoredRow

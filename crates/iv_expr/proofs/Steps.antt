@@ -1,12 +1,12 @@
 -- Values and truths at the trees that code matches.
-use Rattle.std.proofs.Common.{◌≡◌, refl, ◌+ℤ◌, ◌-ℤ◌, ◌*ℤ◌, Ok, map, false}
+use Rattle.std.proofs.Common.{◌≡◌, refl, ◌+ℤ◌, ◌-ℤ◌, ◌*ℤ◌, Ok, map}
 use Rattle.iv_expr.specs.declared.tree.Expr.{Expr}
 use Rattle.iv_expr.specs.declared.tree.Expr.TheVariants.{Plus, Minus, Times}
 use Rattle.iv_expr.specs.declared.tree.Range.{Range}
 use Rattle.iv_expr.specs.declared.tree.Cond.{Cond}
 use Rattle.iv_expr.specs.declared.tree.Cond.TheVariants.{Not, And, Or, Exists}
 use Rattle.iv_value.specs.Truths.{truth_not, truth_and, truth_or}
-use Rattle.iv_expr.specs.Evaluation.{value, truth, both, and_then, any_from, arithmetic}
+use Rattle.iv_expr.specs.Evaluation.{value, truth, both, and_then, any_true, arithmetic}
 use Rattle.iv_expr.specs.Scopes.{Scope, within, range_rows}
 use Rattle.iv_expr.proofs.Trees.{plus_is, minus_is, times_is, not_is, and_is, or_is, exists_is}
 
@@ -28,5 +28,5 @@ truth_and_at s c a b h = rw (h, and_is) refl
 pub truth_or_at : (s : Scope) (c a b : Cond) → c ≡ Or a b → truth s c ≡ both (λ x y. Ok (truth_or x y)) (truth s a) (truth s b)
 truth_or_at s c a b h = rw (h, or_is) refl
 
-pub truth_exists_at : (s : Scope) (c a : Cond) (r : Range) → c ≡ Exists r a → truth s c ≡ any_from false (map (λ row. truth (within s row) a) (range_rows s r))
+pub truth_exists_at : (s : Scope) (c a : Cond) (r : Range) → c ≡ Exists r a → truth s c ≡ any_true (map (λ row. truth (within s row) a) (range_rows s r))
 truth_exists_at s c a r h = rw (h, exists_is) refl

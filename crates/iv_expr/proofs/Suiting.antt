@@ -1,5 +1,5 @@
 -- A tree that suits its scope has no fault but OutOfRange.
-use Rattle.std.proofs.Common.{◌≡◌, refl, ℕ, zero, suc, ℤ, ◌+ℤ◌, ◌-ℤ◌, ◌*ℤ◌, Bool, true, false, ◌&&◌, ◌||◌, ◌≢◌, List, [], ◌∷◌, map, Option, Some, None, is_some, Result, Ok, Err, slice_get}
+use Rattle.std.proofs.Common.{◌≡◌, refl, ℕ, zero, suc, ℤ, ◌+ℤ◌, ◌-ℤ◌, ◌*ℤ◌, Bool, true, false, ◌&&◌, ◌||◌, ◌≢◌, List, [], ◌∷◌, map, Option, Some, None, is_some, Result, Ok, Err, slice_get, subst}
 use Rattle.iv_value.specs.declared.value.Value.{Value}
 use Rattle.iv_value.specs.declared.value.Value.TheVariants.{Null, Int, Text}
 use Rattle.iv_value.specs.declared.value.Truth.{Truth}
@@ -17,8 +17,9 @@ use Rattle.iv_expr.specs.declared.tree.ExprFault.{ExprFault}
 use Rattle.iv_expr.specs.declared.tree.ExprFault.TheVariants.{OutOfRange, Misfit}
 use Rattle.iv_expr.specs.Trees.{plus, minus, times, not_c, and_c, or_c, exists_c}
 use Rattle.iv_expr.specs.Scopes.{Scope, within, range_rows}
-use Rattle.iv_expr.specs.Evaluation.{value, truth, both, and_then, arithmetic, compared, number_of, column_of, any_from}
+use Rattle.iv_expr.specs.Evaluation.{value, truth, both, and_then, arithmetic, comparison_of, number_of, column_of}
 use Rattle.iv_expr.specs.Suiting.{Sort, nulls, numbers, texts, of_sort, sort_of_kind, Shape, shape_within, range_kinds, column_sort, arithmetic_sort, sort_of, comparable, suits, row_suits, AllSuit, VariableSuits, RangesSuit, HasShape, Suits, SuitsExpr}
+use Rattle.iv_expr.proofs.Anys.{any_from, any_is}
 
 -- A value of the sort, or the fault OutOfRange.
 abbrev pub Sorted : Option Sort → Result Value ExprFault → Type 0
@@ -101,7 +102,7 @@ value_sorted shape s (plus a b) h = arithmetic_sorted ◌+ℤ◌ (sort_of shape 
 value_sorted shape s (minus a b) h = arithmetic_sorted ◌-ℤ◌ (sort_of shape a) (sort_of shape b) (value s a) (value s b) (value_sorted shape s a h) (value_sorted shape s b h)
 value_sorted shape s (times a b) h = arithmetic_sorted ◌*ℤ◌ (sort_of shape a) (sort_of shape b) (value s a) (value s b) (value_sorted shape s a h) (value_sorted shape s b h)
 
-comparison_fine : (op : Comparison) (j k : Sort) (a b : Result Value ExprFault) → Sorted (Some j) a → Sorted (Some k) b → comparable (Some j) (Some k) ≡ true → Fine (both (compared op) a b)
+comparison_fine : (op : Comparison) (j k : Sort) (a b : Result Value ExprFault) → Sorted (Some j) a → Sorted (Some k) b → comparable (Some j) (Some k) ≡ true → Fine (both (comparison_of op) a b)
 comparison_fine op j k (Err e) b p q h = p
 comparison_fine op j k (Ok a) (Err e) p q h = q
 comparison_fine op j k (Ok (Int a)) (Ok (Int b)) p q h = tt
@@ -120,7 +121,7 @@ comparison_fine op texts nulls (Ok (Text a)) (Ok (Int b)) p q h = absurd cc
 comparison_fine op texts texts (Ok (Text a)) (Ok (Int b)) p q h = absurd cc
 comparison_fine op texts numbers (Ok (Text a)) (Ok (Int b)) p q h = absurd cc
 
-compared_fine : (op : Comparison) (j k : Option Sort) (a b : Result Value ExprFault) → Sorted j a → Sorted k b → comparable j k ≡ true → Fine (both (compared op) a b)
+compared_fine : (op : Comparison) (j k : Option Sort) (a b : Result Value ExprFault) → Sorted j a → Sorted k b → comparable j k ≡ true → Fine (both (comparison_of op) a b)
 compared_fine op None k a b p q h = absurd cc
 compared_fine op (Some nulls) None a b p q h = absurd cc
 compared_fine op (Some numbers) None a b p q h = absurd cc
@@ -165,9 +166,10 @@ truth_fine shape s (not_c a) h p = then_fine (truth s a) _ (truth_fine shape s a
 truth_fine shape s (and_c a b) h p = both_fine (truth s a) (truth s b) _ (truth_fine shape s a h (left_of _ _ p)) (truth_fine shape s b h (right_of _ _ p))
 truth_fine shape s (or_c a b) h p = both_fine (truth s a) (truth s b) _ (truth_fine shape s a h (left_of _ _ p)) (truth_fine shape s b h (right_of _ _ p))
 truth_fine shape s (exists_c range a) h p =
-    any_fine (λ row. truth (within s row) a) (range_kinds shape range) (range_rows s range)
+    subst Fine (any_is (map (λ row. truth (within s row) a) (range_rows s range)))
+    (any_fine (λ row. truth (within s row) a) (range_kinds shape range) (range_rows s range)
     (λ row q. truth_fine (shape_within shape (range_kinds shape range)) (within s row) a (shape_of_within s shape (range_kinds shape range) row h q) p)
-    (range_all_suit s shape range h) false
+    (range_all_suit s shape range h) false)
 
 fine_fits : {A : Type 0} (r : Result A ExprFault) → Fine r → r ≢ Err Misfit
 fine_fits (Ok t) p h = cc

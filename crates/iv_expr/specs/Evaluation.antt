@@ -1,5 +1,6 @@
 -- This file defines the value of an expression and the truth of a condition in a scope, by cases on the tree.
-use Rattle.std.specs.Prelude.{ℕ, Bool, false, ◌||◌, if◌then◌else◌, List, [], ◌∷◌, map, ℤ, ◌+ℤ◌, ◌-ℤ◌, ◌*ℤ◌, Option, Some, None, Result, Ok, Err, slice_get}
+use Rattle.std.specs.List.{list_any}
+use Rattle.std.specs.Prelude.{ℕ, Bool, ◌||◌, if◌then◌else◌, List, [], ◌∷◌, map, ℤ, ◌+ℤ◌, ◌-ℤ◌, ◌*ℤ◌, Option, Some, None, Result, Ok, Err, slice_get}
 use Rattle.std.specs.declared.cmp.Ordering.{Ordering}
 use Rattle.std.specs.Ordering.{is_eq, is_ne, is_lt, is_gt, is_le, is_ge}
 use Rattle.iv_value.specs.declared.value.Value.{Value}
@@ -40,7 +41,7 @@ abbrev pub number_of : Option ℤ → Result Value ExprFault
 number_of (Some z) = Ok (Int z)
 number_of None = Err OutOfRange
 
--- An operation on two operands (6.26 "numeric value expression"): one that is null makes the result null; a text suits none.
+-- An operation on two operands ("Numeric value expression"): one that is null makes the result null; a text suits none.
 abbrev pub arithmetic : (ℤ → ℤ → ℤ) → Value → Value → Result Value ExprFault
 arithmetic f (Int a) (Int b) = number_of (checked (f a b))
 arithmetic f Null (Int b) = Ok Null
@@ -48,7 +49,7 @@ arithmetic f (Int a) Null = Ok Null
 arithmetic f Null Null = Ok Null
 arithmetic f _ _ = Err Misfit
 
--- The value of an expression (6.23 "value expression").
+-- The value of an expression ("Value expression").
 abbrev pub value : Scope → Expr → Result Value ExprFault
 value s (Literal v) = Ok v
 value s (Column range c) = column_of (slice_get s.ranges range) c
@@ -66,26 +67,29 @@ accepts by.LessEqual = is_le
 accepts by.Greater = is_gt
 accepts by.GreaterEqual = is_ge
 
--- A comparison (8.2 "comparison predicate"): unknown where an operand is null; two kinds suit none.
-abbrev pub compared : Comparison → Value → Value → Result Truth ExprFault
-compared op a b = elim (order a b) [ Some o ↦ Ok (truth_of (accepts op o)) | None ↦ if is_null a || is_null b then Ok Unknown else Err Misfit ]
+-- A comparison ("Comparison predicate"): unknown where an operand is null; two kinds suit none.
+abbrev pub comparison_of : Comparison → Value → Value → Result Truth ExprFault
+comparison_of op a b = elim (order a b) [ Some o ↦ Ok (truth_of (accepts op o)) | None ↦ if is_null a || is_null b then Ok Unknown else Err Misfit ]
 
--- Whether one of the truths is true, or one was before; the first fault is the fault of the whole.
-abbrev pub any_from : Bool → List (Result Truth ExprFault) → Result Truth ExprFault
-any_from found [] = Ok (truth_of found)
-any_from found (Ok t ∷ ts) = any_from (found || is_true t) ts
-any_from found (Err e ∷ ts) = Err e
+-- the results, or the first fault
+abbrev pub all_results : {A : Type 0} → List (Result A ExprFault) → Result (List A) ExprFault
+all_results [] = Ok []
+all_results (result ∷ results) = and_then result (λ x. and_then (all_results results) (λ xs. Ok (x ∷ xs)))
 
--- The truth of a condition (8.15 "search condition"). IS NULL is never unknown (8.7). EXISTS is true where some row of its
--- range makes its condition true (8.9).
+-- Whether one of the truths is true; the first fault is the fault of the whole.
+abbrev pub any_true : List (Result Truth ExprFault) → Result Truth ExprFault
+any_true results = and_then (all_results results) (λ truths. Ok (truth_of (list_any is_true truths)))
+
+-- The truth of a condition ("Search condition"). IS NULL is never unknown ("Null predicate"). EXISTS is true where some row of its
+-- range makes its condition true ("Exists predicate").
 abbrev pub truth : Scope → Cond → Result Truth ExprFault
 truth s Always = Ok True
-truth s (Compare op a b) = both (compared op) (value s a) (value s b)
+truth s (Compare op a b) = both (comparison_of op) (value s a) (value s b)
 truth s (IsNull a) = and_then (value s a) (λ v. Ok (truth_of (is_null v)))
 truth s (not_c a) = and_then (truth s a) (λ t. Ok (truth_not t))
 truth s (and_c a b) = both (λ x y. Ok (truth_and x y)) (truth s a) (truth s b)
 truth s (or_c a b) = both (λ x y. Ok (truth_or x y)) (truth s a) (truth s b)
-truth s (exists_c range a) = any_from false (map (λ row. truth (within s row) a) (range_rows s range))
+truth s (exists_c range a) = any_true (map (λ row. truth (within s row) a) (range_rows s range))
 
 -- A truth, where a fault counts as false.
 abbrev pub fault_is_false : Result Truth ExprFault → Truth

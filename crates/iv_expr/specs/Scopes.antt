@@ -31,7 +31,7 @@ abbrev pub contents : List StoredRow → List (List Value)
 contents rows = map (λ r. r.values) rows
 
 -- What the body of a trigger sees: the row variables OLD and NEW, where they are there, and the changes of its
--- transition tables (ISO/IEC 9075-2:1999, 4.35.2 "Execution of triggers").
+-- transition tables (ISO/IEC 9075-2:1999, "Execution of triggers").
 pub record Frame : Type 0 where
   pub old : Option (List Value)
   pub new : Option (List Value)

@@ -1,7 +1,7 @@
 //! The truth of a condition.
-ghost use Rattle.std.specs.Prelude.{◌≡◌, ◌≢◌, Err, map, false, []};
+ghost use Rattle.std.specs.Prelude.{◌≡◌, ◌≢◌, Err, map, []};
 ghost use Rattle.std.specs.Option.{option_copied};
-ghost use Rattle.iv_expr.specs.Evaluation.{any_from, check_truth as truth_of_check, truth as truth_at};
+ghost use Rattle.iv_expr.specs.Evaluation.{any_true, check_truth as truth_of_check, truth as truth_at};
 ghost use Rattle.iv_expr.specs.Scopes.{contents, side_of, table_rows, transition_rows, within};
 ghost use Rattle.iv_expr.specs.Suiting.{Suits};
 ghost use Rattle.iv_expr.specs.declared.tree.ExprFault.TheVariants as fault;
@@ -60,7 +60,8 @@ fn exists_in_table<R: Rows>(
     cond: &Cond,
     scope: &Scope<'_, R>,
 ) -> Result<Truth, ExprFault>
-    ensures { result ≡ any_from false (map (λ row. truth_at (within scope.now row) cond.now) (contents (table_rows scope.now.rows table))) }
+    ensures { result ≡ any_true (map (λ row. truth_at (within scope.now row) cond.now)
+        (contents (table_rows scope.now.rows table))) }
 {
     let mut found = false;
     let mut after = 0;
@@ -83,7 +84,8 @@ fn exists_in_transition<R: Rows>(
     cond: &Cond,
     scope: &Scope<'_, R>,
 ) -> Result<Truth, ExprFault>
-    ensures { result ≡ any_from false (map (λ row. truth_at (within scope.now row) cond.now) (transition_rows side scope.now.frame.transition)) }
+    ensures { result ≡ any_true (map (λ row. truth_at (within scope.now row) cond.now)
+        (transition_rows side scope.now.frame.transition)) }
 {
     let mut found = false;
     for change in (&*scope).transition() {

@@ -3,7 +3,7 @@ ghost use Rattle.std.specs.Prelude.{◌≡◌, ◌||◌, Ok};
 ghost use Rattle.iv_value.specs.References.{value_of};
 ghost use Rattle.iv_value.specs.Truths.{is_true, truth_and, truth_not, truth_of, truth_or};
 ghost use Rattle.iv_value.specs.Values.{checked, is_null};
-ghost use Rattle.iv_expr.specs.Evaluation.{accepts, and_then, arithmetic, both, compared};
+ghost use Rattle.iv_expr.specs.Evaluation.{accepts, and_then, arithmetic, both, comparison_of};
 ghost use Rattle.iv_expr.specs.References.{operation, result_of};
 
 use crate::tree::{Comparison, ExprFault};
@@ -68,7 +68,7 @@ pub fn compare_both(
     left: Result<ValueRef<'_>, ExprFault>,
     right: Result<ValueRef<'_>, ExprFault>,
 ) -> Result<Truth, ExprFault>
-    ensures { result ≡ both (compared comparison) (result_of left.entry) (result_of right.entry) }
+    ensures { result ≡ both (comparison_of comparison) (result_of left.entry) (result_of right.entry) }
 {
     match (left, right) {
         (Ok(left), Ok(right)) => compare_by(comparison, left, right),
@@ -82,7 +82,7 @@ fn compare_by(
     left: ValueRef<'_>,
     right: ValueRef<'_>,
 ) -> Result<Truth, ExprFault>
-    ensures { result ≡ compared comparison (value_of left.entry) (value_of right.entry) }
+    ensures { result ≡ comparison_of comparison (value_of left.entry) (value_of right.entry) }
 {
     match left.compare(right) {
         Some(order) => Ok(Truth::of(comparison.accepts(order))),

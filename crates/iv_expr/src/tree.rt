@@ -17,7 +17,7 @@ pub enum Range {
     Transition(Side),
 }
 
-/// An expression (6.23 "value expression"). A sign is no node of its own: `-x` is 0 minus x, and `+x` is x.
+/// An expression ("Value expression"). A sign is no node of its own: `-x` is 0 minus x, and `+x` is x.
 #[derive(Drop)]
 pub enum Expr {
     Literal(Value),
@@ -30,7 +30,7 @@ pub enum Expr {
     Times(Boxed<Expr>, Boxed<Expr>),
 }
 
-/// A comparison predicate (ISO/IEC 9075-2:1999, 8.2).
+/// A comparison predicate (ISO/IEC 9075-2:1999, "Comparison predicate").
 #[derive(Clone, Copy, Debug, PartialEq, Eq)]
 pub enum Comparison {
     Equal,
@@ -41,7 +41,7 @@ pub enum Comparison {
     GreaterEqual,
 }
 
-/// A search condition (8.15). IS NOT NULL is NOT over IS NULL, which is never unknown.
+/// A search condition ("Search condition"). IS NOT NULL is NOT over IS NULL, which is never unknown.
 #[derive(Drop)]
 pub enum Cond {
     /// No WHERE or WHEN: true of every row.

@@ -2,8 +2,10 @@ use Rattle.std.proofs.Common.{arith, ◌∙◌, ap, sym, refl, map, false, List,
 use Rattle.iv_value.specs.declared.value.Value.{Value}
 use Rattle.iv_value.specs.declared.value.Truth.{Truth}
 use Rattle.iv_expr.specs.declared.row.StoredRow.{StoredRow}
-use Rattle.iv_expr.specs.Evaluation.{truth, any_from}
-use Rattle.iv_expr.specs.Scopes.{contents, within}
+use Rattle.iv_expr.specs.declared.row.Change.{Change}
+use Rattle.iv_expr.specs.Evaluation.{truth}
+use Rattle.iv_expr.specs.Scopes.{contents, table_rows, transition_rows, within}
+use Rattle.iv_expr.proofs.Anys.{any_from, any_is}
 use Rattle.iv_expr.proofs.Steps.{truth_exists_at}
 use Rattle.iv_expr.proofs.Scan.{above_all, table_rises, scan_above, scan_small, scan_step, scan_fault, scan_none, at_row}
 use Rattle.iv_expr.proofs.condition.+truth_in.Goals as goal
@@ -11,6 +13,12 @@ use Rattle.iv_expr.proofs.condition.+truth_in.Goals as goal
 pub exists_in_table-loop-number-init : goal.exists_in_table-loop-number-init
 exists_in_table-loop-number-init g t c =
     ap (λ (x : List StoredRow). any_from false (map (λ (row : List Value). truth (within c.args.scope.now row) c.args.cond.now) (contents x))) (above_all 0 0 _ (table_rises 0 c.args.table _ c.known.ensures) (omega arith))
+    ∙ any_is (map (λ (row : List Value). truth (within c.args.scope.now row) c.args.cond.now) (contents (table_rows c.args.scope.now.rows c.args.table)))
+
+pub exists_in_transition-loop-change-init : goal.exists_in_transition-loop-change-init
+exists_in_transition-loop-change-init g t c =
+    ap (λ (x : List Change). any_from false (map (λ (row : List Value). truth (within c.args.scope.now row) c.args.cond.now) (transition_rows c.args.side x))) c.transition-change-items.ensures
+    ∙ any_is (map (λ (row : List Value). truth (within c.args.scope.now row) c.args.cond.now) (transition_rows c.args.side c.args.scope.now.frame.transition))
 
 pub exists_in_table-loop-number-smaller : goal.exists_in_table-loop-number-smaller
 exists_in_table-loop-number-smaller g t c =
