@@ -79,11 +79,13 @@ def opening(words, at):
 
 
 def is_pattern(words, at):
-    """Whether the variant is matched: an arm of a match, an alternative of one, or in `matches!`."""
+    """Whether the variant is matched or compared: an arm of a match, an alternative of one, `if let`, `matches!`, `==`."""
+    if at >= 3 and words[at - 1] == '::' and words[at - 3] in ('==', '!='):
+        return True
     rest = words[at + 1:at + 40]
     while rest and rest[0] in ')|':
         rest = rest[1:] if rest[0] == ')' else rest[next((i for i, w in enumerate(rest) if w == '=>'), len(rest)):]
-    if rest[:1] == ['=>'] or rest[:1] == ['if']:
+    if rest[:1] in (['=>'], ['if']) or (rest[:1] == ['='] and 'let' in words[last_end(words, at):at]):
         return True
     back = words[max(0, at - 40):at]
     opened = len(back) - 1 - back[::-1].index('matches') if 'matches' in back else None
@@ -172,6 +174,9 @@ MADE_UP = [
     ('fn f(c: Cause) -> bool { match c { Cause::OutOfMemory | Cause::Limit => true, _ => false } }', []),
     ('fn f(e: Fault) -> Cause { match e { Fault::NoMemory => Cause::OutOfMemory, _ => Cause::Limit } }', ['OutOfMemory']),
     ('fn f() -> Cause { use Cause::OutOfMemory; OutOfMemory }', ['OutOfMemory', 'OutOfMemory']),
+    ('fn f(r: Result<(), Cause>) -> bool { if let Err(Cause::OutOfMemory) = r { true } else { false } }', []),
+    ('fn f(c: Cause) -> bool { c == Cause::OutOfMemory }', []),
+    ('fn f() -> Result<(), Cause> { let r = Err(Cause::OutOfMemory); r }', ['OutOfMemory']),
     ('enum RunFault { Read, NoMemory }', []),
     ('// Err(AllocError)\nfn f() -> u8 ensures { IsErrOf result RunFault.NoMemory → x } { 1 }', []),
     ('ghost use a.{NoMemory}; fn f() -> bool { g("NoMemory AllocError") }', []),
