@@ -6,7 +6,7 @@ use iv_syntax::{ConstraintMode, MatchType, Name, ReferentialAction};
 use sqlite_items::Items;
 use std::marker::Model;
 
-/// A foreign key (ISO/IEC 9075-2:1999, 11.8). Columns are places in their table, from 0.
+/// A foreign key (ISO/IEC 9075-2:1999, "Referential constraint definition"). Columns are places in their table, from 0.
 #[derive(Drop)]
 pub struct ForeignKey {
     /// The referencing columns, in the order of their text.
@@ -24,9 +24,9 @@ pub struct ForeignKey {
 #[derive(Drop)]
 pub enum Rule {
     NotNull(u32),
-    /// CHECK (11.9).
+    /// CHECK ("Check constraint definition").
     Check(Cond),
-    /// UNIQUE (11.7).
+    /// UNIQUE ("Unique constraint definition").
     Unique(Items<u32>),
     PrimaryKey(Items<u32>),
     ForeignKey(ForeignKey),

@@ -45,7 +45,7 @@ pub enum InsertColumns {
     Listed(Items<u32>),
 }
 
-/// INSERT, UPDATE and DELETE (14.8, 14.10, 14.7).
+/// INSERT, UPDATE and DELETE ("Insert statement", "Update statement: searched", "Delete statement: searched").
 #[derive(Drop)]
 pub enum DataStatement {
     Insert {
@@ -74,7 +74,7 @@ pub enum BodyStatement {
     Set(Setting),
 }
 
-/// A trigger (11.39).
+/// A trigger ("Trigger definition").
 #[derive(Drop)]
 pub struct Trigger {
     pub id: TriggerId,
@@ -97,7 +97,7 @@ pub enum ConstraintSet {
     Named(Items<ConstraintId>),
 }
 
-/// A statement that changes the catalogue (11.3, 11.12, 11.39, 11.40).
+/// A statement that changes the catalogue ("Table definition", "Add table constraint definition", "Trigger definition", "Drop trigger statement").
 #[derive(Drop)]
 pub enum SchemaPlan {
     CreateTable(Table, Constraints),
@@ -106,7 +106,7 @@ pub enum SchemaPlan {
     DropTrigger(TriggerId),
 }
 
-/// SELECT over the rows of a table (7.12).
+/// SELECT over the rows of a table ("Query specification").
 #[derive(Drop)]
 pub enum QueryPlan {
     Rows {

@@ -2,7 +2,7 @@
 //! there are, and all of them. It looks at whole lists: `satisfies` takes time in proportion to the rows,
 //! and a scan to the square of the rows of each table times the constraints that are chosen; for CHECK and
 //! NOT NULL to the rows alone.
-ghost use Rattle.std.specs.Prelude.{◌≡◌, ◌++◌, ◌≤◌, ◌+◌, ◌-◌, ◌^◌, ◌&&◌, ◌||◌, ℕ, not, length, filter, map, min, option_map, find, if◌then◌else◌, [], IfOk, OnOk, OnErr, ◌==◌, slice_get};
+ghost use Rattle.std.specs.Prelude.{◌≡◌, ◌++◌, ◌≤◌, ◌+◌, ◌*◌, ◌-◌, ◌^◌, ◌&&◌, ◌||◌, ℕ, not, length, filter, map, min, option_map, find, if◌then◌else◌, [], IfOk, OnOk, OnErr, ◌==◌, slice_get};
 ghost use Rattle.std.specs.List.{list_any};
 ghost use Rattle.iv_value.specs.References.{value_of};
 ghost use Rattle.iv_value.specs.Truths.{is_false};
@@ -11,7 +11,9 @@ ghost use Rattle.iv_expr.specs.Scopes.{table_rows};
 ghost use Rattle.iv_machine.specs.Databases.{value_at, key_of, none_null, all_null, shares_key, is_unique, has_referenced, matches, obeys, satisfies, violates, fault_at, violations, chosen_violations, is_deferred, is_chosen, scan, first};
 
 use crate::database::Which;
-use iv_catalogue::{Constraint, ConstraintId, Fault, ForeignKey, Rule};
+use iv_catalogue::{
+    Constraint, ConstraintId, Fault, ForeignKey, MOST_CONSTRAINTS, MOST_TABLES, Rule,
+};
 use iv_expr::{StoredRow, TableId, check_truth};
 use iv_syntax::{ConstraintMode, MatchType};
 use iv_value::{Truth, Value, ValueRef};
@@ -203,7 +205,7 @@ pub fn first_fault(
     modes: &[ConstraintMode],
     which: Which,
 ) -> Option<Fault>
-    requires { length constraints.now ≤ 4096 }
+    requires { length constraints.now ≤ MOST_TABLES * MOST_CONSTRAINTS }
     ensures { result ≡ first (scan rows.now constraints.now (is_chosen modes.now which)) }
 {
     let mut id = 0u32;
@@ -255,7 +257,7 @@ pub fn count_faults(
     modes: &[ConstraintMode],
     which: Which,
 ) -> u64
-    requires { length constraints.now ≤ 4096 }
+    requires { length constraints.now ≤ MOST_TABLES * MOST_CONSTRAINTS }
     ensures { result ≡
         min (length (scan rows.now constraints.now (is_chosen modes.now which))) (2 ^ 64 - 1) }
 {
@@ -317,7 +319,7 @@ pub fn list_faults(
     modes: &[ConstraintMode],
     which: Which,
 ) -> Result<Vec<Fault>, AllocError>
-    requires { length constraints.now ≤ 4096 }
+    requires { length constraints.now ≤ MOST_TABLES * MOST_CONSTRAINTS }
     ensures { IfOk result (λ faults. faults.items ≡
         scan rows.now constraints.now (is_chosen modes.now which)) }
 {

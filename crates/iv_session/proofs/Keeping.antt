@@ -24,6 +24,7 @@ use Rattle.iv_machine.specs.declared.answer.Answer.{Answer}
 use Rattle.iv_machine.specs.declared.answer.Answer.TheVariants.{Changed, Rows}
 use Rattle.iv_machine.specs.declared.database.Database.{Database}
 use Rattle.iv_machine.specs.declared.database.Which.TheVariants.{Immediate}
+use Rattle.iv_machine.specs.Bounds.{most_changes_in_a_transaction, last_row_number}
 use Rattle.iv_machine.specs.Context.{Failure, fails}
 use Rattle.iv_machine.specs.Databases.{scan, chosen_violations, violations, is_chosen, initial_modes, first}
 use Rattle.iv_machine.specs.Levels.{Finished}
@@ -226,10 +227,10 @@ insert_as : (h : Held) (t : ℕ) (values : List Value) → Suits h.schema t valu
     → plan_outcome (state_of h) (plan.Change (insert_one t values)) ≡ level_outcome (state_of h) (leveled h t values (early (state_of h)) (first_of h t values))
 insert_as h t values u k =
     ap (level_outcome (state_of h)) (insert_is_plain (state_of h) t values u k.sound
-    ∙ ap (λ l. if nat_lt h.limits.changes 2 then fails (state_of h).database TooManyChanges else (if nat_lt 1048576 (h.count + 1) then fails (state_of h).database TransactionTooLarge
-    else (if nat_lt 9223372036854775807 h.next then fails (state_of h).database Limit else plain_checked (with_row (state_of h).database t values) (h.limits.changes - 2) (first l))))
+    ∙ ap (λ l. if nat_lt h.limits.changes 2 then fails (state_of h).database TooManyChanges else (if nat_lt most_changes_in_a_transaction (h.count + 1) then fails (state_of h).database TransactionTooLarge
+    else (if nat_lt last_row_number h.next then fails (state_of h).database Limit else plain_checked (with_row (state_of h).database t values) (h.limits.changes - 2) (first l))))
     (alone h (new_row_of t h.next values) k)
-    ∙ level_from h t values (nat_lt h.limits.changes 2) (nat_lt 1048576 (h.count + 1)) (nat_lt 9223372036854775807 h.next))
+    ∙ level_from h t values (nat_lt h.limits.changes 2) (nat_lt most_changes_in_a_transaction (h.count + 1)) (nat_lt last_row_number h.next))
 
 insert_told : (h : Held) (t : ℕ) (values : List Value) (cause : Option Cause) (f : Option Fault) → early (state_of h) ≡ cause → first_of h t values ≡ f → Suits h.schema t values → Kept h
     → plan_outcome (state_of h) (plan.Change (insert_one t values)) ≡ level_outcome (state_of h) (leveled h t values cause f)
@@ -246,7 +247,7 @@ early_from false false false cause e = absurd cc
 pub early_performs : (h : Held) (t : ℕ) (values : List Value) (cause : Cause) (r : Result Answer Refusal) → early (state_of h) ≡ Some cause → r ≡ refused cause
     → Suits h.schema t values → Kept h → Performs (state_of h) (plan.Change (insert_one t values)) r (state_of h)
 early_performs h t values cause r e q u k =
-    let m : is_memory_cause cause ≡ false = early_from (nat_lt h.limits.changes 2) (nat_lt 1048576 (h.count + 1)) (nat_lt 9223372036854775807 h.next) cause e in
+    let m : is_memory_cause cause ≡ false = early_from (nat_lt h.limits.changes 2) (nat_lt most_changes_in_a_transaction (h.count + 1)) (nat_lt last_row_number h.next) cause e in
     let told = insert_told h t values (Some cause) (first_of h t values) e refl u k in
     rw (q, m) (sym (ap (λ o. o.answer) told), sym (ap (λ o. o.state) told))
 

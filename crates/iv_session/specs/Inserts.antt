@@ -6,6 +6,7 @@ use Rattle.iv_expr.specs.declared.tree.Expr.{Expr}
 use Rattle.iv_expr.specs.declared.tree.Expr.TheVariants.{Literal}
 use Rattle.iv_catalogue.specs.declared.cause.Cause.{Cause}
 use Rattle.iv_catalogue.specs.declared.cause.Cause.TheVariants.{TooManyChanges, TransactionTooLarge, Limit}
+use Rattle.iv_machine.specs.Bounds.{most_changes_in_a_transaction, last_row_number}
 use Rattle.iv_machine.specs.Machine.{State}
 
 -- the value of a literal, null for every other expression
@@ -18,5 +19,5 @@ literal_of _ = Null
 abbrev pub early : State → Option Cause
 early s =
     if nat_lt s.limits.changes 2 then Some TooManyChanges
-    else (if nat_lt 1048576 (s.database.count + 1) then Some TransactionTooLarge
-    else (if nat_lt 9223372036854775807 s.database.next then Some Limit else None))
+    else (if nat_lt most_changes_in_a_transaction (s.database.count + 1) then Some TransactionTooLarge
+    else (if nat_lt last_row_number s.database.next then Some Limit else None))

@@ -24,7 +24,10 @@ use iv_catalogue::{
     Plan, QueryPlan, Refusal, SchemaPlan, Table, TransactionPlan, is_taken_up, resolve,
 };
 use iv_expr::{Expr, Row, StoredRow, TableId};
-use iv_machine::{Answer, Limits, Which, count_faults, first_fault, list_faults};
+use iv_machine::{
+    Answer, LAST_ROW_NUMBER, Limits, MOST_CHANGES_IN_A_TRANSACTION, Which, count_faults,
+    first_fault, list_faults,
+};
 use iv_syntax::{ConstraintMode, Statement};
 use iv_value::Value;
 use sqlite_items::Items;
@@ -189,12 +192,6 @@ impl Session {
     }
 }
 
-// How many row changes may stand in a transaction.
-const CHANGES: u64 = 1_048_576;
-
-// The greatest row number.
-const LAST_ROW: u64 = 9_223_372_036_854_775_807;
-
 fn refuse<T>(cause: Cause) -> Result<T, Refusal>
     ensures { result ≡ refused cause }
 {
@@ -285,9 +282,9 @@ impl Session {
     {
         if self.limits.changes() < 2 {
             Some(Cause::TooManyChanges)
-        } else if self.count >= CHANGES {
+        } else if self.count >= MOST_CHANGES_IN_A_TRANSACTION {
             Some(Cause::TransactionTooLarge)
-        } else if self.next > LAST_ROW {
+        } else if self.next > LAST_ROW_NUMBER {
             Some(Cause::Limit)
         } else {
             None

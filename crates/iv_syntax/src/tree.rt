@@ -19,7 +19,7 @@ pub struct ColumnName {
     pub name: Name,
 }
 
-/// A value expression (ISO/IEC 9075-2:1999, 6.23).
+/// A value expression (ISO/IEC 9075-2:1999, "Value expression").
 #[derive(Drop)]
 pub enum Expression {
     /// At most 9,223,372,036,854,775,807.
@@ -40,7 +40,7 @@ pub struct RangeName {
     pub alias: Option<Name>,
 }
 
-/// A search condition (8.15).
+/// A search condition ("Search condition").
 #[derive(Drop)]
 pub enum Condition {
     Compare(Comparison, Expression, Expression),

@@ -1,4 +1,4 @@
--- This file defines the truth tables of the three-valued logic (ISO/IEC 9075-2:1999, 6.30 "boolean value expression").
+-- This file defines the truth tables of the three-valued logic (ISO/IEC 9075-2:1999, "boolean value expression").
 use Rattle.std.specs.Prelude.{Bool, true, false}
 use Rattle.iv_value.specs.declared.value.Truth.{Truth}
 use Rattle.iv_value.specs.declared.value.Truth.TheVariants.{False, Unknown, True}

@@ -16,7 +16,7 @@ is_null Null = true
 is_null _ = false
 
 -- Two integers stand as their sizes, two texts as their lists of code points; nothing is said of a null or of two kinds
--- (8.2 "comparison predicate", without padding).
+-- ("comparison predicate", without padding).
 abbrev pub order : Value → Value → Option Ordering
 order (Int a) (Int b) = Some (int_cmp a b)
 order (Text a) (Text b) = Some (slice_cmp nat_cmp (chars a) (chars b))
@@ -36,7 +36,7 @@ all_same (x ∷ xs) (y ∷ ys) = is_same x y && all_same xs ys
 all_same _ _ = false
 
 -- How a value fits a column: null fits each, an integer an INTEGER, a text a VARCHAR of at least its count of characters
--- (9.2 "Store assignment").
+-- ("Store assignment").
 abbrev pub fit_of : Value → Kind → Fit
 fit_of Null kind = Yes
 fit_of (Int a) Integer = Yes

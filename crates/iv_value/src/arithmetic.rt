@@ -1,4 +1,4 @@
-//! Arithmetic in 64 bits (ISO/IEC 9075-2:1999, 6.26 "numeric value expression").
+//! Arithmetic in 64 bits (ISO/IEC 9075-2:1999, "numeric value expression").
 ghost use Rattle.std.specs.Prelude.{◌≡◌, ◌+ℤ◌, ◌-ℤ◌, ◌*ℤ◌};
 ghost use Rattle.iv_value.specs.Values.{checked};
 

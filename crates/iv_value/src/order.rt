@@ -9,7 +9,7 @@ use crate::value::{Value, ValueRef};
 use std::cmp::Ordering;
 
 /// How two values stand to each other; nothing where one is null or they are of two kinds
-/// (ISO/IEC 9075-2:1999, 8.2 "comparison predicate").
+/// (ISO/IEC 9075-2:1999, "comparison predicate").
 pub fn compare(left: &Value, right: &Value) -> Option<Ordering>
     ensures { result ≡ order left.now right.now }
 {

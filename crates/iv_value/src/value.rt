@@ -37,7 +37,7 @@ pub enum Kind {
     Varchar(u16),
 }
 
-/// Whether a value fits a column (ISO/IEC 9075-2:1999, 9.2 "Store assignment").
+/// Whether a value fits a column (ISO/IEC 9075-2:1999, "Store assignment").
 #[derive(Clone, Copy, Debug, PartialEq, Eq)]
 pub enum Fit {
     Yes,
