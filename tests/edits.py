@@ -4,12 +4,13 @@
   tests/edits.py [CRATE..] [--all] [--jobs N] [--keep FOLDER]
 
 An edit has a line `file: src/..`, and pairs of lines `old: TEXT` and `new: TEXT`; each old text stands once in its file.
-A round has at most one edit of a function, and an edit outside of every function has a round of its own; it is made on a copy of the crate, over the work that a check kept, and one
-`rt check` has to name every edited function as refused. The last line is `N passed, N failed`.
+A round has at most one edit of a function, and an edit outside of every function has a round of its own; it is made on a
+copy of the crate, over the work that a check kept, and one `rt check` has to name every edited function as refused. The
+last line is `N passed, N failed`.
 
 The file tests/edits/DIGESTS has a digest for each crate whose edits were all refused: of the edits, of the crate and of
 what it stands on. Where it is still the same the edits aren't tried again, except with --all; where they are tried and
-all are refused it is written anew."""
+all are refused it is written anew. A crate that is tried is proved first where its kept work is missing or old."""
 import argparse
 import hashlib
 import os
@@ -22,6 +23,9 @@ from concurrent.futures import ThreadPoolExecutor
 
 HERE = os.path.dirname(os.path.abspath(__file__))
 ROOT = os.path.dirname(HERE)
+sys.path.insert(0, os.path.join(ROOT, "tools"))
+import crates as repository
+
 FUNCTION = re.compile(r"^( *)(?:pub(?:\([a-z]+\))? )?(?:const )?fn (\w+)", re.M)
 IMPLEMENTS = re.compile(r"^impl\b(?:<[^{]*?>)? *(?:[\w:<>, ]+ for )?(\w+)", re.M)
 
@@ -86,18 +90,7 @@ def rounds_of(edits):
 
 def below(crate):
     """The crate and those of the repository that it stands on."""
-    named = {}
-    for line in read(os.path.join(ROOT, "crates.txt")).splitlines():
-        head, _, tail = line.split("#")[0].partition(":")
-        if head.strip():
-            named[head.split()[0]] = tail.split()
-    found, left = set(), [crate]
-    while left:
-        one = left.pop()
-        if one in named and one not in found:
-            found.add(one)
-            left += named[one]
-    return found
+    return repository.below([crate], repository.crates())
 
 
 def digest_of(crate):
@@ -193,20 +186,24 @@ def main():
     crates = words.crates or sorted(name for name in os.listdir(folder) if os.path.isdir(os.path.join(folder, name)))
     known = {} if words.all else digests()
     passed = failed = 0
+    rounds = {}
+    for crate in crates:
+        names = sorted(name for name in os.listdir(os.path.join(folder, crate)) if name.endswith(".edit"))
+        if known.get(crate) == digest_of(crate):
+            print(f"{crate}: {len(names)} edits were refused over these sources already", flush=True)
+            passed += len(names)
+        else:
+            rounds[crate] = rounds_of([Edit(crate, os.path.join(folder, crate, name)) for name in names])
+    if not repository.prove(repository.below(rounds, repository.crates()), repository.crates(), words.jobs):
+        print(f"{passed} passed, {failed + 1} failed")
+        return 1
     with tempfile.TemporaryDirectory(prefix="edits-") as room, ThreadPoolExecutor(words.jobs) as pool:
-        begun = []
-        for crate in crates:
-            names = sorted(name for name in os.listdir(os.path.join(folder, crate)) if name.endswith(".edit"))
-            if known.get(crate) == digest_of(crate):
-                print(f"{crate}: {len(names)} edits were refused over these sources already", flush=True)
-                passed += len(names)
-                continue
-            rounds = rounds_of([Edit(crate, os.path.join(folder, crate, name)) for name in names])
-            begun.append((crate, pool.submit(all_tried, crate, rounds, os.path.join(room, crate))))
+        begun = [(crate, pool.submit(all_tried, crate, rounds[crate], os.path.join(room, crate))) for crate in rounds]
         for crate, done in begun:
-            if not any(kept for _, kept, _ in done.result()):
+            said = done.result()
+            if not any(kept for _, kept, _ in said):
                 remember([crate])
-            for number, (one, kept, output) in enumerate(done.result()):
+            for number, (one, kept, output) in enumerate(said):
                 passed, failed = passed + len(one) - len(kept), failed + len(kept)
                 print(f"{crate}: {len(one) - len(kept)} of {len(one)} refused in one check", flush=True)
                 for edit in kept:
