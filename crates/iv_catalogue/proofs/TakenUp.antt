@@ -23,7 +23,7 @@ use Rattle.iv_catalogue.specs.declared.cause.Cause.{Cause}
 use Rattle.iv_catalogue.specs.declared.cause.Cause.TheVariants.{Unknown, Duplicate, SchemaFault, Limit}
 use Rattle.iv_catalogue.specs.declared.constraint.Constraint.{Constraint}
 use Rattle.iv_catalogue.specs.Names.{is_among}
-use Rattle.iv_catalogue.specs.Resolution.{all_of, literal_value, literal_meaning, is_literal_value, is_side, is_taken_up_rule, is_plain_time, is_plain_column, is_plain_element, unknown_side, unknown_rule, unknown_element, has_unknown, has_duplicate, is_beyond_limits, create_cause, column_names, side_meaning, comparison_of, condition_meaning, rule_meaning, column_of, column_in, columns_of, check_of, name_or_generated, constraint_of, constraints_from, constraints_of, table_plan, create_plan, plan_or_fault, insertion_of}
+use Rattle.iv_catalogue.specs.Resolution.{all_of, literal_value, literal_meaning, is_literal_value, is_side, is_taken_up_rule, is_plain_time, is_plain_column, is_plain_element, unknown_side, unknown_rule, unknown_element, has_unknown, has_duplicate, is_beyond_limits, create_cause, column_names, side_meaning, comparison_meaning, condition_meaning, rule_meaning, column_defined, column_in, columns_of, check_of, name_or_generated, constraint_of, constraints_from, constraints_of, table_plan, create_plan, plan_or_fault, insertion_plan}
 
 -- ---- truth values
 
@@ -75,12 +75,12 @@ literals_there (v ∷ vs) h =
     let each = both (is_literal_value v) (list_all is_literal_value vs) h in
     one_there (literal_meaning v) (map literal_meaning vs) (literal_there v each.0) (literals_there vs each.1)
 
-planned_if : (t : ℕ) (tuple : Option (List Expr)) → is_some tuple ≡ true → is_ok (plan_or_fault (option_map (insertion_of t) tuple)) ≡ true
+planned_if : (t : ℕ) (tuple : Option (List Expr)) → is_some tuple ≡ true → is_ok (plan_or_fault (option_map (insertion_plan t) tuple)) ≡ true
 planned_if t (Some tuple) h = refl
 planned_if t None h = cc
 
 pub tuple_is_planned : (t : ℕ) (tuple : List ValueOrDefault) → list_all is_literal_value tuple ≡ true
-    → is_ok (plan_or_fault (option_map (insertion_of t) (all_of (map literal_meaning tuple)))) ≡ true
+    → is_ok (plan_or_fault (option_map (insertion_plan t) (all_of (map literal_meaning tuple)))) ≡ true
 tuple_is_planned t tuple h = planned_if t (all_of (map literal_meaning tuple)) (literals_there tuple h)
 
 -- ---- CREATE TABLE
@@ -95,7 +95,7 @@ side_there names (expression.Column c) h u =
     column_place (is_none c.qualifier) (position (bytes_eq c.name) names) h (found_place (bytes_eq c.name) names (of_not (is_among names c.name) u))
 side_there names e h u = mapped expr.Literal (literal_value e) h
 
-compared : (op : Comparison) (a b : Option Expr) → is_some a ≡ true → is_some b ≡ true → is_some (comparison_of op a b) ≡ true
+compared : (op : Comparison) (a b : Option Expr) → is_some a ≡ true → is_some b ≡ true → is_some (comparison_meaning op a b) ≡ true
 compared op (Some a) (Some b) h k = refl
 compared op None b h k = cc
 compared op (Some a) None h k = cc
@@ -141,7 +141,7 @@ columns_there : (es : List TableElement) → list_all is_plain_element es ≡ tr
 columns_there [] h = refl
 columns_there (element.Column c ∷ es) h =
     let plain = both (is_plain_column c) (list_all is_plain_element es) h in
-    one_there (column_of c) (filter_map column_in es) (column_there (is_plain_column c) _ plain.0) (columns_there es plain.1)
+    one_there (column_defined c) (filter_map column_in es) (column_there (is_plain_column c) _ plain.0) (columns_there es plain.1)
 columns_there (element.Constraint k ∷ es) h = columns_there es (both (is_plain_element (element.Constraint k)) (list_all is_plain_element es) h).1
 
 no_unknown : (u d s l : Bool) (a b c e : Cause) → (if u then Some a else (if d then Some b else (if s then Some c else (if l then Some e else None)))) ≡ None → u ≡ false

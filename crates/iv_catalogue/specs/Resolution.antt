@@ -62,16 +62,16 @@ use Rattle.iv_catalogue.specs.Refusals.{refused, out_of_memory, is_memory}
 -- ---- literals ("Literals")
 
 -- the integer that a number with this sign is; none where it has more than 64 bits
-abbrev pub integer : Sign → ℕ → Option Value
-integer s n = if nat_le n GREATEST_INTEGER then Some (Int (elim s [ sign.Plus ↦ pos n | sign.Minus ↦ pos 0 -ℤ pos n ])) else None
+abbrev pub integer_literal : Sign → ℕ → Option Value
+integer_literal s n = if nat_le n GREATEST_INTEGER then Some (Int (elim s [ sign.Plus ↦ pos n | sign.Minus ↦ pos 0 -ℤ pos n ])) else None
 
 abbrev pub signed_number : Sign → Expression → Option Value
-signed_number s (expression.Number n) = integer s n
+signed_number s (expression.Number n) = integer_literal s n
 signed_number s _ = None
 
 -- the value of a literal: an integer with or without a sign, or NULL
 abbrev pub literal_value : Expression → Option Value
-literal_value (expression.Number n) = integer sign.Plus n
+literal_value (expression.Number n) = integer_literal sign.Plus n
 literal_value expression.Null = Some Null
 literal_value (signed s a) = signed_number s a
 literal_value _ = None
@@ -218,23 +218,23 @@ side_meaning columns (expression.Column c) =
     if is_none c.qualifier then option_map (λ place. expr.Column 0 place) (position (bytes_eq c.name) columns) else None
 side_meaning columns e = option_map expr.Literal (literal_value e)
 
-abbrev pub comparison_of : Comparison → Option Expr → Option Expr → Option Cond
-comparison_of op (Some a) (Some b) = Some (cond.Compare op a b)
-comparison_of op _ _ = None
+abbrev pub comparison_meaning : Comparison → Option Expr → Option Expr → Option Cond
+comparison_meaning op (Some a) (Some b) = Some (cond.Compare op a b)
+comparison_meaning op _ _ = None
 
 abbrev pub condition_meaning : List (List ℕ) → Condition → Option Cond
-condition_meaning columns (condition.Compare op a b) = comparison_of op (side_meaning columns a) (side_meaning columns b)
+condition_meaning columns (condition.Compare op a b) = comparison_meaning op (side_meaning columns a) (side_meaning columns b)
 condition_meaning columns _ = None
 
 abbrev pub rule_meaning : List (List ℕ) → TableRule → Option Cond
 rule_meaning columns (rule.Check c) = condition_meaning columns c
 rule_meaning columns _ = None
 
-abbrev pub column_of : ColumnDefinition → Option Column
-column_of c = if is_plain_column c then Some (record { name = c.name; kind = column_kind.Integer; default = Null }) else None
+abbrev pub column_defined : ColumnDefinition → Option Column
+column_defined c = if is_plain_column c then Some (record { name = c.name; kind = column_kind.Integer; default = Null }) else None
 
 abbrev pub column_in : TableElement → Option (Option Column)
-column_in (element.Column c) = Some (column_of c)
+column_in (element.Column c) = Some (column_defined c)
 column_in (element.Constraint k) = None
 
 -- the columns of the table, in the order of their text
@@ -290,14 +290,14 @@ abbrev pub literal_meaning : ValueOrDefault → Option Expr
 literal_meaning (value.Value e) = option_map expr.Literal (literal_value e)
 literal_meaning value.Default = None
 
-abbrev pub insertion_of : ℕ → List Expr → Plan
-insertion_of t tuple = plan.Change (data_statement.Insert t columns.All (rows.Values (tuple ∷ [])))
+abbrev pub insertion_plan : ℕ → List Expr → Plan
+insertion_plan t tuple = plan.Change (data_statement.Insert t columns.All (rows.Values (tuple ∷ [])))
 
 -- a tuple of literals for the table's columns, all of them in their order
 abbrev pub insert_into : ℕ → Table → List ValueOrDefault → Result Plan Refusal
 insert_into t table tuple =
     if length tuple == length table.columns
-    then plan_or_fault (option_map (insertion_of t) (all_of (map literal_meaning tuple)))
+    then plan_or_fault (option_map (insertion_plan t) (all_of (map literal_meaning tuple)))
     else refused WrongShape
 
 abbrev pub insert_plan : List Table → Option ℕ → List ValueOrDefault → Result Plan Refusal

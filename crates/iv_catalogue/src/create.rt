@@ -3,7 +3,7 @@ ghost use Rattle.std.specs.Prelude.{◌≡◌, ◌≤◌, ℕ, List, ◌++◌, �
 ghost use Rattle.std.specs.List.{list_any, list_all};
 ghost use Rattle.std.specs.Str.{bytes_eq};
 ghost use Rattle.iv_catalogue.specs.Names.{is_among, has_repeated, generated};
-ghost use Rattle.iv_catalogue.specs.Resolution.{literal_value, column_name, column_names, name_or_generated, constraint_names, unknown_side, unknown_condition, unknown_rule, unknown_element, has_unknown, has_duplicate, is_beyond_limits, create_cause, side_meaning, comparison_of, condition_meaning, rule_meaning, column_of, column_in, columns_of, check_of, constraint_of, constraints_from, constraints_of, create_plan, create_resolution, plan_or_fault, is_plain_element, all_of};
+ghost use Rattle.iv_catalogue.specs.Resolution.{literal_value, column_name, column_names, name_or_generated, constraint_names, unknown_side, unknown_condition, unknown_rule, unknown_element, has_unknown, has_duplicate, is_beyond_limits, create_cause, side_meaning, comparison_meaning, condition_meaning, rule_meaning, column_defined, column_in, columns_of, check_of, constraint_of, constraints_from, constraints_of, create_plan, create_resolution, plan_or_fault, is_plain_element, all_of};
 ghost use Rattle.iv_expr.specs.declared.tree.Expr.TheVariants as expr;
 
 use crate::catalogue::{Catalogue, Column, Table};
@@ -324,8 +324,8 @@ fn column_meaning(columns: &[Name], column: &ColumnName) -> Option<Expr>
     }
 }
 
-fn comparison_of(comparison: Comparison, left: Option<Expr>, right: Option<Expr>) -> Option<Cond>
-    ensures { result ≡ comparison_of comparison left right }
+fn comparison_meaning(comparison: Comparison, left: Option<Expr>, right: Option<Expr>) -> Option<Cond>
+    ensures { result ≡ comparison_meaning comparison left right }
 {
     match (left, right) {
         (Some(left), Some(right)) => Some(Cond::Compare(comparison, left, right)),
@@ -338,7 +338,7 @@ fn rule_meaning(columns: &[Name], rule: &TableRule) -> Option<Cond>
     ensures { result ≡ rule_meaning columns.now rule.now }
 {
     match rule {
-        TableRule::Check(Condition::Compare(comparison, left, right)) => comparison_of(
+        TableRule::Check(Condition::Compare(comparison, left, right)) => comparison_meaning(
             *comparison,
             side_meaning(columns, left),
             side_meaning(columns, right),
@@ -416,8 +416,8 @@ fn constraints_of(
 }
 
 // The column that its definition gives.
-fn column_of(definition: &ColumnDefinition) -> Result<Option<Column>, AllocError>
-    ensures { IfOk result (λ column. column ≡ column_of definition.now) }
+fn column_defined(definition: &ColumnDefinition) -> Result<Option<Column>, AllocError>
+    ensures { IfOk result (λ column. column ≡ column_defined definition.now) }
 {
     if is_plain_column(definition) {
         Ok(Some(Column {
@@ -436,7 +436,7 @@ fn columns_of(alloc: Global, elements: &[TableElement]) -> Result<Option<Items<C
     let mut columns = Items::new(alloc);
     for element in elements {
         if let TableElement::Column(definition) = element {
-            match column_of(definition)? {
+            match column_defined(definition)? {
                 Some(column) => columns.push(column)?,
                 None => return Ok(None),
             }

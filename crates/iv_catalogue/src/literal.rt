@@ -1,14 +1,14 @@
 //! Literals of integers and NULL.
 ghost use Rattle.std.specs.Prelude.{◌≡◌};
-ghost use Rattle.iv_catalogue.specs.Resolution.{integer, signed_number, literal_value, literal_meaning};
+ghost use Rattle.iv_catalogue.specs.Resolution.{integer_literal, signed_number, literal_value, literal_meaning};
 
 use crate::limits::GREATEST_INTEGER;
 use iv_expr::Expr;
 use iv_syntax::{Expression, Sign, ValueOrDefault};
 use iv_value::Value;
 
-fn integer(sign: Sign, number: u64) -> Option<Value>
-    ensures { result ≡ integer sign number }
+fn integer_literal(sign: Sign, number: u64) -> Option<Value>
+    ensures { result ≡ integer_literal sign number }
 {
     if number > GREATEST_INTEGER {
         return None;
@@ -24,7 +24,7 @@ fn signed_number(sign: Sign, operand: &Expression) -> Option<Value>
     ensures { result ≡ signed_number sign operand.now }
 {
     match operand {
-        Expression::Number(number) => integer(sign, *number),
+        Expression::Number(number) => integer_literal(sign, *number),
         _ => None,
     }
 }
@@ -35,7 +35,7 @@ pub fn literal_value(expression: &Expression) -> Option<Value>
     ensures { result ≡ literal_value expression.now }
 {
     match expression {
-        Expression::Number(number) => integer(Sign::Plus, *number),
+        Expression::Number(number) => integer_literal(Sign::Plus, *number),
         Expression::Null => Some(Value::Null),
         Expression::Signed(sign, operand) => signed_number(*sign, operand.get()),
         Expression::Text(_) | Expression::Column(_) => None,

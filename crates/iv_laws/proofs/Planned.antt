@@ -28,7 +28,7 @@ use Rattle.iv_machine.specs.Machine.{State, Outcome, NamedSavepoint, empty_state
 use Rattle.iv_machine.specs.Fitting.{Upon}
 use Rattle.iv_machine.specs.Proposals.{table_of}
 use Rattle.iv_machine.proofs.Scans.{more_constraints}
-use Rattle.iv_laws.specs.Reached.{IsThere, BodyFits, AllOn, SchemaPlanFits, Fits, planned, reached, AllFit, PlannedStatesAreSound}
+use Rattle.iv_laws.specs.Reached.{IsThere, BodyFits, AllOn, SchemaPlanFits, FitsSchema, planned, reached, AllFit, PlannedStatesAreSound}
 use Rattle.iv_laws.proofs.Checking.{level_checks}
 use Rattle.iv_laws.proofs.FittingWaves.{level_numbers}
 use Rattle.iv_laws.proofs.PlacedRows.{Placed, placed_below, placed_more, level_places}
@@ -202,7 +202,7 @@ transaction_keeps s (transaction.RollbackTo name) (Some d) e h = returned_reacha
 transaction_keeps s (transaction.SetConstraints ids m) None e h = h
 transaction_keeps s (transaction.SetConstraints ids m) (Some d) e h = set_reachable s d (constraints_meant s.schema ids) m e h
 
-plan_keeps : (s : State) (p : Plan) (start : Option Database) → s.start ≡ start → Fits s.schema p → Reachable s
+plan_keeps : (s : State) (p : Plan) (start : Option Database) → s.start ≡ start → FitsSchema s.schema p → Reachable s
     → Reachable (outcome_unless s (transaction_cause (is_some start) (plan_occasion p)) (plan_outcome s p)).state
 plan_keeps s (plan.Schema p) None e u h = defined_reachable s p e u h
 plan_keeps s (plan.Schema p) (Some d) e u h = h
@@ -212,7 +212,7 @@ plan_keeps s (plan.Query p) None e u h = queried_reachable s p h
 plan_keeps s (plan.Query p) (Some d) e u h = queried_reachable s p h
 plan_keeps s (plan.Transaction p) start e u h = transaction_keeps s p start e h
 
-planned_reachable : (s : State) (p : Plan) → Fits s.schema p → Reachable s → Reachable (planned s p).state
+planned_reachable : (s : State) (p : Plan) → FitsSchema s.schema p → Reachable s → Reachable (planned s p).state
 planned_reachable s p u h = plan_keeps s p s.start refl u h
 
 reached_reachable : (s : State) (plans : List Plan) → AllFit s plans → Reachable s → Reachable (reached s plans)

@@ -32,10 +32,10 @@ SchemaPlanFits c (schema.CreateTable table constraints) = AllOn (length c.tables
 SchemaPlanFits c (schema.CreateTrigger t) = BodyFits c t.body
 SchemaPlanFits c _ = Unit {0}
 
-abbrev pub Fits : Schema → Plan → Type 0
-Fits c (plan.Schema p) = SchemaPlanFits c p
-Fits c (plan.Change statement) = IsThere c (table_of statement)
-Fits c _ = Unit {0}
+abbrev pub FitsSchema : Schema → Plan → Type 0
+FitsSchema c (plan.Schema p) = SchemaPlanFits c p
+FitsSchema c (plan.Change statement) = IsThere c (table_of statement)
+FitsSchema c _ = Unit {0}
 
 -- ---- resolved statements one after another
 
@@ -51,7 +51,7 @@ reached s (p ∷ plans) = reached (planned s p).state plans
 -- each fits the catalogue that it comes to
 abbrev pub AllFit : State → List Plan → Type 0
 AllFit s [] = Unit {0}
-AllFit s (p ∷ plans) = Fits s.schema p × AllFit (planned s p).state plans
+AllFit s (p ∷ plans) = FitsSchema s.schema p × AllFit (planned s p).state plans
 
 -- In every state that resolved statements reach from an empty one no immediate constraint is violated, and outside a transaction
 -- none at all; there modes are initial; rows have rising numbers below the next one.

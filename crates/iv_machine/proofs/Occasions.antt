@@ -17,7 +17,7 @@ use Rattle.iv_catalogue.specs.declared.cause.Refusal.{Refusal}
 use Rattle.iv_catalogue.specs.declared.constraint.Constraint.{Constraint}
 use Rattle.iv_catalogue.specs.declared.plan.Plan.{Plan}
 use Rattle.iv_catalogue.specs.Refusals.{refused}
-use Rattle.iv_catalogue.specs.Resolution.{all_of, is_taken_up, is_plain_select, resolution, resolution_by_kind, create_resolution, create_cause, columns_of, constraints_of, table_plan, plan_or_fault, insertion_of, insert_into, insert_plan, insert_tuples, insert_resolution, plain_select_plan, select_resolution, select_plan, table_named, literal_meaning}
+use Rattle.iv_catalogue.specs.Resolution.{all_of, is_taken_up, is_plain_select, resolution, resolution_by_kind, create_resolution, create_cause, columns_of, constraints_of, table_plan, plan_or_fault, insertion_plan, insert_into, insert_plan, insert_tuples, insert_resolution, plain_select_plan, select_resolution, select_plan, table_named, literal_meaning}
 use Rattle.iv_machine.specs.Machine.{Occasion, outside, always, occasion_of, plan_occasion}
 use Rattle.iv_machine.specs.Laws.{PlansKeepTheOccasion}
 
@@ -31,13 +31,13 @@ table_then name (Some columns) (Some constraints) = refl
 table_then name (Some columns) None = tt
 table_then name None constraints = tt
 
-tuple_then : (t : ℕ) (tuple : Option (List Expr)) → RunsThen always (plan_or_fault (option_map (insertion_of t) tuple))
+tuple_then : (t : ℕ) (tuple : Option (List Expr)) → RunsThen always (plan_or_fault (option_map (insertion_plan t) tuple))
 tuple_then t (Some tuple) = refl
 tuple_then t None = tt
 
 into_then : (t : ℕ) (table : Table) (tuple : List ValueOrDefault) → RunsThen always (insert_into t table tuple)
 into_then t table tuple =
-    elim (length tuple == length table.columns) as (λ b. RunsThen always (if b then plan_or_fault (option_map (insertion_of t) (all_of (map literal_meaning tuple))) else refused WrongShape)) [
+    elim (length tuple == length table.columns) as (λ b. RunsThen always (if b then plan_or_fault (option_map (insertion_plan t) (all_of (map literal_meaning tuple))) else refused WrongShape)) [
       | true ↦ tuple_then t (all_of (map literal_meaning tuple))
       | false ↦ tt
     ]

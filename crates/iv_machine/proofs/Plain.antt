@@ -32,7 +32,7 @@ use Rattle.iv_machine.specs.ReferentialActions.{foreign_key, reference, referenc
 use Rattle.iv_machine.specs.Waves.{SettledWaves, Settles, wave_as_applied, AppliedWave, settled_within, settled_waves}
 use Rattle.iv_machine.specs.Levels.{Finished, Runs, level, level_steps, nested_level, immediate_check}
 use Rattle.iv_machine.specs.Invariants.{Rising, is_check, AllChecks, AllIntegers}
-use Rattle.iv_machine.specs.Fitting.{is_plain, AllPlain, literals, Suits, insert_one}
+use Rattle.iv_machine.specs.Fitting.{is_integer_or_null, AllPlain, literals, TupleSuits, insert_one}
 use Rattle.iv_machine.proofs.Orders.{addition, with_row, row_added}
 
 -- ---- the values
@@ -44,7 +44,7 @@ literal_values : (s : Scope) (values : List Value) → map (value s) (literals v
 literal_values s [] = refl
 literal_values s (v ∷ vs) = ap (λ l. Ok v ∷ l) (literal_values s vs)
 
-plain_fits : (w : Context) (t c : ℕ) (column : Column) (v : Value) → column_at w.schema t c ≡ Some column → column.kind ≡ Integer → is_plain v ≡ true → stored_value w t c (Ok v) ≡ Ok v
+plain_fits : (w : Context) (t c : ℕ) (column : Column) (v : Value) → column_at w.schema t c ≡ Some column → column.kind ≡ Integer → is_integer_or_null v ≡ true → stored_value w t c (Ok v) ≡ Ok v
 plain_fits w t c column Null e k p = rw e refl
 plain_fits w t c column (Int n) e k p = rw (e, k) refl
 plain_fits w t c column (Text x) e k p = absurd cc
@@ -71,7 +71,7 @@ second k (v ∷ vs) = ap (λ l. v ∷ l) (second (k + 1) vs)
 from_none : (i : ℕ) → 0 + i ≡ i
 from_none i = omega arith
 
-inserted_plain : (w : Context) (s : Scope) (t : ℕ) (values : List Value) → Suits w.schema t values → insertion_of w t columns.All (map (value s) (literals values)) ≡ Ok (insertion t values)
+inserted_plain : (w : Context) (s : Scope) (t : ℕ) (values : List Value) → TupleSuits w.schema t values → insertion_of w t columns.All (map (value s) (literals values)) ≡ Ok (insertion t values)
 inserted_plain w s t values h =
     let at : (i : ℕ) → column_at w.schema t i ≡ slice_get h.table.columns i = λ i. ap (λ o. elim o [ Some table ↦ slice_get table.columns i | None ↦ None ]) h.there in
     let same : (i : ℕ) → slice_get h.table.columns (0 + i) ≡ slice_get h.table.columns i = λ i. ap (slice_get h.table.columns) (from_none i) in
@@ -79,7 +79,7 @@ inserted_plain w s t values h =
     assigned_plain w t h.table.columns 0 h.table.columns values at same h.integers h.plain h.wide in
     rw (literal_values s values, all, second 0 values) refl
 
-pub proposed_plain : (w : Context) (db : Database) (t : ℕ) (values : List Value) → Suits w.schema t values → proposed_wave w db no_frame (insert_one t values) ≡ Ok (wave_of (insertion t values ∷ []))
+pub proposed_plain : (w : Context) (db : Database) (t : ℕ) (values : List Value) → TupleSuits w.schema t values → proposed_wave w db no_frame (insert_one t values) ≡ Ok (wave_of (insertion t values ∷ []))
 proposed_plain w db t values h = rw (inserted_plain w (scope_of no_frame db.rows) t values h) refl
 
 -- ---- no foreign key, nothing follows
@@ -232,12 +232,12 @@ too_few b = grind (arith, nat_tests)
 two_taken : (b : ℕ) → suc (suc b) - 2 ≡ b
 two_taken b = omega arith
 
-steps_plain : (run : Runs) (ts : List Table) (ks : List Constraint) (n : ℕ) (ms : List ConstraintMode) (db : Database) (b t : ℕ) (values : List Value) → Suits (quiet ts ks n ms).schema t values
+steps_plain : (run : Runs) (ts : List Table) (ks : List Constraint) (n : ℕ) (ms : List ConstraintMode) (db : Database) (b t : ℕ) (values : List Value) → TupleSuits (quiet ts ks n ms).schema t values
     → level_steps run (quiet ts ks n ms) (insert_one t values) no_frame db b ≡ and_then (settled_waves (quiet ts ks n ms) db b (wave_of (insertion t values ∷ []))) (finished_waves (quiet ts ks n ms))
 steps_plain run ts ks n ms db b t values h = rw (proposed_plain (quiet ts ks n ms) db t values h) refl
 
 level_two : (deeper : ℕ) (ts : List Table) (ks : List Constraint) (n : ℕ) (ms : List ConstraintMode) (db : Database) (b t : ℕ) (values : List Value)
-    → Suits (quiet ts ks n ms).schema t values → AllChecks ks → Rising 0 db.rows db.next
+    → TupleSuits (quiet ts ks n ms).schema t values → AllChecks ks → Rising 0 db.rows db.next
     → level deeper (quiet ts ks n ms) (insert_one t values) no_frame db (suc (suc b)) ≡ plain_level (quiet ts ks n ms) db (suc (suc b)) t values
 level_two deeper ts ks n ms db b t values u h r =
     steps_plain (nested_level deeper (quiet ts ks n ms)) ts ks n ms db (suc b) t values u
@@ -257,7 +257,7 @@ level_two deeper ts ks n ms db b t values u h r =
     ]
 
 quiet_level : (deeper : ℕ) (ts : List Table) (ks : List Constraint) (n : ℕ) (ms : List ConstraintMode) (db : Database) (budget t : ℕ) (values : List Value)
-    → Suits (quiet ts ks n ms).schema t values → AllChecks ks → Rising 0 db.rows db.next
+    → TupleSuits (quiet ts ks n ms).schema t values → AllChecks ks → Rising 0 db.rows db.next
     → level deeper (quiet ts ks n ms) (insert_one t values) no_frame db budget ≡ plain_level (quiet ts ks n ms) db budget t values
 quiet_level deeper ts ks n ms db zero t values u h r = refl
 quiet_level deeper ts ks n ms db (suc zero) t values u h r = steps_plain (nested_level deeper (quiet ts ks n ms)) ts ks n ms db zero t values u ∙ refl
@@ -265,7 +265,7 @@ quiet_level deeper ts ks n ms db (suc (suc b)) t values u h r = level_two deeper
 
 -- The level of the definition is the plain one.
 pub level_plain : (deeper : ℕ) (w : Context) (db : Database) (budget t : ℕ) (values : List Value)
-    → Suits w.schema t values → AllChecks w.schema.constraints → w.schema.triggers ≡ [] → Rising 0 db.rows db.next
+    → TupleSuits w.schema t values → AllChecks w.schema.constraints → w.schema.triggers ≡ [] → Rising 0 db.rows db.next
     → level deeper w (insert_one t values) no_frame db budget ≡ plain_level w db budget t values
 level_plain deeper w db budget t values u h none r =
     let same : quiet w.schema.tables w.schema.constraints w.schema.created w.modes ≡ w =

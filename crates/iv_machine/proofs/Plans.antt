@@ -16,12 +16,12 @@ use Rattle.iv_catalogue.specs.declared.catalogue.Table.{Table}
 use Rattle.iv_catalogue.specs.declared.constraint.Constraint.{Constraint}
 use Rattle.std.proofs.lemmas.Bool.Decides.{nat_tests}
 use Rattle.iv_catalogue.specs.Refusals.{refused}
-use Rattle.iv_catalogue.specs.Resolution.{all_of, is_taken_up, resolution, resolution_by_kind, create_resolution, create_cause, is_plain_time, check_of, name_or_generated, rule_meaning, constraint_of, constraints_from, constraints_of, is_plain_column, column_in, columns_of, table_plan, plan_or_fault, insertion_of, insert_into, insert_plan, insert_tuples, insert_resolution, is_plain_select, plain_select_plan, select_resolution, select_plan, table_named, literal_meaning, literal_value, signed_number, integer, column_names, is_beyond_limits, has_unknown, has_duplicate}
+use Rattle.iv_catalogue.specs.Resolution.{all_of, is_taken_up, resolution, resolution_by_kind, create_resolution, create_cause, is_plain_time, check_of, name_or_generated, rule_meaning, constraint_of, constraints_from, constraints_of, is_plain_column, column_in, columns_of, table_plan, plan_or_fault, insertion_plan, insert_into, insert_plan, insert_tuples, insert_resolution, is_plain_select, plain_select_plan, select_resolution, select_plan, table_named, literal_meaning, literal_value, signed_number, integer_literal, column_names, is_beyond_limits, has_unknown, has_duplicate}
 use Rattle.iv_catalogue.specs.declared.limits.TheConstants.{GREATEST_INTEGER, MOST_COLUMNS, MOST_CONSTRAINTS, MOST_TABLES}
 use Rattle.iv_syntax.specs.declared.table.TableConstraint.{TableConstraint}
 use Rattle.iv_value.specs.declared.value.Kind.TheVariants.{Integer}
 use Rattle.iv_expr.specs.declared.tree.Expr.{Expr}
-use Rattle.iv_machine.specs.Fitting.{is_plain, AllPlain, literals, Upon, AnswerFits}
+use Rattle.iv_machine.specs.Fitting.{is_integer_or_null, AllPlain, literals, Upon, AnswerFits}
 use Rattle.iv_catalogue.specs.declared.cause.Cause.TheVariants.{Unknown, Duplicate, SchemaFault, WrongShape, Limit}
 use Rattle.iv_value.specs.declared.value.Value.{Value}
 use Rattle.iv_value.specs.declared.value.Value.TheVariants.{Null, Int}
@@ -155,9 +155,9 @@ create_fits s name elements None o e =
 
 abbrev PlainIf : Option Value → Type 0
 PlainIf None = Unit {0}
-PlainIf (Some v) = is_plain v ≡ true
+PlainIf (Some v) = is_integer_or_null v ≡ true
 
-integer_plain : (s : Sign) (n : ℕ) → PlainIf (integer s n)
+integer_plain : (s : Sign) (n : ℕ) → PlainIf (integer_literal s n)
 integer_plain s n =
     elim (nat_le n GREATEST_INTEGER) as (λ b. PlainIf (if b then Some (Int (elim s [ sign.Plus ↦ pos n | sign.Minus ↦ pos 0 -ℤ pos n ])) else None)) [ true ↦ refl | false ↦ tt ]
 
@@ -210,7 +210,7 @@ equal : (n m : ℕ) → (n == m) ≡ true → n ≡ m
 equal n m h = grind (arith, nat_tests)
 
 tuple_fits_if : (s : State) (t : ℕ) (table : Table) (count : ℕ) (es : Option (List Expr)) → Plain s.schema → slice_get s.schema.tables t ≡ Some table → count ≡ length table.columns
-    → LiteralsIf count es → AnswerFits s (plan_or_fault (option_map (insertion_of t) es))
+    → LiteralsIf count es → AnswerFits s (plan_or_fault (option_map (insertion_plan t) es))
 tuple_fits_if s t table count None p h wide ls = tt
 tuple_fits_if s t table count (Some es) p h wide ls = (
   ls.values,
@@ -221,7 +221,7 @@ tuple_fits_if s t table count (Some es) p h wide ls = (
 shaped_fits : (s : State) (t : ℕ) (table : Table) (tuple : List ValueOrDefault) → Plain s.schema → slice_get s.schema.tables t ≡ Some table → AnswerFits s (insert_into t table tuple)
 shaped_fits s t table tuple p h =
     elim (length tuple == length table.columns) as (λ b. (length tuple == length table.columns) ≡ b
-    → AnswerFits s (if b then plan_or_fault (option_map (insertion_of t) (all_of (map literal_meaning tuple))) else refused WrongShape)) [
+    → AnswerFits s (if b then plan_or_fault (option_map (insertion_plan t) (all_of (map literal_meaning tuple))) else refused WrongShape)) [
       | true ↦ λ wide. tuple_fits_if s t table (length tuple) (all_of (map literal_meaning tuple)) p h (equal (length tuple) (length table.columns) wide) (literals_from tuple)
       | false ↦ λ wide. tt
     ] refl

@@ -35,7 +35,7 @@ use Rattle.iv_machine.specs.Invariants.{Orderly, AllChecks, TablesOfIntegers, Al
 use Rattle.iv_machine.specs.Laws.{IsSound, EachSaveHolds, ReachedStatesAreSound}
 use Rattle.iv_machine.proofs.Scans.{none_of_some, more_constraints, below_more, below_both}
 use Rattle.iv_machine.proofs.Orders.{with_row, new_row_of, rising_more}
-use Rattle.iv_machine.specs.Fitting.{Suits, insert_one, PlanFits, AnswerFits, ChangeFits, TableFits, SchemaFits, QueryFits, TransactionFits}
+use Rattle.iv_machine.specs.Fitting.{TupleSuits, insert_one, PlanFits, AnswerFits, ChangeFits, TableFits, SchemaFits, QueryFits, TransactionFits}
 use Rattle.iv_machine.proofs.Plain.{plain_level, plain_checked, level_plain}
 use Rattle.iv_machine.proofs.Plans.{resolution_fits, no_table}
 use Rattle.iv_machine.proofs.Modes.{none_where_none_deferred}
@@ -134,11 +134,11 @@ level_sound s t values false false false w h =
     checked_sound s t values (s.limits.changes - 2) (first (scan (with_row s.database t values).rows s.schema.constraints (is_chosen s.modes Immediate))) w h refl
 
 -- the level of an INSERT of one tuple
-pub insert_is_plain : (s : State) (t : ℕ) (values : List Value) → Suits s.schema t values → Sound s
+pub insert_is_plain : (s : State) (t : ℕ) (values : List Value) → TupleSuits s.schema t values → Sound s
     → level (s.limits.depth - 1) (context_of s) (insert_one t values) no_frame s.database s.limits.changes ≡ plain_level (context_of s) s.database s.limits.changes t values
 insert_is_plain s t values u h = level_plain (s.limits.depth - 1) (context_of s) s.database s.limits.changes t values u h.plain.checks h.plain.untriggered h.orderly.rising
 
-inserted_sound : (s : State) (t : ℕ) (values : List Value) → Suits s.schema t values → Sound s → Sound (change_outcome s (insert_one t values)).state
+inserted_sound : (s : State) (t : ℕ) (values : List Value) → TupleSuits s.schema t values → Sound s → Sound (change_outcome s (insert_one t values)).state
 inserted_sound s t values u h =
     subst (λ l. Sound (level_outcome s l).state) (sym (insert_is_plain s t values u h))
     (level_sound s t values (nat_lt s.limits.changes 2) (nat_lt most_changes_in_a_transaction (s.database.count + 1)) (nat_lt last_row_number s.database.next)

@@ -30,20 +30,20 @@ use Rattle.iv_machine.specs.Machine.{State}
 use Rattle.iv_machine.specs.Invariants.{AllChecks, AllIntegers}
 
 -- an integer or NULL
-abbrev pub is_plain : Value → Bool
-is_plain (Text t) = false
-is_plain _ = true
+abbrev pub is_integer_or_null : Value → Bool
+is_integer_or_null (Text t) = false
+is_integer_or_null _ = true
 
 abbrev pub AllPlain : List Value → Type 0
 AllPlain [] = Unit {0}
-AllPlain (v ∷ vs) = (is_plain v ≡ true) × AllPlain vs
+AllPlain (v ∷ vs) = (is_integer_or_null v ≡ true) × AllPlain vs
 
 -- the tuple of these values
 abbrev pub literals : List Value → List Expr
 literals values = map Literal values
 
 -- the tuple fits the table
-pub record Suits (c : Schema) (t : ℕ) (values : List Value) : Type 0 where
+pub record TupleSuits (c : Schema) (t : ℕ) (values : List Value) : Type 0 where
   pub table : Table
   pub there : slice_get c.tables t ≡ Some table
   pub integers : AllIntegers table.columns
@@ -60,7 +60,7 @@ Upon n (c ∷ cs) = (c.table ≡ n) × Upon n cs
 
 -- an INSERT of one tuple of integers and nulls, which suits its table
 abbrev pub ChangeFits : Schema → DataStatement → Type 0
-ChangeFits c (Insert t columns.All (rows.Values (tuple ∷ []))) = (values : List Value) × (tuple ≡ literals values) × Suits c t values
+ChangeFits c (Insert t columns.All (rows.Values (tuple ∷ []))) = (values : List Value) × (tuple ≡ literals values) × TupleSuits c t values
 ChangeFits c _ = ⊥
 
 -- SELECT * FROM a table

@@ -31,7 +31,7 @@ use Rattle.iv_machine.specs.Levels.{Finished}
 use Rattle.iv_machine.specs.Machine.{State, level_outcome, answer_outcome, rows_answer, first_violation, commit_by, commit_outcome, rollback_by, rollback_outcome, state_at_end, plan_outcome}
 use Rattle.iv_machine.specs.Invariants.{Sound}
 use Rattle.iv_machine.proofs.Orders.{with_row, new_row_of}
-use Rattle.iv_machine.specs.Fitting.{Suits, literals, insert_one, TableFits, SelectFits}
+use Rattle.iv_machine.specs.Fitting.{TupleSuits, literals, insert_one, TableFits, SelectFits}
 use Rattle.iv_session.specs.Performing.{Performs}
 use Rattle.iv_machine.proofs.Plain.{plain_checked}
 use Rattle.iv_machine.proofs.Scans.{scan_from, more_rows, none_of_some}
@@ -223,7 +223,7 @@ level_from h t values false false true = refl
 level_from h t values false false false = refl
 
 -- what the machine makes of the INSERT
-insert_as : (h : Held) (t : ℕ) (values : List Value) → Suits h.schema t values → Kept h
+insert_as : (h : Held) (t : ℕ) (values : List Value) → TupleSuits h.schema t values → Kept h
     → plan_outcome (state_of h) (plan.Change (insert_one t values)) ≡ level_outcome (state_of h) (leveled h t values (early (state_of h)) (first_of h t values))
 insert_as h t values u k =
     ap (level_outcome (state_of h)) (insert_is_plain (state_of h) t values u k.sound
@@ -232,7 +232,7 @@ insert_as h t values u k =
     (alone h (new_row_of t h.next values) k)
     ∙ level_from h t values (nat_lt h.limits.changes 2) (nat_lt most_changes_in_a_transaction (h.count + 1)) (nat_lt last_row_number h.next))
 
-insert_told : (h : Held) (t : ℕ) (values : List Value) (cause : Option Cause) (f : Option Fault) → early (state_of h) ≡ cause → first_of h t values ≡ f → Suits h.schema t values → Kept h
+insert_told : (h : Held) (t : ℕ) (values : List Value) (cause : Option Cause) (f : Option Fault) → early (state_of h) ≡ cause → first_of h t values ≡ f → TupleSuits h.schema t values → Kept h
     → plan_outcome (state_of h) (plan.Change (insert_one t values)) ≡ level_outcome (state_of h) (leveled h t values cause f)
 insert_told h t values cause f e q u k =
     insert_as h t values u k ∙ ap (λ x. level_outcome (state_of h) (leveled h t values x (first_of h t values))) e ∙ ap (λ x. level_outcome (state_of h) (leveled h t values cause x)) q
@@ -245,7 +245,7 @@ early_from false false false cause e = absurd cc
 
 -- an INSERT that is refused early is the machine's
 pub early_performs : (h : Held) (t : ℕ) (values : List Value) (cause : Cause) (r : Result Answer Refusal) → early (state_of h) ≡ Some cause → r ≡ refused cause
-    → Suits h.schema t values → Kept h → Performs (state_of h) (plan.Change (insert_one t values)) r (state_of h)
+    → TupleSuits h.schema t values → Kept h → Performs (state_of h) (plan.Change (insert_one t values)) r (state_of h)
 early_performs h t values cause r e q u k =
     let m : is_memory_cause cause ≡ false = early_from (nat_lt h.limits.changes 2) (nat_lt most_changes_in_a_transaction (h.count + 1)) (nat_lt last_row_number h.next) cause e in
     let told = insert_told h t values (Some cause) (first_of h t values) e refl u k in
@@ -253,19 +253,19 @@ early_performs h t values cause r e q u k =
 
 -- so is one that violates a constraint
 pub refused_performs : (h : Held) (t : ℕ) (values : List Value) (f : Fault) (r : Result Answer Refusal) → early (state_of h) ≡ None → first_of h t values ≡ Some f → r ≡ refused (Violation f)
-    → Suits h.schema t values → Kept h → Performs (state_of h) (plan.Change (insert_one t values)) r (state_of h)
+    → TupleSuits h.schema t values → Kept h → Performs (state_of h) (plan.Change (insert_one t values)) r (state_of h)
 refused_performs h t values f r e g q u k =
     let told = insert_told h t values None (Some f) e g u k in
     rw q (sym (ap (λ o. o.answer) told), sym (ap (λ o. o.state) told))
 
 -- and one that is accepted
 pub accepted_performs : (h : Held) (t : ℕ) (values : List Value) → early (state_of h) ≡ None → first_of h t values ≡ None
-    → Suits h.schema t values → Kept h → Performs (state_of h) (plan.Change (insert_one t values)) (Ok (Changed 1)) (state_of (lengthened h t values))
+    → TupleSuits h.schema t values → Kept h → Performs (state_of h) (plan.Change (insert_one t values)) (Ok (Changed 1)) (state_of (lengthened h t values))
 accepted_performs h t values e g u k =
     let told = insert_told h t values None None e g u k in
     (sym (ap (λ o. o.answer) told), lengthened_as h t values (h.limits.changes - 2) k ∙ sym (ap (λ o. o.state) told))
 
-pub lengthened_kept : (h : Held) (t : ℕ) (values : List Value) → early (state_of h) ≡ None → first_of h t values ≡ None → Suits h.schema t values → Kept h → Kept (lengthened h t values)
+pub lengthened_kept : (h : Held) (t : ℕ) (values : List Value) → early (state_of h) ≡ None → first_of h t values ≡ None → TupleSuits h.schema t values → Kept h → Kept (lengthened h t values)
 lengthened_kept h t values e g u k =
     let told = insert_told h t values None None e g u k in
     let sound : Sound (plan_outcome (state_of h) (plan.Change (insert_one t values))).state =

@@ -6,7 +6,7 @@ ghost use Rattle.iv_catalogue.specs.Catalogues.{Schema};
 ghost use Rattle.iv_catalogue.specs.declared.plan.Plan.TheVariants as planned;
 ghost use Rattle.iv_catalogue.specs.declared.plan.SchemaPlan.TheVariants as schema_plan;
 ghost use Rattle.iv_catalogue.specs.declared.plan.TransactionPlan.TheVariants as transaction_plan;
-ghost use Rattle.iv_machine.specs.Fitting.{PlanFits, SchemaFits, QueryFits, TransactionFits, ChangeFits, TableFits, Suits, insert_one};
+ghost use Rattle.iv_machine.specs.Fitting.{PlanFits, SchemaFits, QueryFits, TransactionFits, ChangeFits, TableFits, TupleSuits, insert_one};
 ghost use Rattle.iv_machine.specs.declared.database.Which.TheVariants.{Immediate, Deferred, All};
 ghost use Rattle.iv_expr.specs.Scopes.{table_rows};
 ghost use Rattle.iv_machine.specs.Databases.{scan, is_chosen, first, initial_modes};
@@ -294,7 +294,7 @@ impl Session {
     // Adds a row, and begins a transaction where none is open; refused where an immediate constraint
     // is violated.
     fn insert(&mut self, table: TableId, values: Row) -> Outcome
-        requires { Suits self.old.schema table values }
+        requires { TupleSuits self.old.schema table values }
         ensures { Performs self.old (planned.Change (insert_one table values)) result self.new }
     {
         match self.early_cause() {

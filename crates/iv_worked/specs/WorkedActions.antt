@@ -15,7 +15,7 @@ use Rattle.iv_catalogue.specs.declared.constraint.Rule.TheVariants as rule
 use Rattle.iv_catalogue.specs.declared.cause.Cause.TheVariants as cause
 use Rattle.iv_catalogue.specs.declared.plan.BodyStatement.TheVariants as body
 use Rattle.iv_catalogue.specs.declared.plan.Plan.{Plan}
-use Rattle.iv_worked.specs.WorkedPlans.{number, null, column, where_column, integer, integer_default, not_deferrable, references, create_table, setting, insertion_of, insert, insert_one, update, delete, create_trigger, select_all, count_all, commit, rollback}
+use Rattle.iv_worked.specs.WorkedPlans.{number, null, column, where_column, integer_column, integer_default, not_deferrable, references_rule, create_table, setting, insert_statement, insert, insert_value, update, delete, create_trigger, select_all, count_all, commit, rollback}
 use Rattle.iv_worked.specs.WorkedAnswers.{Answered, ok, ok_rows, int, rows, fault, refused, work, answers, answers_within, works_within}
 
 -- CREATE TABLE p (k INT PRIMARY KEY); CREATE TABLE c (x INT REFERENCES p ON UPDATE CASCADE); INSERT
@@ -23,8 +23,8 @@ use Rattle.iv_worked.specs.WorkedAnswers.{Answered, ok, ok_rows, int, rows, faul
 -- COMMIT;
 abbrev pub swapped_keys : List Plan
 swapped_keys =
-    create_table (integer ∷ []) (not_deferrable 0 (rule.PrimaryKey (0 ∷ [])) ∷ [])
-    ∷ create_table (integer ∷ []) (not_deferrable 1 (references 0 0 0 NoAction Cascade) ∷ [])
+    create_table (integer_column ∷ []) (not_deferrable 0 (rule.PrimaryKey (0 ∷ [])) ∷ [])
+    ∷ create_table (integer_column ∷ []) (not_deferrable 1 (references_rule 0 0 0 NoAction Cascade) ∷ [])
     ∷ insert 0 ((number 1 ∷ []) ∷ (number 2 ∷ []) ∷ [])
     ∷ insert 1 ((number 1 ∷ []) ∷ (number 2 ∷ []) ∷ [])
     ∷ update 0 (setting 0 (minus (number 3) (column 0)) ∷ []) Always ∷ select_all 1 ∷ commit ∷ []
@@ -33,9 +33,9 @@ swapped_keys =
 -- NULL), (2, 1); COMMIT; DELETE FROM t; ROLLBACK; SELECT COUNT(*) FROM t;
 abbrev pub self_reference : ReferentialAction → List Plan
 self_reference action =
-    create_table (integer ∷ integer ∷ [])
+    create_table (integer_column ∷ integer_column ∷ [])
     (not_deferrable 0 (rule.PrimaryKey (0 ∷ []))
-    ∷ not_deferrable 0 (references 1 0 0 action NoAction) ∷ [])
+    ∷ not_deferrable 0 (references_rule 1 0 0 action NoAction) ∷ [])
     ∷ insert 0 ((number 1 ∷ null ∷ []) ∷ (number 2 ∷ number 1 ∷ []) ∷ []) ∷ commit ∷ delete 0 Always
     ∷ rollback ∷ count_all 0 ∷ []
 
@@ -43,10 +43,10 @@ self_reference action =
 -- INTO p VALUES (1); INSERT INTO c VALUES (1); three times; COMMIT; DELETE FROM p;
 abbrev pub three_children : List Plan
 three_children =
-    create_table (integer ∷ []) (not_deferrable 0 (rule.PrimaryKey (0 ∷ [])) ∷ [])
-    ∷ create_table (integer ∷ []) (not_deferrable 1 (references 0 0 0 Cascade NoAction) ∷ [])
-    ∷ insert_one 0 (number 1) ∷ insert_one 1 (number 1) ∷ insert_one 1 (number 1)
-    ∷ insert_one 1 (number 1) ∷ commit ∷ delete 0 Always ∷ []
+    create_table (integer_column ∷ []) (not_deferrable 0 (rule.PrimaryKey (0 ∷ [])) ∷ [])
+    ∷ create_table (integer_column ∷ []) (not_deferrable 1 (references_rule 0 0 0 Cascade NoAction) ∷ [])
+    ∷ insert_value 0 (number 1) ∷ insert_value 1 (number 1) ∷ insert_value 1 (number 1)
+    ∷ insert_value 1 (number 1) ∷ commit ∷ delete 0 Always ∷ []
 
 abbrev pub three_children_answers : Answered → List Answered
 three_children_answers last = ok ∷ ok ∷ ok_rows 1 ∷ ok_rows 1 ∷ ok_rows 1 ∷ ok_rows 1 ∷ ok ∷ last
@@ -71,19 +71,19 @@ pub record WorkedActions : Type 0 where
   -- 1); INSERT INTO c VALUES (1, 2); DELETE FROM a; SELECT * FROM log; SELECT COUNT(*) FROM c;
   -- COMMIT;
   pub deletion_wins_over_set_null : answers (
-      create_table (integer ∷ []) (not_deferrable 0 (rule.PrimaryKey (0 ∷ [])) ∷ [])
-      ∷ create_table (integer ∷ integer ∷ [])
+      create_table (integer_column ∷ []) (not_deferrable 0 (rule.PrimaryKey (0 ∷ [])) ∷ [])
+      ∷ create_table (integer_column ∷ integer_column ∷ [])
       (not_deferrable 1 (rule.PrimaryKey (0 ∷ []))
-      ∷ not_deferrable 1 (references 1 0 0 Cascade NoAction) ∷ [])
-      ∷ create_table (integer ∷ integer ∷ [])
-      (not_deferrable 2 (references 0 0 0 SetNull NoAction)
-      ∷ not_deferrable 2 (references 1 1 0 Cascade NoAction) ∷ [])
-      ∷ create_table (integer ∷ integer ∷ []) []
+      ∷ not_deferrable 1 (references_rule 1 0 0 Cascade NoAction) ∷ [])
+      ∷ create_table (integer_column ∷ integer_column ∷ [])
+      (not_deferrable 2 (references_rule 0 0 0 SetNull NoAction)
+      ∷ not_deferrable 2 (references_rule 1 1 0 Cascade NoAction) ∷ [])
+      ∷ create_table (integer_column ∷ integer_column ∷ []) []
       ∷ create_trigger 0 2 After event.Delete Row Always
-      (body.Data (insertion_of 3 ((Variable Old 0 ∷ Variable Old 1 ∷ []) ∷ [])) ∷ [])
+      (body.Data (insert_statement 3 ((Variable Old 0 ∷ Variable Old 1 ∷ []) ∷ [])) ∷ [])
       ∷ create_trigger 1 2 After event.Update Statement Always
-      (body.Data (insertion_of 3 ((number 0 ∷ number 0 ∷ []) ∷ [])) ∷ [])
-      ∷ insert_one 0 (number 1) ∷ insert 1 ((number 2 ∷ number 1 ∷ []) ∷ [])
+      (body.Data (insert_statement 3 ((number 0 ∷ number 0 ∷ []) ∷ [])) ∷ [])
+      ∷ insert_value 0 (number 1) ∷ insert 1 ((number 2 ∷ number 1 ∷ []) ∷ [])
       ∷ insert 2 ((number 1 ∷ number 2 ∷ []) ∷ [])
       ∷ delete 0 Always ∷ select_all 3 ∷ count_all 2 ∷ commit ∷ [])
       ≡ ok ∷ ok ∷ ok ∷ ok ∷ ok ∷ ok ∷ ok_rows 1 ∷ ok_rows 1 ∷ ok_rows 1 ∷ ok_rows 1
@@ -92,11 +92,11 @@ pub record WorkedActions : Type 0 where
   -- INT REFERENCES p ON DELETE CASCADE); INSERT INTO p VALUES (1); INSERT INTO c VALUES (1, 1);
   -- DELETE FROM p; SELECT COUNT(*) FROM c;
   pub deletion_wins_in_one_wave : answers (
-      create_table (integer ∷ []) (not_deferrable 0 (rule.PrimaryKey (0 ∷ [])) ∷ [])
-      ∷ create_table (integer ∷ integer ∷ [])
-      (not_deferrable 1 (references 0 0 0 SetNull NoAction)
-      ∷ not_deferrable 1 (references 1 0 0 Cascade NoAction) ∷ [])
-      ∷ insert_one 0 (number 1) ∷ insert 1 ((number 1 ∷ number 1 ∷ []) ∷ []) ∷ delete 0 Always
+      create_table (integer_column ∷ []) (not_deferrable 0 (rule.PrimaryKey (0 ∷ [])) ∷ [])
+      ∷ create_table (integer_column ∷ integer_column ∷ [])
+      (not_deferrable 1 (references_rule 0 0 0 SetNull NoAction)
+      ∷ not_deferrable 1 (references_rule 1 0 0 Cascade NoAction) ∷ [])
+      ∷ insert_value 0 (number 1) ∷ insert 1 ((number 1 ∷ number 1 ∷ []) ∷ []) ∷ delete 0 Always
       ∷ count_all 1 ∷ [])
       ≡ ok ∷ ok ∷ ok_rows 1 ∷ ok_rows 1 ∷ ok_rows 1 ∷ rows ((int 0 ∷ []) ∷ []) ∷ []
   -- CREATE TABLE p (k1 INT UNIQUE, k2 INT UNIQUE); CREATE TABLE c (x INT, CONSTRAINT f1 FOREIGN KEY
@@ -104,22 +104,22 @@ pub record WorkedActions : Type 0 where
   -- UPDATE CASCADE); INSERT INTO p VALUES (5, 5); INSERT INTO c VALUES (5); UPDATE p SET k1 = 6, k2
   -- = 7; COMMIT;
   pub two_actions_on_one_column : answers (
-      create_table (integer ∷ integer ∷ [])
+      create_table (integer_column ∷ integer_column ∷ [])
       (not_deferrable 0 (rule.Unique (0 ∷ [])) ∷ not_deferrable 0 (rule.Unique (1 ∷ [])) ∷ [])
-      ∷ create_table (integer ∷ [])
-      (not_deferrable 1 (references 0 0 0 NoAction SetNull)
-      ∷ not_deferrable 1 (references 0 0 1 NoAction Cascade) ∷ [])
-      ∷ insert 0 ((number 5 ∷ number 5 ∷ []) ∷ []) ∷ insert_one 1 (number 5)
+      ∷ create_table (integer_column ∷ [])
+      (not_deferrable 1 (references_rule 0 0 0 NoAction SetNull)
+      ∷ not_deferrable 1 (references_rule 0 0 1 NoAction Cascade) ∷ [])
+      ∷ insert 0 ((number 5 ∷ number 5 ∷ []) ∷ []) ∷ insert_value 1 (number 5)
       ∷ update 0 (setting 0 (number 6) ∷ setting 1 (number 7) ∷ []) Always ∷ commit ∷ [])
       ≡ ok ∷ ok ∷ ok_rows 1 ∷ ok_rows 1 ∷ refused (cause.ActionConflict (fault 3 2)) ∷ ok ∷ []
   -- CREATE TABLE p (k INT PRIMARY KEY); CREATE TABLE c (x INT DEFAULT 0 CONSTRAINT f REFERENCES p
   -- ON DELETE SET DEFAULT); INSERT INTO p VALUES (0), (1); INSERT INTO c VALUES (1); COMMIT; DELETE
   -- FROM p WHERE k = 1; SELECT * FROM c; DELETE FROM p; COMMIT;
   pub set_default : answers (
-      create_table (integer ∷ []) (not_deferrable 0 (rule.PrimaryKey (0 ∷ [])) ∷ [])
+      create_table (integer_column ∷ []) (not_deferrable 0 (rule.PrimaryKey (0 ∷ [])) ∷ [])
       ∷ create_table (integer_default 0 ∷ [])
-      (not_deferrable 1 (references 0 0 0 SetDefault NoAction) ∷ [])
-      ∷ insert 0 ((number 0 ∷ []) ∷ (number 1 ∷ []) ∷ []) ∷ insert_one 1 (number 1) ∷ commit
+      (not_deferrable 1 (references_rule 0 0 0 SetDefault NoAction) ∷ [])
+      ∷ insert 0 ((number 0 ∷ []) ∷ (number 1 ∷ []) ∷ []) ∷ insert_value 1 (number 1) ∷ commit
       ∷ delete 0 (where_column Equal 0 1) ∷ select_all 1 ∷ delete 0 Always ∷ commit ∷ [])
       ≡ ok ∷ ok ∷ ok_rows 2 ∷ ok_rows 1 ∷ ok ∷ ok_rows 1 ∷ rows ((int 0 ∷ []) ∷ [])
       ∷ refused (cause.Violation (fault 1 3)) ∷ ok ∷ []

@@ -37,8 +37,8 @@ abbrev pub rows_of : List (List ℕ) → Answered
 rows_of values = rows (map (map int) values)
 
 -- the answer of COUNT(*)
-abbrev pub counted : ℕ → Answered
-counted n = rows_of ((n ∷ []) ∷ [])
+abbrev pub count_row : ℕ → Answered
+count_row n = rows_of ((n ∷ []) ∷ [])
 
 abbrev pub fault : ℕ → ℕ → Fault
 fault id row = record { constraint = id; row = row }
@@ -85,14 +85,14 @@ answers_deep depth plans =
     answers_of (outcomes (empty_state (record { depth = depth; changes = 65536 })) plans)
 
 -- under a budget of so many changes
-abbrev pub within : ℕ → List Plan → List Outcome
-within changes plans = outcomes (empty_state (record { depth = 16; changes = changes })) plans
+abbrev pub under_limits : ℕ → List Plan → List Outcome
+under_limits changes plans = outcomes (empty_state (record { depth = 16; changes = changes })) plans
 
 abbrev pub answers_within : ℕ → List Plan → List Answered
-answers_within changes plans = answers_of (within changes plans)
+answers_within changes plans = answers_of (under_limits changes plans)
 
 abbrev pub works_within : ℕ → List Plan → List Work
-works_within changes plans = works_of (within changes plans)
+works_within changes plans = works_of (under_limits changes plans)
 
 -- the answers to parsed statements
 abbrev pub answers_to : List Statement → List Answered

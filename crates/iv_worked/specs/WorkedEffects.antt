@@ -15,8 +15,8 @@ use Rattle.iv_syntax.specs.declared.trigger.Granularity.TheVariants.{Row}
 use Rattle.iv_catalogue.specs.declared.constraint.Rule.TheVariants as rule
 use Rattle.iv_catalogue.specs.declared.cause.Cause.TheVariants as cause
 use Rattle.iv_catalogue.specs.declared.plan.Plan.{Plan}
-use Rattle.iv_worked.specs.WorkedPlans.{number, numbers, null, column, old, new, where_column, integer, integer_default, not_deferrable, initially_deferred, foreign_key, references, create_table, setting, insert, insert_row, insert_one, update, update_all, delete, delete_all, create_trigger, sets, select_all, count_all, commit}
-use Rattle.iv_worked.specs.WorkedAnswers.{ok, ok_rows, int, rows, rows_of, counted, fault, refused, work, idle, answers, works}
+use Rattle.iv_worked.specs.WorkedPlans.{number, numbers, null, column, old, new, where_column, integer_column, integer_default, not_deferrable, initially_deferred, foreign_key_rule, references_rule, create_table, setting, insert, insert_row, insert_value, update, update_all, delete, delete_all, create_trigger, sets, select_all, count_all, commit}
+use Rattle.iv_worked.specs.WorkedAnswers.{ok, ok_rows, int, rows, rows_of, count_row, fault, refused, work, idle, answers, works}
 
 -- In the first wave both rows of b get the key 5, which no row had, but to which the row of c
 -- refers, deferred.
@@ -28,13 +28,13 @@ use Rattle.iv_worked.specs.WorkedAnswers.{ok, ok_rows, int, rows, rows_of, count
 -- * FROM c; COMMIT;
 abbrev pub key_lost_by_two_rows : List Plan
 key_lost_by_two_rows =
-    create_table (integer ∷ integer ∷ integer ∷ [])
+    create_table (integer_column ∷ integer_column ∷ integer_column ∷ [])
     (not_deferrable 0 (rule.PrimaryKey (0 ∷ [])) ∷ not_deferrable 0 (rule.Unique (1 ∷ []))
-    ∷ not_deferrable 0 (references 2 0 0 NoAction Cascade) ∷ [])
-    ∷ create_table (integer ∷ []) (initially_deferred 1 (references 0 0 1 NoAction Cascade) ∷ [])
+    ∷ not_deferrable 0 (references_rule 2 0 0 NoAction Cascade) ∷ [])
+    ∷ create_table (integer_column ∷ []) (initially_deferred 1 (references_rule 0 0 1 NoAction Cascade) ∷ [])
     ∷ create_trigger 0 0 Before event.Update Row (Compare Equal (old 1) (number 5))
     (sets 1 (new 0) ∷ [])
-    ∷ insert 0 (numbers (1 ∷ 1 ∷ 1 ∷ []) ∷ numbers (2 ∷ 2 ∷ 2 ∷ []) ∷ []) ∷ insert_one 1 (number 5)
+    ∷ insert 0 (numbers (1 ∷ 1 ∷ 1 ∷ []) ∷ numbers (2 ∷ 2 ∷ 2 ∷ []) ∷ []) ∷ insert_value 1 (number 5)
     ∷ update 0 (setting 0 (plus (column 0) (number 10)) ∷ setting 1 (number 5) ∷ []) Always
     ∷ select_all 1 ∷ commit ∷ []
 
@@ -42,9 +42,9 @@ key_lost_by_two_rows =
 -- NULL), (2, 1);
 abbrev pub two_rows_of_one_table : ReferentialAction → List Plan → List Plan
 two_rows_of_one_table action rest =
-    create_table (integer ∷ integer ∷ [])
+    create_table (integer_column ∷ integer_column ∷ [])
     (not_deferrable 0 (rule.PrimaryKey (0 ∷ []))
-    ∷ not_deferrable 0 (references 1 0 0 NoAction action) ∷ [])
+    ∷ not_deferrable 0 (references_rule 1 0 0 NoAction action) ∷ [])
     ∷ insert 0 ((number 1 ∷ null ∷ []) ∷ numbers (2 ∷ 1 ∷ []) ∷ []) ∷ rest
 
 -- UPDATE t SET k = k + 10, up = ..;
@@ -64,14 +64,14 @@ restricted_updates = two_rows_of_one_table Restrict
 abbrev pub three_foreign_keys : ReferentialAction → ReferentialAction → ReferentialAction
     → List Plan → List Plan
 three_foreign_keys first second third rest =
-    create_table (integer ∷ integer ∷ integer ∷ [])
+    create_table (integer_column ∷ integer_column ∷ integer_column ∷ [])
     (not_deferrable 0 (rule.Unique (0 ∷ [])) ∷ not_deferrable 0 (rule.Unique (1 ∷ []))
     ∷ not_deferrable 0 (rule.Unique (2 ∷ [])) ∷ [])
     ∷ create_table (integer_default 9 ∷ [])
-    (not_deferrable 1 (references 0 0 0 first first)
-    ∷ not_deferrable 1 (references 0 0 1 second second)
-    ∷ not_deferrable 1 (references 0 0 2 third third) ∷ [])
-    ∷ insert_row 0 (numbers (5 ∷ 5 ∷ 5 ∷ [])) ∷ insert_one 1 (number 5) ∷ rest
+    (not_deferrable 1 (references_rule 0 0 0 first first)
+    ∷ not_deferrable 1 (references_rule 0 0 1 second second)
+    ∷ not_deferrable 1 (references_rule 0 0 2 third third) ∷ [])
+    ∷ insert_row 0 (numbers (5 ∷ 5 ∷ 5 ∷ [])) ∷ insert_value 1 (number 5) ∷ rest
 
 -- UPDATE p SET k1 = 6, k2 = 7, k3 = 8;
 abbrev pub three_new_keys : Plan
@@ -86,7 +86,7 @@ key_of_two_columns action rest =
     create_table (integer_default 3 ∷ integer_default 4 ∷ [])
     (not_deferrable 0 (rule.PrimaryKey (0 ∷ 1 ∷ [])) ∷ [])
     ∷ create_table (integer_default 8 ∷ integer_default 2 ∷ integer_default 1 ∷ [])
-    (not_deferrable 1 (foreign_key (2 ∷ 1 ∷ []) 0 (0 ∷ 1 ∷ []) Simple action action) ∷ [])
+    (not_deferrable 1 (foreign_key_rule (2 ∷ 1 ∷ []) 0 (0 ∷ 1 ∷ []) Simple action action) ∷ [])
     ∷ insert 0 (numbers (1 ∷ 2 ∷ []) ∷ numbers (3 ∷ 4 ∷ []) ∷ numbers (5 ∷ 6 ∷ []) ∷ [])
     ∷ insert_row 1 (numbers (0 ∷ 6 ∷ 5 ∷ [])) ∷ rest
 
@@ -136,7 +136,7 @@ pub record WorkedEffects : Type 0 where
   -- SET NULL, SET DEFAULT, CASCADE: DELETE FROM p; SELECT COUNT(*) FROM c;
   pub no_conflict_on_a_deleted_row : answers
       (three_foreign_keys SetNull SetDefault Cascade (delete_all 0 ∷ count_all 1 ∷ []))
-      ≡ ok ∷ ok ∷ ok_rows 1 ∷ ok_rows 1 ∷ ok_rows 1 ∷ counted 0 ∷ []
+      ≡ ok ∷ ok ∷ ok_rows 1 ∷ ok_rows 1 ∷ ok_rows 1 ∷ count_row 0 ∷ []
   -- CASCADE, SET NULL, RESTRICT: the conflict is with the second, RESTRICT with the third
   pub restrict_comes_before_a_conflict : answers
       (three_foreign_keys Cascade SetNull Restrict (three_new_keys ∷ []))

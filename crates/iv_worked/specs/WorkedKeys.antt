@@ -7,7 +7,7 @@ use Rattle.iv_syntax.specs.declared.table.ReferentialAction.TheVariants.{NoActio
 use Rattle.iv_catalogue.specs.declared.constraint.Rule.TheVariants as rule
 use Rattle.iv_catalogue.specs.declared.cause.Cause.TheVariants.{Violation, CommitRefused, AddRefused}
 use Rattle.iv_catalogue.specs.declared.plan.Plan.{Plan}
-use Rattle.iv_worked.specs.WorkedPlans.{number, numbers, null, where_column, integer, not_deferrable, deferrable, initially_deferred, foreign_key, create_table, add_constraint, insert, insert_row, insert_one, update_all, delete, commit}
+use Rattle.iv_worked.specs.WorkedPlans.{number, numbers, null, where_column, integer_column, not_deferrable, deferrable, initially_deferred, foreign_key_rule, create_table, add_constraint, insert, insert_row, insert_value, update_all, delete, commit}
 use Rattle.iv_worked.specs.WorkedAnswers.{ok, ok_rows, fault, refused, answers, pending_after}
 
 -- CREATE TABLE p (a INT, b INT, UNIQUE (a, b)); CREATE TABLE f (a INT, b INT, FOREIGN KEY (a, b)
@@ -16,9 +16,9 @@ use Rattle.iv_worked.specs.WorkedAnswers.{ok, ok_rows, fault, refused, answers, 
 -- (1, 2); INSERT INTO f VALUES (1, 3);
 abbrev pub nulls_in_a_foreign_key : MatchType → List Plan
 nulls_in_a_foreign_key matching =
-    create_table (integer ∷ integer ∷ []) (not_deferrable 0 (rule.Unique (0 ∷ 1 ∷ [])) ∷ [])
-    ∷ create_table (integer ∷ integer ∷ [])
-    (not_deferrable 1 (foreign_key (0 ∷ 1 ∷ []) 0 (0 ∷ 1 ∷ []) matching NoAction NoAction) ∷ [])
+    create_table (integer_column ∷ integer_column ∷ []) (not_deferrable 0 (rule.Unique (0 ∷ 1 ∷ [])) ∷ [])
+    ∷ create_table (integer_column ∷ integer_column ∷ [])
+    (not_deferrable 1 (foreign_key_rule (0 ∷ 1 ∷ []) 0 (0 ∷ 1 ∷ []) matching NoAction NoAction) ∷ [])
     ∷ insert 0 ((number 1 ∷ null ∷ []) ∷ numbers (1 ∷ 2 ∷ []) ∷ [])
     ∷ insert_row 1 (number 1 ∷ null ∷ []) ∷ insert_row 1 (null ∷ number 2 ∷ [])
     ∷ insert_row 1 (null ∷ null ∷ [])
@@ -28,7 +28,7 @@ nulls_in_a_foreign_key matching =
 -- 1), (2, 1), (1, 1), (NULL, 1), (NULL, 1);
 abbrev pub duplicates : List Plan
 duplicates =
-    create_table (integer ∷ integer ∷ [])
+    create_table (integer_column ∷ integer_column ∷ [])
     (initially_deferred 0 (rule.Unique (0 ∷ []))
     ∷ not_deferrable 0 (rule.Check (where_column Greater 1 0)) ∷ [])
     ∷ insert 0
@@ -40,7 +40,7 @@ pub record WorkedKeys : Type 0 where
   -- t VALUES (NULL, 1); INSERT INTO t VALUES (1, 1); UPDATE t SET a = NULL; INSERT INTO t VALUES
   -- (1, 1); INSERT INTO t VALUES (1, 2);
   pub primary_key_has_no_null : answers (
-      create_table (integer ∷ integer ∷ []) (not_deferrable 0 (rule.PrimaryKey (0 ∷ 1 ∷ [])) ∷ [])
+      create_table (integer_column ∷ integer_column ∷ []) (not_deferrable 0 (rule.PrimaryKey (0 ∷ 1 ∷ [])) ∷ [])
       ∷ insert_row 0 (number 1 ∷ null ∷ []) ∷ insert_row 0 (null ∷ number 1 ∷ [])
       ∷ insert_row 0 (numbers (1 ∷ 1 ∷ []))
       ∷ update_all 0 0 null ∷ insert_row 0 (numbers (1 ∷ 1 ∷ []))
@@ -62,7 +62,7 @@ pub record WorkedKeys : Type 0 where
   -- COMMIT; ALTER TABLE t ADD CHECK (a > 2); UPDATE t SET a = 3; COMMIT; ALTER TABLE t ADD CHECK (a
   -- > 2) INITIALLY DEFERRED; INSERT INTO t VALUES (2); COMMIT;
   pub added_constraint_looks_at_all_rows : answers (
-      create_table (integer ∷ []) []
+      create_table (integer_column ∷ []) []
       ∷ insert 0 (numbers (5 ∷ []) ∷ numbers (1 ∷ []) ∷ numbers (0 ∷ []) ∷ []) ∷ commit
       ∷ add_constraint (initially_deferred 0 (rule.Check (where_column Greater 0 1)))
       ∷ add_constraint (deferrable 0 (rule.Check (where_column Greater 0 0)))
@@ -70,7 +70,7 @@ pub record WorkedKeys : Type 0 where
       ∷ add_constraint (not_deferrable 0 (rule.Check (where_column Greater 0 2)))
       ∷ update_all 0 0 (number 3) ∷ commit
       ∷ add_constraint (initially_deferred 0 (rule.Check (where_column Greater 0 2)))
-      ∷ insert_one 0 (number 2) ∷ commit ∷ [])
+      ∷ insert_value 0 (number 2) ∷ commit ∷ [])
       ≡ ok ∷ ok_rows 3 ∷ ok ∷ refused (AddRefused 2) ∷ refused (AddRefused 3) ∷ ok_rows 1 ∷ ok
       ∷ refused (AddRefused 2)
       ∷ ok_rows 2 ∷ ok ∷ ok ∷ ok_rows 1 ∷ refused (CommitRefused (fault 0 4)) ∷ []

@@ -69,8 +69,8 @@ where_column op place n = Compare op (column place) (number n)
 -- ---- tables and constraints; names say nothing here, save those of savepoints
 
 -- INTEGER
-abbrev pub integer : Column
-integer = record { name = codes "A"; kind = Integer; default = Null }
+abbrev pub integer_column : Column
+integer_column = record { name = codes "A"; kind = Integer; default = Null }
 
 abbrev pub integer_default : ℕ → Column
 integer_default n = record { name = codes "A"; kind = Integer; default = Int (pos n) }
@@ -92,9 +92,9 @@ abbrev pub initially_deferred : ℕ → Rule → Constraint
 initially_deferred table r = constraint_on table r Bool.true mode.Deferred
 
 -- columns that refer to columns of a table: ON DELETE, then ON UPDATE
-abbrev pub foreign_key :
+abbrev pub foreign_key_rule :
     List ℕ → ℕ → List ℕ → MatchType → ReferentialAction → ReferentialAction → Rule
-foreign_key columns table key matching delete update =
+foreign_key_rule columns table key matching delete update =
     rule.ForeignKey (record {
       columns = columns;
       referenced = table;
@@ -105,9 +105,9 @@ foreign_key columns table key matching delete update =
     })
 
 -- a foreign key of one column, MATCH SIMPLE
-abbrev pub references : ℕ → ℕ → ℕ → ReferentialAction → ReferentialAction → Rule
-references place table key delete update =
-    foreign_key (place ∷ []) table (key ∷ []) Simple delete update
+abbrev pub references_rule : ℕ → ℕ → ℕ → ReferentialAction → ReferentialAction → Rule
+references_rule place table key delete update =
+    foreign_key_rule (place ∷ []) table (key ∷ []) Simple delete update
 
 abbrev pub create_table : List Column → List Constraint → Plan
 create_table columns constraints =
@@ -122,8 +122,8 @@ abbrev pub setting : ℕ → Expr → Setting
 setting place e = record { column = place; value = e }
 
 -- VALUES, for all columns
-abbrev pub insertion_of : ℕ → List (List Expr) → DataStatement
-insertion_of table tuples = data_statement.Insert table insert_columns.All
+abbrev pub insert_statement : ℕ → List (List Expr) → DataStatement
+insert_statement table tuples = data_statement.Insert table insert_columns.All
     (insert_rows.Values tuples)
 
 -- INSERT INTO .. SELECT .. FROM a range, for all columns
@@ -132,22 +132,22 @@ insertion_from table range es =
     data_statement.Insert table insert_columns.All
     (insert_rows.Query (outputs.Values es) range Always)
 
-abbrev pub update_of : ℕ → List Setting → Cond → DataStatement
-update_of table settings filter = data_statement.Update table settings filter
+abbrev pub update_statement : ℕ → List Setting → Cond → DataStatement
+update_statement table settings filter = data_statement.Update table settings filter
 
 abbrev pub deletion_of : ℕ → Cond → DataStatement
 deletion_of table filter = data_statement.Delete table filter
 
 abbrev pub insert : ℕ → List (List Expr) → Plan
-insert table tuples = plan.Change (insertion_of table tuples)
+insert table tuples = plan.Change (insert_statement table tuples)
 
 -- VALUES with one tuple
 abbrev pub insert_row : ℕ → List Expr → Plan
 insert_row table es = insert table (es ∷ [])
 
 -- VALUES with one tuple of one value
-abbrev pub insert_one : ℕ → Expr → Plan
-insert_one table e = insert_row table (e ∷ [])
+abbrev pub insert_value : ℕ → Expr → Plan
+insert_value table e = insert_row table (e ∷ [])
 
 -- VALUES with one tuple, for these columns
 abbrev pub insert_listed : ℕ → List ℕ → List Expr → Plan
@@ -159,7 +159,7 @@ abbrev pub insert_from : ℕ → Range → List Expr → Plan
 insert_from table range es = plan.Change (insertion_from table range es)
 
 abbrev pub update : ℕ → List Setting → Cond → Plan
-update table settings filter = plan.Change (update_of table settings filter)
+update table settings filter = plan.Change (update_statement table settings filter)
 
 -- UPDATE of one column in all rows
 abbrev pub update_all : ℕ → ℕ → Expr → Plan
@@ -192,7 +192,7 @@ drop_trigger id = plan.Schema (schema.DropTrigger id)
 
 -- INSERT of one tuple, in a body
 abbrev pub inserts : ℕ → List Expr → BodyStatement
-inserts table es = body.Data (insertion_of table (es ∷ []))
+inserts table es = body.Data (insert_statement table (es ∷ []))
 
 -- INSERT of what a range holds, in a body
 abbrev pub inserts_from : ℕ → Range → List Expr → BodyStatement

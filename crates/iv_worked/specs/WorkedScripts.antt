@@ -23,8 +23,8 @@ use Rattle.iv_catalogue.specs.declared.cause.Cause.TheVariants.{Duplicate, InTra
 use Rattle.iv_worked.specs.WorkedAnswers.{ok, ok_rows, rows, rows_of, fault, refused, answers_to}
 
 -- name INTEGER
-abbrev pub column : List ℕ → TableElement
-column name = element.Column
+abbrev pub parsed_column : List ℕ → TableElement
+parsed_column name = element.Column
     (record { name = name; kind = Integer; default = None; constraints = [] })
 
 -- CHECK (A op number)
@@ -39,23 +39,23 @@ check name op n mode =
     })
 
 -- INSERT INTO T VALUES (literal)
-abbrev pub insert_one : Expression → Statement
-insert_one e = statement.Insert
+abbrev pub parsed_insert : Expression → Statement
+parsed_insert e = statement.Insert
     (insert.Rows (codes "T") None (source.Values ((value.Value e ∷ []) ∷ [])))
 
 -- SELECT * FROM T
-abbrev pub select_all : Statement
-select_all = statement.Select (select.Rows Star (record { table = codes "T"; alias = None }) None)
+abbrev pub parsed_select : Statement
+parsed_select = statement.Select (select.Rows Star (record { table = codes "T"; alias = None }) None)
 
 -- CREATE TABLE T (A INTEGER)
 abbrev pub a_table : Statement
-a_table = statement.CreateTable (codes "T") (column (codes "A") ∷ [])
+a_table = statement.CreateTable (codes "T") (parsed_column (codes "A") ∷ [])
 
 -- CREATE TABLE T (A INTEGER, CHECK (A > 0)); INSERT INTO T VALUES (1); COMMIT; SELECT * FROM T;
 abbrev pub check_insert_commit_select : List Statement
 check_insert_commit_select =
-    statement.CreateTable (codes "T") (column (codes "A") ∷ check None Greater 0 None ∷ [])
-    ∷ insert_one (expression.Number 1) ∷ statement.Commit ∷ select_all ∷ []
+    statement.CreateTable (codes "T") (parsed_column (codes "A") ∷ check None Greater 0 None ∷ [])
+    ∷ parsed_insert (expression.Number 1) ∷ statement.Commit ∷ parsed_select ∷ []
 
 -- CREATE TABLE T (A INT, CONSTRAINT POS CHECK (A > 0) INITIALLY DEFERRED, CONSTRAINT BIG CHECK (A <
 -- 9)); INSERT INTO T VALUES (0); INSERT INTO T VALUES (9); COMMIT; INSERT INTO T VALUES (NULL);
@@ -63,16 +63,16 @@ check_insert_commit_select =
 abbrev pub two_checks_one_deferred : List Statement
 two_checks_one_deferred =
     statement.CreateTable (codes "T")
-    (column (codes "A") ∷ check (Some (codes "POS")) Greater 0 (Some Deferred)
+    (parsed_column (codes "A") ∷ check (Some (codes "POS")) Greater 0 (Some Deferred)
     ∷ check (Some (codes "BIG")) Less 9 None ∷ [])
-    ∷ insert_one (expression.Number 0) ∷ insert_one (expression.Number 9) ∷ statement.Commit
-    ∷ insert_one expression.Null ∷ statement.Commit ∷ select_all ∷ []
+    ∷ parsed_insert (expression.Number 0) ∷ parsed_insert (expression.Number 9) ∷ statement.Commit
+    ∷ parsed_insert expression.Null ∷ statement.Commit ∷ parsed_select ∷ []
 
 -- CREATE TABLE T (A INTEGER); INSERT INTO T VALUES (1); CREATE TABLE T (A INTEGER); ROLLBACK;
 -- CREATE TABLE T (A INTEGER);
 abbrev pub table_created_again : List Statement
 table_created_again =
-    a_table ∷ insert_one (expression.Number 1) ∷ a_table ∷ statement.Rollback ∷ a_table ∷ []
+    a_table ∷ parsed_insert (expression.Number 1) ∷ a_table ∷ statement.Rollback ∷ a_table ∷ []
 
 -- The constraint POS has the number 0, and BIG the number 1.
 pub record WorkedScripts : Type 0 where

@@ -5,7 +5,7 @@ use Rattle.iv_expr.specs.Trees.{plus}
 use Rattle.iv_expr.specs.declared.tree.Expr.{Expr}
 use Rattle.iv_expr.specs.declared.tree.Range.TheVariants.{Table}
 use Rattle.iv_catalogue.specs.declared.cause.Cause.TheVariants.{NumberOutOfRange, TextTooLong}
-use Rattle.iv_worked.specs.WorkedPlans.{number, numbers, text, column, integer, integer_default, varchar, create_table, insert_row, insert_listed, insert_from, select_all}
+use Rattle.iv_worked.specs.WorkedPlans.{number, numbers, text, column, integer_column, integer_default, varchar, create_table, insert_row, insert_listed, insert_from, select_all}
 use Rattle.iv_worked.specs.WorkedAnswers.{ok, ok_rows, int, rows, refused, answers}
 
 -- 9223372036854775807 + 1
@@ -16,7 +16,7 @@ pub record WorkedStatements : Type 0 where
   -- CREATE TABLE t (a INT DEFAULT 7, b INT, c INT); INSERT INTO t (c, b) VALUES (1, 2); INSERT INTO
   -- t (c) VALUES (3); INSERT INTO t SELECT c, a, b FROM t; SELECT * FROM t;
   pub columns_that_are_listed : answers (
-      create_table (integer_default 7 ∷ integer ∷ integer ∷ []) []
+      create_table (integer_default 7 ∷ integer_column ∷ integer_column ∷ []) []
       ∷ insert_listed 0 (2 ∷ 1 ∷ []) (numbers (1 ∷ 2 ∷ []))
       ∷ insert_listed 0 (2 ∷ []) (numbers (3 ∷ []))
       ∷ insert_from 0 (Table 0) (column 2 ∷ column 0 ∷ column 1 ∷ []) ∷ select_all 0 ∷ [])
@@ -28,7 +28,7 @@ pub record WorkedStatements : Type 0 where
   -- CREATE TABLE t (a INT, m VARCHAR(3)); INSERT INTO t VALUES (9223372036854775807 + 1, 'long');
   -- INSERT INTO t (m, a) VALUES ('long', 9223372036854775807 + 1);
   pub values_are_stored_in_turn : answers (
-      create_table (integer ∷ varchar 3 ∷ []) []
+      create_table (integer_column ∷ varchar 3 ∷ []) []
       ∷ insert_row 0 (too_large ∷ text (codes "long") ∷ [])
       ∷ insert_listed 0 (1 ∷ 0 ∷ []) (text (codes "long") ∷ too_large ∷ []) ∷ [])
       ≡ ok ∷ refused NumberOutOfRange ∷ refused TextTooLong ∷ []

@@ -2,7 +2,7 @@ use Rattle.std.proofs.Common.{◌≡◌, ◌∙◌, ap, sym, subst, ◌∷◌, [
 use Rattle.iv_machine.specs.declared.database.Which.TheVariants.{Immediate}
 use Rattle.iv_machine.specs.Databases.{scan, is_chosen, first}
 use Rattle.iv_machine.proofs.Orders.{new_row_of}
-use Rattle.iv_machine.specs.Fitting.{Suits}
+use Rattle.iv_machine.specs.Fitting.{TupleSuits}
 use Rattle.iv_session.specs.Inserts.{early}
 use Rattle.iv_session.specs.States.{Held, state_of}
 use Rattle.iv_session.proofs.Keeping.{early_performs, refused_performs, accepted_performs, lengthened_kept}
@@ -19,7 +19,7 @@ returns-in-Some c =
       modes = c.self.inside.modes.items;
       start = c.self.inside.start;
     } in
-    let suits : Suits held.schema c.args.table c.args.values = subst (λ s. Suits s.schema c.args.table c.args.values) (sym c.self.view_is) c.requires in
+    let suits : TupleSuits held.schema c.args.table c.args.values = subst (λ s. TupleSuits s.schema c.args.table c.args.values) (sym c.self.view_is) c.requires in
     rw (← c.self.view_is) (early_performs held c.args.table c.args.values c.in-Some.cause c.refuse.result
     (ap early c.self.view_is ∙ sym c.early_cause.ensures ∙ c.in-Some.is) c.refuse.ensures suits c.self.invariant)
 
@@ -34,7 +34,7 @@ returns-in-Some-first_fault c =
       modes = c.self.inside.modes.items;
       start = c.self.inside.start;
     } in
-    let suits : Suits held.schema c.args.table c.args.values = subst (λ s. Suits s.schema c.args.table c.args.values) (sym c.self.view_is) c.requires in
+    let suits : TupleSuits held.schema c.args.table c.args.values = subst (λ s. TupleSuits s.schema c.args.table c.args.values) (sym c.self.view_is) c.requires in
     let none : early (state_of held) ≡ None = ap early c.self.view_is ∙ sym c.early_cause.ensures ∙ c.in-None.is in
     let found = sym (c.first_fault.ensures
     ∙ ap (λ l. first (scan l c.constraints.result.now (is_chosen c.as_slice.result.now Immediate))) c.from_ref.ensures.value
@@ -57,7 +57,7 @@ invariant_of-self-2 c =
       modes = c.self.inside.modes.items;
       start = c.self.inside.start;
     } in
-    let suits : Suits held.schema c.args.table c.args.values = subst (λ s. Suits s.schema c.args.table c.args.values) (sym c.self.view_is) c.requires in
+    let suits : TupleSuits held.schema c.args.table c.args.values = subst (λ s. TupleSuits s.schema c.args.table c.args.values) (sym c.self.view_is) c.requires in
     let none : early (state_of held) ≡ None = ap early c.self.view_is ∙ sym c.early_cause.ensures ∙ c.in-None.is in
     let found = sym (c.first_fault.ensures
     ∙ ap (λ l. first (scan l c.constraints.result.now (is_chosen c.as_slice.result.now Immediate))) c.from_ref.ensures.value
@@ -77,7 +77,7 @@ returns c =
       modes = c.self.inside.modes.items;
       start = c.self.inside.start;
     } in
-    let suits : Suits held.schema c.args.table c.args.values = subst (λ s. Suits s.schema c.args.table c.args.values) (sym c.self.view_is) c.requires in
+    let suits : TupleSuits held.schema c.args.table c.args.values = subst (λ s. TupleSuits s.schema c.args.table c.args.values) (sym c.self.view_is) c.requires in
     let none : early (state_of held) ≡ None = ap early c.self.view_is ∙ sym c.early_cause.ensures ∙ c.in-None.is in
     let found = sym (c.first_fault.ensures
     ∙ ap (λ l. first (scan l c.constraints.result.now (is_chosen c.as_slice.result.now Immediate))) c.from_ref.ensures.value
