@@ -56,9 +56,9 @@ def copied(room):
     os.mkdir(machine + '/src')
     for name in modules:
         shutil.copy(os.path.join(CRATES, 'iv_machine/src', name + '.rt'), machine + '/src')
-    library = read(os.path.join(CRATES, 'iv_machine/src/lib.rt')).splitlines()
-    kept = [line for line in library if not re.match(r'(pub )?(mod|use) |#\[cfg', line) or re.match(r'(mod|pub use) (%s)\b' % '|'.join(modules), line)]
-    write(machine + '/src/lib.rt', '\n'.join(kept) + '\n')
+    library = read(os.path.join(CRATES, 'iv_machine/src/lib.rt'))
+    items = re.findall(r'^(?://!.*|#!\[.*\]|(?:mod|pub use) (?:%s)\b[^;]*;)$' % '|'.join(modules), library, re.M)
+    write(machine + '/src/lib.rt', '\n'.join(items) + '\n')
     return machine, worked
 
 
