@@ -1,10 +1,15 @@
 #!/usr/bin/env python3
 """Changes the machine's definitions, one change at a time on a copy, and looks whether a worked script notices.
 
-  tests/definitions.py [--only WORD]
+  tests/definitions.py [--only WORD] [--all]
 The changes are those of definitions.edits beside this file. Each takes a quarter of a minute; `out/` of the crates
-below iv_machine has to be there, as `rt all check` leaves it. The last line is `N passed, N failed`."""
+below iv_machine has to be there, as `rt all check` leaves it. The last line is `N passed, N failed`.
+
+The file definitions.digest has a digest of the changes, of the definitions and of the worked scripts, where all changes
+were noticed. While it is still the same they aren't tried again, except with --all or --only; where all are tried and
+noticed it is written anew."""
 import argparse
+import hashlib
 import os
 import re
 import shutil
@@ -14,6 +19,9 @@ import tempfile
 HERE = os.path.dirname(os.path.abspath(__file__))
 CRATES = os.path.join(HERE, '..', 'crates')
 BELOW = ['iv_value', 'iv_expr', 'iv_syntax', 'iv_catalogue']
+CHANGES = os.path.join(HERE, 'definitions.edits')
+DIGEST = os.path.join(HERE, 'definitions.digest')
+DIGESTED = ['iv_machine/specs', 'iv_machine/src', 'iv_worked/specs', 'iv_worked/proofs', 'iv_worked/src']
 
 
 def read(path):
@@ -29,7 +37,7 @@ def write(path, text):
 def changes():
     """The changes by name: a name, then a file, and pairs of an old text and a new one, each of one line."""
     found, path, old = {}, None, None
-    for line in read(os.path.join(HERE, 'definitions.edits')).splitlines():
+    for line in read(CHANGES).splitlines():
         key, _, text = line.partition(': ')
         if key == 'change':
             pairs = found[text] = []
@@ -40,6 +48,18 @@ def changes():
         elif key == 'new':
             pairs.append((path, old, text))
     return found
+
+
+def digest_of_sources():
+    """A digest of the changes, and of the definitions and the worked scripts that they are tried over."""
+    paths = [CHANGES]
+    for folder in DIGESTED:
+        for place, _, files in os.walk(os.path.join(CRATES, folder)):
+            paths += [os.path.join(place, file) for file in files]
+    digest = hashlib.sha256()
+    for path in sorted(paths):
+        digest.update(os.path.relpath(path, HERE).encode() + b'\0' + read(path).encode() + b'\0')
+    return digest.hexdigest()
 
 
 def copied(room):
@@ -92,17 +112,25 @@ def tried(machine, worked, pairs):
 def main():
     parser = argparse.ArgumentParser()
     parser.add_argument('--only', default='')
-    only, passed, failed = parser.parse_args().only, 0, 0
+    parser.add_argument('--all', action='store_true')
+    words = parser.parse_args()
+    chosen = {name: pairs for name, pairs in changes().items() if words.only in name}
+    digest, passed, failed = digest_of_sources(), 0, 0
+    if not words.all and not words.only and os.path.exists(DIGEST) and read(DIGEST).strip() == digest:
+        print('%d changes were noticed over these sources already' % len(chosen))
+        print('%d passed, 0 failed' % len(chosen))
+        return
     with tempfile.TemporaryDirectory(prefix='definitions-') as room:
         machine, worked = copied(room)
         if not checked(worked)[0]:
             raise SystemExit('the worked scripts are not proved as they are')
-        for name, pairs in changes().items():
-            if only in name:
-                said = tried(machine, worked, pairs)
-                good = isinstance(said, list)
-                passed, failed = passed + good, failed + (not good)
-                print('%s: %s' % (name, 'noticed by ' + ', '.join(said) if good else 'FAILED: ' + said), flush=True)
+        for name, pairs in chosen.items():
+            said = tried(machine, worked, pairs)
+            good = isinstance(said, list)
+            passed, failed = passed + good, failed + (not good)
+            print('%s: %s' % (name, 'noticed by ' + ', '.join(said) if good else 'FAILED: ' + said), flush=True)
+    if not failed and not words.only:
+        write(DIGEST, digest + '\n')
     print('%d passed, %d failed' % (passed, failed))
     raise SystemExit(int(failed > 0))
 
