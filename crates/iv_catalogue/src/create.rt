@@ -324,7 +324,11 @@ fn column_meaning(columns: &[Name], column: &ColumnName) -> Option<Expr>
     }
 }
 
-fn comparison_meaning(comparison: Comparison, left: Option<Expr>, right: Option<Expr>) -> Option<Cond>
+fn comparison_meaning(
+    comparison: Comparison,
+    left: Option<Expr>,
+    right: Option<Expr>,
+) -> Option<Cond>
     ensures { result ≡ comparison_meaning comparison left right }
 {
     match (left, right) {
