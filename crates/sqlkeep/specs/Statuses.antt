@@ -1,6 +1,8 @@
 -- What the status of the program tells.
 use Rattle.std.specs.Prelude.{◌≡◌, ℕ, ◌<◌, ◌≤◌, ◌==◌, ◌&&◌, if◌then◌else◌, List, length, Option, is_none, IfSome}
 use Rattle.std.specs.Str.{IsUtf8}
+use Rattle.iv_machine.specs.declared.limits.TheConstants.{MOST_CHANGES_IN_A_STATEMENT}
+use Rattle.sqlkeep.specs.declared.TheConstants.{USUAL_DEPTH}
 use Rattle.iv_machine.specs.Bounds.{Bounds}
 use Rattle.iv_print.specs.Counts.{counted}
 use Rattle.iv_print.specs.Sinks.{SinkState, FailsOnce}
@@ -11,7 +13,7 @@ use Rattle.iv_script.specs.declared.summary.Summary.{Summary}
 
 -- the limits of a run without options: triggers nest 16 deep, and a statement changes 65,536 rows
 abbrev pub usual_limits : Bounds
-usual_limits = record { depth = 16; changes = 65536 }
+usual_limits = record { depth = USUAL_DEPTH; changes = MOST_CHANGES_IN_A_STATEMENT }
 
 -- the status of a script that ran to its end: 0 where nothing was refused and it has no fault, else
 -- 1
