@@ -100,7 +100,7 @@ def tried(machine, worked, pairs):
             text = read(path)
             kept.setdefault(path, text)
             if text.count(old) != 1:
-                return 'its old text stands %d times in %s: %s' % (text.count(old), os.path.basename(path), old)
+                return 'its old text occurs %d times in %s: %s' % (text.count(old), os.path.basename(path), old)
             write(path, text.replace(old, new))
         proved, names = checked(worked)
         return names or ('no script notices it' if proved else 'the definitions with it are refused, and no script is')

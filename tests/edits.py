@@ -3,13 +3,13 @@
 
   tests/edits.py [CRATE..] [--all] [--jobs N] [--keep FOLDER]
 
-An edit has a line `file: src/..`, and pairs of lines `old: TEXT` and `new: TEXT`; each old text stands once in its file.
+An edit has a line `file: src/..`, and pairs of lines `old: TEXT` and `new: TEXT`; each old text occurs once in its file.
 A round has at most one edit of a function, and an edit outside of every function has a round of its own; it is made on a
 copy of the crate, over the work that a check kept, and one `rt check` has to name every edited function as refused. The
 last line is `N passed, N failed`.
 
 The file tests/edits/DIGESTS has a digest for each crate whose edits were all refused: of the edits, of the crate and of
-what it stands on. Where it is still the same the edits aren't tried again, except with --all; where they are tried and
+what it depends on. Where it is still the same the edits aren't tried again, except with --all; where they are tried and
 all are refused it is written anew. A crate that is tried is proved first where its kept work is missing or old."""
 import argparse
 import hashlib
@@ -52,7 +52,7 @@ class Edit:
         self.spans = []
         for (_, old), (_, new) in zip(texts[::2], texts[1::2]):
             if source.count(old) != 1:
-                raise SystemExit(f"{crate}/{self.name}: its old text stands {source.count(old)} times in {self.file}: {old}")
+                raise SystemExit(f"{crate}/{self.name}: its old text occurs {source.count(old)} times in {self.file}: {old}")
             start = source.index(old)
             self.spans.append((start, start + len(old), new))
         self.function = enclosing(source, self.spans[0][0]) if self.file.endswith(".rt") else None
@@ -89,12 +89,12 @@ def rounds_of(edits):
 
 
 def below(crate):
-    """The crate and those of the repository that it stands on."""
+    """The crate and those of the repository that it depends on."""
     return repository.below([crate], repository.crates())
 
 
 def digest_of(crate):
-    """A digest of a crate's edits, of the crate, and of the sources and definitions that it stands on."""
+    """A digest of a crate's edits, of the crate, and of the sources and definitions that it depends on."""
     folders = [os.path.join(HERE, "edits", crate), os.path.join(ROOT, "crates", crate, "proofs")]
     folders += [os.path.join(ROOT, "crates", name, part) for name in below(crate) for part in ("src", "specs")]
     digest = hashlib.sha256()
@@ -147,7 +147,7 @@ def refused(crate, edit, output):
     words = "(not proved|no proof: expected|no proof: in )"
     if edit.function is None:
         return re.search(rf"^(fn|struct|enum|impl) .*: {words}", output, re.M) is not None
-    # A method is told with the module of its type.
+    # A method is reported with the module of its type.
     module = [] if "::" in edit.function else edit.module()
     path = "::".join(map(re.escape, [crate, *module]))
     name = r"\w*::".join(re.escape(part) for part in edit.function.split("::"))

@@ -1,9 +1,9 @@
 #!/usr/bin/env python3
-"""Looks in the sources for where a want of memory, or the failure of a device, is made.
+"""Looks in the sources for where the answer of refused memory, or the failure of a device, is made.
 
-Contracts let a function answer want of memory at any time, so that a wrong body could give it in place of any other
-answer. Here that can't hide: the answer is made by the conversion from std's AllocError alone, no code makes an
-AllocError, and a DeviceFault is made by `Std` alone, where the call under it failed. The exceptions stand below.
+Contracts let a function answer that memory was refused at any time, so that a wrong body could give this in place of
+any other answer. Here that can't hide: the answer is made by the conversion from std's AllocError alone, no code makes an
+AllocError, and a DeviceFault is made by `Std` alone, where the call under it failed. The exceptions are below.
 
   tests/memory.py
 Each source file is a test, and so is each made-up source below. The last line is `N passed, N failed`."""
@@ -12,14 +12,14 @@ import re
 
 CRATES = os.path.join(os.path.dirname(os.path.abspath(__file__)), '..', 'crates')
 
-# The file, the function, the word, and why it stands there.
+# The file, the function, the word, and why it is there.
 EXCEPTIONS = [
     ('iv_expr/src/expression.rt', 'copy', 'NoMemory', 'the copy of a text, which answers an AllocError or none'),
     ('iv_print/src/device.rt', 'read', 'DeviceFault', 'the reader under the device failed'),
     ('iv_print/src/device.rt', 'write', 'DeviceFault', 'the writer under the device failed, or took none of some bytes'),
 ]
 
-# what may stand before a word that is a value, beside a parenthesis and a comma: an opening, an assignment, an arm, a closure, `return`, or another statement
+# what may come before a word that is a value, beside a parenthesis and a comma: an opening, an assignment, an arm, a closure, `return`, or another statement
 BEFORE_A_VALUE = ['[', '=', '=>', '|', 'return', ';', '{', '}', 'else']
 # the word names a variant, which may be made in a conversion alone
 VARIANTS = ['OutOfMemory', 'NoMemory']
@@ -56,7 +56,7 @@ def tokens(text):
 
 
 def is_of_type(words, at):
-    """Whether the word stands in a type, an item's head or an import, and not in an expression."""
+    """Whether the word is in a type, an item's head or an import, and not in an expression."""
     while at >= 2 and words[at - 1] == '::':
         at -= 2
     if words[at - 1] not in ('(', ','):
@@ -93,7 +93,7 @@ def is_pattern(words, at):
 
 
 def places(words):
-    """The function and the item's head in which each word stands."""
+    """The function and the item's head of each word."""
     heads, head, found = [], [], []
     for word in words:
         found.append((next((h[h.index('fn') + 1] for h in reversed(heads) if 'fn' in h), ''), [w for h in heads for w in h]))
@@ -112,7 +112,7 @@ def in_conversion(head):
 
 
 def makings(text):
-    """The words that make a want of memory or a failure, each with its function."""
+    """The words that make one of these answers, each with its function."""
     words = tokens(text)
     for at, (word, (function, head)) in enumerate(zip(words, places(words))):
         inside = 'use' in head or 'use' in words[max(0, last_end(words, at)):at]
@@ -129,7 +129,7 @@ def last_end(words, at):
 
 
 def is_declared(words, at, head):
-    """Whether the word stands in a variant's or a struct's parts."""
+    """Whether the word is in a variant's or a struct's parts."""
     return 'enum' in head or 'struct' in words[last_end(words, at):at]
 
 

@@ -2,7 +2,7 @@
 
     crates.py build                          proves the program and all below it, and builds it
     crates.py check CRATE.. [--above] [--edits] [--jobs N]
-                                             proves these crates, and with --above those that stand on them
+                                             proves these crates, and with --above those that depend on them
     crates.py try [FILE]                     runs a script, or standard input, without any proof
 
 Progress goes to standard error. A step that fails ends the work with status 1.
@@ -43,7 +43,7 @@ def crates():
 
 
 def below(wanted, named):
-    """These crates and all that they stand on."""
+    """These crates and all that they depend on."""
     found = set()
     left = list(wanted)
     while left:
@@ -55,7 +55,7 @@ def below(wanted, named):
 
 
 def above(wanted, named):
-    """These crates and all that stand on them."""
+    """These crates and all that depend on them."""
     return {crate for crate in named if below([crate], named) & set(wanted)}
 
 
@@ -147,10 +147,10 @@ def check(words):
 def try_script(words):
     """Runs the program over a script without proof: its status, its output and its lines of standard error."""
     script = open(words[0], "rb") if words else sys.stdin.buffer
-    with tempfile.TemporaryFile() as told:
-        status = subprocess.run(["rt", "try", "--seconds", "3600"], cwd=folder(PROGRAM), stdin=script, stderr=told, check=False).returncode
-        told.seek(0)
-        lines = told.read().decode("utf-8", "replace").splitlines()
+    with tempfile.TemporaryFile() as errors:
+        status = subprocess.run(["rt", "try", "--seconds", "3600"], cwd=folder(PROGRAM), stdin=script, stderr=errors, check=False).returncode
+        errors.seek(0)
+        lines = errors.read().decode("utf-8", "replace").splitlines()
     ended = any(line.startswith("run=ended ") for line in lines)
     for line in lines:
         if not (ended and ADDED.match(line)):

@@ -5,3 +5,7 @@ pub mod NameLists
 pub mod WrittenNames
 pub mod TakenUp
 pub mod InPlace
+pub mod NamedLists
+pub mod Placing
+pub mod TriggerNumbers
+pub mod Keeping

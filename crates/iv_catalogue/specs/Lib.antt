@@ -1,4 +1,5 @@
 pub mod Names
 pub mod Catalogues
+pub mod ConstraintPlaces
 pub mod Refusals
 pub mod Resolution

@@ -38,6 +38,7 @@ use Rattle.iv_syntax.specs.declared.statement.Statement.{Statement}
 use Rattle.iv_syntax.specs.declared.statement.Statement.TheVariants as statement
 use Rattle.iv_syntax.specs.Trees.{signed}
 use Rattle.iv_catalogue.specs.Catalogues.{Schema}
+pub use Rattle.iv_catalogue.specs.Catalogues.{table_named}
 use Rattle.iv_catalogue.specs.declared.limits.TheConstants.{GREATEST_INTEGER, MOST_COLUMNS, MOST_CONSTRAINTS, MOST_TABLES}
 use Rattle.iv_catalogue.specs.declared.catalogue.Table.{Table}
 use Rattle.iv_catalogue.specs.declared.catalogue.Column.{Column}
@@ -276,10 +277,6 @@ abbrev pub create_plan : Schema → List ℕ → List TableElement → Option Pl
 create_plan c name elements = table_plan name (columns_of elements) (constraints_of (length c.tables) name elements)
 
 -- ---- INSERT ("Insert statement") and SELECT ("Query specification")
-
--- the place of the table of that name
-abbrev pub table_named : Schema → List ℕ → Option ℕ
-table_named c name = position (λ t. bytes_eq name t.name) c.tables
 
 -- the plan, or a schema fault where a form has no meaning yet
 abbrev pub plan_or_fault : Option Plan → Result Plan Refusal

@@ -10,6 +10,8 @@ mod in_place;
 mod limits;
 mod literal;
 mod meaning;
+mod name_index;
+mod named_list;
 mod names;
 mod number;
 mod plan;
@@ -21,7 +23,11 @@ mod written_name;
 pub use catalogue::{Catalogue, Column, Table};
 pub use cause::{Cause, Fault, Refusal};
 pub use constraint::{Constraint, Constraints, ForeignKey, Rule};
-pub use limits::{GREATEST_INTEGER, MOST_COLUMNS, MOST_CONSTRAINTS, MOST_TABLES};
+pub use limits::{
+    DEEPEST_TREE, GREATEST_INTEGER, LONGEST_NAME, MOST_BODY_STATEMENTS, MOST_CHARACTERS,
+    MOST_COLUMNS, MOST_CONSTRAINTS, MOST_KEY_COLUMNS, MOST_TABLES, MOST_TRIGGERS,
+    MOST_TRIGGERS_EVER,
+};
 pub use meaning::resolve;
 pub use names::Names;
 pub use number::{ConstraintId, TriggerId};

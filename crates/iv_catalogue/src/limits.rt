@@ -9,5 +9,26 @@ pub const MOST_COLUMNS: usize = 32;
 /// The most constraints of a table.
 pub const MOST_CONSTRAINTS: usize = 64;
 
+/// The most columns of a key.
+pub const MOST_KEY_COLUMNS: usize = 8;
+
+/// The most triggers of a database.
+pub const MOST_TRIGGERS: usize = 256;
+
+/// The most triggers that are ever created in a database.
+pub const MOST_TRIGGERS_EVER: u32 = 4_294_967_295;
+
+/// The most statements of a trigger's body.
+pub const MOST_BODY_STATEMENTS: usize = 32;
+
+/// The most characters of a VARCHAR.
+pub const MOST_CHARACTERS: u64 = 4096;
+
 /// The greatest INTEGER, 2^63 - 1.
 pub const GREATEST_INTEGER: u64 = 9_223_372_036_854_775_807;
+
+/// The depth of the deepest value expression and search condition.
+pub const DEEPEST_TREE: u32 = 64;
+
+/// The most characters of a name.
+pub const LONGEST_NAME: usize = 128;

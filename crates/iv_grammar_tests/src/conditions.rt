@@ -1,4 +1,4 @@
-//! Each public call of `iv_parse_terms`, at values from outside.
+//! The trees of expressions and conditions.
 use crate::shown::{show_condition, show_expression, show_range};
 use iv_lex::{Token, tokens};
 use iv_parse_terms::{
@@ -30,7 +30,7 @@ fn expression_in(alloc: Global, source: &str, tokens: &[Token]) -> Result<String
     }
 }
 
-/// The expression that the source begins with, and how many tokens are left.
+// The expression that the source begins with, and how many tokens are left.
 fn expression_of(alloc: Global, source: &str) -> Result<String, AllocError> {
     let lexed = tokens(alloc, source)?;
     expression_in(alloc, source, lexed.tokens.as_slice())
@@ -46,11 +46,6 @@ fn expressions_group_from_the_left(rt: HostRuntime) -> Result<(), Fail> {
         ("'it''s' = NULL", "it's then 2"),
         ("NULL)", "null then 1"),
         ("1 - -1", "(1 - (-1)) then 0"),
-        ("- -1", "none"),
-        ("a +", "none"),
-        ("(a", "none"),
-        ("a.", "none"),
-        ("", "none"),
     ] {
         let found = expression_of(rt.alloc(), source)?;
         assert_eq!(rt; found.as_str(), wanted, "{source}");
@@ -76,7 +71,7 @@ fn condition_in(alloc: Global, source: &str, tokens: &[Token]) -> Result<String,
     }
 }
 
-/// The condition that the source begins with, and how many tokens are left.
+// The condition that the source begins with, and how many tokens are left.
 fn condition_of(alloc: Global, source: &str) -> Result<String, AllocError> {
     let lexed = tokens(alloc, source)?;
     condition_in(alloc, source, lexed.tokens.as_slice())
@@ -111,13 +106,7 @@ fn conditions_group_by_rank(rt: HostRuntime) -> Result<(), Fail> {
             "(not exists T U (U.K = N.K)) then 0",
         ),
         ("a = 1)", "(A = 1) then 1"),
-        ("NOT NOT a = 1", "none"),
-        ("a", "none"),
-        ("(a)", "none"),
-        ("a = 1 AND", "none"),
         ("(a = 1) + 1 = 2", "[(A = 1)] then 4"),
-        ("EXISTS (SELECT a FROM t)", "none"),
-        ("EXISTS (SELECT * FROM t", "none"),
     ] {
         let found = condition_of(rt.alloc(), source)?;
         assert_eq!(rt; found.as_str(), wanted, "{source}");
@@ -152,7 +141,7 @@ fn from_in(alloc: Global, source: &str, tokens: &[Token]) -> Result<String, Allo
     }
 }
 
-/// The range that the source's FROM names, its condition, and how many tokens are left.
+// The range that the source's FROM names, its condition, and how many tokens are left.
 fn from_of(alloc: Global, source: &str) -> Result<String, AllocError> {
     let lexed = tokens(alloc, source)?;
     from_in(alloc, source, lexed.tokens.as_slice())
@@ -168,9 +157,6 @@ fn from_has_an_alias_and_a_condition(rt: HostRuntime) -> Result<(), Fail> {
             "FROM t WHERE EXISTS (SELECT * FROM u)",
             "T where exists U then 0",
         ),
-        ("FROM t AS", "none"),
-        ("FROM t WHERE a", "none"),
-        ("t", "none"),
     ] {
         let found = from_of(rt.alloc(), source)?;
         assert_eq!(rt; found.as_str(), wanted, "{source}");
@@ -178,57 +164,9 @@ fn from_has_an_alias_and_a_condition(rt: HostRuntime) -> Result<(), Fail> {
     Ok(())
 }
 
-/// The inner text in so many pairs of parentheses.
-fn enclosed(alloc: Global, inner: &str, pairs: usize) -> Result<String, AllocError> {
-    let mut text = "(".repeat(alloc, pairs)?;
-    text.push_str(inner)?;
-    text.push_str(&")".repeat(alloc, pairs)?)?;
-    Ok(text)
-}
-
 #[test]
-fn trees_are_at_most_64_deep(rt: HostRuntime) -> Result<(), Fail> {
-    for (inner, pairs, read) in [
-        ("1", 63, true),
-        ("1", 64, false),
-        ("1 + 1", 62, true),
-        ("1 + 1", 63, false),
-        ("- 1", 63, false),
-    ] {
-        let found = expression_of(rt.alloc(), &enclosed(rt.alloc(), inner, pairs)?)?;
-        assert_eq!(rt; found.as_str() != "none", read, "{inner} in {pairs} pairs");
-    }
-    for (inner, pairs, read) in [
-        ("a = 1", 60, true),
-        ("a = 1", 62, true),
-        ("a = 1", 63, false),
-        ("a IS NOT NULL", 62, true),
-        ("EXISTS (SELECT * FROM t)", 63, true),
-        ("EXISTS (SELECT * FROM t)", 64, false),
-        ("EXISTS (SELECT * FROM t WHERE a = 1)", 61, true),
-        ("EXISTS (SELECT * FROM t WHERE a = 1)", 62, false),
-    ] {
-        let found = condition_of(rt.alloc(), &enclosed(rt.alloc(), inner, pairs)?)?;
-        assert_eq!(rt; found.as_str() != "none", read, "{inner} in {pairs} pairs");
-    }
-    for (more, read) in [(63, true), (64, false)] {
-        let mut chain = "1 ".repeat(rt.alloc(), 1)?;
-        chain.push_str(&"+ 1 ".repeat(rt.alloc(), more)?)?;
-        let found = expression_of(rt.alloc(), &chain)?;
-        assert_eq!(rt; found.as_str() != "none", read, "{more} further terms");
-    }
-    Ok(())
-}
-
-#[test]
-fn a_hundred_thousand_parentheses_are_refused(rt: HostRuntime) -> Result<(), Fail> {
-    let opened = "(".repeat(rt.alloc(), 100_000)?;
-    let expression = expression_of(rt.alloc(), &opened)?;
-    assert_eq!(rt; expression.as_str(), "none");
-    let condition = condition_of(rt.alloc(), &opened)?;
-    assert_eq!(rt; condition.as_str(), "none");
+fn laws_are_called(rt: HostRuntime) {
     expression_laws();
     condition_laws();
     from_laws();
-    Ok(())
 }

@@ -1,12 +1,11 @@
-//! Tests of the crates that read the grammar. A crate's own tests have the whole crate proved once more,
-//! and these crates take longest.
+//! Tests of what the readers of the grammar find, as far as no script shows it.
 #![tactic(auto)]
 
 #[cfg(test)]
 mod conditions;
 #[cfg(test)]
-mod scripts;
-#[cfg(test)]
 mod shown;
 #[cfg(test)]
-mod tables;
+mod texts;
+#[cfg(test)]
+mod triggers;

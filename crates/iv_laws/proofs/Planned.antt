@@ -2,7 +2,7 @@
 use Rattle.std.proofs.Common.{true, false, if◌then◌else◌, filter, ◌+◌, Bool, ◌≡◌, refl, ℕ, ◌-◌, ◌≤◌, true, not, ◌==◌, List, [], ◌∷◌, ◌++◌, length, length-append, find, Option, Some, None, is_some, unwrap_or, Result, Ok, Err, sym, ap, subst, ◌∙◌, arith}
 use Rattle.iv_expr.specs.Scopes.{no_frame}
 use Rattle.iv_syntax.specs.declared.statement.ConstraintMode.{ConstraintMode}
-use Rattle.iv_catalogue.specs.Catalogues.{NumbersRise, TriggersNumbered, Schema, with_table, with_constraint, with_trigger, without_trigger}
+use Rattle.iv_catalogue.specs.Catalogues.{AllOn, NumbersRise, TriggersNumbered, Schema, with_table, with_constraint, with_trigger, without_trigger}
 use Rattle.iv_catalogue.specs.declared.catalogue.Table.{Table}
 use Rattle.iv_catalogue.specs.declared.constraint.Constraint.{Constraint}
 use Rattle.iv_catalogue.specs.declared.cause.Cause.{Cause}
@@ -25,10 +25,9 @@ use Rattle.iv_machine.specs.Context.{Failure}
 use Rattle.iv_machine.specs.Databases.{scan, is_deferred, first}
 use Rattle.iv_machine.specs.Levels.{Finished, level}
 use Rattle.iv_machine.specs.Machine.{State, Outcome, NamedSavepoint, empty_state, accept, refuse, refuse_first, context_of, level_outcome, answer_outcome, rows_answer, count_answer, rollback_by, commit_by, first_violation, savepoint_named, without_name, release_outcome, rollback_to_outcome, is_deferrable, constraints_meant, with_modes, first_made_immediate, modes_outcome, set_constraints_outcome, with_schema, schema_outcome, query_outcome, transaction_outcome, plan_outcome, transaction_cause, plan_occasion, outcome_unless}
-use Rattle.iv_machine.specs.Fitting.{Upon}
 use Rattle.iv_machine.specs.Proposals.{table_of}
 use Rattle.iv_machine.proofs.Scans.{more_constraints}
-use Rattle.iv_laws.specs.Reached.{IsThere, BodyFits, AllOn, SchemaPlanFits, FitsSchema, planned, reached, AllFit, PlannedStatesAreSound}
+use Rattle.iv_laws.specs.Reached.{IsThere, BodyFits, SchemaPlanFits, FitsSchema, planned, reached, AllFit, PlannedStatesAreSound}
 use Rattle.iv_laws.proofs.Checking.{level_checks}
 use Rattle.iv_laws.proofs.FittingWaves.{level_numbers}
 use Rattle.iv_laws.proofs.PlacedRows.{Placed, placed_below, placed_more, level_places}
@@ -37,10 +36,6 @@ use Rattle.iv_laws.proofs.Scanning.{no_first, none_immediate, one_more}
 use Rattle.iv_laws.proofs.ReachedStates.{Faultless, without_firm, named_firm, Reachable, empty_reachable, outside_faultless, reachable_is_sound, schema_reachable, begun_reachable, ended_reachable, inside_reachable}
 
 -- ---- the schema
-
-upon_of : (n : ℕ) (ks : List Constraint) → AllOn n ks → Upon n ks
-upon_of n [] h = tt
-upon_of n (k ∷ ks) h = (h.0, upon_of n ks h.1)
 
 one_longer : {A : Type 0} (xs : List A) (x : A) → length xs ≤ length (xs ++ x ∷ [])
 one_longer xs x = omega (arith, length-append xs (x ∷ []))
@@ -52,7 +47,7 @@ table_reachable s t ks e on h =
     let longer = one_longer s.schema.tables t in
     schema_reachable s (with_table s.schema t ks) e (record {
       unviolated = more_constraints s.database.rows (λ _. true) (length s.schema.tables) s.schema.constraints ks
-          (placed_below (length s.schema.tables) s.database.rows free.placed) (upon_of (length s.schema.tables) ks on) ∙ free.unviolated;
+          (placed_below (length s.schema.tables) s.database.rows free.placed) on ∙ free.unviolated;
       numbered = free.numbered;
       placed = placed_more (length s.schema.tables) (length (s.schema.tables ++ t ∷ [])) s.database.rows longer free.placed;
     }) (triggers_fit_more s.schema (with_table s.schema t ks) s.schema.triggers longer h.bodies) h.triggers h

@@ -1,6 +1,6 @@
 -- The states that resolved statements reach, whatever constraints, modes, savepoints and triggers there are.
 use Rattle.std.specs.Prelude.{◌≡◌, ℕ, ◌<◌, List, [], ◌∷◌, length}
-use Rattle.iv_catalogue.specs.Catalogues.{Schema}
+use Rattle.iv_catalogue.specs.Catalogues.{AllOn, Schema}
 use Rattle.iv_catalogue.specs.declared.constraint.Constraint.{Constraint}
 use Rattle.iv_catalogue.specs.declared.plan.BodyStatement.{BodyStatement}
 use Rattle.iv_catalogue.specs.declared.plan.BodyStatement.TheVariants as body
@@ -22,10 +22,6 @@ abbrev pub BodyFits : Schema → List BodyStatement → Type 0
 BodyFits c [] = Unit {0}
 BodyFits c (body.Data statement ∷ rest) = IsThere c (table_of statement) × BodyFits c rest
 BodyFits c (_ ∷ rest) = BodyFits c rest
-
-abbrev pub AllOn : ℕ → List Constraint → Type 0
-AllOn table [] = Unit {0}
-AllOn table (k ∷ constraints) = (k.table ≡ table) × AllOn table constraints
 
 abbrev pub SchemaPlanFits : Schema → SchemaPlan → Type 0
 SchemaPlanFits c (schema.CreateTable table constraints) = AllOn (length c.tables) constraints

@@ -1,5 +1,5 @@
 -- What a resolved plan is like, as long as few statements are taken up.
-use Rattle.std.proofs.Common.{◌≡◌, ℕ, ◌+◌, ◌-◌, filter_map, option_map, ◌<◌, ◌≤◌, ◌||◌, nat_le, nat_lt, arith, Bool, true, false, if◌then◌else◌, ◌==◌, List, [], ◌∷◌, ◌∙◌, refl, ap, cond, length, map, Option, Some, None, is_some, slice_get, pos, ◌-ℤ◌, zero, suc, subst}
+use Rattle.std.proofs.Common.{◌≡◌, ℕ, ◌+◌, ◌-◌, filter_map, option_map, ◌<◌, ◌≤◌, ◌||◌, nat_le, nat_lt, arith, Bool, true, false, if◌then◌else◌, ◌==◌, List, [], ◌∷◌, ◌∙◌, refl, sym, ap, cond, length, map, Option, Some, None, is_some, slice_get, pos, ◌-ℤ◌, zero, suc, subst}
 use Rattle.iv_syntax.specs.declared.table.TableElement.{TableElement}
 use Rattle.iv_syntax.specs.declared.table.TableElement.TheVariants as element
 use Rattle.iv_syntax.specs.declared.statement.ValueOrDefault.{ValueOrDefault}
@@ -10,18 +10,19 @@ use Rattle.iv_syntax.specs.declared.statement.Select.{Select}
 use Rattle.iv_syntax.specs.declared.statement.Select.TheVariants as select
 use Rattle.iv_syntax.specs.declared.statement.Statement.{Statement}
 use Rattle.iv_syntax.specs.declared.statement.Statement.TheVariants as statement
-use Rattle.iv_catalogue.specs.Catalogues.{Schema}
+use Rattle.iv_catalogue.specs.Catalogues.{AllOn, Schema, has_table}
+use Rattle.iv_catalogue.specs.Names.{has_repeated}
 use Rattle.iv_catalogue.specs.declared.cause.Cause.{Cause}
 use Rattle.iv_catalogue.specs.declared.catalogue.Table.{Table}
 use Rattle.iv_catalogue.specs.declared.constraint.Constraint.{Constraint}
 use Rattle.std.proofs.lemmas.Bool.Decides.{nat_tests}
 use Rattle.iv_catalogue.specs.Refusals.{refused}
-use Rattle.iv_catalogue.specs.Resolution.{all_of, is_taken_up, resolution, resolution_by_kind, create_resolution, create_cause, is_plain_time, check_of, name_or_generated, rule_meaning, constraint_of, constraints_from, constraints_of, is_plain_column, column_in, columns_of, table_plan, plan_or_fault, insertion_plan, insert_into, insert_plan, insert_tuples, insert_resolution, is_plain_select, plain_select_plan, select_resolution, select_plan, table_named, literal_meaning, literal_value, signed_number, integer_literal, column_names, is_beyond_limits, has_unknown, has_duplicate}
+use Rattle.iv_catalogue.specs.Resolution.{all_of, is_taken_up, resolution, resolution_by_kind, create_resolution, create_cause, is_plain_time, check_of, name_or_generated, rule_meaning, constraint_names, constraint_of, constraints_from, constraints_of, is_plain_column, column_in, columns_of, table_plan, plan_or_fault, insertion_plan, insert_into, insert_plan, insert_tuples, insert_resolution, is_plain_select, plain_select_plan, select_resolution, select_plan, table_named, literal_meaning, literal_value, signed_number, integer_literal, column_names, is_beyond_limits, has_unknown, has_duplicate}
 use Rattle.iv_catalogue.specs.declared.limits.TheConstants.{GREATEST_INTEGER, MOST_COLUMNS, MOST_CONSTRAINTS, MOST_TABLES}
 use Rattle.iv_syntax.specs.declared.table.TableConstraint.{TableConstraint}
 use Rattle.iv_value.specs.declared.value.Kind.TheVariants.{Integer}
 use Rattle.iv_expr.specs.declared.tree.Expr.{Expr}
-use Rattle.iv_machine.specs.Fitting.{is_integer_or_null, AllPlain, literals, Upon, AnswerFits}
+use Rattle.iv_machine.specs.Fitting.{is_integer_or_null, AllPlain, literals, AnswerFits}
 use Rattle.iv_catalogue.specs.declared.cause.Cause.TheVariants.{Unknown, Duplicate, SchemaFault, WrongShape, Limit}
 use Rattle.iv_value.specs.declared.value.Value.{Value}
 use Rattle.iv_value.specs.declared.value.Value.TheVariants.{Null, Int}
@@ -39,48 +40,61 @@ use Rattle.iv_machine.specs.Invariants.{is_check, AllChecks, AllIntegers, Tables
 
 -- ---- what the lists of meanings are like, where all are there
 
--- constraints of this table, each a CHECK, and so many
-pub record ChecksOf (n count : ℕ) (ks : List Constraint) : Type 0 where
-  pub own : Upon n ks
+-- constraints of this table, each a CHECK, so many and of these names
+pub record ChecksOf (n count : ℕ) (titles : List (List ℕ)) (ks : List Constraint) : Type 0 where
+  pub own : AllOn n ks
   pub checks : AllChecks ks
   pub many : length ks ≡ count
+  pub named : map (λ k. k.name) ks ≡ titles
 
-abbrev ChecksIf : ℕ → ℕ → Option (List Constraint) → Type 0
-ChecksIf n count None = Unit {0}
-ChecksIf n count (Some ks) = ChecksOf n count ks
+abbrev ChecksIf : ℕ → ℕ → List (List ℕ) → Option (List Constraint) → Type 0
+ChecksIf n count titles None = Unit {0}
+ChecksIf n count titles (Some ks) = ChecksOf n count titles ks
 
-abbrev CheckIf : ℕ → Option Constraint → Type 0
-CheckIf n None = Unit {0}
-CheckIf n (Some k) = (k.table ≡ n) × (is_check k.rule ≡ true)
+abbrev CheckIf : ℕ → List ℕ → Option Constraint → Type 0
+CheckIf n title None = Unit {0}
+CheckIf n title (Some k) = (k.table ≡ n) × (is_check k.rule ≡ true) × (k.name ≡ title)
 
-check_if : (n : ℕ) (name : List ℕ) (names : List (List ℕ)) (place : ℕ) (k : TableConstraint) → CheckIf n (constraint_of n name names place k)
+check_if : (n : ℕ) (name : List ℕ) (names : List (List ℕ)) (place : ℕ) (k : TableConstraint)
+    → CheckIf n (name_or_generated name place k.name) (constraint_of n name names place k)
 check_if n name names place k =
-    elim (is_plain_time k.time) as (λ b. CheckIf n (if b then option_map (check_of n (name_or_generated name place k.name) k.time) (rule_meaning names k.rule) else None)) [
-      | true ↦ elim (rule_meaning names k.rule) as (λ o. CheckIf n (option_map (check_of n (name_or_generated name place k.name) k.time) o)) [ Some condition ↦ (refl, refl) | None ↦ tt ]
+    elim (is_plain_time k.time) as (λ b. CheckIf n (name_or_generated name place k.name) (if b then option_map (check_of n (name_or_generated name place k.name) k.time) (rule_meaning names k.rule) else None)) [
+      | true ↦ elim (rule_meaning names k.rule) as (λ o. CheckIf n (name_or_generated name place k.name) (option_map (check_of n (name_or_generated name place k.name) k.time) o)) [ Some condition ↦ (refl, refl, refl) | None ↦ tt ]
       | false ↦ tt
     ]
 
-one_more_check : (n count : ℕ) (k : Option Constraint) (rest : List (Option Constraint)) → CheckIf n k → ChecksIf n count (all_of rest) → ChecksIf n (count + 1) (all_of (k ∷ rest))
-one_more_check n count None rest h hs = tt
-one_more_check n count (Some k) rest h hs =
-    elim (all_of rest) as (λ o. ChecksIf n count o → ChecksIf n (count + 1) (option_map (λ ks. k ∷ ks) o)) [
-      | Some ks ↦ λ all. record { own = (h.0, all.own); checks = (h.1, all.checks); many = omega (arith, all.many) }
+one_more_check : (n count : ℕ) (title : List ℕ) (titles : List (List ℕ)) (k : Option Constraint) (rest : List (Option Constraint)) → CheckIf n title k
+    → ChecksIf n count titles (all_of rest) → ChecksIf n (count + 1) (title ∷ titles) (all_of (k ∷ rest))
+one_more_check n count title titles None rest h hs = tt
+one_more_check n count title titles (Some k) rest h hs =
+    elim (all_of rest) as (λ o. ChecksIf n count titles o → ChecksIf n (count + 1) (title ∷ titles) (option_map (λ ks. k ∷ ks) o)) [
+      | Some ks ↦ λ all. record {
+        own = (h.0, all.own);
+        checks = (h.1, all.checks);
+        many = omega (arith, all.many);
+        named = ap (λ name. name ∷ map (λ k. k.name) ks) h.2 ∙ ap (λ names. title ∷ names) all.named;
+      }
       | None ↦ λ all. tt
     ] hs
 
 -- the table's constraints; elements are columns and constraints
 checks_from : (n : ℕ) (name : List ℕ) (names : List (List ℕ)) (place : ℕ) (elements : List TableElement)
-    → ChecksIf n (length elements - length (column_names elements)) (all_of (constraints_from n name names place elements)) × (length (column_names elements) ≤ length elements)
-checks_from n name names place [] = (record { own = tt; checks = tt; many = refl }, omega arith)
+    → ChecksIf n (length elements - length (column_names elements)) (constraint_names name place elements) (all_of (constraints_from n name names place elements))
+    × (length (column_names elements) ≤ length elements)
+checks_from n name names place [] = (record { own = tt; checks = tt; many = refl; named = refl }, omega arith)
 checks_from n name names place (element.Column c ∷ elements) =
     let rest = checks_from n name names place elements in
-    let same : length elements - length (column_names elements) ≡ suc (length elements) - suc (length (column_names elements)) = omega arith in
-    (subst (λ count. ChecksIf n count (all_of (constraints_from n name names place elements))) same rest.0, omega (arith, rest.1))
+    let same : length elements - length (column_names elements) ≡ suc (length elements) - suc (length (column_names elements)) = omega arith in (
+      subst (λ count. ChecksIf n count (constraint_names name place elements) (all_of (constraints_from n name names place elements))) same rest.0,
+      omega (arith, rest.1),
+    )
 checks_from n name names place (element.Constraint k ∷ elements) =
     let rest = checks_from n name names (place + 1) elements in
+    let titles = constraint_names name (place + 1) elements in
+    let title = name_or_generated name place k.name in
     let same : length elements - length (column_names elements) + 1 ≡ suc (length elements) - length (column_names elements) = omega (arith, rest.1) in (
-      subst (λ count. ChecksIf n count (all_of (constraint_of n name names place k ∷ constraints_from n name names (place + 1) elements))) same
-          (one_more_check n (length elements - length (column_names elements)) (constraint_of n name names place k) (constraints_from n name names (place + 1) elements)
+      subst (λ count. ChecksIf n count (title ∷ titles) (all_of (constraint_of n name names place k ∷ constraints_from n name names (place + 1) elements))) same
+          (one_more_check n (length elements - length (column_names elements)) title titles (constraint_of n name names place k) (constraints_from n name names (place + 1) elements)
           (check_if n name names place k) rest.0),
       omega (arith, rest.1),
     )
@@ -130,26 +144,45 @@ no_limit : (c : Schema) (name : List ℕ) (elements : List TableElement) → cre
 no_limit c name elements h =
     last_test (has_unknown elements) (has_duplicate c name elements) (length (column_names elements) == 0) (is_beyond_limits c elements) Unknown Duplicate SchemaFault Limit h
 
-plan_fits : (s : State) (name : List ℕ) (count : ℕ) (cs : Option (List Column)) (ks : Option (List Constraint)) → s.start ≡ None → length s.schema.tables < MOST_TABLES → count ≤ MOST_CONSTRAINTS
-    → IntegersIf cs → ChecksIf (length s.schema.tables) count ks → AnswerFits s (plan_or_fault (table_plan name cs ks))
-plan_fits s name count (Some cs) (Some ks) o room few integers checks = record {
+second_test : (a b : Bool) (p q : Cause) (rest : Option Cause) → cond a (Some p) (cond b (Some q) rest) ≡ None → b ≡ false
+second_test true b p q rest h = cc
+second_test false true p q rest h = cc
+second_test false false p q rest h = refl
+
+-- no name is in use or comes twice
+free_names : (c : Schema) (name : List ℕ) (elements : List TableElement) → create_cause c name elements ≡ None
+    → (has_table c name ≡ false) × (has_repeated (map (λ k. k.name) c.constraints) (constraint_names name 1 elements) ≡ false)
+free_names c name elements h =
+    let no_duplicate : has_duplicate c name elements ≡ false = second_test (has_unknown elements) (has_duplicate c name elements) Unknown Duplicate _ h in
+    let parts = neither (has_table c name || has_repeated [] (column_names elements)) (has_repeated (map (λ k. k.name) c.constraints) (constraint_names name 1 elements)) no_duplicate in
+    ((neither (has_table c name) (has_repeated [] (column_names elements)) parts.0).0, parts.1)
+
+plan_fits : (s : State) (name : List ℕ) (count : ℕ) (titles : List (List ℕ)) (cs : Option (List Column)) (ks : Option (List Constraint)) → s.start ≡ None
+    → length s.schema.tables < MOST_TABLES → count ≤ MOST_CONSTRAINTS → has_table s.schema name ≡ false
+    → has_repeated (map (λ k. k.name) s.schema.constraints) titles ≡ false → IntegersIf cs → ChecksIf (length s.schema.tables) count titles ks
+    → AnswerFits s (plan_or_fault (table_plan name cs ks))
+plan_fits s name count titles (Some cs) (Some ks) o room few free names integers checks = record {
   outside = o;
   room = room;
   few = omega (arith, few, checks.many);
   own = checks.own;
+  free = free;
+  names = subst (λ l. has_repeated (map (λ k. k.name) s.schema.constraints) l ≡ false) (sym checks.named) names;
   checks = checks.checks;
   integers = integers;
 }
-plan_fits s name count None ks o room few integers checks = tt
-plan_fits s name count (Some cs) None o room few integers checks = tt
+plan_fits s name count titles None ks o room few free names integers checks = tt
+plan_fits s name count titles (Some cs) None o room few free names integers checks = tt
 
 create_fits : (s : State) (name : List ℕ) (elements : List TableElement) (cause : Option Cause) → s.start ≡ None → create_cause s.schema name elements ≡ cause
     → AnswerFits s (create_resolution s.schema name elements cause)
 create_fits s name elements (Some cause) o e = tt
 create_fits s name elements None o e =
     let few = within_limits s.schema elements (no_limit s.schema name elements e) in
-    plan_fits s name (length elements - length (column_names elements)) (columns_of elements) (constraints_of (length s.schema.tables) name elements) o few.0 few.1
-    (integers_from elements) (checks_from (length s.schema.tables) name (column_names elements) 1 elements).0
+    let free = free_names s.schema name elements e in
+    plan_fits s name (length elements - length (column_names elements)) (constraint_names name 1 elements) (columns_of elements)
+    (constraints_of (length s.schema.tables) name elements) o few.0 few.1 free.0 free.1 (integers_from elements)
+    (checks_from (length s.schema.tables) name (column_names elements) 1 elements).0
 
 -- ---- INSERT
 

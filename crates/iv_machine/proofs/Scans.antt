@@ -7,7 +7,7 @@ use Rattle.iv_catalogue.specs.declared.constraint.Rule.{Rule}
 use Rattle.iv_catalogue.specs.declared.constraint.Rule.TheVariants as rule
 use Rattle.iv_catalogue.specs.declared.cause.Fault.{Fault}
 use Rattle.iv_expr.specs.declared.row.StoredRow.{StoredRow}
-use Rattle.iv_machine.specs.Fitting.{Upon}
+use Rattle.iv_catalogue.specs.Catalogues.{AllOn}
 use Rattle.iv_machine.specs.Invariants.{Below, is_check, AllChecks}
 use Rattle.iv_machine.specs.Databases.{obeys, satisfies, violates, fault_at, violations, chosen_violations, scan}
 
@@ -118,18 +118,18 @@ nothing_violates all n (r ∷ rows) c b e =
     ap (λ t. cond (t && not (satisfies all c r)) (r ∷ filter (violates all c) rows) (filter (violates all c) rows)) (other_table r c n b.0 e)
     ∙ nothing_violates all n rows c b.1 e
 
-upon_none : (rows : List StoredRow) (chosen : ℕ → Bool) (n id : ℕ) (cs : List Constraint) → Below n rows → Upon n cs → scan_from rows chosen id cs ≡ []
+upon_none : (rows : List StoredRow) (chosen : ℕ → Bool) (n id : ℕ) (cs : List Constraint) → Below n rows → AllOn n cs → scan_from rows chosen id cs ≡ []
 upon_none rows chosen n id [] b u = refl
 upon_none rows chosen n id (c ∷ cs) b u =
     both_empty (chosen_violations rows chosen id c) (scan_from rows chosen (id + 1) cs)
     (chosen_of_none rows chosen id c (ap (map (fault_at id)) (nothing_violates rows n rows c b u.0)))
     (upon_none rows chosen n (id + 1) cs b u.1)
 
-more_constraints_from : (rows : List StoredRow) (chosen : ℕ → Bool) (n id : ℕ) (cs ks : List Constraint) → Below n rows → Upon n ks
+more_constraints_from : (rows : List StoredRow) (chosen : ℕ → Bool) (n id : ℕ) (cs ks : List Constraint) → Below n rows → AllOn n ks
     → scan_from rows chosen id (cs ++ ks) ≡ scan_from rows chosen id cs
 more_constraints_from rows chosen n id [] ks b u = upon_none rows chosen n id ks b u
 more_constraints_from rows chosen n id (c ∷ cs) ks b u = ap (λ l. chosen_violations rows chosen id c ++ l) (more_constraints_from rows chosen n (id + 1) cs ks b u)
 
 -- constraints of a table that has no rows add nothing to a scan
-pub more_constraints : (rows : List StoredRow) (chosen : ℕ → Bool) (n : ℕ) (cs ks : List Constraint) → Below n rows → Upon n ks → scan rows (cs ++ ks) chosen ≡ scan rows cs chosen
+pub more_constraints : (rows : List StoredRow) (chosen : ℕ → Bool) (n : ℕ) (cs ks : List Constraint) → Below n rows → AllOn n ks → scan rows (cs ++ ks) chosen ≡ scan rows cs chosen
 more_constraints rows chosen n cs ks b u = more_constraints_from rows chosen n 0 cs ks b u

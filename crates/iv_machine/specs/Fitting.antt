@@ -7,7 +7,8 @@ use Rattle.iv_expr.specs.declared.tree.Expr.{Expr}
 use Rattle.iv_expr.specs.declared.tree.Expr.TheVariants.{Literal}
 use Rattle.iv_expr.specs.declared.tree.Cond.{Cond}
 use Rattle.iv_expr.specs.declared.tree.Cond.TheVariants.{Always}
-use Rattle.iv_catalogue.specs.Catalogues.{Schema}
+use Rattle.iv_catalogue.specs.Catalogues.{AllOn, Schema, has_table}
+use Rattle.iv_catalogue.specs.Names.{has_repeated}
 use Rattle.iv_catalogue.specs.declared.limits.TheConstants.{MOST_CONSTRAINTS, MOST_TABLES}
 use Rattle.iv_catalogue.specs.declared.catalogue.Table.{Table}
 use Rattle.iv_catalogue.specs.declared.cause.Refusal.{Refusal}
@@ -53,11 +54,6 @@ pub record TupleSuits (c : Schema) (t : ℕ) (values : List Value) : Type 0 wher
 abbrev pub insert_one : ℕ → List Value → DataStatement
 insert_one t values = Insert t columns.All (rows.Values (literals values ∷ []))
 
--- all constraints are of this table
-abbrev pub Upon : ℕ → List Constraint → Type 0
-Upon n [] = Unit {0}
-Upon n (c ∷ cs) = (c.table ≡ n) × Upon n cs
-
 -- an INSERT of one tuple of integers and nulls, which suits its table
 abbrev pub ChangeFits : Schema → DataStatement → Type 0
 ChangeFits c (Insert t columns.All (rows.Values (tuple ∷ []))) = (values : List Value) × (tuple ≡ literals values) × TupleSuits c t values
@@ -68,12 +64,14 @@ abbrev pub SelectFits : Outputs → Cond → Type 0
 SelectFits Star Always = Unit {0}
 SelectFits _ _ = ⊥
 
--- there is room for a new table, its constraints are its own, and no transaction is open
+-- there is room for a new table, its constraints are its own, no name is in use, and no transaction is open
 pub record TableFits (s : State) (table : Table) (constraints : List Constraint) : Type 0 where
   pub outside : s.start ≡ None
   pub room : length s.schema.tables < MOST_TABLES
   pub few : length constraints ≤ MOST_CONSTRAINTS
-  pub own : Upon (length s.schema.tables) constraints
+  pub own : AllOn (length s.schema.tables) constraints
+  pub free : has_table s.schema table.name ≡ false
+  pub names : has_repeated (map (λ k. k.name) s.schema.constraints) (map (λ k. k.name) constraints) ≡ false
   pub checks : AllChecks constraints
   pub integers : AllIntegers table.columns
 

@@ -10,6 +10,7 @@ use Rattle.iv_syntax.specs.declared.tree.Condition.{Condition}
 use Rattle.iv_syntax.specs.declared.tree.Condition.TheVariants.{Compare, IsNull, IsNotNull, Exists}
 use Rattle.iv_parse_terms.specs.Trees.{enclosed, negated, both, either, exists_where}
 use Rattle.iv_parse_terms.specs.After.{after, after_name}
+pub use Rattle.iv_syntax.specs.Trees.{condition_depth}
 use Rattle.iv_parse_terms.specs.Expressions.{spelling, depth, Formed, expression, EndsExpression}
 
 abbrev pub comparison_kind : Comparison → Kind
@@ -49,19 +50,6 @@ Spelled (both a b) ws =
     (left : List Word) × (right : List Word) × Spelled a left × Spelled b right × (ws ≡ left ++ plain kind.And ∷ right)
 Spelled (either a b) ws =
     (left : List Word) × (right : List Word) × Spelled a left × Spelled b right × (ws ≡ left ++ plain kind.Or ∷ right)
-
--- Each predicate, NOT, AND, OR and pair of parentheses has one more than the deepest part. EXISTS has one more than its condition,
--- and 1 without one: its own parentheses and its SELECT don't count. IS NOT NULL is one predicate.
-abbrev pub condition_depth : Condition → ℕ
-condition_depth (Compare o a b) = 1 + max (depth a) (depth b)
-condition_depth (IsNull a) = 1 + depth a
-condition_depth (IsNotNull a) = 1 + depth a
-condition_depth (Exists r) = 1
-condition_depth (exists_where r a) = 1 + condition_depth a
-condition_depth (enclosed a) = 1 + condition_depth a
-condition_depth (negated a) = 1 + condition_depth a
-condition_depth (both a b) = 1 + max (condition_depth a) (condition_depth b)
-condition_depth (either a b) = 1 + max (condition_depth a) (condition_depth b)
 
 -- The rules: a condition is a conjunction, or a condition, OR and a conjunction; a conjunction is a negation, or a conjunction, AND and a
 -- negation; a negation is a test, or NOT and a test; a test is a predicate or a condition in parentheses.

@@ -8,6 +8,7 @@ use Rattle.iv_syntax.specs.declared.tree.Sign.TheVariants as sign
 use Rattle.iv_syntax.specs.declared.tree.Expression.{Expression}
 use Rattle.iv_syntax.specs.declared.tree.Expression.TheVariants.{Number, Text, Null, Column}
 use Rattle.iv_parse_terms.specs.Trees.{group, signed, product, sum}
+pub use Rattle.iv_syntax.specs.Trees.{depth}
 use Rattle.iv_parse_terms.specs.After.{after}
 
 abbrev pub sign_kind : Sign → Kind
@@ -29,14 +30,6 @@ spelling (group a) = plain kind.LeftParenthesis ∷ (spelling a ++ plain kind.Ri
 spelling (signed s a) = plain (sign_kind s) ∷ spelling a
 spelling (product a b) = spelling a ++ plain kind.Asterisk ∷ spelling b
 spelling (sum s a b) = spelling a ++ plain (sign_kind s) ∷ spelling b
-
--- a number, a text, NULL and a column have 1; what stands above others has one more than the deepest of them
-abbrev pub depth : Expression → ℕ
-depth (group a) = 1 + depth a
-depth (signed s a) = 1 + depth a
-depth (product a b) = 1 + max (depth a) (depth b)
-depth (sum s a b) = 1 + max (depth a) (depth b)
-depth _ = 1
 
 -- The rules: an expression is a term, or an expression, a sign and a term; a term is a factor, or a term, * and a factor;
 -- a factor is a primary, or a sign and a primary; a primary is a number, a text, NULL, a column or an expression in parentheses.

@@ -3,34 +3,40 @@ use Rattle.std.proofs.Common.{◌≡◌, ℕ, ◌-◌, List, [], ◌∷◌, ◌+
 use Rattle.std.proofs.lemmas.List.{take_rest}
 use Rattle.std.specs.Io.KnownBytes.{Appends}
 use Rattle.std.proofs.KnownBytes.{Appends-trans, Appends-nil}
-use Rattle.iv_print.specs.Sinks.{SinkState}
+use Rattle.iv_print.specs.Sinks.{SinkState, FailsOnce, FailsNever}
 use Rattle.iv_print.specs.Counts.{counted}
 use Rattle.iv_print.specs.declared.device.DeviceFault.{DeviceFault}
 use Rattle.iv_print.specs.Writing.{Writes}
 
+pub never_then : (a b c : SinkState) → FailsNever a b → FailsNever b c → FailsNever a c
+never_then a b c p q = (q.0 ∙ p.0, q.1 ∙ p.1)
+
+pub fails_then : (a b c : SinkState) → FailsNever a b → FailsOnce b c → FailsOnce a c
+fails_then a b c p q = (q.0 ∙ ap (λ k. counted k 1) p.0, q.1 ∙ p.1)
+
 pub writes_then : (a b c : SinkState) (r : Result (Unit {0}) DeviceFault) (bs cs : List ℕ)
     → Writes a b (Ok tt) bs → Writes b c r cs → Writes a c r (bs ++ cs)
 writes_then a b c (Ok u) bs cs p q =
-    (Appends-trans a.contents b.contents c.contents bs cs p.0 q.0, q.1 ∙ p.1)
-writes_then a b c (Err e) bs cs p q = q ∙ ap (λ k. counted k 1) p.1
+    (Appends-trans a.contents b.contents c.contents bs cs p.0 q.0, never_then a b c p.1 q.1)
+writes_then a b c (Err e) bs cs p q = fails_then a b c p.1 q
 
 -- some of the bytes were written, and these are left
 pub record Wrote (bytes rest : List ℕ) (old new : SinkState) : Type 0 where
   pub written : List ℕ
   pub whole : written ++ rest ≡ bytes
   pub appended : Appends old.contents new.contents written
-  pub works : new.failed ≡ old.failed
+  pub works : FailsNever old new
 
 pub wrote_start : (bytes : List ℕ) (a : SinkState) → Wrote bytes bytes a a
 wrote_start bytes a = record {
   written = [];
   whole = refl;
   appended = Appends-nil a.contents;
-  works = refl;
+  works = (refl, refl);
 }
 
 pub wrote_more : (bytes rest : List ℕ) (a b c : SinkState) (k : ℕ) → Wrote bytes rest a b
-    → Appends b.contents c.contents (take k rest) → c.failed ≡ b.failed
+    → Appends b.contents c.contents (take k rest) → FailsNever b c
     → Wrote bytes (take (length rest - k) (drop k rest)) a c
 wrote_more bytes rest a b c k w p e = record {
   written = w.written ++ take k rest;
@@ -38,7 +44,7 @@ wrote_more bytes rest a b c k w p e = record {
       ∙ ap (λ l. w.written ++ (take k rest ++ l)) (take_rest rest k)
       ∙ ap (λ l. w.written ++ l) (take-append-drop k rest) ∙ w.whole;
   appended = Appends-trans a.contents b.contents c.contents w.written (take k rest) w.appended p;
-  works = e ∙ w.works;
+  works = never_then a b c w.works e;
 }
 
 pub wrote_end : (bytes rest : List ℕ) (a b : SinkState) → Wrote bytes rest a b → length rest ≡ 0
@@ -53,7 +59,7 @@ wrote_step bytes xs rest all a b c w e p = record {
   written = w.written ++ xs;
   whole = append_assoc w.written xs rest ∙ ap (λ l. w.written ++ l) (sym e) ∙ w.whole;
   appended = Appends-trans a.contents b.contents c.contents w.written xs w.appended p.0;
-  works = p.1 ∙ w.works;
+  works = never_then a b c w.works p.1;
 }
 
 pub wrote_all : (bytes rest : List ℕ) (a b : SinkState) → Wrote bytes rest a b → rest ≡ []

@@ -5,7 +5,7 @@ use Rattle.std.specs.Prelude.{ℕ, ◌+◌, ◌-◌, ◌^◌, min, ◌==◌, ◌
 abbrev pub counted : ℕ → ℕ → ℕ
 counted count more = min (count + more) (2 ^ 64 - 1)
 
--- how many reads have told the end, after one into this much room that gave so many bytes: none
+-- how many reads have reported the end, after one into this much room that gave so many bytes: none
 -- into some room is the end
 abbrev pub ends_after : ℕ → ℕ → ℕ → ℕ
 ends_after ends room given = if (given == 0) && nat_lt 0 room then counted ends 1 else ends

@@ -18,6 +18,6 @@ given_count device = device.given
 abbrev pub asked_count : {T : Type 0} → Std T → ℕ
 asked_count device = device.asked
 
--- how many of its reads have told the end
+-- how many of its reads have reported the end
 abbrev pub ends_count : {T : Type 0} → Std T → ℕ
 ends_count device = device.ends

@@ -1,5 +1,6 @@
 pub mod Counts
 pub mod Sinks
 pub mod Devices
+pub mod Buffering
 pub mod Writing
 pub mod Lines

@@ -23,7 +23,7 @@ value_text Null = codes "NULL"
 value_text (Int z) = signed_decimal z
 value_text (Text t) = codes "'" ++ (flat_map quote_doubled t ++ codes "'")
 
--- a value behind another
+-- a value after another
 abbrev pub further_text : Value → List ℕ
 further_text v = codes ", " ++ value_text v
 

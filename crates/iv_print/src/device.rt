@@ -23,7 +23,7 @@ pub trait Source {
     // up to which byte calls have asked
     ghost asked: { Self → ℕ };
 
-    // how many calls have told the end
+    // how many calls have reported the end
     ghost ends: { Self → ℕ };
 
     // the bytes that reads will give from here on, where they are known

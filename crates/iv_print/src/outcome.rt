@@ -64,7 +64,7 @@ fn write_further<W: Sink>(sink: &mut W, value: &Value) -> Result<(), DeviceFault
     write_value(sink, value)
 }
 
-// Values, each behind another.
+// Further values, each with its comma.
 fn write_more<W: Sink>(sink: &mut W, values: &[Value]) -> Result<(), DeviceFault>
     ensures { Writes (W.state sink.old) (W.state sink.new) result
         (flat_map further_text values.now) }

@@ -11,8 +11,9 @@ use Rattle.iv_catalogue.specs.declared.cause.Refusal.{Refusal}
 use Rattle.iv_machine.specs.declared.answer.Answer.{Answer}
 use Rattle.iv_machine.specs.Machine.{State, Outcome, step, Executes}
 use Rattle.iv_print.specs.Lines.{line}
-use Rattle.iv_print.specs.Sinks.{SinkState}
+use Rattle.iv_print.specs.Sinks.{SinkState, FailsNever}
 use Rattle.iv_print.specs.Writing.{Writes}
+use Rattle.iv_print.proofs.WriteLemmas.{never_then}
 use Rattle.iv_script.specs.declared.statements.Tally.{Tally}
 use Rattle.iv_script.specs.Transcript.{Ran, following, outcome, lines, accepted_of, refused_of, run_from, starved_count}
 use Rattle.iv_script.specs.Running.{RanOne, RanAll}
@@ -119,7 +120,7 @@ pub record Onward (old now : State) (all rest : List Statement) (n : ℕ) (tally
   pub starved_is : starved_count starves ≡ tally.starved
   pub appended : Appends before.contents after.contents written
   pub onward : (more : List Bool) → run_from old 0 all (starves ++ more) ≡ following written tally.accepted tally.refused (run_from now n rest more)
-  pub works : after.failed ≡ before.failed
+  pub works : FailsNever before after
 
 pub onward_start : (s : State) (all : List Statement) (tally : Tally) (a : SinkState) → tally.accepted ≡ 0 → tally.refused ≡ 0 → tally.starved ≡ 0 → Onward s s all all 0 tally a a
 onward_start s all tally a p q z = record {
@@ -129,7 +130,7 @@ onward_start s all tally a p q z = record {
   starved_is = sym z;
   appended = Appends-nil a.contents;
   onward = λ more. rw (p, q) (following_none (run_from s 0 all more));
-  works = refl;
+  works = (refl, refl);
 }
 
 pub onward_more : (old now new : State) (all left rest : List Statement) (st : Statement) (n : ℕ) (t u : Tally) (a before after : SinkState)
@@ -150,7 +151,7 @@ onward_more old now new all left rest st n t u a before after w e r =
           ∙ ap (λ z. following (w.written ++ lines (n + 1) o) z (t.refused + refused_of o.answer) (run_from o.state (n + 1) rest more)) (sym r.accepted_is)
           ∙ ap (λ z. following (w.written ++ lines (n + 1) o) u.accepted z (run_from o.state (n + 1) rest more)) (sym r.refused_is)
           ∙ ap (λ s. following (w.written ++ lines (n + 1) o) u.accepted u.refused (run_from s (n + 1) rest more)) (sym r.state_is);
-      works = r.works ∙ w.works;
+      works = never_then a before after w.works r.works;
     }
 
 pub onward_end : (old now : State) (all rest : List Statement) (n : ℕ) (t : Tally) (a b : SinkState) → Onward old now all rest n t a b → rest ≡ [] → n ≡ length all → RanAll old now all t a b

@@ -8,6 +8,7 @@ use Rattle.iv_machine.specs.Bounds.{Bounds}
 use Rattle.iv_machine.specs.Machine.{State, empty_state, step}
 use Rattle.iv_print.specs.Sinks.{SinkState}
 use Rattle.iv_print.specs.Writing.{Writes}
+use Rattle.iv_print.proofs.WriteLemmas.{never_then}
 use Rattle.iv_parse.specs.declared.parser.SyntaxFault.{SyntaxFault}
 use Rattle.iv_script.specs.declared.statements.Tally.{Tally}
 use Rattle.iv_script.specs.declared.summary.Summary.{Summary}
@@ -26,7 +27,7 @@ ran_parsed old new sts fault tally b0 b1 b2 b3 r p q = record {
   appended = Appends-trans b0.contents b1.contents b3.contents _ _ r.appended
       (Appends-trans b1.contents b2.contents b3.contents (fault_line (length sts) fault) _ p.0
       (subst (λ s. Appends b2.contents b3.contents (end_line (is_some s.start))) r.state_is q.0));
-  works = q.1 ∙ p.1 ∙ r.works;
+  works = never_then b0 b1 b3 r.works (never_then b1 b2 b3 p.1 q.1);
 }
 
 -- the summary of a run with this tally, over a script with this fault

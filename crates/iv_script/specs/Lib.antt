@@ -1,3 +1,4 @@
 pub mod Lengths
 pub mod Transcript
 pub mod Running
+pub mod RunFaults

@@ -3,7 +3,7 @@ use Rattle.std.specs.Prelude.{◌≡◌, ℕ, ◌+◌, Bool, if◌then◌else◌
 use Rattle.std.specs.Io.KnownBytes.{Appends}
 use Rattle.iv_syntax.specs.declared.statement.Statement.{Statement}
 use Rattle.iv_machine.specs.Machine.{State}
-use Rattle.iv_print.specs.Sinks.{SinkState}
+use Rattle.iv_print.specs.Sinks.{SinkState, FailsNever}
 use Rattle.iv_script.specs.declared.statements.Tally.{Tally}
 use Rattle.iv_script.specs.Transcript.{outcome, lines, accepted_of, refused_of, run_from, starved_count, closing_lines}
 
@@ -17,9 +17,9 @@ pub record RanOne (n : ℕ) (old new : State) (st : Statement) (tally tally_then
   pub refused_is : tally_then.refused ≡ tally.refused + refused_of (outcome starves old st).answer
   pub starved_is : tally_then.starved ≡ tally.starved + (if starves then 1 else 0)
   pub appended : Appends before.contents after.contents (lines n (outcome starves old st))
-  pub works : after.failed ≡ before.failed
+  pub works : FailsNever before after
 
--- all statements ran; for each it is chosen whether it wanted memory
+-- all statements ran; for each it is chosen whether it was refused memory
 pub record RanAll (old new : State) (sts : List Statement) (tally : Tally)
     (before after : SinkState) : Type 0 where
   pub starves : List Bool
@@ -29,7 +29,7 @@ pub record RanAll (old new : State) (sts : List Statement) (tally : Tally)
   pub refused_is : (run_from old 0 sts starves).refused ≡ tally.refused
   pub state_is : new ≡ (run_from old 0 sts starves).state
   pub appended : Appends before.contents after.contents (run_from old 0 sts starves).text
-  pub works : after.failed ≡ before.failed
+  pub works : FailsNever before after
 
 -- the statements ran, and the lines of the script's end were written
 pub record RanParsed (old : State) (sts : List Statement) (fault : Option ℕ) (tally : Tally)
@@ -42,4 +42,4 @@ pub record RanParsed (old : State) (sts : List Statement) (fault : Option ℕ) (
   pub appended : Appends before.contents after.contents
       ((run_from old 0 sts starves).text
       ++ closing_lines (length sts) fault (run_from old 0 sts starves).state)
-  pub works : after.failed ≡ before.failed
+  pub works : FailsNever before after

@@ -37,16 +37,16 @@ abbrev pub refused_of : Result Answer Refusal → ℕ
 refused_of (Ok a) = 0
 refused_of (Err r) = 1
 
--- what a statement does: the machine's step, or a want of memory, which leaves the state
+-- what a statement does: the machine's step, or cause 22, which leaves the state
 abbrev pub outcome : Bool → State → Statement → Outcome
 outcome true s st = refuse s OutOfMemory
 outcome false s st = step s st
 
--- the lines of a statement's outcome, with the catalogue as it stands directly after it
+-- the lines of a statement's outcome, with the catalogue as it is directly after it
 abbrev pub lines : ℕ → Outcome → List ℕ
 lines n o = line n o.answer o.state.schema
 
--- whether the first statement wants memory, where none is named
+-- whether the first statement is refused memory; not where the list is empty
 abbrev pub first_starves : List Bool → Bool
 first_starves [] = false
 first_starves (b ∷ bs) = b
@@ -55,7 +55,7 @@ abbrev pub later_starve : List Bool → List Bool
 later_starve [] = []
 later_starve (b ∷ bs) = bs
 
--- The run of statements after the n-th, where the list says which of them want memory.
+-- The run of statements after the n-th, where the list says which of them are refused memory.
 abbrev pub run_from : State → ℕ → List Statement → List Bool → Ran
 run_from s n [] starves = record { text = []; state = s; accepted = 0; refused = 0 }
 run_from s n (st ∷ sts) starves =
@@ -63,7 +63,7 @@ run_from s n (st ∷ sts) starves =
     following (lines (n + 1) o) (accepted_of o.answer) (refused_of o.answer)
     (run_from o.state (n + 1) sts (later_starve starves))
 
--- the line of a fault, which stands after so many statements
+-- the line of a fault after so many statements
 abbrev pub fault_line : ℕ → Option ℕ → List ℕ
 fault_line n None = []
 fault_line n (Some at) = decimal (n + 1) ++ (codes " fault " ++ (decimal at ++ codes "\n"))
@@ -78,13 +78,13 @@ abbrev pub closing_lines : ℕ → Option ℕ → State → List ℕ
 closing_lines n fault s = fault_line n fault ++ end_line (is_some s.start)
 
 -- The transcript of a script that has these statements and this fault, run in a new session with
--- these limits; the list says which statements want memory.
+-- these limits; the list says which statements are refused memory.
 abbrev pub transcript : Bounds → List Statement → Option ℕ → List Bool → List ℕ
 transcript limits statements fault starves =
     let r : Ran = run_from (empty_state limits) 0 statements starves in
     r.text ++ closing_lines (length statements) fault r.state
 
--- how many statements want memory
+-- how many statements are refused memory
 abbrev pub starved_count : List Bool → ℕ
 starved_count [] = 0
 starved_count (true ∷ bs) = 1 + starved_count bs
@@ -94,9 +94,9 @@ starved_count (false ∷ bs) = starved_count bs
 abbrev pub fault_place : Summary → Option ℕ
 fault_place summary = option_map (λ f. f.at) summary.fault
 
--- The transcript of these bytes was appended, and the summary tells how many statements were
--- accepted and refused, and the fault. For each statement it is chosen whether it wants memory, and
--- as many do as the summary tells.
+-- The transcript of these bytes was appended, and the summary says how many statements were
+-- accepted and refused, and the fault. For each statement it is chosen whether it is refused
+-- memory, and as many are as the summary says.
 pub record RanScript (bytes : List ℕ) (limits : Bounds) (summary : Summary)
     (before after : SinkState) : Type 0 where
   pub statements : List Statement
@@ -109,7 +109,7 @@ pub record RanScript (bytes : List ℕ) (limits : Bounds) (summary : Summary)
   pub appended : Appends before.contents after.contents
       (transcript limits statements (fault_place summary) starves)
 
--- The transcript of these bytes was appended, and no statement wanted memory.
+-- The transcript of these bytes was appended, and no statement was refused memory.
 pub record RanFed (bytes : List ℕ) (limits : Bounds) (fault : Option ℕ)
     (before after : SinkState) : Type 0 where
   pub statements : List Statement

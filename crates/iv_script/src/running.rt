@@ -15,13 +15,13 @@ use crate::statements::{Tally, run_statements};
 use crate::summary::{RunFault, Summary};
 use iv_machine::Limits;
 use iv_parse::{Parsed, SyntaxFault, script};
-use iv_print::{DeviceFault, Sink, Source, write_all, write_number};
+use iv_print::{Buffered, DeviceFault, Sink, Source, write_all, write_number};
 use iv_session::Session;
 use iv_syntax::Statement;
 use std::alloc::Global;
 use std::str::from_utf8;
 
-// Writes the line of a fault, which stands after so many statements.
+// Writes the line of a fault after so many statements.
 fn write_fault<W: Sink>(
     writer: &mut W,
     count: u64,
@@ -72,6 +72,25 @@ fn run_parsed<W: Sink>(
     Ok(tally)
 }
 
+// The same with a buffer in front of the writer, which is empty again at the end.
+fn run_buffered<W: Sink>(
+    session: &mut Session,
+    statements: &[Statement],
+    fault: Option<SyntaxFault>,
+    writer: &mut W,
+) -> Result<Tally, DeviceFault>
+    requires { length statements.now < 2 ^ 63 }
+    ensures { MatchResult result
+        (λ t. RanParsed session.old statements.now (option_map (λ f. f.at) fault) t
+        (W.state writer.old) (W.state writer.new))
+        (λ _. FailsOnce (W.state writer.old) (W.state writer.new)) }
+{
+    let mut buffered = Buffered::new(writer);
+    let tally = run_parsed(session, statements, fault, &mut buffered)?;
+    buffered.flush()?;
+    Ok(tally)
+}
+
 // Runs the script that this text is.
 #[tactic(auto, using(crate::proofs::Scripts::ran_script, crate::proofs::Scripts::ran_fed))]
 fn run_text<W: Sink>(
@@ -94,7 +113,7 @@ fn run_text<W: Sink>(
 {
     let Parsed { statements, fault } = script(alloc, text)?;
     let mut session = Session::new(alloc, limits)?;
-    match run_parsed(&mut session, statements.as_slice(), fault, writer) {
+    match run_buffered(&mut session, statements.as_slice(), fault, writer) {
         Ok(tally) => Ok(Summary {
             accepted: tally.accepted,
             refused: tally.refused,
@@ -136,7 +155,10 @@ fn run_bytes<W: Sink>(
 /// read and parsed and the session is made nothing is run or written. Beside what each statement
 /// takes it takes time in proportion to the script and its transcript.
 ///
-/// A statement that wants memory is refused as an outcome of its own, with the cause 22; the
+/// The lines go through a buffer: where each write takes all that it is given, there is one for
+/// every 8,192 bytes of the transcript, and one at the end for the rest.
+///
+/// A statement that is refused memory has an outcome of its own, with cause 22; the
 /// summary's `starved` counts these, and `refused` counts them too. After `RunFault::Write` nothing
 /// is said of how much was written.
 pub fn run<R: Source, W: Sink>(
@@ -145,7 +167,7 @@ pub fn run<R: Source, W: Sink>(
     writer: &mut W,
     limits: Limits,
 ) -> Result<Summary, RunFault>
-    // What was written is the transcript, for some choice of `starved` statements that want memory.
+    // What was written is the transcript, for some choice of the `starved` statements.
     ensures transcript { IfOk result (λ s. IfSome (R.remaining reader.old) (λ bytes.
         RanScript bytes limits s (W.state writer.old) (W.state writer.new))) }
     // Where `starved` is 0 it is the transcript of the machine.
@@ -178,7 +200,8 @@ pub fn run<R: Source, W: Sink>(
     // No byte is asked for beyond one more than a script may have.
     ensures asked { R.asked reader.new
         ≤ max (R.asked reader.old) (R.given reader.old + (LONGEST + 1)) }
-    // The end of a script that ran was told once, and none is told twice: after it no read is made.
+    // The end of a script that ran was reported once, and none is reported twice: after it no read
+    // is made.
     ensures ended { OnOk result (R.ends reader.new ≡ counted (R.ends reader.old) 1) }
     ensures ended_once { R.ends reader.new ≤ R.ends reader.old + 1 }
 {

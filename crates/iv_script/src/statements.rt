@@ -11,7 +11,7 @@ use iv_print::{DeviceFault, Sink, write_outcome};
 use iv_session::{Outcome, Session};
 use iv_syntax::Statement;
 
-/// How many statements were accepted and refused, and how many of the refused wanted memory.
+/// How many statements were accepted and refused, and how many of the refused had cause 22.
 #[derive(Clone, Copy, Debug, PartialEq, Eq)]
 pub struct Tally {
     pub accepted: u64,

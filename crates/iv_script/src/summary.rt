@@ -1,9 +1,12 @@
 //! What a run did, or why it didn't.
+ghost use Rattle.std.specs.Prelude.{◌≡◌};
+ghost use Rattle.iv_script.specs.RunFaults.{run_fault_text};
+
 use iv_parse::SyntaxFault;
 use std::alloc::AllocError;
 use thiserror::Error;
 
-/// How many statements were accepted and refused, how many of the refused wanted memory, and the fault of
+/// How many statements were accepted and refused, how many of the refused had cause 22, and the fault of
 /// the script where it has one.
 #[derive(Clone, Copy, Debug, PartialEq, Eq)]
 pub struct Summary {
@@ -15,17 +18,28 @@ pub struct Summary {
 
 /// Why a script was not run to its end.
 #[derive(Debug, Drop, PartialEq, Eq, Error)]
+#[error("{}", self.text())]
 pub enum RunFault {
-    #[error("cannot read the script")]
     Read,
-    #[error("the script is longer than 1048576 bytes")]
     TooLong,
-    #[error("the script is not UTF-8")]
     NotUtf8,
-    #[error("cannot write")]
     Write,
-    #[error("out of memory")]
     NoMemory,
+}
+
+impl RunFault {
+    /// The text of the fault, which `Display` shows.
+    pub fn text(&self) -> &'static str
+        ensures { result.now ≡ run_fault_text self.now }
+    {
+        match self {
+            RunFault::Read => "cannot read the script",
+            RunFault::TooLong => "the script is longer than 1048576 bytes",
+            RunFault::NotUtf8 => "the script is not UTF-8",
+            RunFault::Write => "cannot write",
+            RunFault::NoMemory => "out of memory",
+        }
+    }
 }
 
 impl From<AllocError> for RunFault {

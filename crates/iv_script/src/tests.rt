@@ -104,6 +104,26 @@ fn drops(fails_at: u64) -> ByteSink {
     }
 }
 
+// A sink that takes all bytes of a call, and counts calls and bytes.
+#[derive(Drop)]
+struct CountingSink {
+    calls: u64,
+    bytes: u64,
+}
+
+impl Sink for CountingSink {
+    ghost use Rattle.std.specs.Prelude.{None};
+    ghost use Rattle.iv_print.specs.Sinks.{sink_state};
+
+    ghost state = { λ _. sink_state None 0 };
+
+    fn write(&mut self, bytes: &[u8]) -> Result<usize, DeviceFault> {
+        self.calls = self.calls.saturating_add(1);
+        self.bytes = self.bytes.saturating_add(bytes.len() as u64);
+        Ok(bytes.len())
+    }
+}
+
 // A reader and a writer of one byte at a call, of which each second call fails.
 #[derive(Drop)]
 struct InTurn {
@@ -176,7 +196,7 @@ fn counts_what_it_ran(rt: HostRuntime) -> Result<(), Fail> {
 
 #[test]
 fn tells_a_read_that_fails(rt: HostRuntime) -> Result<(), Fail> {
-    // Three calls give the text's 94 bytes, and a fourth tells its end.
+    // Three calls give the text's 94 bytes, and a fourth reports its end.
     for fails_at in [1u64, 2, 4] {
         let (done, text) = ran(rt.alloc(), &mut chunks(ONE_CHECK.as_bytes(), fails_at))?;
         assert_eq!(rt; done, Err(RunFault::Read), "at {fails_at}");
@@ -233,6 +253,23 @@ fn tells_each_write_that_fails(rt: HostRuntime) -> Result<(), Fail> {
     let mut source = Std::new(ONE_CHECK.as_bytes());
     let done = run(rt.alloc(), &mut source, &mut drops(31), limits);
     assert_eq!(rt; done.is_ok(), true);
+    Ok(())
+}
+
+#[test]
+fn writes_are_few(rt: HostRuntime) -> Result<(), Fail> {
+    let Some(limits) = usual_limits() else {
+        return Ok(());
+    };
+    // The line of a COMMIT has its number and four bytes more.
+    for (statements, calls, bytes) in [(0usize, 0u64, 0u64), (1000, 1, 6893), (2000, 2, 14893)] {
+        let text = "COMMIT;".repeat(rt.alloc(), statements)?;
+        let mut source = Std::new(text.as_bytes());
+        let mut sink = CountingSink { calls: 0, bytes: 0 };
+        let done = run(rt.alloc(), &mut source, &mut sink, limits);
+        assert_eq!(rt; done.is_ok(), true, "{statements}");
+        assert_eq!(rt; (sink.calls, sink.bytes), (calls, bytes), "{statements}");
+    }
     Ok(())
 }
 

@@ -22,12 +22,12 @@ impl Read for Interrupted {
     }
 }
 
-// The status, the transcript and what standard error would tell.
-fn told<R: Read + Drop>(alloc: Global, reader: R) -> Result<(u8, Vec<u8>, Vec<u8>), Fail> {
+// The status, the transcript and what standard error would get.
+fn ended<R: Read + Drop>(alloc: Global, reader: R) -> Result<(u8, Vec<u8>, Vec<u8>), Fail> {
     let mut writer = Std::new(Vec::new(alloc));
-    let mut faults = Vec::new(alloc);
+    let mut faults = Std::new(Vec::new(alloc));
     let status = go(alloc, &mut Std::new(reader), &mut writer, &mut faults);
-    Ok((status, writer.into_inner(), faults))
+    Ok((status, writer.into_inner(), faults.into_inner()))
 }
 
 #[test]
@@ -38,7 +38,7 @@ fn scripts_that_ran_have_status_0_or_1(rt: HostRuntime) -> Result<(), Fail> {
         (REFUSED, 1, "1 ok\n2 refused 13 Violation POS row 1\n"),
         ("COMMIT; x", 1, "1 ok\n2 fault 8\n"),
     ] {
-        let (status, written, faults) = told(rt.alloc(), script.as_bytes())?;
+        let (status, written, faults) = ended(rt.alloc(), script.as_bytes())?;
         assert_eq!(rt; status, wanted, "{script}");
         assert_eq!(rt; written.as_slice(), transcript.as_bytes(), "{script}");
         assert_eq!(rt; faults.len(), 0, "{script}");
@@ -48,19 +48,19 @@ fn scripts_that_ran_have_status_0_or_1(rt: HostRuntime) -> Result<(), Fail> {
 
 #[test]
 fn faults_of_reading_have_their_lines(rt: HostRuntime) -> Result<(), Fail> {
-    let (status, written, faults) = told(rt.alloc(), Interrupted)?;
+    let (status, written, faults) = ended(rt.alloc(), Interrupted)?;
     assert_eq!(rt; (status, written.len()), (2, 0));
     assert_eq!(rt;
         faults.as_slice(),
         b"sqlkeep: cannot read the script\n".as_slice()
     );
-    let (status, written, faults) = told(rt.alloc(), io::repeat(b' '))?;
+    let (status, written, faults) = ended(rt.alloc(), io::repeat(b' '))?;
     assert_eq!(rt; (status, written.len()), (2, 0));
     assert_eq!(rt;
         faults.as_slice(),
         b"sqlkeep: the script is longer than 1048576 bytes\n".as_slice()
     );
-    let (status, written, faults) = told(rt.alloc(), b"\xff".as_slice())?;
+    let (status, written, faults) = ended(rt.alloc(), b"\xff".as_slice())?;
     assert_eq!(rt; (status, written.len()), (2, 0));
     assert_eq!(rt;
         faults.as_slice(),
@@ -73,46 +73,47 @@ fn faults_of_reading_have_their_lines(rt: HostRuntime) -> Result<(), Fail> {
 fn fault_of_writing_has_its_line(rt: HostRuntime) -> Result<(), Fail> {
     // A writer with room for 12 of the 30 bytes.
     let mut room = [0u8; 12];
-    let mut faults = Vec::new(rt.alloc());
+    let mut faults = Std::new(Vec::new(rt.alloc()));
     let mut reader = Std::new(ACCEPTED.as_bytes());
     let mut writer = Std::new(room.as_mut_slice());
     let status = go(rt.alloc(), &mut reader, &mut writer, &mut faults);
+    let line = faults.into_inner();
     assert_eq!(rt; status, 2);
-    assert_eq!(rt; faults.as_slice(), b"sqlkeep: cannot write\n".as_slice());
+    assert_eq!(rt; line.as_slice(), b"sqlkeep: cannot write\n".as_slice());
     Ok(())
 }
 
-// The status for a fault of a run, and what standard error would tell.
-fn told_of(alloc: Global, fault: RunFault) -> (u8, Vec<u8>) {
-    let mut faults = Vec::new(alloc);
+// The status for a fault of a run, and what standard error would get.
+fn ended_by(alloc: Global, fault: RunFault) -> (u8, Vec<u8>) {
+    let mut faults = Std::new(Vec::new(alloc));
     let code = status(&mut faults, Err(fault));
-    (code, faults)
+    (code, faults.into_inner())
 }
 
 #[test]
 fn each_fault_has_its_line(rt: HostRuntime) {
-    let (code, line) = told_of(rt.alloc(), RunFault::Read);
+    let (code, line) = ended_by(rt.alloc(), RunFault::Read);
     assert_eq!(rt; code, 2);
     assert_eq!(rt;
         line.as_slice(),
         b"sqlkeep: cannot read the script\n".as_slice()
     );
-    let (code, line) = told_of(rt.alloc(), RunFault::TooLong);
+    let (code, line) = ended_by(rt.alloc(), RunFault::TooLong);
     assert_eq!(rt; code, 2);
     assert_eq!(rt;
         line.as_slice(),
         b"sqlkeep: the script is longer than 1048576 bytes\n".as_slice()
     );
-    let (code, line) = told_of(rt.alloc(), RunFault::NotUtf8);
+    let (code, line) = ended_by(rt.alloc(), RunFault::NotUtf8);
     assert_eq!(rt; code, 2);
     assert_eq!(rt;
         line.as_slice(),
         b"sqlkeep: the script is not UTF-8\n".as_slice()
     );
-    let (code, line) = told_of(rt.alloc(), RunFault::Write);
+    let (code, line) = ended_by(rt.alloc(), RunFault::Write);
     assert_eq!(rt; code, 2);
     assert_eq!(rt; line.as_slice(), b"sqlkeep: cannot write\n".as_slice());
-    let (code, line) = told_of(rt.alloc(), RunFault::NoMemory);
+    let (code, line) = ended_by(rt.alloc(), RunFault::NoMemory);
     assert_eq!(rt; code, 2);
     assert_eq!(rt; line.as_slice(), b"sqlkeep: out of memory\n".as_slice());
 }
@@ -121,7 +122,7 @@ fn each_fault_has_its_line(rt: HostRuntime) {
 fn line_that_cannot_be_written_changes_no_status(rt: HostRuntime) -> Result<(), Fail> {
     let mut none = [0u8; 0];
     let mut writer = Std::new(Vec::new(rt.alloc()));
-    let mut faults = none.as_mut_slice();
+    let mut faults = Std::new(none.as_mut_slice());
     let mut reader = Std::new(Interrupted);
     let status = go(rt.alloc(), &mut reader, &mut writer, &mut faults);
     assert_eq!(rt; status, 2);

@@ -1,0 +1,72 @@
+//! Distinct names in the order of a list, each with its place.
+ghost use Rattle.std.specs.Prelude.{◌≡◌, ◌<◌, ℕ, List, [], ◌∷◌, ◌++◌, false, length, position, take, remove, OnOk, OnErr, IfSome};
+ghost use Rattle.std.specs.Str.{bytes_eq};
+ghost use Rattle.iv_catalogue.specs.Names.{is_among};
+
+use indexmap::IndexSet;
+use std::alloc::{AllocError, Global};
+use std::marker::Model;
+
+/// Distinct names. The place of a name is found in constant time. Contracts see the list of the names.
+#[derive(Drop)]
+pub struct NameIndex {
+    names: IndexSet<String>,
+}
+
+impl Model for NameIndex {
+    ghost use Rattle.std.specs.Prelude.{List, ℕ, map, string_bytes};
+
+    ghost Value = { List (List ℕ) };
+
+    ghost view = { λ n. map string_bytes n.names.keys };
+}
+
+impl NameIndex {
+    /// No names. It takes no memory.
+    pub fn new(alloc: Global) -> NameIndex
+        ensures { result ≡ [] }
+    {
+        NameIndex {
+            names: IndexSet::new(alloc),
+        }
+    }
+
+    /// How many names there are.
+    pub fn len(&self) -> usize
+        ensures { result ≡ length self.now }
+    {
+        self.names.len()
+    }
+
+    /// The place of a name.
+    pub fn place_of(&self, name: &str) -> Option<usize>
+        ensures { result ≡ position (bytes_eq name.now) self.now }
+    {
+        self.names.get_index_of(name)
+    }
+
+    /// Adds a name at the end. Where memory is refused the names are as before.
+    pub fn push(&mut self, name: &str) -> Result<(), AllocError>
+        requires { is_among self.old name.now ≡ false }
+        ensures ok { OnOk result (self.new ≡ self.old ++ name.now ∷ []) }
+        ensures err { OnErr result (self.new ≡ self.old) }
+    {
+        let owned = String::from_str(*self.names.allocator(), name)?;
+        self.names.insert(owned)?;
+        Ok(())
+    }
+
+    /// Keeps the first names, so many of them. It takes no memory.
+    pub fn truncate(&mut self, count: usize)
+        ensures { self.new ≡ take count self.old }
+    {
+        self.names.truncate(count);
+    }
+
+    /// Takes the name at this place out. It takes no memory.
+    pub fn remove(&mut self, place: usize)
+        ensures { self.new ≡ remove self.old place }
+    {
+        let _ = self.names.shift_remove_index(place);
+    }
+}

@@ -1,0 +1,10 @@
+pub mod Scopes
+pub mod Terms
+pub mod Constraints
+pub mod Changes
+pub mod Tables
+pub mod Triggers
+pub mod Writable
+pub mod Bound
+pub mod Resolution
+pub mod Worked

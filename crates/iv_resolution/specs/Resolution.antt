@@ -1,0 +1,126 @@
+-- Resolution: what a statement deserves to be refused for, by cause, the least of these, and the plan of a statement that deserves none.
+use Rattle.std.specs.Prelude.{◌≡◌, ℕ, Bool, true, false, not, ◌||◌, List, [], ◌∷◌, find, Option, Some, None, is_some, is_ok, Result, Ok, Err, slice_get, MatchBool}
+use Rattle.std.specs.List.{list_any}
+use Rattle.iv_syntax.specs.declared.statement.ConstraintList.{ConstraintList}
+use Rattle.iv_syntax.specs.declared.statement.ConstraintList.TheVariants as constraints
+use Rattle.iv_syntax.specs.declared.statement.Statement.{Statement}
+use Rattle.iv_syntax.specs.declared.statement.Statement.TheVariants as statement
+use Rattle.iv_catalogue.specs.Catalogues.{Schema}
+use Rattle.iv_catalogue.specs.Refusals.{refused, out_of_memory, is_memory}
+use Rattle.iv_catalogue.specs.declared.cause.Cause.{Cause}
+use Rattle.iv_catalogue.specs.declared.cause.Cause.TheVariants.{Unknown, Duplicate, SchemaFault, WrongShape, Limit}
+use Rattle.iv_catalogue.specs.declared.cause.Refusal.{Refusal}
+use Rattle.iv_catalogue.specs.declared.plan.Plan.{Plan}
+use Rattle.iv_resolution.specs.Scopes.{table_place}
+use Rattle.iv_resolution.specs.Constraints.{table_constraint, Altered}
+use Rattle.iv_resolution.specs.Changes.{unknown_insert, unknown_update, unknown_delete, unknown_select, duplicate_insert, duplicate_update, misshaped_insert, misshaped_update, misshaped_delete, misshaped_select}
+use Rattle.iv_resolution.specs.Tables.{table_names, altered_at, unknown_rule, duplicate_rule, is_constraint, added_name, faulty_addition, misshaped_rule, addition_beyond_limits, unknown_table, duplicate_table, faulty_table, misshaped_table, table_beyond_limits}
+use Rattle.iv_resolution.specs.Triggers.{unknown_trigger, duplicate_trigger, is_trigger, faulty_trigger, misshaped_trigger, trigger_beyond_limits}
+use Rattle.iv_resolution.specs.Writable.{is_writable}
+use Rattle.iv_resolution.specs.Bound.{bound}
+
+-- ---- ALTER TABLE of a table that is there
+
+-- what is asked of the table that an ALTER TABLE names; false where there is none, which is Unknown alone
+abbrev pub of_altered : Schema → List ℕ → (Altered → Bool) → Bool
+of_altered schema table asks =
+    elim (table_place schema.tables table) [
+      | Some place ↦ elim (slice_get schema.tables place) [ Some t ↦ asks (altered_at schema place t) | None ↦ false ]
+      | None ↦ false
+    ]
+
+abbrev pub is_there : Schema → List ℕ → Bool
+is_there schema table = is_some (table_place schema.tables table)
+
+abbrev pub unknown_constraints : Schema → ConstraintList → Bool
+unknown_constraints schema constraints.All = false
+unknown_constraints schema (constraints.Named names) = list_any (λ n. not (is_constraint schema n)) names
+
+-- ---- the five causes
+
+-- Unknown: a table, column, range name, row variable, transition table, trigger or constraint name that names nothing there.
+abbrev pub is_unknown : Schema → Statement → Bool
+is_unknown schema (statement.CreateTable name elements) = unknown_table schema name elements
+is_unknown schema (statement.AlterTable table k) =
+    not (is_there schema table)
+    || of_altered schema table (λ own. unknown_rule schema (table_names schema) own (table_constraint k).rule)
+is_unknown schema (statement.CreateTrigger t) = unknown_trigger schema t
+is_unknown schema (statement.DropTrigger name) = not (is_trigger schema name)
+is_unknown schema (statement.Insert i) = unknown_insert (table_names schema) [] i
+is_unknown schema (statement.Update u) = unknown_update (table_names schema) [] u
+is_unknown schema (statement.Delete d) = unknown_delete (table_names schema) [] d
+is_unknown schema (statement.Select s) = unknown_select (table_names schema) [] s
+is_unknown schema (statement.SetConstraints l m) = unknown_constraints schema l
+is_unknown schema _ = false
+
+-- Duplicate: a new name that is in use or comes twice, or a column twice in a list.
+abbrev pub is_duplicate : Schema → Statement → Bool
+is_duplicate schema (statement.CreateTable name elements) = duplicate_table schema name elements
+is_duplicate schema (statement.AlterTable table k) =
+    of_altered schema table (λ own. is_constraint schema (added_name schema own (table_constraint k)))
+    || duplicate_rule (table_constraint k).rule
+is_duplicate schema (statement.CreateTrigger t) = duplicate_trigger schema t
+is_duplicate schema (statement.Insert i) = duplicate_insert i
+is_duplicate schema (statement.Update u) = duplicate_update u
+is_duplicate schema _ = false
+
+-- SchemaFault: a definition that no schema can have.
+abbrev pub is_faulty : Schema → Statement → Bool
+is_faulty schema (statement.CreateTable name elements) = faulty_table schema name elements
+is_faulty schema (statement.AlterTable table k) = of_altered schema table (λ own. faulty_addition schema own (table_constraint k))
+is_faulty schema (statement.CreateTrigger t) = faulty_trigger schema t
+is_faulty schema _ = false
+
+-- WrongShape: the number of values isn't that of the columns, or an integer meets a text.
+abbrev pub is_misshaped : Schema → Statement → Bool
+is_misshaped schema (statement.CreateTable name elements) = misshaped_table schema name elements
+is_misshaped schema (statement.AlterTable table k) =
+    of_altered schema table (λ own. misshaped_rule (table_names schema) own (table_constraint k).rule)
+is_misshaped schema (statement.CreateTrigger t) = misshaped_trigger schema t
+is_misshaped schema (statement.Insert i) = misshaped_insert (table_names schema) [] i
+is_misshaped schema (statement.Update u) = misshaped_update (table_names schema) [] u
+is_misshaped schema (statement.Delete d) = misshaped_delete (table_names schema) [] d
+is_misshaped schema (statement.Select s) = misshaped_select (table_names schema) [] s
+is_misshaped schema _ = false
+
+-- more of something than there may be
+abbrev pub is_too_large : Schema → Statement → Bool
+is_too_large schema (statement.CreateTable name elements) = table_beyond_limits schema elements
+is_too_large schema (statement.AlterTable table k) = of_altered schema table (λ own. addition_beyond_limits schema own (table_constraint k))
+is_too_large schema (statement.CreateTrigger t) = trigger_beyond_limits schema t
+is_too_large schema _ = false
+
+-- Limit: a number beyond the limits of the catalogue, or a statement that no text of the language is.
+abbrev pub is_beyond_limits : Schema → Statement → Bool
+is_beyond_limits schema s = is_too_large schema s || not (is_writable s)
+
+-- A statement deserves a cause.
+abbrev pub deserves : Schema → Statement → Cause → Bool
+deserves schema s Unknown = is_unknown schema s
+deserves schema s Duplicate = is_duplicate schema s
+deserves schema s SchemaFault = is_faulty schema s
+deserves schema s WrongShape = is_misshaped schema s
+deserves schema s Limit = is_beyond_limits schema s
+deserves schema s _ = false
+
+-- ---- the least cause, or the plan
+
+-- the causes of resolution, in the order of their numbers
+abbrev pub causes : List Cause
+causes = Unknown ∷ Duplicate ∷ SchemaFault ∷ WrongShape ∷ Limit ∷ []
+
+-- the first that is deserved
+abbrev pub least : Schema → Statement → Option Cause
+least schema s = find (deserves schema s) causes
+
+abbrev pub refused_or_planned : Option Cause → Plan → Result Plan Refusal
+refused_or_planned (Some cause) p = refused cause
+refused_or_planned None p = Ok p
+
+-- The plan of a statement, or the least cause that it deserves.
+abbrev pub resolution : Schema → Statement → Result Plan Refusal
+resolution schema s = refused_or_planned (least schema s) (bound schema s)
+
+-- The answer is the resolution; or memory was refused for a plan, which no trigger has to do with.
+abbrev pub Resolves : Schema → Statement → Result Plan Refusal → Type 0
+Resolves schema s r = MatchBool (is_memory r) ((r ≡ Err out_of_memory) × (is_ok (resolution schema s) ≡ true)) (r ≡ resolution schema s)

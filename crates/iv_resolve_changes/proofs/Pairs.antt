@@ -1,0 +1,134 @@
+-- Two lists side by side, from a place on.
+use Rattle.std.proofs.Common.{◌≡◌, refl, ℕ, ◌+◌, ◌<◌, ◌≤◌, Bool, true, false, ◌||◌, List, [], ◌∷◌, ◌∙◌, sym, ap, inl, inr, length, drop, map, get_or, slice_get, Option, Some, None, option_map, zip}
+use Rattle.std.proofs.lemmas.Option.{slice_get_cases, slice_get_within, get_or_from_slice_get, slice_get-map}
+use Rattle.std.specs.List.{list_any}
+use Rattle.iv_scope.proofs.Places.{next_of, none_left}
+use Rattle.iv_syntax.specs.declared.table.ColumnType.{ColumnType}
+use Rattle.iv_syntax.specs.declared.tree.Expression.{Expression}
+use Rattle.iv_syntax.specs.declared.statement.ValueOrDefault.{ValueOrDefault}
+use Rattle.iv_syntax.specs.declared.statement.Assignment.{Assignment}
+use Rattle.iv_catalogue.specs.Names.{is_among}
+use Rattle.iv_catalogue.specs.declared.catalogue.Column.{Column}
+use Rattle.iv_resolution.specs.Constraints.{comes_twice}
+use Rattle.iv_resolution.specs.Scopes.{NamedColumn, NamedRange, named_columns, type_named}
+use Rattle.iv_resolution.specs.Changes.{clashes_with, kinds_clash, target_types, tuple_clashes, value_clashes, values_clash, columns_clash}
+
+-- the first of an OR is true, or it is not
+pub or_true : (whole first more : Bool) → whole ≡ (first || more) → first ≡ true → true ≡ whole
+or_true whole first more h g = sym (h ∙ ap (λ b. b || more) g)
+
+pub or_false : (whole first more : Bool) → whole ≡ (first || more) → first ≡ false → whole ≡ more
+or_false whole first more h g = h ∙ ap (λ b. b || more) g
+
+pub next_got : {X : Type 0} (xs : List X) (i : ℕ) (x : X) → slice_get xs i ≡ Some x → drop i xs ≡ x ∷ drop (i + 1) xs
+next_got xs i x g = next_of xs i x (slice_get_within xs i x g) (sym (get_or_from_slice_get xs i x x g))
+
+some_not_none : {X : Type 0} (x : X) → Some x ≡ None → ⊥
+some_not_none x h = cc
+
+none_at : {X : Type 0} (xs : List X) (i : ℕ) → slice_get xs i ≡ None → drop i xs ≡ []
+none_at xs i h = elim ((slice_get_cases xs i).1) [
+  | inl within ↦ absurd (some_not_none within.0 (sym within.2 ∙ h))
+  | inr past ↦ none_left xs i past.0
+]
+
+no_pair : {X Y : Type 0} (xs : List X) (ys : List Y) → ys ≡ [] → zip xs ys ≡ []
+no_pair [] ys h = refl
+no_pair (x ∷ xs) ys h = rw h refl
+
+pub tuple_step : (types : List (Option ColumnType)) (ranges : List NamedRange) (tuple : List ValueOrDefault) (i : ℕ) (t : Option ColumnType) (v : ValueOrDefault)
+    → slice_get types i ≡ Some t → i < length tuple → v ≡ get_or tuple i v
+    → tuple_clashes (drop i types) ranges (drop i tuple) ≡ (value_clashes t ranges v || tuple_clashes (drop (i + 1) types) ranges (drop (i + 1) tuple))
+unfolding tuple_clashes
+tuple_step types ranges tuple i t v g h e = rw (next_got types i t g, next_of tuple i v h e) refl
+
+pub tuple_past : (types : List (Option ColumnType)) (ranges : List NamedRange) (tuple : List ValueOrDefault) (i : ℕ)
+    → slice_get types i ≡ None → tuple_clashes (drop i types) ranges (drop i tuple) ≡ false
+unfolding tuple_clashes
+tuple_past types ranges tuple i g = rw (none_at types i g) refl
+
+pub tuple_end : (types : List (Option ColumnType)) (ranges : List NamedRange) (tuple : List ValueOrDefault) (i : ℕ)
+    → length tuple ≤ i → tuple_clashes (drop i types) ranges (drop i tuple) ≡ false
+unfolding tuple_clashes
+tuple_end types ranges tuple i h = rw (no_pair (drop i types) (drop i tuple) (none_left tuple i h)) refl
+
+pub values_step : (types : List (Option ColumnType)) (ranges : List NamedRange) (es : List Expression) (i : ℕ) (t : Option ColumnType) (e : Expression)
+    → slice_get types i ≡ Some t → i < length es → e ≡ get_or es i e
+    → values_clash (drop i types) ranges (drop i es) ≡ (clashes_with t ranges e || values_clash (drop (i + 1) types) ranges (drop (i + 1) es))
+unfolding values_clash
+values_step types ranges es i t e g h s = rw (next_got types i t g, next_of es i e h s) refl
+
+pub values_past : (types : List (Option ColumnType)) (ranges : List NamedRange) (es : List Expression) (i : ℕ)
+    → slice_get types i ≡ None → values_clash (drop i types) ranges (drop i es) ≡ false
+unfolding values_clash
+values_past types ranges es i g = rw (none_at types i g) refl
+
+pub values_end : (types : List (Option ColumnType)) (ranges : List NamedRange) (es : List Expression) (i : ℕ)
+    → length es ≤ i → values_clash (drop i types) ranges (drop i es) ≡ false
+unfolding values_clash
+values_end types ranges es i h = rw (no_pair (drop i types) (drop i es) (none_left es i h)) refl
+
+kind_step : (types : List (Option ColumnType)) (columns : List NamedColumn) (t : Option ColumnType) (k : ColumnType) (c : Option NamedColumn) (i : ℕ)
+    → slice_get columns i ≡ c → option_map (λ d. d.kind) c ≡ Some k
+    → columns_clash (t ∷ drop (i + 1) types) (drop i columns) ≡ (kinds_clash t k || columns_clash (drop (i + 1) types) (drop (i + 1) columns))
+unfolding columns_clash
+kind_step types columns t k (Some c) i g h = rw (next_got columns i c g) (ap (λ j. kinds_clash t j || list_any (λ p. kinds_clash p.0 p.1.kind) (zip (drop (i + 1) types) (drop (i + 1) columns))) (ap (λ o. elim o [ Some j ↦ j | None ↦ k ]) h))
+kind_step types columns t k None i g h = absurd (some_not_none k (sym h))
+
+pub columns_step : (types : List (Option ColumnType)) (columns : List NamedColumn) (i : ℕ) (t : Option ColumnType) (k : ColumnType)
+    → slice_get types i ≡ Some t → Some k ≡ option_map (λ d. d.kind) (slice_get columns i)
+    → columns_clash (drop i types) (drop i columns) ≡ (kinds_clash t k || columns_clash (drop (i + 1) types) (drop (i + 1) columns))
+columns_step types columns i t k g h = ap (λ ts. columns_clash ts (drop i columns)) (next_got types i t g) ∙ kind_step types columns t k (slice_get columns i) i refl (sym h)
+
+pub columns_past : (types : List (Option ColumnType)) (columns : List NamedColumn) (i : ℕ)
+    → slice_get types i ≡ None → columns_clash (drop i types) (drop i columns) ≡ false
+unfolding columns_clash
+columns_past types columns i g = rw (none_at types i g) refl
+
+no_column : (o : Option NamedColumn) → None ≡ option_map (λ d. d.kind) o → o ≡ None
+no_column None h = refl
+no_column (Some c) h = absurd (some_not_none c.kind (sym h))
+
+pub columns_gone : (types : List (Option ColumnType)) (columns : List NamedColumn) (i : ℕ)
+    → None ≡ option_map (λ d. d.kind) (slice_get columns i) → columns_clash (drop i types) (drop i columns) ≡ false
+unfolding columns_clash
+columns_gone types columns i h = rw (no_pair (drop i types) (drop i columns) (none_at columns i (no_column (slice_get columns i) h))) refl
+
+pub columns_end : (types : List (Option ColumnType)) (columns : List NamedColumn) (i : ℕ)
+    → length types ≤ i → columns_clash (drop i types) (drop i columns) ≡ false
+unfolding columns_clash
+columns_end types columns i h = rw (none_left types i h) refl
+
+-- ---- the columns that an INSERT has values for
+
+twice_mapped : (o : Option NamedColumn) → option_map (λ c. Some c.kind) o ≡ option_map (λ k. Some k) (option_map (λ c. c.kind) o)
+twice_mapped None = refl
+twice_mapped (Some c) = refl
+
+pub all_at : (columns : List Column) (i : ℕ)
+    → slice_get (target_types (named_columns columns) None) i ≡ option_map (λ k. Some k) (option_map (λ c. c.kind) (slice_get (named_columns columns) i))
+all_at columns i = slice_get-map (λ c. Some c.kind) (named_columns columns) i ∙ twice_mapped (slice_get (named_columns columns) i)
+
+pub listed_at : (columns : List Column) (names : List (List ℕ)) (i : ℕ)
+    → slice_get (target_types (named_columns columns) (Some names)) i ≡ option_map (type_named (named_columns columns)) (slice_get names i)
+listed_at columns names i = slice_get-map (type_named (named_columns columns)) names i
+
+-- ---- names that come twice
+
+pub twice_step : (names : List (List ℕ)) (i : ℕ) (name : List ℕ) → i < length names → name ≡ get_or names i name
+    → comes_twice (drop i names) ≡ (is_among (drop (i + 1) names) name || comes_twice (drop (i + 1) names))
+unfolding comes_twice
+twice_step names i name h g = rw (next_of names i name h g) refl
+
+pub twice_end : (names : List (List ℕ)) (i : ℕ) → length names ≤ i → comes_twice (drop i names) ≡ false
+unfolding comes_twice
+twice_end names i h = rw (none_left names i h) refl
+
+pub set_twice_step : (xs : List Assignment) (i : ℕ) (a : Assignment) → i < length xs → a ≡ get_or xs i a
+    → comes_twice (map (λ x. x.column) (drop i xs)) ≡ (is_among (map (λ x. x.column) (drop (i + 1) xs)) a.column || comes_twice (map (λ x. x.column) (drop (i + 1) xs)))
+unfolding comes_twice
+set_twice_step xs i a h g = rw (next_of xs i a h g) refl
+
+pub set_twice_end : (xs : List Assignment) (i : ℕ) → length xs ≤ i → comes_twice (map (λ x. x.column) (drop i xs)) ≡ false
+unfolding comes_twice
+set_twice_end xs i h = rw (none_left xs i h) refl

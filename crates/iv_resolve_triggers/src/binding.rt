@@ -1,0 +1,93 @@
+//! The plan of a CREATE TRIGGER.
+ghost use Rattle.std.specs.Prelude.{◌≡◌, ◌≤◌, IfOk, length, map};
+ghost use Rattle.iv_resolution.specs.Bound.{bound_action, bound_trigger, table_id};
+ghost use Rattle.iv_resolution.specs.Tables.{table_names};
+ghost use Rattle.iv_scope.specs.Seen.{names_seen, ranges_seen};
+
+use crate::variables::{trigger_names, variables};
+use iv_catalogue::{BodyStatement, Catalogue, MOST_TABLES, Setting, Trigger, TriggerId};
+use iv_expr::TableId;
+use iv_resolve_changes::{bound_delete, bound_insert, bound_update};
+use iv_scope::{Names, Ranges, bound_expression, bound_filter, table_place};
+use iv_syntax::{TriggerAction, TriggerDefinition};
+use sqlite_items::Items;
+use std::alloc::{AllocError, Global};
+
+fn bound_action<'a>(
+    action: &'a TriggerAction,
+    alloc: Global,
+    names: &'a Names<'a>,
+    ranges: &'a Ranges<'a>,
+) -> Result<BodyStatement, AllocError>
+    requires { length names.now.tables.now ≤ MOST_TABLES }
+    ensures { IfOk result (λ s. s ≡ bound_action (names_seen names.now) (ranges_seen ranges.now) action.now) }
+{
+    match action {
+        TriggerAction::Insert(insert) => {
+            Ok(BodyStatement::Data(bound_insert(insert, alloc, &*names, &*ranges)?))
+        }
+        TriggerAction::Update(update) => {
+            Ok(BodyStatement::Data(bound_update(update, alloc, &*names, &*ranges)?))
+        }
+        TriggerAction::Delete(delete) => {
+            Ok(BodyStatement::Data(bound_delete(delete, alloc, &*names, &*ranges)?))
+        }
+        TriggerAction::Signal(text) => Ok(BodyStatement::Signal(text.clone()?)),
+        TriggerAction::Set(_, column, value) => Ok(BodyStatement::Set(Setting {
+            column: names.subject.place_of(column.as_str()),
+            value: bound_expression(value, alloc, &*ranges)?,
+        })),
+    }
+}
+
+fn bound_body<'a>(
+    body: &'a [TriggerAction],
+    alloc: Global,
+    names: &'a Names<'a>,
+    ranges: &'a Ranges<'a>,
+) -> Result<Items<BodyStatement>, AllocError>
+    requires { length names.now.tables.now ≤ MOST_TABLES }
+    ensures { IfOk result (λ ss. ss ≡ map (bound_action (names_seen names.now) (ranges_seen ranges.now)) body.now) }
+{
+    let mut statements = Items::new(alloc);
+    for action in body {
+        statements.push(bound_action(action, alloc, &*names, &*ranges)?)?;
+    }
+    Ok(statements)
+}
+
+#[tactic(auto, unfolding(iv_resolution::specs::Bound::table_id))]
+fn subject_id(catalogue: &Catalogue, name: &str) -> TableId
+    ensures { result ≡ table_id (table_names catalogue.now) name.now }
+{
+    match table_place(catalogue.tables(), name) {
+        Some(place) => TableId::new(place as u32),
+        None => TableId::new(0),
+    }
+}
+
+/// The plan of a CREATE TRIGGER, with the number that the trigger gets. It takes memory for the plan alone.
+pub fn bound_trigger<'a>(
+    trigger: &'a TriggerDefinition,
+    alloc: Global,
+    catalogue: &'a Catalogue,
+    created: u32,
+) -> Result<Trigger, AllocError>
+    requires { created ≡ catalogue.now.created }
+    ensures { IfOk result (λ t. t ≡ bound_trigger catalogue.now trigger.now) }
+{
+    let names = trigger_names(trigger, catalogue);
+    let ranges = variables(&names);
+    let when = bound_filter(&trigger.when, alloc, &names, &ranges)?;
+    let body = bound_body(trigger.body.as_slice(), alloc, &names, &ranges)?;
+    Ok(Trigger {
+        id: TriggerId::new(created),
+        name: trigger.name.clone()?,
+        table: subject_id(catalogue, trigger.table.as_str()),
+        time: trigger.time,
+        event: trigger.event,
+        granularity: trigger.granularity,
+        when,
+        body,
+    })
+}

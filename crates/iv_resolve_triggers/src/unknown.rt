@@ -1,0 +1,61 @@
+//! Names in a CREATE TRIGGER that name nothing.
+ghost use Rattle.std.specs.Prelude.{◌≡◌, ◌≤◌, length};
+ghost use Rattle.std.specs.List.{list_any};
+ghost use Rattle.iv_resolution.specs.Triggers.{row_variables, unknown_action, unknown_set, unknown_trigger};
+ghost use Rattle.iv_scope.specs.Seen.{columns_seen, names_seen, ranges_seen};
+
+use crate::variables::{trigger_names, variable_named, variables};
+use iv_catalogue::{Catalogue, MOST_TABLES};
+use iv_resolve_changes::{is_table, unknown_delete, unknown_insert, unknown_update};
+use iv_scope::{Names, Ranges, unknown_expression, unknown_filter};
+use iv_syntax::{TriggerAction, TriggerDefinition};
+
+#[tactic(auto, unfolding(iv_resolution::specs::Triggers::unknown_set))]
+fn unknown_set(names: &Names<'_>, variable: &str, column: &str) -> bool
+    ensures { result ≡ unknown_set (names_seen names.now)
+        (row_variables (columns_seen names.now.subject) names.now.referencing.now) variable.now column.now }
+{
+    variable_named(names, variable).is_none() || !names.subject.has(column)
+}
+
+#[tactic(auto, unfolding(iv_resolution::specs::Triggers::unknown_action))]
+fn unknown_action<'a>(
+    action: &'a TriggerAction,
+    names: &'a Names<'a>,
+    ranges: &'a Ranges<'a>,
+) -> bool
+    requires tables { length names.now.tables.now ≤ MOST_TABLES }
+    requires variables { ranges_seen ranges.now ≡ row_variables (columns_seen names.now.subject) names.now.referencing.now }
+    ensures { result ≡ unknown_action (names_seen names.now) (ranges_seen ranges.now) action.now }
+{
+    match action {
+        TriggerAction::Insert(insert) => unknown_insert(insert, &*names, &*ranges),
+        TriggerAction::Update(update) => unknown_update(update, &*names, &*ranges),
+        TriggerAction::Delete(delete) => unknown_delete(delete, &*names, &*ranges),
+        TriggerAction::Signal(_) => false,
+        TriggerAction::Set(variable, column, value) => {
+            unknown_set(names, variable.as_str(), column.as_str())
+                | unknown_expression(value, &*ranges)
+        }
+    }
+}
+
+fn unknown_body<'a>(body: &'a [TriggerAction], names: &'a Names<'a>, ranges: &'a Ranges<'a>) -> bool
+    requires tables { length names.now.tables.now ≤ MOST_TABLES }
+    requires variables { ranges_seen ranges.now ≡ row_variables (columns_seen names.now.subject) names.now.referencing.now }
+    ensures { result ≡ list_any (unknown_action (names_seen names.now) (ranges_seen ranges.now)) body.now }
+{
+    body.iter()
+        .any(|action| unknown_action(action, &*names, &*ranges))
+}
+
+/// Whether a name of a CREATE TRIGGER names nothing.
+pub fn unknown_trigger<'a>(trigger: &'a TriggerDefinition, catalogue: &'a Catalogue) -> bool
+    ensures { result ≡ unknown_trigger catalogue.now trigger.now }
+{
+    let names = trigger_names(trigger, catalogue);
+    let ranges = variables(&names);
+    !is_table(&names, trigger.table.as_str())
+        || (unknown_filter(&trigger.when, &names, &ranges)
+            || unknown_body(trigger.body.as_slice(), &names, &ranges))
+}

@@ -1,0 +1,23 @@
+//! Names of columns, ranges and tables where they are written: what value expressions and search conditions are refused for, and
+//! what they mean.
+#![tactic(auto)]
+
+mod binding;
+mod columns;
+mod kinds;
+mod names;
+mod ranges;
+mod unknown;
+
+pub use binding::{bound_condition, bound_expression, bound_filter, integer_of};
+pub use columns::Columns;
+pub use kinds::{
+    clashes_with, has_exists, is_integer_type, is_text_type, kinds_clash, misshaped_condition,
+    misshaped_expression, misshaped_filter,
+};
+pub use names::{
+    Created, Names, Source, inside, is_source, source_columns, source_named, source_range,
+    table_place,
+};
+pub use ranges::{Found, Ranges, column_meant};
+pub use unknown::{unknown_condition, unknown_expression, unknown_filter};

@@ -1,0 +1,255 @@
+//! A store that keeps lists and copies, and scans.
+ghost use Rattle.std.specs.Prelude.{◌≡◌, ◌+◌, ◌*◌, ◌<◌, ◌≤◌, ◌++◌, ◌∷◌, [], find, length, option_map, IfOk, OnOk, OnErr};
+ghost use Rattle.iv_catalogue.specs.declared.limits.TheConstants.{MOST_CONSTRAINTS, MOST_TABLES};
+ghost use Rattle.iv_machine.specs.Databases.{violates};
+ghost use Rattle.iv_store.specs.Stores.{empty_store, store_with_table, store_with_constraint};
+
+use crate::copy::{copy_constraint, copy_constraints, copy_table};
+use crate::database::PlainDatabase;
+use crate::fault::AddFault;
+use crate::keeper::{Keeper, Kin};
+use crate::key::Key;
+use crate::mark::Mark;
+use crate::referencing::children;
+use iv_catalogue::{Constraint, ConstraintId, Fault, Table};
+use iv_expr::{Change, Rows, StoredRow, TableId};
+use iv_machine::{Which, count_faults, first_fault, list_faults, satisfies};
+use iv_modes::Modes;
+use iv_value::Value;
+use std::alloc::{AllocError, Global};
+use std::marker::Model;
+
+/// A store as lists: the rows of all tables in one list by number, copies of it as marks, and faults by the scan
+/// of all rows.
+#[derive(Drop)]
+pub struct PlainStore {
+    alloc: Global,
+    tables: Vec<Table>,
+    constraints: Vec<Constraint>,
+    database: PlainDatabase,
+    marks: Vec<PlainDatabase>,
+}
+
+impl Model for PlainStore {
+    ghost use Rattle.std.specs.Prelude.{◌≤◌, ◌*◌, length};
+    ghost use Rattle.iv_catalogue.specs.declared.limits.TheConstants.{MOST_CONSTRAINTS, MOST_TABLES};
+    ghost use Rattle.iv_store.specs.Stores.{StoreState};
+    ghost use Rattle.iv_expr.specs.contracts.tree.Cond as cond;
+    ghost use Rattle.std.specs.Coded.{codes};
+
+    ghost Value = { StoreState };
+
+    ghost coded = { Prim.hlevel (codes, cond.the_row.coded) };
+
+    ghost view = { λ s. record { tables = s.tables.items; constraints = s.constraints.items; base = s.database; marks = s.marks.items } };
+
+    ghost invariant = { λ s. length s.constraints.items ≤ MOST_TABLES * MOST_CONSTRAINTS };
+}
+
+// Whether a row is one of a constraint's table and violates it.
+fn violates(rows: &[StoredRow], constraint: &Constraint, row: &StoredRow) -> bool
+    ensures { result ≡ violates rows.now constraint.now row.now }
+{
+    row.table == constraint.table && !satisfies(rows, constraint, row)
+}
+
+// The number of the first row that violates a constraint.
+fn first_violating(rows: &[StoredRow], constraint: &Constraint) -> Option<u64>
+    ensures { result ≡
+        option_map (λ r. r.number) (find (violates rows.now constraint.now) rows.now) }
+{
+    rows.iter()
+        .find(|row| violates(rows, constraint, row))
+        .map(|row| row.number)
+}
+
+impl Rows for PlainStore {
+    ghost rows = { λ s. s.base.rows };
+
+    fn known(&self) {
+        let _ = self.database.rows();
+    }
+
+    fn scan(&self, table: TableId, after: u64) -> Option<(u64, &[Value])> {
+        self.database.scan(table, after)
+    }
+}
+
+impl Kin for PlainStore {
+    ghost view = { λ s. s };
+
+    ghost lookups = { λ _. 0 };
+
+    fn allocator(&self) -> Global {
+        self.alloc
+    }
+
+    fn row(&self, number: u64) -> Option<&StoredRow> {
+        self.database.row(number)
+    }
+
+    fn children(
+        &mut self,
+        foreign_key: ConstraintId,
+        key: &Key<'_>,
+    ) -> Result<Vec<u64>, AllocError> {
+        children(
+            self.alloc,
+            self.database.rows(),
+            self.constraints.as_slice(),
+            foreign_key.place(),
+            key,
+        )
+    }
+
+    fn looked(&self) -> u64 {
+        0
+    }
+}
+
+impl PlainStore {
+    /// The tables that were added.
+    pub fn tables(&self) -> &[Table]
+        ensures { result.now ≡ self.now.tables }
+    {
+        self.tables.as_slice()
+    }
+
+    /// The constraints that were added.
+    pub fn constraints(&self) -> &[Constraint]
+        ensures { result.now ≡ self.now.constraints }
+    {
+        self.constraints.as_slice()
+    }
+
+    /// How many marks there are.
+    pub fn marks(&self) -> usize
+        ensures { result ≡ length self.now.marks }
+    {
+        self.marks.len()
+    }
+
+    // Adds copies of a table and of its constraints.
+    fn push_table(&mut self, table: &Table, constraints: &[Constraint]) -> Result<(), AllocError>
+        requires { length self.old.constraints + length constraints.now
+            ≤ MOST_TABLES * MOST_CONSTRAINTS }
+        ensures ok { OnOk result (self.new ≡ store_with_table self.old table.now constraints.now) }
+        ensures err { OnErr result (self.new ≡ self.old) }
+    {
+        let table = copy_table(self.alloc, table)?;
+        let mut constraints = copy_constraints(self.alloc, constraints)?;
+        self.tables.reserve(1)?;
+        self.constraints.append(&mut constraints)?;
+        match self.tables.push(table) {
+            Ok(()) => Ok(()),
+            Err(_) => unreachable!(),
+        }
+    }
+
+    // Adds a copy of a constraint.
+    fn push_constraint(&mut self, constraint: &Constraint) -> Result<(), AllocError>
+        requires { length self.old.constraints < MOST_TABLES * MOST_CONSTRAINTS }
+        ensures ok { OnOk result (self.new ≡ store_with_constraint self.old constraint.now) }
+        ensures err { OnErr result (self.new ≡ self.old) }
+    {
+        let constraint = copy_constraint(self.alloc, constraint)?;
+        self.constraints.push(constraint)?;
+        Ok(())
+    }
+}
+
+impl Keeper for PlainStore {
+    ghost use Rattle.std.specs.Prelude.{refl};
+
+    ghost rows_are = { λ k. refl };
+
+    fn new(alloc: Global) -> Self {
+        PlainStore {
+            alloc,
+            tables: Vec::new(alloc),
+            constraints: Vec::new(alloc),
+            database: PlainDatabase::new(alloc),
+            marks: Vec::new(alloc),
+        }
+    }
+
+    fn next_row(&self) -> u64 {
+        self.database.next()
+    }
+
+    fn standing(&self) -> u64 {
+        self.database.count()
+    }
+
+    fn add_table(&mut self, table: &Table, constraints: &[Constraint]) -> Result<(), AllocError> {
+        self.push_table(table, constraints)
+    }
+
+    fn add_constraint(&mut self, constraint: &Constraint) -> Result<(), AddFault> {
+        if let Some(row) = first_violating(self.database.rows(), constraint) {
+            return Err(AddFault::Row(row));
+        }
+        Ok(self.push_constraint(constraint)?)
+    }
+
+    fn change(&mut self, change: Change) -> Result<(), AllocError> {
+        self.database.change(change)
+    }
+
+    fn first_fault(&self, modes: &Modes, which: Which) -> Option<Fault> {
+        first_fault(
+            self.database.rows(),
+            self.constraints.as_slice(),
+            modes.as_slice(),
+            which,
+        )
+    }
+
+    fn count_faults(&self, modes: &Modes, which: Which) -> u64 {
+        count_faults(
+            self.database.rows(),
+            self.constraints.as_slice(),
+            modes.as_slice(),
+            which,
+        )
+    }
+
+    fn list_faults(&self, modes: &Modes, which: Which) -> Result<Vec<Fault>, AllocError> {
+        list_faults(
+            self.alloc,
+            self.database.rows(),
+            self.constraints.as_slice(),
+            modes.as_slice(),
+            which,
+        )
+    }
+
+    fn mark(&mut self) -> Result<Mark, AllocError> {
+        let place = self.marks.len();
+        self.marks.push(self.database.copy()?)?;
+        Ok(Mark::new(place))
+    }
+
+    fn undo_to(&mut self, mark: Mark) -> Result<(), AllocError> {
+        let database = self.marks[mark.place()].copy()?;
+        self.marks.truncate(mark.place() + 1);
+        self.database.go_back(database);
+        Ok(())
+    }
+
+    fn undo(&mut self, mark: Mark) {
+        self.marks.truncate(mark.place() + 1);
+        if let Some(database) = self.marks.pop() {
+            self.database.go_back(database);
+        }
+    }
+
+    fn forget(&mut self, mark: Mark) {
+        self.marks.remove(mark.place());
+    }
+
+    fn settle(&mut self) {
+        self.marks.clear();
+        self.database.settle();
+    }
+}
