@@ -5,7 +5,7 @@ use Rattle.iv_syntax.specs.declared.statement.ConstraintList.{ConstraintList}
 use Rattle.iv_syntax.specs.declared.statement.ConstraintList.TheVariants as constraints
 use Rattle.iv_syntax.specs.declared.statement.Statement.{Statement}
 use Rattle.iv_syntax.specs.declared.statement.Statement.TheVariants as statement
-use Rattle.iv_catalogue.specs.Catalogues.{Schema}
+use Rattle.iv_catalogue.specs.Catalogues.{Schema, has_constraint, has_trigger}
 use Rattle.iv_catalogue.specs.Refusals.{refused, out_of_memory, is_memory}
 use Rattle.iv_catalogue.specs.declared.cause.Cause.{Cause}
 use Rattle.iv_catalogue.specs.declared.cause.Cause.TheVariants.{Unknown, Duplicate, SchemaFault, WrongShape, Limit}
@@ -14,8 +14,8 @@ use Rattle.iv_catalogue.specs.declared.plan.Plan.{Plan}
 use Rattle.iv_resolution.specs.Scopes.{table_place}
 use Rattle.iv_resolution.specs.Constraints.{table_constraint, Altered}
 use Rattle.iv_resolution.specs.Changes.{unknown_insert, unknown_update, unknown_delete, unknown_select, duplicate_insert, duplicate_update, misshaped_insert, misshaped_update, misshaped_delete, misshaped_select}
-use Rattle.iv_resolution.specs.Tables.{table_names, altered_at, unknown_rule, duplicate_rule, is_constraint, added_name, faulty_addition, misshaped_rule, addition_beyond_limits, unknown_table, duplicate_table, faulty_table, misshaped_table, table_beyond_limits}
-use Rattle.iv_resolution.specs.Triggers.{unknown_trigger, duplicate_trigger, is_trigger, faulty_trigger, misshaped_trigger, trigger_beyond_limits}
+use Rattle.iv_resolution.specs.Tables.{table_names, altered_at, unknown_rule, duplicate_rule, added_name, faulty_addition, misshaped_rule, addition_beyond_limits, unknown_table, duplicate_table, faulty_table, misshaped_table, table_beyond_limits}
+use Rattle.iv_resolution.specs.Triggers.{unknown_trigger, duplicate_trigger, faulty_trigger, misshaped_trigger, trigger_beyond_limits}
 use Rattle.iv_resolution.specs.Writable.{is_writable}
 use Rattle.iv_resolution.specs.Bound.{bound}
 
@@ -34,7 +34,7 @@ is_there schema table = is_some (table_place schema.tables table)
 
 abbrev pub unknown_constraints : Schema → ConstraintList → Bool
 unknown_constraints schema constraints.All = false
-unknown_constraints schema (constraints.Named names) = list_any (λ n. not (is_constraint schema n)) names
+unknown_constraints schema (constraints.Named names) = list_any (λ n. not (has_constraint schema n)) names
 
 -- ---- the five causes
 
@@ -45,7 +45,7 @@ is_unknown schema (statement.AlterTable table k) =
     not (is_there schema table)
     || of_altered schema table (λ own. unknown_rule schema (table_names schema) own (table_constraint k).rule)
 is_unknown schema (statement.CreateTrigger t) = unknown_trigger schema t
-is_unknown schema (statement.DropTrigger name) = not (is_trigger schema name)
+is_unknown schema (statement.DropTrigger name) = not (has_trigger schema name)
 is_unknown schema (statement.Insert i) = unknown_insert (table_names schema) [] i
 is_unknown schema (statement.Update u) = unknown_update (table_names schema) [] u
 is_unknown schema (statement.Delete d) = unknown_delete (table_names schema) [] d
@@ -57,7 +57,7 @@ is_unknown schema _ = false
 abbrev pub is_duplicate : Schema → Statement → Bool
 is_duplicate schema (statement.CreateTable name elements) = duplicate_table schema name elements
 is_duplicate schema (statement.AlterTable table k) =
-    of_altered schema table (λ own. is_constraint schema (added_name schema own (table_constraint k)))
+    of_altered schema table (λ own. has_constraint schema (added_name schema own (table_constraint k)))
     || duplicate_rule (table_constraint k).rule
 is_duplicate schema (statement.CreateTrigger t) = duplicate_trigger schema t
 is_duplicate schema (statement.Insert i) = duplicate_insert i

@@ -1,11 +1,10 @@
 -- CREATE TABLE and ALTER TABLE: what each of their constraints is refused for ("Table definition", "Add table constraint definition").
 use Rattle.std.specs.Prelude.{ℕ, ◌+◌, Bool, true, false, not, ◌&&◌, ◌||◌, ◌==◌, List, [], ◌∷◌, length, map, filter, Option, Some, None, nat_le, nat_lt}
 use Rattle.std.specs.List.{list_any}
-use Rattle.std.specs.Str.{bytes_eq}
 use Rattle.iv_syntax.specs.declared.table.ColumnType.{ColumnType}
 use Rattle.iv_syntax.specs.declared.table.ColumnType.TheVariants as type
 use Rattle.iv_syntax.specs.declared.table.TableElement.{TableElement}
-use Rattle.iv_catalogue.specs.Catalogues.{Schema}
+use Rattle.iv_catalogue.specs.Catalogues.{Schema, has_constraint, has_table}
 use Rattle.iv_catalogue.specs.declared.limits.TheConstants.{MOST_COLUMNS, MOST_CONSTRAINTS, MOST_TABLES, MOST_KEY_COLUMNS, MOST_CHARACTERS}
 use Rattle.iv_catalogue.specs.declared.catalogue.Table.{Table}
 use Rattle.iv_resolution.specs.Scopes.{NamedRange, Names, named_columns, has_column, own_range}
@@ -70,13 +69,6 @@ duplicate_rule (primary_key columns) = comes_twice columns
 duplicate_rule (check c) = false
 duplicate_rule (foreign_key columns r) = comes_twice columns || elim r.columns [ Some names ↦ comes_twice names | None ↦ false ]
 
--- constraint names are one space over the database
-abbrev pub is_constraint : Schema → List ℕ → Bool
-is_constraint schema name = list_any (λ k. bytes_eq name k.name) schema.constraints
-
-abbrev pub table_in_use : Schema → List ℕ → Bool
-table_in_use schema name = list_any (λ t. bytes_eq name t.name) schema.tables
-
 -- ---- definitions that no schema can have
 
 -- EXISTS in a CHECK, or a foreign key whose reference is at fault
@@ -121,11 +113,12 @@ abbrev pub unknown_table : Schema → List ℕ → List TableElement → Bool
 unknown_table schema name elements =
     list_any (λ k. unknown_rule schema (creating schema (created_table schema name elements)) (created_table schema name elements) k.rule) (written_constraints elements)
 
+-- Constraint names are one space over the database, and a new name must not be in use there.
 abbrev pub duplicate_table : Schema → List ℕ → List TableElement → Bool
 duplicate_table schema name elements =
-    table_in_use schema name
+    has_table schema name
     || (comes_twice (map (λ c. c.name) (written_columns elements))
-    || (list_any (is_constraint schema) (constraint_names name 1 (written_constraints elements))
+    || (list_any (has_constraint schema) (constraint_names name 1 (written_constraints elements))
     || (comes_twice (constraint_names name 1 (written_constraints elements))
     || list_any (λ k. duplicate_rule k.rule) (written_constraints elements))))
 

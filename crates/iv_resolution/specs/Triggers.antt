@@ -13,7 +13,7 @@ use Rattle.iv_syntax.specs.declared.trigger.Referencing.{Referencing}
 use Rattle.iv_syntax.specs.declared.trigger.TriggerAction.{TriggerAction}
 use Rattle.iv_syntax.specs.declared.trigger.TriggerAction.TheVariants as action
 use Rattle.iv_syntax.specs.declared.trigger.TriggerDefinition.{TriggerDefinition}
-use Rattle.iv_catalogue.specs.Catalogues.{Schema}
+use Rattle.iv_catalogue.specs.Catalogues.{Schema, has_trigger}
 use Rattle.iv_catalogue.specs.declared.limits.TheConstants.{MOST_TRIGGERS, MOST_TRIGGERS_EVER, MOST_BODY_STATEMENTS}
 use Rattle.iv_resolution.specs.declared.origin.Origin.{Origin}
 use Rattle.iv_resolution.specs.declared.origin.Origin.TheVariants.{Rows, Variable}
@@ -75,12 +75,9 @@ duplicate_action (action.Insert i) = duplicate_insert i
 duplicate_action (action.Update u) = duplicate_update u
 duplicate_action _ = false
 
-abbrev pub is_trigger : Schema → List ℕ → Bool
-is_trigger schema name = list_any (λ t. bytes_eq name t.name) schema.triggers
-
 abbrev pub duplicate_trigger : Schema → TriggerDefinition → Bool
 duplicate_trigger schema t =
-    is_trigger schema t.name || (comes_twice (map (λ i. i.name) t.referencing) || list_any duplicate_action t.body)
+    has_trigger schema t.name || (comes_twice (map (λ i. i.name) t.referencing) || list_any duplicate_action t.body)
 
 -- ---- what the trigger's time, event and granularity don't allow
 

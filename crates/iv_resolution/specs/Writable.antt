@@ -118,9 +118,9 @@ abbrev pub is_list : SelectList → Bool
 is_list list.Star = true
 is_list (list.Values es) = not (length es == 0) && list_all is_expression es
 
-abbrev pub is_source : InsertSource → Bool
-is_source (source.Values tuples) = not (length tuples == 0) && list_all is_tuple tuples
-is_source (source.Select l r filter) = is_list l && (is_range r && is_filter filter)
+abbrev pub is_insert_source : InsertSource → Bool
+is_insert_source (source.Values tuples) = not (length tuples == 0) && list_all is_tuple tuples
+is_insert_source (source.Select l r filter) = is_list l && (is_range r && is_filter filter)
 
 abbrev pub is_name_list_or_none : Option (List (List ℕ)) → Bool
 is_name_list_or_none None = true
@@ -128,7 +128,7 @@ is_name_list_or_none (Some names) = is_name_list names
 
 abbrev pub is_insert : Insert → Bool
 is_insert (insert.DefaultValues table) = is_name table
-is_insert (insert.Rows table columns s) = is_name table && (is_name_list_or_none columns && is_source s)
+is_insert (insert.Rows table columns s) = is_name table && (is_name_list_or_none columns && is_insert_source s)
 
 abbrev pub is_assignment : Assignment → Bool
 is_assignment a = is_name a.column && is_value a.value
@@ -159,12 +159,12 @@ is_rule (primary_key columns) = is_name_list columns
 is_rule (check c) = is_condition c
 is_rule (foreign_key columns r) = is_name_list columns && (is_name r.table && is_name_list_or_none r.columns)
 
-abbrev pub is_constraint : WrittenConstraint → Bool
-is_constraint k = is_name_or_none k.name && is_rule k.rule
+abbrev pub is_written_constraint : WrittenConstraint → Bool
+is_written_constraint k = is_name_or_none k.name && is_rule k.rule
 
-abbrev pub is_table : List ℕ → List TableElement → Bool
-is_table name elements =
-    is_name name && (list_all is_definition (written_columns elements) && list_all is_constraint (written_constraints elements))
+abbrev pub is_table_definition : List ℕ → List TableElement → Bool
+is_table_definition name elements =
+    is_name name && (list_all is_definition (written_columns elements) && list_all is_written_constraint (written_constraints elements))
 
 -- ---- CREATE TRIGGER
 
@@ -175,8 +175,8 @@ is_action (action.Delete d) = is_delete d
 is_action (action.Signal t) = true
 is_action (action.Set v column e) = is_name v && (is_name column && is_expression e)
 
-abbrev pub is_trigger : TriggerDefinition → Bool
-is_trigger t =
+abbrev pub is_trigger_definition : TriggerDefinition → Bool
+is_trigger_definition t =
     is_name t.name && (is_name t.table && (list_all (λ i. is_name i.name) t.referencing
     && (is_filter t.when && (not (length t.body == 0) && list_all is_action t.body))))
 
@@ -188,9 +188,9 @@ is_constraint_list (constraints.Named names) = is_name_list names
 
 -- A text of the language can be this statement, as far as names, numbers, depth and lists without an element are concerned.
 abbrev pub is_writable : Statement → Bool
-is_writable (statement.CreateTable name elements) = is_table name elements
-is_writable (statement.AlterTable table k) = is_name table && is_constraint (table_constraint k)
-is_writable (statement.CreateTrigger t) = is_trigger t
+is_writable (statement.CreateTable name elements) = is_table_definition name elements
+is_writable (statement.AlterTable table k) = is_name table && is_written_constraint (table_constraint k)
+is_writable (statement.CreateTrigger t) = is_trigger_definition t
 is_writable (statement.DropTrigger name) = is_name name
 is_writable (statement.Insert i) = is_insert i
 is_writable (statement.Update u) = is_update u

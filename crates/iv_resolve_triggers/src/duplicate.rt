@@ -2,9 +2,10 @@
 ghost use Rattle.std.specs.Prelude.{◌≡◌, map};
 ghost use Rattle.std.specs.List.{list_any};
 ghost use Rattle.std.specs.Str.{bytes_eq};
+ghost use Rattle.iv_catalogue.specs.Catalogues.{has_trigger};
 ghost use Rattle.iv_catalogue.specs.Names.{is_among};
 ghost use Rattle.iv_resolution.specs.Constraints.{comes_twice};
-ghost use Rattle.iv_resolution.specs.Triggers.{duplicate_action, duplicate_trigger, is_trigger};
+ghost use Rattle.iv_resolution.specs.Triggers.{duplicate_action, duplicate_trigger};
 
 use iv_catalogue::{Catalogue, Trigger};
 use iv_resolve_changes::{duplicate_insert, duplicate_update};
@@ -17,8 +18,8 @@ fn is_named(triggers: &[Trigger], name: &str) -> bool
 }
 
 /// Whether the catalogue has a trigger of that name.
-pub fn is_trigger(catalogue: &Catalogue, name: &str) -> bool
-    ensures { result ≡ is_trigger catalogue.now name.now }
+pub fn has_trigger(catalogue: &Catalogue, name: &str) -> bool
+    ensures { result ≡ has_trigger catalogue.now name.now }
 {
     is_named(catalogue.triggers(), name)
 }
@@ -69,6 +70,6 @@ fn duplicate_body(body: &[TriggerAction]) -> bool
 pub fn duplicate_trigger(trigger: &TriggerDefinition, catalogue: &Catalogue) -> bool
     ensures { result ≡ duplicate_trigger catalogue.now trigger.now }
 {
-    is_trigger(catalogue, trigger.name.as_str())
+    has_trigger(catalogue, trigger.name.as_str())
         || (names_twice(trigger.referencing.as_slice()) || duplicate_body(trigger.body.as_slice()))
 }

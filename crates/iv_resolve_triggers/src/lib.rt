@@ -10,6 +10,6 @@ mod variables;
 
 pub use allowed::faulty_trigger;
 pub use binding::bound_trigger;
-pub use duplicate::{duplicate_trigger, is_trigger};
+pub use duplicate::{duplicate_trigger, has_trigger};
 pub use misshaped::misshaped_trigger;
 pub use unknown::unknown_trigger;

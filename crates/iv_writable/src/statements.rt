@@ -1,12 +1,12 @@
 //! Statements.
 ghost use Rattle.std.specs.Prelude.{◌≡◌};
 ghost use Rattle.std.specs.List.{list_all};
-ghost use Rattle.iv_resolution.specs.Writable.{is_assignment, is_constraint_list, is_delete, is_expression, is_insert, is_list, is_select, is_source, is_tuple, is_update, is_value, is_writable};
+ghost use Rattle.iv_resolution.specs.Writable.{is_assignment, is_constraint_list, is_delete, is_expression, is_insert, is_list, is_select, is_insert_source, is_tuple, is_update, is_value, is_writable};
 
 use crate::names::{is_name, is_name_list, is_name_list_or_none};
-use crate::tables::{is_addition, is_table};
+use crate::tables::{is_addition, is_table_definition};
 use crate::terms::{is_expression, is_filter, is_range};
-use crate::triggers::is_trigger;
+use crate::triggers::is_trigger_definition;
 use iv_syntax::{
     Assignment, ConstraintList, Delete, Expression, Insert, InsertSource, Select, SelectList,
     Statement, Update, ValueOrDefault,
@@ -57,8 +57,8 @@ fn is_list(list: &SelectList) -> bool
     }
 }
 
-fn is_source(source: &InsertSource) -> bool
-    ensures { result ≡ is_source source.now }
+fn is_insert_source(source: &InsertSource) -> bool
+    ensures { result ≡ is_insert_source source.now }
 {
     match source {
         InsertSource::Values(tuples) => tuples.len() != 0 && are_tuples(tuples.as_slice()),
@@ -78,7 +78,7 @@ pub fn is_insert(insert: &Insert) -> bool
             table,
             columns,
             source,
-        } => is_name(table.as_str()) && (is_name_list_or_none(columns) && is_source(source)),
+        } => is_name(table.as_str()) && (is_name_list_or_none(columns) && is_insert_source(source)),
     }
 }
 
@@ -137,11 +137,11 @@ pub fn is_writable(statement: &Statement) -> bool
     ensures { result ≡ is_writable statement.now }
 {
     match statement {
-        Statement::CreateTable { name, elements } => is_table(name.as_str(), elements.as_slice()),
+        Statement::CreateTable { name, elements } => is_table_definition(name.as_str(), elements.as_slice()),
         Statement::AlterTable { table, constraint } => {
             is_name(table.as_str()) && is_addition(constraint)
         }
-        Statement::CreateTrigger(trigger) => is_trigger(trigger),
+        Statement::CreateTrigger(trigger) => is_trigger_definition(trigger),
         Statement::DropTrigger(name) => is_name(name.as_str()),
         Statement::Insert(insert) => is_insert(insert),
         Statement::Update(update) => is_update(update),

@@ -2,7 +2,7 @@
 ghost use Rattle.std.specs.Prelude.{◌≡◌, ◌&&◌, map};
 ghost use Rattle.std.specs.List.{list_all};
 ghost use Rattle.iv_resolution.specs.Constraints.{column_constraint, element_constraints, rule_of_column, rule_of_table, table_constraint, written_columns, written_constraints};
-ghost use Rattle.iv_resolution.specs.Writable.{is_constraint, is_definition, is_literal, is_name, is_name_list_or_none, is_rule, is_table};
+ghost use Rattle.iv_resolution.specs.Writable.{is_written_constraint, is_definition, is_literal, is_name, is_name_list_or_none, is_rule, is_table_definition};
 
 use crate::names::{is_name, is_name_list, is_name_list_or_none, is_name_or_none};
 use crate::terms::is_condition;
@@ -52,7 +52,7 @@ fn is_table_rule(rule: &TableRule) -> bool
 
 /// Whether a constraint that is written for itself can be written.
 pub fn is_addition(constraint: &TableConstraint) -> bool
-    ensures { result ≡ is_constraint (table_constraint constraint.now) }
+    ensures { result ≡ is_written_constraint (table_constraint constraint.now) }
 {
     is_name_or_none(&constraint.name) && is_table_rule(&constraint.rule)
 }
@@ -72,13 +72,13 @@ fn is_column_rule(column: &Name, rule: &ColumnRule) -> bool
 }
 
 fn is_column_constraint(column: &Name, constraint: &ColumnConstraint) -> bool
-    ensures { result ≡ is_constraint (column_constraint column.now constraint.now) }
+    ensures { result ≡ is_written_constraint (column_constraint column.now constraint.now) }
 {
     is_name_or_none(&constraint.name) && is_column_rule(column, &constraint.rule)
 }
 
 fn are_column_constraints(column: &Name, constraints: &[ColumnConstraint]) -> bool
-    ensures { result ≡ list_all is_constraint (map (column_constraint column.now) constraints.now) }
+    ensures { result ≡ list_all is_written_constraint (map (column_constraint column.now) constraints.now) }
 {
     for constraint in constraints {
         if !is_column_constraint(column, constraint) {
@@ -102,7 +102,7 @@ fn are_definitions(elements: &[TableElement]) -> bool
 }
 
 fn are_element_constraints(element: &TableElement) -> bool
-    ensures { result ≡ list_all is_constraint (element_constraints element.now) }
+    ensures { result ≡ list_all is_written_constraint (element_constraints element.now) }
 {
     match element {
         TableElement::Column(column) => {
@@ -114,7 +114,7 @@ fn are_element_constraints(element: &TableElement) -> bool
 
 #[tactic(auto, using(crate::proofs::Elements::all_of_first))]
 fn are_constraints(elements: &[TableElement]) -> bool
-    ensures { result ≡ list_all is_constraint (written_constraints elements.now) }
+    ensures { result ≡ list_all is_written_constraint (written_constraints elements.now) }
 {
     for element in elements {
         if !are_element_constraints(element) {
@@ -125,8 +125,8 @@ fn are_constraints(elements: &[TableElement]) -> bool
 }
 
 /// Whether a CREATE TABLE can be written.
-pub fn is_table(name: &str, elements: &[TableElement]) -> bool
-    ensures { result ≡ is_table name.now elements.now }
+pub fn is_table_definition(name: &str, elements: &[TableElement]) -> bool
+    ensures { result ≡ is_table_definition name.now elements.now }
 {
     is_name(name) && (are_definitions(elements) && are_constraints(elements))
 }

@@ -1,7 +1,7 @@
 //! CREATE TRIGGER.
 ghost use Rattle.std.specs.Prelude.{◌≡◌, ◌&&◌, ◌==◌, length, not};
 ghost use Rattle.std.specs.List.{list_all};
-ghost use Rattle.iv_resolution.specs.Writable.{is_action, is_name, is_trigger};
+ghost use Rattle.iv_resolution.specs.Writable.{is_action, is_name, is_trigger_definition};
 
 use crate::names::is_name;
 use crate::statements::{is_delete, is_insert, is_update};
@@ -41,8 +41,8 @@ fn is_body(body: &[TriggerAction]) -> bool
 }
 
 /// Whether a CREATE TRIGGER can be written.
-pub fn is_trigger(trigger: &TriggerDefinition) -> bool
-    ensures { result ≡ is_trigger trigger.now }
+pub fn is_trigger_definition(trigger: &TriggerDefinition) -> bool
+    ensures { result ≡ is_trigger_definition trigger.now }
 {
     is_name(trigger.name.as_str())
         && (is_name(trigger.table.as_str())
