@@ -1,1 +1,2 @@
+pub mod OneConstraint
 pub mod Setting

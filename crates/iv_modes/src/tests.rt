@@ -1,4 +1,7 @@
 //! The modes of a primary key that isn't deferrable and of a foreign key that is.
+ghost use Rattle.std.specs.Prelude.{◌≡◌, ◌≤◌, [], ◌∷◌, length, false, codes, IfOk, OnOk};
+ghost use Rattle.iv_catalogue.specs.Catalogues.{empty_schema, has_constraint, has_table, with_table};
+
 use crate::{Modes, NotDeferrable};
 use iv_catalogue::{Catalogue, Constraint, ConstraintId, Constraints, ForeignKey, Rule, Table};
 use iv_expr::TableId;
@@ -8,11 +11,15 @@ use sqlite_items::Items;
 use std::alloc::{AllocError, Global};
 use std::test::Fail;
 
-fn name(alloc: Global, text: &str) -> Result<Name, AllocError> {
+fn name(alloc: Global, text: &str) -> Result<Name, AllocError>
+    ensures { IfOk result (λ name. name ≡ text.now) }
+{
     Ok(Name::new(Text::new(alloc, text)?))
 }
 
-fn table(alloc: Global, called: &str) -> Result<Table, AllocError> {
+fn table(alloc: Global, called: &str) -> Result<Table, AllocError>
+    ensures { IfOk result (λ t. t.name ≡ called.now) }
+{
     Ok(Table {
         name: name(alloc, called)?,
         columns: Items::new(alloc),
@@ -20,7 +27,10 @@ fn table(alloc: Global, called: &str) -> Result<Table, AllocError> {
 }
 
 /// CONSTRAINT P_C1 PRIMARY KEY (K) of the first table.
-fn primary_key(alloc: Global) -> Result<Constraint, AllocError> {
+fn primary_key(alloc: Global) -> Result<Constraint, AllocError>
+    ensures name { IfOk result (λ k. k.name ≡ codes "P_C1") }
+    ensures own { IfOk result (λ k. k.table ≡ 0) }
+{
     Ok(Constraint {
         name: name(alloc, "P_C1")?,
         table: TableId::new(0),
@@ -31,7 +41,10 @@ fn primary_key(alloc: Global) -> Result<Constraint, AllocError> {
 }
 
 /// CONSTRAINT FK FOREIGN KEY (X) REFERENCES P INITIALLY DEFERRED of the second table.
-fn foreign_key(alloc: Global) -> Result<Constraint, AllocError> {
+fn foreign_key(alloc: Global) -> Result<Constraint, AllocError>
+    ensures name { IfOk result (λ k. k.name ≡ codes "FK") }
+    ensures own { IfOk result (λ k. k.table ≡ 1) }
+{
     Ok(Constraint {
         name: name(alloc, "FK")?,
         table: TableId::new(1),
@@ -48,14 +61,43 @@ fn foreign_key(alloc: Global) -> Result<Constraint, AllocError> {
     })
 }
 
-/// The tables P and C with these constraints.
-fn catalogue(alloc: Global) -> Result<Catalogue, AllocError> {
+/// Adds a table with one constraint of it.
+fn add(
+    catalogue: &mut Catalogue,
+    alloc: Global,
+    table: Table,
+    constraint: Constraint,
+) -> Result<(), AllocError>
+    requires few { length catalogue.old.tables ≤ 1 }
+    requires own { constraint.table ≡ length catalogue.old.tables }
+    requires table { has_table catalogue.old table.name ≡ false }
+    requires unused { has_constraint catalogue.old constraint.name ≡ false }
+    ensures { OnOk result (catalogue.new ≡ with_table catalogue.old table (constraint ∷ [])) }
+{
+    let constraints = Constraints::from_vec(vec![in alloc; constraint]?);
+    catalogue.add_table(table, constraints)
+}
+
+/// Adds the tables P and C with these constraints.
+fn fill(catalogue: &mut Catalogue, alloc: Global) -> Result<(), AllocError>
+    requires { catalogue.old ≡ empty_schema }
+{
+    let p = table(alloc, "P")?;
+    let key = primary_key(alloc)?;
+    add(catalogue, alloc, p, key)?;
+    let c = table(alloc, "C")?;
+    let reference = foreign_key(alloc)?;
+    add(catalogue, alloc, c, reference)
+}
+
+/// The modes of these constraints as they are initially.
+fn initial(alloc: Global) -> Result<Modes, AllocError> {
     let mut catalogue = Catalogue::new(alloc);
-    let of_p = Constraints::from_vec(vec![in alloc; primary_key(alloc)?]?);
-    catalogue.add_table(table(alloc, "P")?, of_p)?;
-    let of_c = Constraints::from_vec(vec![in alloc; foreign_key(alloc)?]?);
-    catalogue.add_table(table(alloc, "C")?, of_c)?;
-    Ok(catalogue)
+    let filled = fill(&mut catalogue, alloc);
+    let modes = Modes::initial(alloc, &catalogue);
+    drop(catalogue);
+    filled?;
+    modes
 }
 
 const P_C1: u32 = 0;
@@ -68,7 +110,7 @@ fn id(place: u32) -> ConstraintId {
 
 #[test]
 fn modes_begin_as_the_constraints_say(rt: HostRuntime) -> Result<(), Fail> {
-    let modes = Modes::initial(rt.alloc(), &catalogue(rt.alloc())?)?;
+    let modes = initial(rt.alloc())?;
     assert!(rt; modes.is_deferred(id(FK)));
     assert!(rt; !modes.is_deferred(id(P_C1)));
     assert!(rt; !modes.is_deferred(id(2)));
@@ -81,7 +123,7 @@ fn modes_begin_as_the_constraints_say(rt: HostRuntime) -> Result<(), Fail> {
 
 #[test]
 fn a_refused_list_sets_nothing(rt: HostRuntime) -> Result<(), Fail> {
-    let mut modes = Modes::initial(rt.alloc(), &catalogue(rt.alloc())?)?;
+    let mut modes = initial(rt.alloc())?;
     let refused = modes.set(&[id(FK), id(P_C1), id(2)], ConstraintMode::Immediate);
     assert_eq!(rt; refused, Err(NotDeferrable(id(P_C1))));
     assert!(rt; modes.is_deferred(id(FK)));
@@ -94,7 +136,7 @@ fn a_refused_list_sets_nothing(rt: HostRuntime) -> Result<(), Fail> {
 
 #[test]
 fn the_modes_of_a_list_are_set(rt: HostRuntime) -> Result<(), Fail> {
-    let mut modes = Modes::initial(rt.alloc(), &catalogue(rt.alloc())?)?;
+    let mut modes = initial(rt.alloc())?;
     let before = modes.copy()?;
     assert_eq!(rt;
         modes.set(&[id(FK), id(FK)], ConstraintMode::Immediate),

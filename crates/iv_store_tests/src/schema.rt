@@ -1,5 +1,6 @@
 //! Plain stores of one table or two, and changes that are made where a store allows them.
-ghost use Rattle.std.specs.Prelude.{◌≡◌, ◌<◌, ◌≤◌, ◌+◌, ◌*◌, ◌++◌, [], ◌∷◌, true, length, map, None, IsTrue, IfOk, IfSome, OnOk};
+ghost use Rattle.std.specs.Prelude.{◌≡◌, ◌<◌, ◌≤◌, ◌+◌, ◌*◌, ◌++◌, [], ◌∷◌, true, false, codes, length, map, None, IsTrue, IfOk, IfSome, OnOk};
+ghost use Rattle.iv_catalogue.specs.Catalogues.{empty_schema, has_constraint, has_table, with_table};
 ghost use Rattle.iv_catalogue.specs.declared.constraint.Rule.TheVariants as rule;
 ghost use Rattle.iv_catalogue.specs.declared.limits.TheConstants.{MOST_CONSTRAINTS, MOST_TABLES};
 ghost use Rattle.iv_syntax.specs.declared.table.ReferentialAction.TheVariants.{NoAction};
@@ -20,7 +21,9 @@ use sqlite_items::Items;
 use std::alloc::{AllocError, Global};
 use std::slice::from_ref;
 
-fn name(alloc: Global, text: &str) -> Result<Name, AllocError> {
+fn name(alloc: Global, text: &str) -> Result<Name, AllocError>
+    ensures { IfOk result (λ name. name ≡ text.now) }
+{
     Ok(Name::new(Text::new(alloc, text)?))
 }
 
@@ -33,7 +36,9 @@ fn column(alloc: Global, called: &str, kind: Kind) -> Result<Column, AllocError>
 }
 
 /// A table of these columns.
-fn table(alloc: Global, called: &str, columns: Vec<Column>) -> Result<Table, AllocError> {
+fn table(alloc: Global, called: &str, columns: Vec<Column>) -> Result<Table, AllocError>
+    ensures { IfOk result (λ t. t.name ≡ called.now) }
+{
     Ok(Table {
         name: name(alloc, called)?,
         columns: Items::from_vec(columns),
@@ -41,7 +46,9 @@ fn table(alloc: Global, called: &str, columns: Vec<Column>) -> Result<Table, All
 }
 
 /// A table with one column, an INTEGER.
-fn integers(alloc: Global, called: &str) -> Result<Table, AllocError> {
+fn integers(alloc: Global, called: &str) -> Result<Table, AllocError>
+    ensures { IfOk result (λ t. t.name ≡ called.now) }
+{
     let columns = vec![in alloc; column(alloc, "A", Kind::Integer)?]?;
     table(alloc, called, columns)
 }
@@ -53,6 +60,7 @@ fn constraint(
     rule: Rule,
     initially: ConstraintMode,
 ) -> Result<Constraint, AllocError>
+    ensures name { IfOk result (λ c. c.name ≡ called.now) }
     ensures table { IfOk result (λ c. c.table ≡ table) }
     ensures rule { IfOk result (λ c. c.rule ≡ rule) }
 {
@@ -85,6 +93,7 @@ fn above(alloc: Global, called: &str, least: i64) -> Result<Constraint, AllocErr
 
 /// PRIMARY KEY of the first table, on its first column.
 fn primary_key(alloc: Global) -> Result<Constraint, AllocError>
+    ensures name { IfOk result (λ c. c.name ≡ codes "P_C1") }
     ensures table { IfOk result (λ c. c.table ≡ 0) }
     ensures rule { IfOk result (λ c. c.rule ≡ rule.PrimaryKey (0 ∷ [])) }
 {
@@ -94,6 +103,7 @@ fn primary_key(alloc: Global) -> Result<Constraint, AllocError>
 
 /// FOREIGN KEY of the second table, from its first column to that of the first table.
 fn references_p(alloc: Global, called: &str, matching: MatchType) -> Result<Constraint, AllocError>
+    ensures name { IfOk result (λ c. c.name ≡ called.now) }
     ensures table { IfOk result (λ c. c.table ≡ 1) }
     ensures rule { IfOk result (λ c. c.rule ≡ rule.ForeignKey (record {
       columns = 0 ∷ [];
@@ -278,26 +288,42 @@ pub fn add_above(
     added
 }
 
+/// Adds a table of one column to a catalogue, with one constraint of it.
 fn add_to(
     catalogue: &mut Catalogue,
-    alloc: Global,
-    called: &str,
+    table: Table,
     constraint: Constraint,
+    alloc: Global,
 ) -> Result<(), AllocError>
-    requires { length catalogue.old.tables ≤ 1 }
-    ensures { OnOk result (length catalogue.new.tables ≡ length catalogue.old.tables + 1) }
+    requires few { length catalogue.old.tables ≤ 1 }
+    requires own { constraint.table ≡ length catalogue.old.tables }
+    requires table { has_table catalogue.old table.name ≡ false }
+    requires unused { has_constraint catalogue.old constraint.name ≡ false }
+    ensures { OnOk result (catalogue.new ≡ with_table catalogue.old table (constraint ∷ [])) }
 {
     let constraints = Constraints::from_vec(vec![in alloc; constraint]?);
-    catalogue.add_table(integers(alloc, called)?, constraints)
+    catalogue.add_table(table, constraints)
+}
+
+fn fill(catalogue: &mut Catalogue, alloc: Global) -> Result<(), AllocError>
+    requires { catalogue.old ≡ empty_schema }
+{
+    let p = integers(alloc, "P")?;
+    let key = primary_key(alloc)?;
+    add_to(catalogue, p, key, alloc)?;
+    let c = integers(alloc, "C")?;
+    let reference = references_p(alloc, "FK", MatchType::Simple)?;
+    add_to(catalogue, c, reference, alloc)
 }
 
 /// The initial modes of the constraints of P and C.
 pub fn modes(alloc: Global) -> Result<Modes, AllocError> {
     let mut catalogue = Catalogue::new(alloc);
-    add_to(&mut catalogue, alloc, "P", primary_key(alloc)?)?;
-    let reference = references_p(alloc, "FK", MatchType::Simple)?;
-    add_to(&mut catalogue, alloc, "C", reference)?;
-    Modes::initial(alloc, &catalogue)
+    let filled = fill(&mut catalogue, alloc);
+    let modes = Modes::initial(alloc, &catalogue);
+    drop(catalogue);
+    filled?;
+    modes
 }
 
 /// A row of one integer.
