@@ -1,0 +1,8 @@
+//! The rules by which names name columns, tables and row variables, and that resolution finds them.
+#![tactic(auto)]
+
+mod laws;
+#[cfg(test)]
+mod tests;
+
+pub use laws::names_are_found;
