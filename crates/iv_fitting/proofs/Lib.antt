@@ -1,0 +1,9 @@
+pub mod Changes
+pub mod ColumnKinds
+pub mod Conditions
+pub mod Expressions
+pub mod Plans
+pub mod Pointwise
+pub mod Statements
+pub mod Targets
+pub mod Triggers

@@ -1,0 +1,30 @@
+-- The plans of statements that deserve no cause fit the tables of the schema.
+use Rattle.std.specs.Prelude.{◌≡◌, true, Ok}
+use Rattle.std.specs.List.{list_all}
+use Rattle.iv_syntax.specs.declared.statement.Statement.{Statement}
+use Rattle.iv_catalogue.specs.Catalogues.{Schema}
+use Rattle.iv_catalogue.specs.declared.plan.DataStatement.{DataStatement}
+use Rattle.iv_catalogue.specs.declared.plan.Plan.TheVariants as plan
+use Rattle.iv_catalogue.specs.declared.plan.QueryPlan.{QueryPlan}
+use Rattle.iv_catalogue.specs.declared.plan.SchemaPlan.TheVariants.{CreateTrigger}
+use Rattle.iv_catalogue.specs.declared.plan.Trigger.{Trigger}
+use Rattle.iv_resolution.specs.Resolution.{resolution}
+use Rattle.iv_fitting.specs.PlanShapes.{plain_shape, table_suits, data_suits, query_suits, trigger_suits}
+
+-- The plan of an INSERT, UPDATE or DELETE fits.
+abbrev pub ChangesFit : Type 0
+ChangesFit =
+    (schema : Schema) (s : Statement) (d : DataStatement)
+    → list_all table_suits schema.tables ≡ true → resolution schema s ≡ Ok (plan.Change d) → data_suits schema.tables (plain_shape schema.tables) d ≡ true
+
+-- The plan of a SELECT fits.
+abbrev pub QueriesFit : Type 0
+QueriesFit =
+    (schema : Schema) (s : Statement) (q : QueryPlan)
+    → list_all table_suits schema.tables ≡ true → resolution schema s ≡ Ok (plan.Query q) → query_suits schema.tables q ≡ true
+
+-- WHEN and the body of a new trigger fit.
+abbrev pub TriggersFit : Type 0
+TriggersFit =
+    (schema : Schema) (s : Statement) (t : Trigger)
+    → list_all table_suits schema.tables ≡ true → resolution schema s ≡ Ok (plan.Schema (CreateTrigger t)) → trigger_suits schema.tables t ≡ true

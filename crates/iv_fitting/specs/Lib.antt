@@ -1,0 +1,2 @@
+pub mod PlanShapes
+pub mod Laws

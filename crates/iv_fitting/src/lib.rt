@@ -1,0 +1,8 @@
+//! Plans of statements that deserve no cause fit the tables that they are of.
+#![tactic(auto)]
+
+mod laws;
+#[cfg(test)]
+mod tests;
+
+pub use laws::plans_fit;

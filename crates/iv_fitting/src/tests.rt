@@ -1,0 +1,7 @@
+//! The law is a call that returns.
+use crate::plans_fit;
+
+#[test]
+fn laws_are_called(rt: HostRuntime) {
+    plans_fit();
+}
