@@ -98,7 +98,7 @@ tuple_suits ranges shape m l columns few d listed known tuple u w = values_by sh
 
 -- ---- what a query gives
 
-column_of_kind : (columns : List NamedColumn) (kinds : List Kind) → map (λ (c : NamedColumn). c.kind) columns ≡ map type_of kinds
+pub column_of_kind : (columns : List NamedColumn) (kinds : List Kind) → map (λ (c : NamedColumn). c.kind) columns ≡ map type_of kinds
     → (j : ℕ) (k : Kind) → slice_get kinds j ≡ Some k → (c : NamedColumn) × (slice_get columns j ≡ Some c) × (c.kind ≡ type_of k)
 column_of_kind [] [] e j k h = cc
 column_of_kind [] (x ∷ xs) e j k h = cc

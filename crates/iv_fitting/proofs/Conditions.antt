@@ -68,7 +68,7 @@ compared ranges a b texts numbers x y h =
     let parts = neither (is_integer ranges a && is_text ranges b) (is_text ranges a && is_integer ranges b) h in
     let e : true ≡ false = sym (ap (λ p. p && is_integer ranges b) x ∙ y) ∙ parts.1 in cc
 
-compares : (ranges : List NamedRange) (shape : Shape) (a b : Expression) → Sorted ranges shape a → Sorted ranges shape b → clash ranges a b ≡ false
+pub compares : (ranges : List NamedRange) (shape : Shape) (a b : Expression) → Sorted ranges shape a → Sorted ranges shape b → clash ranges a b ≡ false
     → comparable (sort_of shape (bound_expression ranges a)) (sort_of shape (bound_expression ranges b)) ≡ true
 compares ranges shape a b x y h =
     ap (λ (s : Option Sort). comparable s (sort_of shape (bound_expression ranges b))) x.is ∙ ap (comparable (Some x.sort)) y.is

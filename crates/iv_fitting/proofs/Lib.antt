@@ -2,8 +2,13 @@ pub mod Changes
 pub mod ColumnKinds
 pub mod Conditions
 pub mod Expressions
+pub mod NewConstraints
+pub mod NewTables
 pub mod Plans
 pub mod Pointwise
+pub mod References
+pub mod Rules
+pub mod Schemas
 pub mod Statements
 pub mod Targets
 pub mod Triggers

@@ -1,5 +1,5 @@
 -- The columns that values are for, and that each value suits its own.
-use Rattle.std.proofs.Common.{◌≡◌, ℕ, zero, suc, ◌≤◌, nat_le, true, false, not, List, [], ◌∷◌, ◌∙◌, Option, Some, None, is_some, refl, sym, ap, length, map, slice_get, option_map, unwrap_or, arith}
+use Rattle.std.proofs.Common.{◌≡◌, ℕ, zero, suc, ◌≤◌, nat_le, true, false, not, ◌&&◌, List, [], ◌∷◌, ◌∙◌, Option, Some, None, is_some, refl, sym, ap, length, map, slice_get, option_map, unwrap_or, arith}
 use Rattle.std.specs.List.{list_all}
 use Rattle.std.proofs.lemmas.Bool.Decides.{nat_tests}
 use Rattle.iv_value.specs.declared.value.Value.{Value}
@@ -16,7 +16,7 @@ use Rattle.iv_catalogue.specs.declared.catalogue.Table.{Table}
 use Rattle.iv_catalogue.specs.declared.limits.TheConstants.{MOST_COLUMNS}
 use Rattle.iv_resolution.specs.Scopes.{NamedColumn, NamedRange, Names, number, type_of, named_column, named_columns, place_of, has_column, type_named, table_place}
 use Rattle.iv_resolution.specs.Terms.{is_text, bound_expression}
-use Rattle.iv_resolution.specs.Constraints.{places_of}
+use Rattle.iv_resolution.specs.Constraints.{places_of, comes_twice}
 use Rattle.iv_resolution.specs.Changes.{is_table, stored_columns, unknown_listed, unknown_value, clashes_with, value_clashes, misshaped_value, target_types}
 use Rattle.iv_resolution.specs.Bound.{table_id, default_at, bound_value, target_place, bound_columns}
 use Rattle.iv_naming.specs.Naming.{column_is_called, table_is_called}
@@ -65,10 +65,19 @@ place_is_there (x ∷ xs) (suc n) t h = let r = place_is_there xs n t h in grind
 
 -- what a table that suits says of its columns
 pub few_columns : (t : Table) → table_suits t ≡ true → length t.columns ≤ greatest
-few_columns t h = let p = (parts_of (nat_le (length t.columns) MOST_COLUMNS) (list_all default_suits t.columns) h).0 in grind (arith, nat_tests)
+few_columns t h =
+    let p = (parts_of (nat_le (length t.columns) MOST_COLUMNS) (list_all default_suits t.columns && not (comes_twice (map (λ (c : Column). c.name) t.columns))) h).0 in
+    grind (arith, nat_tests)
 
 pub defaults_suit : (t : Table) → table_suits t ≡ true → list_all default_suits t.columns ≡ true
-defaults_suit t h = (parts_of (nat_le (length t.columns) MOST_COLUMNS) (list_all default_suits t.columns) h).1
+defaults_suit t h =
+    (parts_of (list_all default_suits t.columns) (not (comes_twice (map (λ (c : Column). c.name) t.columns)))
+    (parts_of (nat_le (length t.columns) MOST_COLUMNS) (list_all default_suits t.columns && not (comes_twice (map (λ (c : Column). c.name) t.columns))) h).1).0
+
+pub distinct_columns : (t : Table) → table_suits t ≡ true → not (comes_twice (map (λ (c : Column). c.name) t.columns)) ≡ true
+distinct_columns t h =
+    (parts_of (list_all default_suits t.columns) (not (comes_twice (map (λ (c : Column). c.name) t.columns)))
+    (parts_of (nat_le (length t.columns) MOST_COLUMNS) (list_all default_suits t.columns && not (comes_twice (map (λ (c : Column). c.name) t.columns))) h).1).1
 
 -- ---- a column of a table by its name
 

@@ -1,14 +1,17 @@
 -- The plans of statements that deserve no cause fit the tables of the schema.
-use Rattle.std.specs.Prelude.{◌≡◌, true, Ok}
+use Rattle.std.specs.Prelude.{◌≡◌, List, true, Ok}
 use Rattle.std.specs.List.{list_all}
 use Rattle.iv_syntax.specs.declared.statement.Statement.{Statement}
 use Rattle.iv_catalogue.specs.Catalogues.{Schema}
+use Rattle.iv_catalogue.specs.declared.catalogue.Table.{Table}
+use Rattle.iv_catalogue.specs.declared.constraint.Constraint.{Constraint}
 use Rattle.iv_catalogue.specs.declared.plan.DataStatement.{DataStatement}
 use Rattle.iv_catalogue.specs.declared.plan.Plan.TheVariants as plan
 use Rattle.iv_catalogue.specs.declared.plan.QueryPlan.{QueryPlan}
-use Rattle.iv_catalogue.specs.declared.plan.SchemaPlan.TheVariants.{CreateTrigger}
+use Rattle.iv_catalogue.specs.declared.plan.SchemaPlan.TheVariants.{CreateTable, AddConstraint, CreateTrigger}
 use Rattle.iv_catalogue.specs.declared.plan.Trigger.{Trigger}
 use Rattle.iv_resolution.specs.Resolution.{resolution}
+use Rattle.iv_fitting.specs.ConstraintShapes.{constraint_suits, TableFits, ConstraintFits}
 use Rattle.iv_fitting.specs.PlanShapes.{plain_shape, table_suits, data_suits, query_suits, trigger_suits}
 
 -- The plan of an INSERT, UPDATE or DELETE fits.
@@ -28,3 +31,17 @@ abbrev pub TriggersFit : Type 0
 TriggersFit =
     (schema : Schema) (s : Statement) (t : Trigger)
     → list_all table_suits schema.tables ≡ true → resolution schema s ≡ Ok (plan.Schema (CreateTrigger t)) → trigger_suits schema.tables t ≡ true
+
+-- A new table and its constraints fit.
+abbrev pub TablesFit : Type 0
+TablesFit =
+    (schema : Schema) (s : Statement) (table : Table) (constraints : List Constraint)
+    → list_all table_suits schema.tables ≡ true → list_all (constraint_suits schema.tables) schema.constraints ≡ true
+    → resolution schema s ≡ Ok (plan.Schema (CreateTable table constraints)) → TableFits schema table constraints
+
+-- A constraint that is added to a table fits.
+abbrev pub AdditionsFit : Type 0
+AdditionsFit =
+    (schema : Schema) (s : Statement) (k : Constraint)
+    → list_all table_suits schema.tables ≡ true → list_all (constraint_suits schema.tables) schema.constraints ≡ true
+    → resolution schema s ≡ Ok (plan.Schema (AddConstraint k)) → ConstraintFits schema k

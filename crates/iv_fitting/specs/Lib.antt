@@ -1,2 +1,3 @@
-pub mod PlanShapes
+pub mod ConstraintShapes
 pub mod Laws
+pub mod PlanShapes

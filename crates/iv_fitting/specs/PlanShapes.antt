@@ -1,6 +1,6 @@
 -- When a plan fits the tables that it is of: each place is one of a column that is there, and each value is of its column's kind. It is
 -- said by the kinds of columns alone, before any row is there ("Store assignment", "Value expression", "Search condition").
-use Rattle.std.specs.Prelude.{ℕ, Bool, true, false, ◌&&◌, List, [], ◌∷◌, length, map, Option, Some, None, is_some, slice_get, nat_le, nat_lt}
+use Rattle.std.specs.Prelude.{ℕ, Bool, true, false, not, ◌&&◌, List, [], ◌∷◌, length, map, Option, Some, None, is_some, slice_get, nat_le, nat_lt}
 use Rattle.std.specs.List.{list_all}
 use Rattle.iv_value.specs.declared.value.Kind.{Kind}
 use Rattle.iv_value.specs.declared.value.Kind.TheVariants.{Integer, Varchar}
@@ -29,6 +29,7 @@ use Rattle.iv_catalogue.specs.declared.plan.QueryPlan.{QueryPlan}
 use Rattle.iv_catalogue.specs.declared.plan.QueryPlan.TheVariants as query
 use Rattle.iv_catalogue.specs.declared.plan.Setting.{Setting}
 use Rattle.iv_catalogue.specs.declared.plan.Trigger.{Trigger}
+use Rattle.iv_resolution.specs.Constraints.{comes_twice}
 
 -- ---- kinds of tables
 
@@ -88,9 +89,9 @@ kinds_suit _ _ = false
 abbrev pub default_suits : Column → Bool
 default_suits c = sort_suits c.kind (Some (sort_of_value c.default))
 
--- a table has no more columns than it may, and each default suits its column
+-- A table has no more columns than it may, each has a name of its own, and each default suits its column.
 abbrev pub table_suits : Table → Bool
-table_suits t = nat_le (length t.columns) MOST_COLUMNS && list_all default_suits t.columns
+table_suits t = nat_le (length t.columns) MOST_COLUMNS && (list_all default_suits t.columns && not (comes_twice (map (λ c. c.name) t.columns)))
 
 -- ---- INSERT, UPDATE, DELETE and SELECT
 

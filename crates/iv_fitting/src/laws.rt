@@ -1,5 +1,5 @@
 //! Laws of plans, as the contract of a function that does nothing.
-ghost use Rattle.iv_fitting.specs.Laws.{ChangesFit, QueriesFit, TriggersFit};
+ghost use Rattle.iv_fitting.specs.Laws.{AdditionsFit, ChangesFit, QueriesFit, TablesFit, TriggersFit};
 
 /// A plan of resolution fits the tables of its schema: its columns are there, and its values are of their
 /// columns' kinds.
@@ -7,4 +7,6 @@ pub fn plans_fit()
     ensures changes { ChangesFit }
     ensures queries { QueriesFit }
     ensures triggers { TriggersFit }
+    ensures tables { TablesFit }
+    ensures additions { AdditionsFit }
 {}

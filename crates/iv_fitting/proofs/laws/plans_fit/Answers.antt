@@ -1,4 +1,5 @@
 use Rattle.iv_fitting.proofs.Plans.{changes_fit, queries_fit}
+use Rattle.iv_fitting.proofs.Schemas.{tables_fit, additions_fit}
 use Rattle.iv_fitting.proofs.Triggers.{triggers_fit}
 use Rattle.iv_fitting.proofs.laws.plans_fit.Goals as goal
 
@@ -10,3 +11,9 @@ returns-clause-queries c = queries_fit
 
 pub returns-clause-triggers : goal.returns-clause-triggers
 returns-clause-triggers c = triggers_fit
+
+pub returns-clause-tables : goal.returns-clause-tables
+returns-clause-tables c = tables_fit
+
+pub returns-clause-additions : goal.returns-clause-additions
+returns-clause-additions c = additions_fit
