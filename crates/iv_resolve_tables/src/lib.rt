@@ -1,6 +1,7 @@
 //! What CREATE TABLE and ALTER TABLE are refused for, and their plans.
 #![tactic(auto)]
 
+mod left;
 mod limits;
 mod own;
 mod written;

@@ -7,6 +7,7 @@ ghost use Rattle.iv_resolution.specs.Constraints.{column_constraint, element_con
 ghost use Rattle.iv_resolution.specs.Tables.{addition_beyond_limits, altered_at, long_key, table_beyond_limits, type_beyond_limits};
 ghost use Rattle.iv_resolve_tables.specs.Seen.{constraint_seen, own_seen, rule_seen};
 
+use crate::left::count_element;
 use crate::own::Own;
 use crate::written::{WrittenConstraint, WrittenRule, column_constraint, table_constraint};
 use iv_catalogue::{
@@ -82,15 +83,6 @@ fn has_type_beyond_limits(elements: &[TableElement]) -> bool
         }
     }
     false
-}
-
-fn count_element(element: &TableElement) -> usize
-    ensures { result ≡ length (element_constraints element.now) }
-{
-    match element {
-        TableElement::Column(column) => column.constraints.as_slice().len(),
-        TableElement::Constraint(_) => 1,
-    }
 }
 
 #[tactic(auto, using(crate::proofs::Elements::count_next))]
