@@ -1,1 +1,4 @@
 pub mod Elements
+pub mod WrittenNames
+pub mod Sets
+pub mod Counts
