@@ -51,11 +51,7 @@ fn comes_again(alloc: Global, set: &mut NameSet, name: &str) -> Result<bool, All
 }
 
 #[tactic(auto, using(iv_scope::proofs::Places::next_of, crate::proofs::Sets::again_end))]
-fn some_comes_again(
-    alloc: Global,
-    set: &mut NameSet,
-    names: &[Name],
-) -> Result<bool, AllocError>
+fn some_comes_again(alloc: Global, set: &mut NameSet, names: &[Name]) -> Result<bool, AllocError>
     ensures { IfOk result (λ found. found ≡ comes_again set.old names.now) }
 {
     for name in names {
@@ -190,9 +186,7 @@ fn columns_come_twice(alloc: Global, elements: &[TableElement]) -> bool
 fn generated_among(constraints: &[Constraint], table: &str, place: u128) -> bool
     ensures { result ≡ list_any (λ k. bytes_eq (generated table.now place) k.name) constraints.now }
 {
-    constraints
-        .iter()
-        .any(|constraint| is_named(table, place, &None, constraint.name.as_str()))
+    constraints.iter().any(|constraint| is_named(table, place, &None, constraint.name.as_str()))
 }
 
 fn generated_is_used(alloc: Global, catalogue: &Catalogue, table: &str, place: u128) -> bool
