@@ -1,1 +1,2 @@
 pub mod Altering
+pub mod KeysOfTable

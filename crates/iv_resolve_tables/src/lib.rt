@@ -2,6 +2,9 @@
 #![tactic(auto)]
 
 mod altered;
+mod characteristics;
+mod finding;
+mod keys;
 mod misshaped;
 mod own;
 mod traversal;
