@@ -1,2 +1,3 @@
 pub mod Altering
 pub mod KeysOfTable
+pub mod ReferencePairs

@@ -3,10 +3,13 @@
 
 mod altered;
 mod characteristics;
+mod defaults;
 mod finding;
 mod keys;
 mod misshaped;
 mod own;
+mod primary;
+mod references;
 mod traversal;
 mod unknown;
 mod written;
