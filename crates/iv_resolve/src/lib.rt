@@ -1,0 +1,9 @@
+//! What a statement means in a catalogue, or the one cause that it is refused for.
+#![tactic(auto)]
+
+mod duplicate;
+mod limits;
+mod misshaped;
+mod outside;
+mod planning;
+mod unknown;
