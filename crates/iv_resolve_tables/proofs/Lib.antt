@@ -1,3 +1,4 @@
 pub mod Elements
 pub mod Altering
 pub mod KeysOfTable
+mod NameParts
