@@ -1,4 +1,6 @@
 pub mod Elements
 pub mod Altering
 pub mod KeysOfTable
-mod NameParts
+pub mod WrittenNames
+pub mod Sets
+pub mod Counts

@@ -4,21 +4,24 @@
 mod altered;
 mod characteristics;
 mod columns_bound;
+mod duplicate;
 mod finding;
 mod generated;
 mod keys;
 mod left;
 mod limits;
 mod misshaped;
+mod names;
 mod own;
 mod plan;
 mod traversal;
 mod unknown;
 mod written;
 
-pub use limits::table_beyond_limits;
+pub use duplicate::{duplicate_addition, duplicate_table};
+pub use limits::{addition_beyond_limits, table_beyond_limits};
 pub use misshaped::{misshaped_addition, misshaped_table};
 pub use own::{Own, own_columns, own_name, own_names, own_range, referenced};
-pub use plan::bound_table;
+pub use plan::{bound_alteration, bound_table};
 pub use unknown::{unknown_addition, unknown_table};
 pub use written::{WrittenConstraint, WrittenRule, column_constraint, table_constraint};

@@ -3,7 +3,8 @@
 ghost use Rattle.std.specs.Prelude.{◌≡◌, ◌||◌, length, map, nat_lt};
 ghost use Rattle.std.specs.List.{list_any};
 ghost use Rattle.iv_catalogue.specs.declared.limits.TheConstants.{MOST_CONSTRAINTS};
-ghost use Rattle.iv_resolution.specs.Constraints.{column_constraint, element_constraints, written_columns, written_constraints};
+ghost use Rattle.iv_resolution.specs.Constraints.{column_constraint, constraints_of, element_constraints, table_constraint, written_columns, written_constraints};
+ghost use Rattle.iv_resolution.specs.Resolution.{of_altered};
 ghost use Rattle.iv_resolution.specs.Tables.{addition_beyond_limits, altered_at, long_key, table_beyond_limits, type_beyond_limits};
 ghost use Rattle.iv_resolve_tables.specs.Seen.{constraint_seen, own_seen, rule_seen};
 
@@ -13,8 +14,9 @@ use crate::written::{WrittenConstraint, WrittenRule, column_constraint, table_co
 use iv_catalogue::{
     Catalogue, MOST_CHARACTERS, MOST_COLUMNS, MOST_CONSTRAINTS, MOST_KEY_COLUMNS, MOST_TABLES,
 };
-use iv_scope::Columns;
-use iv_syntax::{ColumnConstraint, ColumnType, Name, TableElement};
+use iv_expr::TableId;
+use iv_scope::{Columns, table_place};
+use iv_syntax::{ColumnConstraint, ColumnType, Name, TableConstraint, TableElement};
 
 // Whether a key has more columns than it may.
 fn long_key(rule: &WrittenRule<'_>) -> bool
@@ -109,4 +111,31 @@ pub fn table_beyond_limits(elements: &[TableElement], catalogue: &Catalogue) -> 
         || (Columns::Defined(elements).len() > MOST_COLUMNS
             || (many_constraints(elements)
                 || (has_type_beyond_limits(elements) || has_long_key(elements))))
+}
+
+/// How many constraints the table at this place has.
+#[tactic(auto, using(crate::proofs::Counts::count_places))]
+pub fn count_stored(catalogue: &Catalogue, place: u32) -> usize
+    ensures { result ≡ length (constraints_of catalogue.now place) }
+{
+    catalogue.constraints_of(TableId::new(place)).len()
+}
+
+/// Whether an ALTER TABLE adds a constraint to a table that has as many as it may, or a key of more columns than it may; false where
+/// there is no such table.
+pub fn addition_beyond_limits(
+    table: &str,
+    constraint: &TableConstraint,
+    catalogue: &Catalogue,
+) -> bool
+    ensures { result ≡ of_altered catalogue.now table.now
+        (λ own. addition_beyond_limits catalogue.now own (table_constraint constraint.now)) }
+{
+    match table_place(catalogue.tables(), table) {
+        Some(place) => {
+            count_stored(catalogue, place as u32) >= MOST_CONSTRAINTS
+                || long_key(&table_constraint(constraint).rule)
+        }
+        None => false,
+    }
 }

@@ -4,10 +4,10 @@ ghost use Rattle.std.specs.List.{enumerate_from};
 ghost use Rattle.iv_catalogue.specs.declared.constraint.Rule.TheVariants as rule;
 ghost use Rattle.iv_syntax.specs.declared.table.MatchType.TheVariants.{Simple};
 ghost use Rattle.iv_syntax.specs.declared.table.ReferentialAction.TheVariants.{NoAction};
-ghost use Rattle.iv_resolution.specs.Tables.{check_ranges, created_table};
+ghost use Rattle.iv_resolution.specs.Tables.{altered_at, check_ranges, created_table};
 ghost use Rattle.iv_resolution.specs.Terms.{bound_condition};
-ghost use Rattle.iv_resolution.specs.Bound.{bound_constraint, bound_place, bound_rule, bound_table, key_places};
-ghost use Rattle.iv_resolution.specs.Constraints.{foreign_key, places_of, written_constraints};
+ghost use Rattle.iv_resolution.specs.Bound.{bound_addition, bound_alteration, bound_constraint, bound_place, bound_rule, bound_table, key_places};
+ghost use Rattle.iv_resolution.specs.Constraints.{foreign_key, places_of, table_constraint, written_constraints};
 ghost use Rattle.iv_resolve_tables.specs.Keys as seen;
 ghost use Rattle.iv_resolve_tables.specs.Seen.{constraint_seen, names_of_own, own_seen, reference_seen, rule_seen};
 
@@ -17,13 +17,18 @@ use crate::finding::sought_key;
 use crate::generated::constraint_name;
 use crate::keys::{KeyColumns, Sought};
 use crate::left::Left;
+use crate::limits::count_stored;
 use crate::own::{Own, own_columns, own_names, own_range, referenced};
-use crate::written::{WrittenConstraint, WrittenRule};
-use iv_catalogue::{Catalogue, Constraint, Constraints, ForeignKey, Plan, Rule, SchemaPlan, Table};
+use crate::written::{WrittenConstraint, WrittenRule, table_constraint};
+use iv_catalogue::{
+    Catalogue, Constraint, Constraints, ForeignKey, Plan, Rule, SchemaPlan, Table, TransactionPlan,
+};
 use iv_expr::{Cond, TableId};
 use iv_resolve_changes::places_of;
 use iv_scope::{Ranges, bound_condition};
-use iv_syntax::{Condition, MatchType, Name, ReferentialAction, References, TableElement};
+use iv_syntax::{
+    Condition, MatchType, Name, References, ReferentialAction, TableConstraint, TableElement,
+};
 use sqlite_items::Items;
 use std::alloc::{AllocError, Global};
 
@@ -47,7 +52,11 @@ fn places_of_key(alloc: Global, columns: &KeyColumns<'_>) -> Result<Items<u32>, 
 }
 
 // The columns of the primary key; none where there is no such key.
-fn primary_places(alloc: Global, own: &Own<'_>, catalogue: &Catalogue) -> Result<Items<u32>, AllocError>
+fn primary_places(
+    alloc: Global,
+    own: &Own<'_>,
+    catalogue: &Catalogue,
+) -> Result<Items<u32>, AllocError>
     ensures { IfOk result (λ ps. ps ≡ key_places (reference_seen catalogue.now own.now) None) }
 {
     match sought_key(own, catalogue, &Sought::Primary) {
@@ -199,8 +208,8 @@ fn bound_rule<'a>(
     }
 }
 
-/// A constraint of this name.
-pub fn bound_constraint<'a>(
+// A constraint of this name.
+fn bound_constraint<'a>(
     alloc: Global,
     own: &'a Own<'a>,
     catalogue: &'a Catalogue,
@@ -258,4 +267,39 @@ pub fn bound_table(
     };
     let constraints = Constraints::from_vec(constraints);
     Ok(Plan::Schema(SchemaPlan::CreateTable(table, constraints)))
+}
+
+// The plan of an ALTER TABLE of this table: the constraint's name is generated for the place after those that the table has.
+fn bound_addition<'a>(
+    alloc: Global,
+    catalogue: &'a Catalogue,
+    place: u32,
+    table: &'a Table,
+    constraint: &'a WrittenConstraint<'a>,
+) -> Result<Plan, AllocError>
+    ensures { IfOk result (λ p. p ≡ bound_addition catalogue.now (altered_at catalogue.now place table.now) (constraint_seen constraint.now)) }
+{
+    let own = Own::Stored(place, table);
+    let next = count_stored(catalogue, place) as u128 + 1;
+    let name = constraint_name(alloc, table.name.as_str(), next, constraint.name)?;
+    let bound = bound_constraint(alloc, &own, catalogue, name, &*constraint)?;
+    Ok(Plan::Schema(SchemaPlan::AddConstraint(bound)))
+}
+
+/// The plan of an ALTER TABLE of the table at this place.
+pub fn bound_alteration(
+    alloc: Global,
+    catalogue: &Catalogue,
+    table: TableId,
+    constraint: &TableConstraint,
+) -> Result<Plan, AllocError>
+    ensures { IfOk result (λ p. p ≡ bound_alteration catalogue.now table (table_constraint constraint.now)) }
+{
+    match catalogue.table(table) {
+        Some(found) => {
+            let written = table_constraint(constraint);
+            bound_addition(alloc, catalogue, table.place(), found, &written)
+        }
+        None => Ok(Plan::Transaction(TransactionPlan::Commit)),
+    }
 }

@@ -1,4 +1,4 @@
-use Rattle.std.proofs.Common.{◌≡◌, ◌≤◌, nat_lt, length, drop}
+use Rattle.std.proofs.Common.{◌≡◌, nat_lt, length, drop}
 use Rattle.iv_catalogue.specs.declared.limits.TheConstants.{MOST_CONSTRAINTS}
 use Rattle.iv_resolution.specs.Constraints.{written_constraints}
 use Rattle.iv_resolve_tables.proofs.limits.many_constraints.Given as goal
