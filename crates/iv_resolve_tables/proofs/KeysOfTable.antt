@@ -1,10 +1,10 @@
 -- The first of the keys of a table that is looked for.
-use Rattle.std.proofs.Common.{◌≡◌, refl, ℕ, ◌+◌, ◌<◌, ◌==◌, Bool, true, false, cond, nat_eq, List, [], ◌∷◌, ◌++◌, ◌∙◌, Option, Some, None, sym, ap, length, drop, get_or, filter, filter_map, find, slice_get}
+use Rattle.std.proofs.Common.{◌≡◌, refl, ℕ, ◌+◌, ◌<◌, ◌==◌, Bool, true, false, cond, nat_eq, List, [], ◌∷◌, ◌++◌, ◌∙◌, Option, Some, None, sym, ap, length, drop, get_or, filter, filter_map, find, slice_get, is_some, option_map, ◌||◌}
 use Rattle.std.proofs.lemmas.List.{append_assoc, length-append}
 use Rattle.std.proofs.lemmas.List.Elements.{filter_map-append}
 use Rattle.std.proofs.lemmas.List.Folds.{find-append}
 use Rattle.std.specs.Option.{option_or}
-use Rattle.std.specs.List.{cons_option}
+use Rattle.std.specs.List.{cons_option, list_any}
 use Rattle.iv_syntax.specs.declared.table.TableElement.{TableElement}
 use Rattle.iv_catalogue.specs.Catalogues.{places_from}
 use Rattle.iv_catalogue.specs.declared.constraint.Constraint.{Constraint}
@@ -46,3 +46,13 @@ keys_after columns t front (k ∷ ks) =
 pub keys_by_place : (columns : List NamedColumn) (t : ℕ) (ks : List Constraint)
     → filter_map (key_at columns ks) (places_from t 0 ks) ≡ stored_keys columns (filter (λ k. k.table == t) ks)
 keys_by_place columns t ks = keys_after columns t [] ks
+
+-- ---- whether there is one
+
+pub any_found : {X : Type 0} (p : X → Bool) (xs : List X) → list_any p xs ≡ is_some (find p xs)
+any_found p [] = refl
+any_found p (x ∷ xs) = elim (p x) as (λ b. (b || list_any p xs) ≡ is_some (cond b (Some x) (find p xs))) [ true ↦ refl | false ↦ any_found p xs ]
+
+pub some_mapped : {X Y : Type 0} (f : X → Y) (o : Option X) → is_some o ≡ is_some (option_map f o)
+some_mapped f None = refl
+some_mapped f (Some x) = refl

@@ -4,3 +4,4 @@ pub mod KeysOfTable
 pub mod WrittenNames
 pub mod Sets
 pub mod Counts
+pub mod ReferencePairs

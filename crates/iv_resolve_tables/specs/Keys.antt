@@ -1,8 +1,9 @@
 -- What the keys of the code are in definitions.
 use Rattle.std.specs.Prelude.{ℕ, List, Option, Some, None, Bool, if◌then◌else◌, map, slice_get}
+use Rattle.std.specs.List.{list_any}
 use Rattle.iv_catalogue.specs.declared.constraint.Constraint.{Constraint}
-use Rattle.iv_resolution.specs.Scopes.{NamedColumn, named_columns}
-use Rattle.iv_resolution.specs.Constraints.{Key, is_reliable, key_of_rule, name_at, places_of}
+use Rattle.iv_resolution.specs.Scopes.{NamedColumn, named_columns, type_named}
+use Rattle.iv_resolution.specs.Constraints.{Key, is_reliable, key_of_rule, name_at, places_of, types_differ}
 use Rattle.iv_scope.specs.Seen.{columns_seen}
 use Rattle.iv_resolve_tables.specs.declared.keys.KeyColumns.{KeyColumns}
 use Rattle.iv_resolve_tables.specs.declared.keys.KeyColumns.TheVariants.{Named, Placed}
@@ -35,3 +36,7 @@ if_sought s o = elim o [ Some k ↦ if is_sought s k then Some k else None | Non
 -- the key that the constraint at a place is
 abbrev pub key_at : List NamedColumn → List Constraint → ℕ → Option Key
 key_at columns constraints place = elim (slice_get constraints place) [ Some k ↦ key_of_rule columns k.deferrable k.rule | None ↦ None ]
+
+-- two columns of a pair differ in type
+unfoldable pub some_pair_differs : List NamedColumn → List NamedColumn → List (List ℕ × List ℕ) → Bool
+some_pair_differs columns others pairs = list_any (λ p. types_differ (type_named columns p.0) (type_named others p.1)) pairs

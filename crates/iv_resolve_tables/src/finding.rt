@@ -1,6 +1,7 @@
 //! The key that is looked for among those of a table. Nothing here takes memory.
 ghost use Rattle.std.specs.Prelude.{◌≡◌, [], ◌∷◌, filter_map, find, map, option_map};
-ghost use Rattle.iv_resolution.specs.Constraints.{column_constraint, element_constraints, table_constraint, written_constraints, written_keys};
+ghost use Rattle.std.specs.List.{list_any};
+ghost use Rattle.iv_resolution.specs.Constraints.{column_constraint, element_constraints, is_reliable, primary_key_of, table_constraint, written_constraints, written_keys};
 ghost use Rattle.iv_resolution.specs.Scopes.{named_columns};
 ghost use Rattle.iv_scope.specs.Seen.{columns_seen};
 ghost use Rattle.iv_resolve_tables.specs.Keys.{if_sought, is_sought, key_at, key_seen};
@@ -125,8 +126,8 @@ fn key_of_places<'a>(
     None
 }
 
-/// The first key of a table that is looked for. It takes time in proportion to the constraints of the table.
-pub fn sought_key<'a>(
+// The first key of a table that is looked for. It takes time in proportion to the constraints of the table.
+fn sought_key<'a>(
     own: &Own<'a>,
     catalogue: &'a Catalogue,
     sought: &Sought<'_>,
@@ -142,4 +143,18 @@ pub fn sought_key<'a>(
             key_of_places(table.columns.as_slice(), catalogue, places, sought)
         }
     }
+}
+
+/// The primary key of a table.
+pub fn primary_key<'a>(own: &Own<'a>, catalogue: &'a Catalogue) -> Option<TableKey<'a>>
+    ensures { option_map key_seen result ≡ primary_key_of (own_seen catalogue.entry.now own.now).keys }
+{
+    sought_key(own, catalogue, &Sought::Primary)
+}
+
+/// Whether a table has a key of this set of columns that is NOT DEFERRABLE.
+pub fn has_reliable_key<'a>(own: &Own<'a>, catalogue: &'a Catalogue, names: &[Name]) -> bool
+    ensures { result ≡ list_any (is_reliable names.now) (own_seen catalogue.now own.now).keys }
+{
+    sought_key(own, catalogue, &Sought::Reliable(names)).is_some()
 }

@@ -4,6 +4,7 @@
 mod altered;
 mod characteristics;
 mod columns_bound;
+mod defaults;
 mod duplicate;
 mod finding;
 mod generated;
@@ -14,6 +15,8 @@ mod misshaped;
 mod names;
 mod own;
 mod plan;
+mod primary;
+mod references;
 mod traversal;
 mod unknown;
 mod written;

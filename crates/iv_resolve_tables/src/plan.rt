@@ -13,9 +13,9 @@ ghost use Rattle.iv_resolve_tables.specs.Seen.{constraint_seen, names_of_own, ow
 
 use crate::characteristics::{initial_mode, is_deferrable};
 use crate::columns_bound::bound_columns;
-use crate::finding::sought_key;
+use crate::finding::primary_key;
 use crate::generated::constraint_name;
-use crate::keys::{KeyColumns, Sought};
+use crate::keys::KeyColumns;
 use crate::left::Left;
 use crate::limits::count_stored;
 use crate::own::{Own, own_columns, own_names, own_range, referenced};
@@ -59,7 +59,7 @@ fn primary_places(
 ) -> Result<Items<u32>, AllocError>
     ensures { IfOk result (λ ps. ps ≡ key_places (reference_seen catalogue.now own.now) None) }
 {
-    match sought_key(own, catalogue, &Sought::Primary) {
+    match primary_key(own, catalogue) {
         Some(key) => places_of_key(alloc, &key.columns),
         None => Ok(Items::new(alloc)),
     }
