@@ -1,5 +1,5 @@
 -- The places of a table's constraints are as many as its constraints.
-use Rattle.std.proofs.Common.{◌≡◌, ℕ, ◌+◌, ◌==◌, Bool, true, false, List, [], ◌∷◌, refl, ap, suc, length, filter, if◌then◌else◌}
+use Rattle.std.proofs.Common.{◌≡◌, ℕ, ◌+◌, ◌==◌, Bool, true, false, List, [], ◌∷◌, refl, ap, suc, length, filter}
 use Rattle.iv_catalogue.specs.Catalogues.{Schema, constraint_places, places_from}
 use Rattle.iv_catalogue.specs.declared.constraint.Constraint.{Constraint}
 use Rattle.iv_resolution.specs.Constraints.{constraints_of}

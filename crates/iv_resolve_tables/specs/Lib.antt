@@ -1,4 +1,4 @@
 pub mod Seen
 pub mod Left
-pub mod Sets
 pub mod Keys
+pub mod Sets

@@ -1,6 +1,6 @@
 //! When a constraint is checked.
 ghost use Rattle.std.specs.Prelude.{◌≡◌};
-ghost use Rattle.iv_resolution.specs.Constraints.{is_contradictory, is_deferrable, says_deferred};
+ghost use Rattle.iv_resolution.specs.Constraints.{initial_mode, is_contradictory, is_deferrable, says_deferred};
 
 use iv_syntax::{ConstraintMode, ConstraintTime};
 
@@ -28,4 +28,15 @@ pub fn is_contradictory(time: ConstraintTime) -> bool
     ensures { result ≡ is_contradictory time }
 {
     !is_deferrable(time) && says_deferred(time)
+}
+
+/// The mode that it has at the start of each transaction.
+pub fn initial_mode(time: ConstraintTime) -> ConstraintMode
+    ensures { result ≡ initial_mode time }
+{
+    if says_deferred(time) {
+        ConstraintMode::Deferred
+    } else {
+        ConstraintMode::Immediate
+    }
 }

@@ -3,6 +3,7 @@
 
 mod altered;
 mod characteristics;
+mod columns_bound;
 mod defaults;
 mod duplicate;
 mod finding;
@@ -13,6 +14,7 @@ mod limits;
 mod misshaped;
 mod names;
 mod own;
+mod plan;
 mod primary;
 mod references;
 mod traversal;
@@ -23,5 +25,6 @@ pub use duplicate::{duplicate_addition, duplicate_table};
 pub use limits::{addition_beyond_limits, table_beyond_limits};
 pub use misshaped::{misshaped_addition, misshaped_table};
 pub use own::{Own, own_columns, own_name, own_names, own_range, referenced};
+pub use plan::{bound_alteration, bound_table};
 pub use unknown::{unknown_addition, unknown_table};
 pub use written::{WrittenConstraint, WrittenRule, column_constraint, table_constraint};
