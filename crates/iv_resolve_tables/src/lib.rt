@@ -4,6 +4,7 @@
 mod altered;
 mod characteristics;
 mod defaults;
+mod faulty;
 mod finding;
 mod keys;
 mod misshaped;
@@ -14,6 +15,7 @@ mod traversal;
 mod unknown;
 mod written;
 
+pub use faulty::{faulty_addition, faulty_table};
 pub use misshaped::{misshaped_addition, misshaped_table};
 pub use own::{Own, own_columns, own_name, own_names, own_range, referenced};
 pub use unknown::{unknown_addition, unknown_table};

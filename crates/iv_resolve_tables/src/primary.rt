@@ -46,9 +46,7 @@ fn primary_of_element(element: &TableElement) -> usize
         TableElement::Column(column) => {
             primary_of_column(&column.name, column.constraints.as_slice())
         }
-        TableElement::Constraint(constraint) => {
-            is_primary_for_itself(&constraint.rule) as usize
-        }
+        TableElement::Constraint(constraint) => { is_primary_for_itself(&constraint.rule) as usize }
     }
 }
 

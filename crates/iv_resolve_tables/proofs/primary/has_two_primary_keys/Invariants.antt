@@ -7,5 +7,5 @@ abbrev pub invariant-loop-element : goal.invariant-loop-element
 invariant-loop-element l = record {
   few : l.count ≤ 2;
   all : min 2 (l.count + length (filter (λ k. is_primary_rule k.rule) (written_constraints (drop l.element-index l.elements))))
-    ≡ min 2 (length (filter (λ k. is_primary_rule k.rule) (written_constraints l.elements)));
+      ≡ min 2 (length (filter (λ k. is_primary_rule k.rule) (written_constraints l.elements)));
 }
