@@ -1,5 +1,5 @@
 -- The trigger of a name.
-use Rattle.std.proofs.Common.{◌≡◌, ℕ, Bool, true, false, ◌||◌, List, [], ◌∷◌, refl, Option, Some, None, is_some, option_map, unwrap_or, find, cond}
+use Rattle.std.proofs.Common.{◌≡◌, Bool, true, false, List, [], ◌∷◌, refl, Option, Some, None, is_some, option_map, unwrap_or, find}
 use Rattle.std.specs.List.{list_any}
 use Rattle.iv_catalogue.specs.declared.plan.Trigger.{Trigger}
 

@@ -2,8 +2,12 @@
 #![tactic(auto)]
 
 mod duplicate;
+mod faulty;
 mod limits;
 mod misshaped;
 mod outside;
 mod planning;
+mod resolving;
 mod unknown;
+
+pub use resolving::resolve;

@@ -2,15 +2,20 @@
 ghost use Rattle.std.specs.Prelude.{◌≡◌, [], IfOk, map};
 ghost use Rattle.iv_catalogue.specs.declared.plan.Plan.TheVariants as plan;
 ghost use Rattle.iv_catalogue.specs.declared.plan.SchemaPlan.TheVariants.{CreateTrigger};
+ghost use Rattle.iv_catalogue.specs.declared.plan.TransactionPlan.TheVariants.{SetConstraints};
 ghost use Rattle.iv_resolution.specs.Bound.{bound_constraints, bound_delete, bound_insert, bound_select, bound_trigger, bound_update, constraint_id, trigger_id};
 ghost use Rattle.iv_resolution.specs.Tables.{table_names};
 
 use crate::outside::table_names;
-use iv_catalogue::{Catalogue, ConstraintId, ConstraintSet, Plan, SchemaPlan, TriggerId};
+use iv_catalogue::{
+    Catalogue, ConstraintId, ConstraintSet, Plan, SchemaPlan, TransactionPlan, TriggerId,
+};
 use iv_resolve_changes::{bound_delete, bound_insert, bound_select, bound_update};
 use iv_resolve_triggers::bound_trigger;
 use iv_scope::Ranges;
-use iv_syntax::{ConstraintList, Delete, Insert, Name, Select, TriggerDefinition, Update};
+use iv_syntax::{
+    ConstraintList, ConstraintMode, Delete, Insert, Name, Select, TriggerDefinition, Update,
+};
 use sqlite_items::Items;
 use std::alloc::{AllocError, Global};
 
@@ -108,8 +113,7 @@ fn constraint_ids(
     Ok(ids)
 }
 
-/// The constraints that a SET CONSTRAINTS names.
-pub fn bound_constraints(
+fn bound_constraints(
     alloc: Global,
     constraints: &ConstraintList,
     catalogue: &Catalogue,
@@ -122,4 +126,17 @@ pub fn bound_constraints(
             Ok(ConstraintSet::Named(constraint_ids(alloc, names.as_slice(), catalogue)?))
         }
     }
+}
+
+/// The plan of a SET CONSTRAINTS.
+pub fn plan_of_constraints(
+    alloc: Global,
+    constraints: &ConstraintList,
+    mode: ConstraintMode,
+    catalogue: &Catalogue,
+) -> Result<Plan, AllocError>
+    ensures { IfOk result (λ p. p ≡ plan.Transaction (SetConstraints (bound_constraints catalogue.now constraints.now) mode)) }
+{
+    let set = bound_constraints(alloc, constraints, catalogue)?;
+    Ok(Plan::Transaction(TransactionPlan::SetConstraints(set, mode)))
 }

@@ -1,5 +1,5 @@
 -- The referencing columns with those that they refer to, from a place on.
-use Rattle.std.proofs.Common.{◌≡◌, refl, ℕ, ◌+◌, ◌<◌, ◌≤◌, Bool, false, ◌||◌, List, [], ◌∷◌, inl, inr, sym, ◌∙◌, length, drop, get_or, slice_get, Option, Some, None, zip}
+use Rattle.std.proofs.Common.{◌≡◌, refl, ℕ, ◌+◌, ◌<◌, ◌≤◌, false, ◌||◌, List, [], ◌∷◌, inl, inr, sym, ◌∙◌, length, drop, get_or, slice_get, Some, None, zip}
 use Rattle.std.proofs.lemmas.Option.{slice_get_cases}
 use Rattle.iv_resolution.specs.Constraints.{types_differ}
 use Rattle.iv_resolution.specs.Scopes.{NamedColumn, type_named}

@@ -4,11 +4,11 @@ use Rattle.iv_catalogue.specs.Catalogues.{Schema}
 use Rattle.iv_resolution.specs.Scopes.{Names}
 use Rattle.iv_resolution.specs.Constraints as written
 use Rattle.iv_resolution.specs.Constraints.{Altered, Referenced}
-use Rattle.iv_resolution.specs.Tables.{altered_at, created_table, creating, misshaped_rule, table_names, unknown_rule}
+use Rattle.iv_resolution.specs.Tables.{altered_at, created_table, creating, faulty_constraint, misshaped_rule, table_names, unknown_rule}
 use Rattle.iv_resolve_tables.specs.declared.own.Own.{Own}
 use Rattle.iv_resolve_tables.specs.declared.own.Own.TheVariants.{Created, Stored}
 use Rattle.iv_resolve_tables.specs.declared.traversal.Question.{Question}
-use Rattle.iv_resolve_tables.specs.declared.traversal.Question.TheVariants.{Unknown, Misshaped}
+use Rattle.iv_resolve_tables.specs.declared.traversal.Question.TheVariants.{Unknown, Faulty, Misshaped}
 use Rattle.iv_resolve_tables.specs.declared.written.WrittenRule.{WrittenRule}
 use Rattle.iv_resolve_tables.specs.declared.written.WrittenRule.TheVariants.{NotNull, Unique, PrimaryKey, Check, ForeignKey}
 use Rattle.iv_resolve_tables.specs.declared.written.WrittenConstraint.{WrittenConstraint}
@@ -39,4 +39,5 @@ reference_seen schema own = record { table = (own_seen schema own).table; column
 -- what is asked of a constraint of a table
 abbrev pub asked : Question → Schema → Own → written.WrittenConstraint → Bool
 asked Unknown schema own k = unknown_rule schema (names_of_own schema own) (own_seen schema own) k.rule
+asked Faulty schema own k = faulty_constraint schema (own_seen schema own) k
 asked Misshaped schema own k = misshaped_rule (names_of_own schema own) (own_seen schema own) k.rule

@@ -6,6 +6,7 @@ mod characteristics;
 mod columns_bound;
 mod defaults;
 mod duplicate;
+mod faulty;
 mod finding;
 mod generated;
 mod keys;
@@ -22,6 +23,7 @@ mod unknown;
 mod written;
 
 pub use duplicate::{duplicate_addition, duplicate_table};
+pub use faulty::{faulty_addition, faulty_table};
 pub use limits::{addition_beyond_limits, table_beyond_limits};
 pub use misshaped::{misshaped_addition, misshaped_table};
 pub use own::{Own, own_columns, own_name, own_names, own_range, referenced};

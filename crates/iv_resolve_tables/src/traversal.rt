@@ -5,6 +5,7 @@ ghost use Rattle.iv_resolution.specs.Constraints.{column_constraint, element_con
 ghost use Rattle.iv_scope.specs.Seen.{ranges_seen};
 ghost use Rattle.iv_resolve_tables.specs.Seen.{asked, constraint_seen};
 
+use crate::faulty::faulty_constraint;
 use crate::misshaped::misshaped_rule;
 use crate::own::Own;
 use crate::unknown::unknown_rule;
@@ -17,6 +18,7 @@ use iv_syntax::{ColumnConstraint, Name, TableConstraint, TableElement};
 #[derive(Clone, Copy)]
 pub enum Question {
     Unknown,
+    Faulty,
     Misshaped,
 }
 
@@ -32,6 +34,7 @@ fn asked<'a>(
 {
     match question {
         Question::Unknown => unknown_rule(own, catalogue, outside, &constraint.rule),
+        Question::Faulty => faulty_constraint(own, catalogue, constraint),
         Question::Misshaped => misshaped_rule(own, catalogue, outside, &constraint.rule),
     }
 }

@@ -1,4 +1,4 @@
-use Rattle.std.proofs.Common.{◌≡◌, ◌∙◌, sym, ap, is_some}
+use Rattle.std.proofs.Common.{◌∙◌, sym, ap, is_some}
 use Rattle.iv_resolution.specs.Constraints.{is_reliable}
 use Rattle.iv_resolve_tables.specs.Keys.{key_seen}
 use Rattle.iv_resolve_tables.specs.Seen.{own_seen}

@@ -1,4 +1,4 @@
-use Rattle.std.proofs.Common.{◌≡◌, ◌∙◌, ◌+◌, Option, sym, ap, drop, zip}
+use Rattle.std.proofs.Common.{◌∙◌, ◌+◌, Option, sym, ap, drop, zip}
 use Rattle.iv_syntax.specs.declared.table.ColumnType.{ColumnType}
 use Rattle.iv_resolution.specs.Constraints.{types_differ}
 use Rattle.iv_resolution.specs.Scopes.{type_named}
