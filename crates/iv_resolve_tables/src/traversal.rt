@@ -14,7 +14,7 @@ use iv_catalogue::Catalogue;
 use iv_scope::Ranges;
 use iv_syntax::{ColumnConstraint, Name, TableConstraint, TableElement};
 
-/// The cause that is asked for.
+/// The cause that a constraint is asked for.
 #[derive(Clone, Copy)]
 pub enum Question {
     Unknown,

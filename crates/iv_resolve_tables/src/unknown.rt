@@ -1,4 +1,5 @@
-//! Names of CREATE TABLE and ALTER TABLE that name nothing. Nothing here takes memory.
+//! Names of CREATE TABLE and ALTER TABLE that name nothing. Nothing here takes memory; each function takes time in proportion to the
+//! names, and for each to the columns of its table.
 ghost use Rattle.std.specs.Prelude.{◌≡◌, ◌||◌, [], not, option_map};
 ghost use Rattle.iv_resolution.specs.Constraints.{foreign_key, table_constraint};
 ghost use Rattle.iv_resolution.specs.Resolution.{is_there, of_altered};
