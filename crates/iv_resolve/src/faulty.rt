@@ -1,0 +1,24 @@
+//! Definitions that no schema can have.
+ghost use Rattle.std.specs.Prelude.{◌≡◌};
+ghost use Rattle.iv_resolution.specs.Resolution.{is_faulty};
+
+use iv_catalogue::Catalogue;
+use iv_resolve_tables::{faulty_addition, faulty_table};
+use iv_resolve_triggers::faulty_trigger;
+use iv_syntax::Statement;
+
+/// Whether the statement defines what no schema can have.
+pub fn is_faulty(statement: &Statement, catalogue: &Catalogue) -> bool
+    ensures { result ≡ is_faulty catalogue.now statement.now }
+{
+    match statement {
+        Statement::CreateTable { name, elements } => {
+            faulty_table(catalogue, name.as_str(), elements.as_slice())
+        }
+        Statement::AlterTable { table, constraint } => {
+            faulty_addition(catalogue, table.as_str(), constraint)
+        }
+        Statement::CreateTrigger(trigger) => faulty_trigger(trigger, catalogue),
+        _ => false,
+    }
+}
