@@ -34,6 +34,10 @@ restricted_fault xs row = option_map (λ x. fault_at x.reference.id row) (find (
 abbrev pub effects_for : Schema → Losing → Change → List Effect
 effects_for schema x c = effects_of_action schema x.reference (loss_of_new x.reference.key c.new) (action_for x.reference.key c)
 
+abbrev pub one_or_none : Option Effect → List Effect
+one_or_none None = []
+one_or_none (Some effect) = effect ∷ []
+
 abbrev pub effects_by : Schema → StoredRow → Losing → List (ℕ × Effect)
 effects_by schema before x =
     map (λ effect. (x.reference.id, effect)) (elim (change_losing x before) [ Some c ↦ effects_for schema x c | None ↦ [] ])

@@ -86,8 +86,8 @@ fn compare_values(left: ValueRef<'_>, right: ValueRef<'_>) -> Ordering
     }
 }
 
-// The value of a column, null where there is none.
-fn value_at(row: &[Value], column: u32) -> ValueRef<'_>
+/// The value of a column, null where there is none.
+pub fn value_at(row: &[Value], column: u32) -> ValueRef<'_>
     ensures { value_of result ≡ value_at row.now column }
 {
     match row.get(column as usize) {
