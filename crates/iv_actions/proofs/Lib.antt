@@ -1,3 +1,4 @@
 pub mod KeyOrders
 pub mod Taking
 pub mod Halving
+pub mod Numbers

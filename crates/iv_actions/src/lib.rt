@@ -4,6 +4,7 @@
 mod change;
 mod conflict;
 mod effect;
+mod finding;
 mod key_order;
 mod losing;
 mod restrict;

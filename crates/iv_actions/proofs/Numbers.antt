@@ -1,0 +1,64 @@
+-- Rising numbers, and which numbers are among others.
+use Rattle.std.proofs.Common.{◌≡◌, refl, ℕ, zero, suc, ◌+◌, ◌<◌, ◌≤◌, Bool, true, false, ◌||◌, if◌then◌else◌, List, [], ◌∷◌, ◌++◌, length, get_or, drop, map, filter_map, sym, ap, subst, ◌∙◌, arith, Option, Some, None, add-one, drop-cons, append_assoc, append-nil}
+use Rattle.std.specs.Bool.{◌==◌}
+use Rattle.std.specs.List.{list_any, cons_option, dedup, dedup_from}
+use Rattle.std.specs.List.Sorted.{IsStrictlyIncreasing}
+use Rattle.std.proofs.lemmas.Bool.{eqb-true, ne_eqb, true≢false}
+use Rattle.iv_expr.specs.declared.row.Change.{Change}
+use Rattle.iv_expr.specs.Changes.{RisingChangesFrom, last_above, last_row}
+use Rattle.iv_store.specs.Stores.{RisingNumbers}
+use Rattle.iv_actions.specs.Finding.{is_among}
+
+-- ---- no number is 0
+
+pub no_zero : (low : ℕ) (numbers : List ℕ) → RisingNumbers low numbers → is_among numbers 0 ≡ false
+no_zero low [] h = refl
+no_zero low (n ∷ numbers) h = ap (λ b. b || is_among numbers 0) (ne_eqb n 0 (λ e. absurd (omega (arith, e, h.0)))) ∙ no_zero n numbers h.1
+
+any_of_both : {A : Type 0} (p : A → Bool) (xs ys : List A) → list_any p (xs ++ ys) ≡ (list_any p xs || list_any p ys)
+any_of_both p [] ys = refl
+any_of_both p (x ∷ xs) ys =
+    elim (p x) as (λ b. (b || list_any p (xs ++ ys)) ≡ ((b || list_any p xs) || list_any p ys)) [ true ↦ refl | false ↦ any_of_both p xs ys ]
+
+pub none_of_both : (numbers more : List ℕ) → is_among numbers 0 ≡ false → is_among more 0 ≡ false → is_among (numbers ++ more) 0 ≡ false
+none_of_both numbers more e f = any_of_both (λ n. n == 0) numbers more ∙ ap (λ b. b || is_among more 0) e ∙ f
+
+pub no_row_is_zero : (low : ℕ) (changes : List Change) → RisingChangesFrom low changes → is_among (map (λ c. c.row) changes) 0 ≡ false
+no_row_is_zero low [] h = refl
+no_row_is_zero low (c ∷ changes) h =
+    ap (λ b. b || is_among (map (λ x. x.row) changes) 0) (ne_eqb c.row 0 (λ e. absurd (omega (arith, e, h.0)))) ∙ no_row_is_zero c.row changes h.1
+
+-- ---- numbers that were sorted
+
+rising_after : (n : ℕ) (numbers : List ℕ) → IsStrictlyIncreasing (n ∷ numbers) → RisingNumbers n numbers
+rising_after n [] h = tt
+rising_after n (m ∷ numbers) h =
+    (h 0 (omega arith), rising_after m numbers (λ i within.
+    let e : suc i + 1 ≡ suc (i + 1) = omega arith in
+    subst (λ j. get_or (m ∷ numbers) i 0 < get_or (n ∷ m ∷ numbers) j 0) e (h (suc i) (omega arith))))
+
+pub rising_numbers : (numbers : List ℕ) → IsStrictlyIncreasing numbers → is_among numbers 0 ≡ false → RisingNumbers 0 numbers
+rising_numbers [] h none = tt
+rising_numbers (zero ∷ numbers) h none = absurd (true≢false none)
+rising_numbers (suc n ∷ numbers) h none = (omega arith, rising_after (suc n) numbers h)
+
+or_again : (a b : Bool) → (a || b) ≡ (a || (a || b))
+or_again true b = refl
+or_again false b = refl
+
+among_from : (n k : ℕ) (numbers : List ℕ) → is_among (dedup_from (λ (a b : ℕ). a == b) k numbers) n ≡ ((k == n) || is_among numbers n)
+among_from n k [] = refl
+among_from n k (m ∷ numbers) =
+    elim (m == k) as (λ b. (m == k) ≡ b
+    → is_among (if b then dedup_from (λ (a b : ℕ). a == b) k numbers else k ∷ dedup_from (λ (a b : ℕ). a == b) m numbers) n
+    ≡ ((k == n) || ((m == n) || is_among numbers n))) [
+      | true ↦ λ e.
+          among_from n k numbers ∙ or_again (k == n) (is_among numbers n)
+          ∙ ap (λ y. (k == n) || ((y == n) || is_among numbers n)) (sym (eqb-true m k e))
+      | false ↦ λ e. ap (λ b. (k == n) || b) (among_from n m numbers)
+    ] refl
+
+-- numbers stay where each is kept once
+pub among_dedup : (n : ℕ) (numbers : List ℕ) → is_among (dedup (λ (a b : ℕ). a == b) numbers) n ≡ is_among numbers n
+among_dedup n [] = refl
+among_dedup n (m ∷ numbers) = among_from n m numbers
