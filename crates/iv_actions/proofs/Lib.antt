@@ -2,3 +2,4 @@ pub mod KeyOrders
 pub mod Taking
 pub mod Halving
 pub mod Numbers
+pub mod Rows

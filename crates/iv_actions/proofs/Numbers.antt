@@ -1,5 +1,5 @@
 -- Rising numbers, and which numbers are among others.
-use Rattle.std.proofs.Common.{◌≡◌, refl, ℕ, zero, suc, ◌+◌, ◌<◌, ◌≤◌, Bool, true, false, ◌||◌, if◌then◌else◌, List, [], ◌∷◌, ◌++◌, length, get_or, drop, map, filter_map, sym, ap, subst, ◌∙◌, arith, Option, Some, None, add-one, drop-cons, append_assoc, append-nil}
+use Rattle.std.proofs.Common.{◌≡◌, refl, ℕ, zero, suc, ◌+◌, ◌<◌, ◌≤◌, Bool, true, false, ◌||◌, if◌then◌else◌, List, [], ◌∷◌, ◌++◌, length, get_or, drop, map, filter_map, sym, ap, subst, ◌∙◌, arith, Option, Some, None, add-one, drop-cons, append_assoc, append-nil, Result, Ok, Err, OnOk}
 use Rattle.std.specs.Bool.{◌==◌}
 use Rattle.std.specs.List.{list_any, cons_option, dedup, dedup_from}
 use Rattle.std.specs.List.Sorted.{IsStrictlyIncreasing}
@@ -62,3 +62,36 @@ among_from n k (m ∷ numbers) =
 pub among_dedup : (n : ℕ) (numbers : List ℕ) → is_among (dedup (λ (a b : ℕ). a == b) numbers) n ≡ is_among numbers n
 among_dedup n [] = refl
 among_dedup n (m ∷ numbers) = among_from n m numbers
+
+-- ---- a wave that is made by rising numbers
+
+last_of : (low : ℕ) (changes : List Change) (c : Change) → last_above low (changes ++ c ∷ []) ≡ c.row
+last_of low [] c = refl
+last_of low (d ∷ changes) c = last_of d.row changes c
+
+pub last_of_added : (changes : List Change) (c : Change) → last_row (changes ++ c ∷ []) ≡ c.row
+last_of_added changes c = last_of 0 changes c
+
+pub on_ok : {A E : Type 0} (r : Result A E) (P Q : Type 0) → (P → Q) → OnOk r P → OnOk r Q
+on_ok (Ok a) P Q f h = f h
+on_ok (Err e) P Q f h = h
+
+rising_from_lower : (low n : ℕ) (numbers : List ℕ) → low ≤ n → RisingNumbers n numbers → RisingNumbers low numbers
+rising_from_lower low n [] le h = tt
+rising_from_lower low n (m ∷ numbers) le h = (omega (arith, le, h.0), h.1)
+
+pub rising_rest : (last low : ℕ) (numbers : List ℕ) (i : ℕ) → i < length numbers → RisingNumbers low (drop i numbers) → last ≤ get_or numbers i 0
+    → RisingNumbers last (drop (i + 1) numbers)
+rising_rest last low numbers i h up le =
+    let here = subst (RisingNumbers low) (drop-cons numbers i 0 h) up in
+    rw add-one (rising_from_lower last (get_or numbers i 0) (drop (suc i) numbers) le here.1)
+
+joined : {B : Type 0} (next rest : List B) (o : Option B) → (next ++ cons_option o []) ++ rest ≡ next ++ cons_option o rest
+joined next rest None = ap (λ l. l ++ rest) (append-nil next)
+joined next rest (Some x) = append_assoc next (x ∷ []) rest
+
+pub made_next : {B : Type 0} (f : ℕ → Option B) (next : List B) (numbers : List ℕ) (i : ℕ) → i < length numbers
+    → (next ++ cons_option (f (get_or numbers i 0)) []) ++ filter_map f (drop (i + 1) numbers) ≡ next ++ filter_map f (drop i numbers)
+made_next f next numbers i h =
+    rw add-one
+    (joined next (filter_map f (drop (suc i) numbers)) (f (get_or numbers i 0)) ∙ ap (λ l. next ++ filter_map f l) (sym (drop-cons numbers i 0 h)))

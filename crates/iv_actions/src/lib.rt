@@ -7,6 +7,7 @@ mod effect;
 mod finding;
 mod key_order;
 mod losing;
+mod next;
 mod restrict;
 mod row;
 
