@@ -1,0 +1,3 @@
+pub mod PickedRows
+pub mod FirstPairs
+pub mod Conflicts
