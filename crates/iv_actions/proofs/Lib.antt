@@ -3,3 +3,4 @@ pub mod Taking
 pub mod Halving
 pub mod Numbers
 pub mod Rows
+pub mod Matching

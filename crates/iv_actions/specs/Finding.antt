@@ -6,9 +6,6 @@ use Rattle.iv_expr.specs.declared.row.Change.{Change}
 use Rattle.iv_store.specs.Stores.{StoreState, children_of}
 use Rattle.iv_actions.specs.Losing.{Losing, acts, action_for, key_taken, change_taking}
 
-abbrev pub is_among : List ℕ → ℕ → Bool
-is_among numbers number = list_any (λ n. n == number) numbers
-
 -- the first change that takes this key away is of this change's row, and the foreign key does something then
 abbrev pub leads : Losing → Change → List Value → Bool
 leads x c key = elim (change_taking x key) [ Some first ↦ (first.row == c.row) && acts (action_for x.reference.key first) | None ↦ false ]

@@ -14,6 +14,7 @@ use Rattle.iv_machine.specs.Context.{Failure, fails}
 use Rattle.iv_machine.specs.Databases.{row_at, fault_at}
 use Rattle.iv_machine.specs.ReferentialActions.{is_restrict, effects_of_action, keeps_reference, have_deletion, disagree, change_by}
 use Rattle.iv_laws.specs.Holders.{loss_of_new, row_before}
+use Rattle.iv_action_laws.specs.RowByRow.{first_conflict, least}
 use Rattle.iv_actions.specs.Losing.{Losing, action_for, change_losing}
 
 -- ---- RESTRICT
@@ -46,14 +47,6 @@ effects_by schema before x =
 abbrev pub effects_among : Schema → List Losing → StoredRow → StoredRow → List (ℕ × Effect)
 effects_among schema xs before after = flat_map (effects_by schema before) (filter (λ x. keeps_reference before after x.reference) xs)
 
--- some effect of an earlier foreign key sets a column otherwise
-abbrev pub clashes : List (ℕ × Effect) → ℕ × Effect → Bool
-clashes es own = list_any (λ earlier. nat_lt earlier.0 own.0 && disagree earlier.1 own.1) es
-
--- of effects on a row that none deletes, the first foreign key that disagrees with an earlier one
-abbrev pub first_conflict : List (ℕ × Effect) → Option ℕ
-first_conflict es = if have_deletion es then None else option_map (λ e. e.0) (find (clashes es) es)
-
 -- ---- by row number, from the rows after the wave
 
 abbrev pub restricted_at : List Losing → List Change → List StoredRow → ℕ → Option Fault
@@ -74,17 +67,6 @@ conflict_at schema xs changes later number =
 abbrev pub change_at : Schema → List Losing → List Change → List StoredRow → ℕ → Option Change
 change_at schema xs changes later number =
     elim (row_at later number) [ Some after ↦ change_by after (effects_at schema xs changes later after) | None ↦ None ]
-
--- the fault of the lower constraint; of two of one constraint, the one given first
-abbrev pub earlier : Option Fault → Option Fault → Option Fault
-earlier None other = other
-earlier (Some f) None = Some f
-earlier (Some f) (Some g) = if nat_lt g.constraint f.constraint then Some g else Some f
-
--- the first of the faults of these numbers, by constraint, then by number
-abbrev pub least : (ℕ → Option Fault) → List ℕ → Option Fault
-least fault [] = None
-least fault (number ∷ numbers) = earlier (fault number) (least fault numbers)
 
 -- What follows a wave, from the rows of these numbers.
 abbrev pub answer_among : Schema → List Losing → List Change → Database → List ℕ → Result Wave Failure

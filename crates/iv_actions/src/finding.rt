@@ -3,7 +3,8 @@ ghost use Rattle.std.specs.Prelude.{◌≡◌, ◌++◌, ◌+◌, ◌*◌, ◌�
 ghost use Rattle.std.specs.List.Sorted.{IsStrictlyIncreasing};
 ghost use Rattle.iv_expr.specs.Changes.{RisingChanges};
 ghost use Rattle.iv_store.specs.Stores.{RisingNumbers};
-ghost use Rattle.iv_actions.specs.Finding.{is_among, leads, found_by, found_by_all, found};
+ghost use Rattle.iv_action_laws.specs.RowByRow.{is_among};
+ghost use Rattle.iv_actions.specs.Finding.{leads, found_by, found_by_all, found};
 
 use crate::key_order::OrderedKey;
 use crate::losing::{Losing, action_for, acts, key_taken};

@@ -6,7 +6,8 @@ ghost use Rattle.iv_machine.specs.declared.database.Database.{Database};
 ghost use Rattle.iv_machine.specs.Context.{Context};
 ghost use Rattle.iv_machine.specs.ReferentialActions.{following_wave};
 ghost use Rattle.iv_store.specs.Stores.{RisingNumbers};
-ghost use Rattle.iv_actions.specs.Following.{restricted_at, effects_at, conflict_at, change_at, earlier, least, answer_among};
+ghost use Rattle.iv_action_laws.specs.RowByRow.{earlier, least};
+ghost use Rattle.iv_actions.specs.Following.{restricted_at, effects_at, conflict_at, change_at, answer_among};
 ghost use Rattle.iv_actions.specs.Answers.{IsBefore, Tells};
 
 use crate::change::change_by;

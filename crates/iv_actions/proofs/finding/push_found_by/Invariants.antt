@@ -1,5 +1,6 @@
 use Rattle.std.proofs.Common.{◌≤◌, ◌+◌, ◌≡◌, ◌++◌, drop, false, flat_map}
-use Rattle.iv_actions.specs.Finding.{is_among, found_by}
+use Rattle.iv_action_laws.specs.RowByRow.{is_among}
+use Rattle.iv_actions.specs.Finding.{found_by}
 use Rattle.iv_actions.proofs.finding.push_found_by.Given as goal
 
 abbrev pub invariant-loop-change : goal.invariant-loop-change

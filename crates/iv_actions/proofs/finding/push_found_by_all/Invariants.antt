@@ -1,5 +1,6 @@
 use Rattle.std.proofs.Common.{◌≤◌, ◌+◌, ◌*◌, length, ◌≡◌, ◌++◌, drop, false}
-use Rattle.iv_actions.specs.Finding.{is_among, found_by_all}
+use Rattle.iv_action_laws.specs.RowByRow.{is_among}
+use Rattle.iv_actions.specs.Finding.{found_by_all}
 use Rattle.iv_actions.proofs.finding.push_found_by_all.Given as goal
 
 abbrev pub invariant-loop-losing : goal.invariant-loop-losing

@@ -1,5 +1,6 @@
 use Rattle.std.proofs.Common.{◌≡◌, ◌≤◌, drop, length}
-use Rattle.iv_actions.specs.Following.{conflict_at, least}
+use Rattle.iv_action_laws.specs.RowByRow.{least}
+use Rattle.iv_actions.specs.Following.{conflict_at}
 use Rattle.iv_actions.proofs.next.first_disagreement.Given as goal
 
 abbrev pub invariant-loop-left : goal.invariant-loop-left

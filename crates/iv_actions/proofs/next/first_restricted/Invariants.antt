@@ -1,5 +1,6 @@
 use Rattle.std.proofs.Common.{◌≡◌, ◌≤◌, drop, length}
-use Rattle.iv_actions.specs.Following.{restricted_at, least}
+use Rattle.iv_action_laws.specs.RowByRow.{least}
+use Rattle.iv_actions.specs.Following.{restricted_at}
 use Rattle.iv_actions.proofs.next.first_restricted.Given as goal
 
 abbrev pub invariant-loop-left : goal.invariant-loop-left
