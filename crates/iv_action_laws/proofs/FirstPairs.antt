@@ -36,6 +36,14 @@ references_rise_from n (c ∷ constraints) = where_key (foreign_key c.rule) (ref
 pub references_rise : (constraints : List Constraint) → RisingReferences 0 (references constraints)
 references_rise constraints = references_rise_from 0 constraints
 
+pub rising_filter : (p : Reference → Bool) (low : ℕ) (ks : List Reference) → RisingReferences low ks → RisingReferences low (filter p ks)
+rising_filter p low [] h = tt
+rising_filter p low (k ∷ ks) h = where_passes (p k) (rising_filter p (k.id + 1) ks h.1)
+  where
+    where_passes : (b : Bool) → RisingReferences (k.id + 1) (filter p ks) → RisingReferences low (if b then k ∷ filter p ks else filter p ks)
+    where_passes true more = (h.0, more)
+    where_passes false more = rising_lower low (k.id + 1) (filter p ks) (omega (arith, h.0)) more
+
 -- ---- pairs
 
 -- the pairs that pass a test
