@@ -1,5 +1,5 @@
 -- What follows a wave, row by row.
-use Rattle.std.proofs.Common.{◌≡◌, refl, ℕ, ◌+◌, ◌≤◌, Bool, true, false, ◌&&◌, if◌then◌else◌, List, [], ◌∷◌, ◌++◌, filter, filter_map, map, Option, Some, None, Result, Ok, sym, ap, subst, ◌∙◌, arith}
+use Rattle.std.proofs.Common.{◌≡◌, refl, ℕ, Bool, true, false, if◌then◌else◌, List, [], ◌∷◌, ◌++◌, filter, filter_map, map, Option, Some, None, Result, Ok, sym, ap, subst, ◌∙◌}
 use Rattle.std.specs.Bool.{◌==◌}
 use Rattle.std.specs.List.{find, flat_map, cons_option}
 use Rattle.std.specs.Option.{option_map}
@@ -15,7 +15,7 @@ use Rattle.iv_machine.specs.declared.database.Database.{Database}
 use Rattle.iv_machine.specs.declared.effect.Effect.{Effect}
 use Rattle.iv_machine.specs.Databases.{row_at, fault_at, first, has_change, database_after}
 use Rattle.iv_machine.specs.Context.{Context, Failure, fails, unless_first}
-use Rattle.iv_machine.specs.ReferentialActions.{Reference, references, LostKeys, lost_keys, is_restricted, restricted_rows, keeps_reference, effects, effects_on, change_by, next_wave, has_conflict, conflicts, following_wave}
+use Rattle.iv_machine.specs.ReferentialActions.{Reference, references, LostKeys, lost_keys, is_restricted, restricted_rows, keeps_reference, effects_on, change_by, next_wave, has_conflict, conflicts, following_wave}
 use Rattle.iv_laws.specs.RisingRows.{InOrder}
 use Rattle.iv_laws.specs.Holders.{row_before, keys_lost_by}
 use Rattle.iv_laws.proofs.AppliedRows.{news, row_at_rows_after, rows_after_in_order}

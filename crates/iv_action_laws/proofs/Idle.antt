@@ -1,14 +1,12 @@
 -- What foreign keys with NO ACTION do: nothing.
-use Rattle.std.proofs.Common.{◌≡◌, refl, ℕ, ◌+◌, Bool, true, false, ◌&&◌, if◌then◌else◌, List, [], ◌∷◌, ◌++◌, filter, map, Option, Some, None, sym, ap, ◌∙◌}
+use Rattle.std.proofs.Common.{◌≡◌, refl, ℕ, Bool, true, false, ◌&&◌, if◌then◌else◌, List, [], ◌∷◌, ◌++◌, filter, map, Option, Some, None, sym, ap, ◌∙◌}
 use Rattle.std.specs.Bool.{◌==◌}
 use Rattle.std.specs.List.{flat_map}
-use Rattle.std.proofs.lemmas.Bool.{eqb-true, eq-eqb, true≢false}
+use Rattle.std.proofs.lemmas.Bool.{eqb-true, eq-eqb}
 use Rattle.iv_value.specs.Values.{all_same}
 use Rattle.iv_expr.specs.declared.row.StoredRow.{StoredRow}
-use Rattle.iv_syntax.specs.declared.table.ReferentialAction.{ReferentialAction}
 use Rattle.iv_syntax.specs.declared.table.ReferentialAction.TheVariants as action
 use Rattle.iv_catalogue.specs.Catalogues.{Schema}
-use Rattle.iv_catalogue.specs.declared.cause.Fault.{Fault}
 use Rattle.iv_machine.specs.declared.effect.Effect.{Effect}
 use Rattle.iv_machine.specs.Databases.{row_at, key_of, none_null, fault_at}
 use Rattle.iv_machine.specs.ReferentialActions.{Reference, Loss, LostKeys, lost_reference, action_on, is_restrict, effects_of_action, effects_of_loss, keeps_reference}
