@@ -1,5 +1,5 @@
 -- The first foreign key that disagrees with an earlier one on a row.
-use Rattle.std.proofs.Common.{◌≡◌, refl, ℕ, ◌+◌, ◌≤◌, ◌<◌, Bool, true, false, ◌&&◌, ◌||◌, not, if◌then◌else◌, List, [], ◌∷◌, ◌++◌, Option, Some, None, sym, ap, ◌∙◌, arith, append_assoc}
+use Rattle.std.proofs.Common.{◌≡◌, refl, ℕ, ◌+◌, ◌≤◌, ◌<◌, Bool, true, false, ◌&&◌, ◌||◌, not, if◌then◌else◌, List, [], ◌∷◌, ◌++◌, Some, None, sym, ap, ◌∙◌, arith, append_assoc}
 use Rattle.std.specs.Bool.{◌==◌, nat_lt}
 use Rattle.std.specs.List.{list_any, find, flat_map}
 use Rattle.std.specs.Option.{option_map}
@@ -87,7 +87,7 @@ module _ (C : ℕ × Effect → Bool) where
     first_of before low (k ∷ ks) h rise =
         ap (λ b. option_map (λ j. j.id) (if b then Some k else find (λ j. list_any (of j.id) (before ++ (g k ++ flat_map g ks))) ks)) test
         ∙ where_any (list_any C (g k)) refl (first_of (before ++ g k) (k.id + 1) ks
-          (below_append (k.id + 1) before (g k) (below_more low (k.id + 1) before (omega (arith, rise.0)) h) (below_all_of k.id (g k) (own k))) rise.1)
+        (below_append (k.id + 1) before (g k) (below_more low (k.id + 1) before (omega (arith, rise.0)) h) (below_all_of k.id (g k) (own k))) rise.1)
       where
         test : list_any (of k.id) (before ++ (g k ++ flat_map g ks)) ≡ list_any C (g k)
         test =

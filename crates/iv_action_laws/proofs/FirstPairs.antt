@@ -1,5 +1,5 @@
 -- The first of pairs of a foreign key and a row, by the foreign key's creation, then by row.
-use Rattle.std.proofs.Common.{◌≡◌, refl, ℕ, ◌+◌, ◌≤◌, ◌<◌, Bool, true, false, if◌then◌else◌, List, [], ◌∷◌, ◌++◌, filter, filter_map, map, Option, Some, None, sym, ap, ◌∙◌, arith}
+use Rattle.std.proofs.Common.{◌≡◌, refl, ℕ, ◌+◌, ◌≤◌, Bool, true, false, if◌then◌else◌, List, [], ◌∷◌, ◌++◌, filter, filter_map, map, Option, Some, None, sym, ap, ◌∙◌, arith}
 use Rattle.std.specs.List.{find, flat_map, cons_option, enumerate_from}
 use Rattle.std.specs.Option.{option_map}
 use Rattle.std.proofs.lemmas.Bool.{lt-ltb, le-ltb}
@@ -35,6 +35,14 @@ references_rise_from n (c ∷ constraints) = where_key (foreign_key c.rule) (ref
 
 pub references_rise : (constraints : List Constraint) → RisingReferences 0 (references constraints)
 references_rise constraints = references_rise_from 0 constraints
+
+pub rising_filter : (p : Reference → Bool) (low : ℕ) (ks : List Reference) → RisingReferences low ks → RisingReferences low (filter p ks)
+rising_filter p low [] h = tt
+rising_filter p low (k ∷ ks) h = where_passes (p k) (rising_filter p (k.id + 1) ks h.1)
+  where
+    where_passes : (b : Bool) → RisingReferences (k.id + 1) (filter p ks) → RisingReferences low (if b then k ∷ filter p ks else filter p ks)
+    where_passes true more = (h.0, more)
+    where_passes false more = rising_lower low (k.id + 1) (filter p ks) (omega (arith, h.0)) more
 
 -- ---- pairs
 
