@@ -4,3 +4,5 @@ pub mod Halving
 pub mod Numbers
 pub mod Rows
 pub mod Matching
+pub mod Found
+pub mod Answering

@@ -101,13 +101,13 @@ module _ (changes : List Change) where
   restricted_is (k ∷ ks) row =
       ap (λ b. option_map (λ x. fault_at x.reference.id row) (if b then Some (under_wave changes k) else find (restricts row) (under ks)))
       (restricts_is changes row k)
-      ∙ by (laws.protects lost row k)
+      ∙ by (laws.protects lost row k) (restricted_is ks row)
     where
-      by : (b : Bool)
+      by : (b : Bool) → restricted_fault (under ks) row ≡ option_map (λ j. fault_at j.id row) (find (laws.protects lost row) ks)
           → option_map (λ x. fault_at x.reference.id row) (if b then Some (under_wave changes k) else find (restricts row) (under ks))
           ≡ option_map (λ j. fault_at j.id row) (if b then Some k else find (laws.protects lost row) ks)
-      by true = refl
-      by false = restricted_is ks row
+      by true rest = refl
+      by false rest = rest
 
   effects_are : (schema : Schema) (ks : List Reference) (before after : StoredRow)
       → effects_among schema (under ks) before after ≡ laws.effects_of schema ks lost before after

@@ -15,7 +15,7 @@ pub no_zero : (low : ℕ) (numbers : List ℕ) → RisingNumbers low numbers →
 no_zero low [] h = refl
 no_zero low (n ∷ numbers) h = ap (λ b. b || is_among numbers 0) (ne_eqb n 0 (λ e. absurd (omega (arith, e, h.0)))) ∙ no_zero n numbers h.1
 
-any_of_both : {A : Type 0} (p : A → Bool) (xs ys : List A) → list_any p (xs ++ ys) ≡ (list_any p xs || list_any p ys)
+pub any_of_both : {A : Type 0} (p : A → Bool) (xs ys : List A) → list_any p (xs ++ ys) ≡ (list_any p xs || list_any p ys)
 any_of_both p [] ys = refl
 any_of_both p (x ∷ xs) ys =
     elim (p x) as (λ b. (b || list_any p (xs ++ ys)) ≡ ((b || list_any p xs) || list_any p ys)) [ true ↦ refl | false ↦ any_of_both p xs ys ]

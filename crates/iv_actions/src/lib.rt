@@ -11,10 +11,4 @@ mod next;
 mod restrict;
 mod row;
 
-pub use change::change_by;
-pub use conflict::first_conflict;
-pub use effect::effects_among;
-pub use key_order::OrderedKey;
-pub use losing::Losing;
-pub use restrict::restricted_fault;
-pub use row::LentRow;
+pub use next::next_wave;

@@ -6,9 +6,9 @@ ghost use Rattle.iv_machine.specs.declared.database.Database.{Database};
 ghost use Rattle.iv_machine.specs.Context.{Context};
 ghost use Rattle.iv_machine.specs.ReferentialActions.{following_wave};
 ghost use Rattle.iv_store.specs.Stores.{RisingNumbers};
-ghost use Rattle.iv_action_laws.specs.RowByRow.{earlier, least};
+ghost use Rattle.iv_action_laws.specs.RowByRow.{earlier, least, LedTo};
 ghost use Rattle.iv_actions.specs.Following.{restricted_at, effects_at, conflict_at, change_at, answer_among};
-ghost use Rattle.iv_actions.specs.Answers.{IsBefore, Tells};
+ghost use Rattle.iv_actions.specs.Answers.{Tells};
 
 use crate::change::change_by;
 use crate::conflict::first_conflict;
@@ -235,4 +235,37 @@ fn answer_among<K: Kin>(
         Ok(Some(fault)) => Err(refusal(Cause::ActionConflict(fault))),
         Err(_) => Err(refusal(Cause::OutOfMemory)),
     }
+}
+
+/// The wave that follows from a wave by referential actions, in a store that is as after the wave: the first row
+/// that refers to a key lost under RESTRICT is told first, then the first on which two foreign keys disagree.
+pub fn next_wave<K: Kin>(
+    store: &mut K,
+    catalogue: &Catalogue,
+    wave: &Wave,
+) -> Result<Wave, Refusal>
+    ensures followed { (before : Database) (context : Context)
+        → context.schema ≡ catalogue.now
+        → (K.view store.old).constraints ≡ catalogue.now.constraints
+        → LedTo before wave.now.changes (K.view store.old).base
+        → Tells result (following_wave context before (K.view store.old).base) }
+    ensures looked { K.lookups store.new ≤ K.lookups store.old
+        + length catalogue.now.constraints * length wave.now.changes }
+    ensures kept { K.view store.new ≡ K.view store.old }
+{
+    let alloc = store.allocator();
+    let changes = wave.changes();
+    let Ok(losings) = losing_of(alloc, catalogue.constraints(), changes) else {
+        return Err(refusal(Cause::OutOfMemory));
+    };
+    let Ok(numbers) = found(store, alloc, losings.as_slice(), changes) else {
+        return Err(refusal(Cause::OutOfMemory));
+    };
+    answer_among(
+        &*store,
+        catalogue,
+        losings.as_slice(),
+        changes,
+        numbers.as_slice(),
+    )
 }
