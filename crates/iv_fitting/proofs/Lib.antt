@@ -2,6 +2,7 @@ pub mod Changes
 pub mod ColumnKinds
 pub mod Conditions
 pub mod Expressions
+pub mod MoreTables
 pub mod NewConstraints
 pub mod NewTables
 pub mod Plans
@@ -9,6 +10,7 @@ pub mod Pointwise
 pub mod References
 pub mod Rules
 pub mod Schemas
+pub mod Staying
 pub mod Statements
 pub mod Targets
 pub mod Triggers

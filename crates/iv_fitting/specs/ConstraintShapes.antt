@@ -13,7 +13,7 @@ use Rattle.iv_catalogue.specs.declared.constraint.ForeignKey.{ForeignKey}
 use Rattle.iv_catalogue.specs.declared.constraint.Rule.{Rule}
 use Rattle.iv_catalogue.specs.declared.constraint.Rule.TheVariants as rule
 use Rattle.iv_catalogue.specs.declared.limits.TheConstants.{MOST_CONSTRAINTS, MOST_TABLES}
-use Rattle.iv_fitting.specs.PlanShapes.{table_kinds, is_there, table_suits}
+use Rattle.iv_fitting.specs.PlanShapes.{table_kinds, is_there, table_suits, trigger_suits}
 
 -- a place of one of these columns
 abbrev pub is_place : List Kind → ℕ → Bool
@@ -62,3 +62,9 @@ pub record ConstraintFits (schema : Schema) (k : Constraint) : Type 0 where
   pub few : length (constraint_places schema k.table) < MOST_CONSTRAINTS
   pub free : has_constraint schema k.name ≡ false
   pub suits : constraint_suits schema.tables k ≡ true
+
+-- All that a schema has suits its tables.
+pub record SchemaSuits (schema : Schema) : Type 0 where
+  pub tables : list_all table_suits schema.tables ≡ true
+  pub constraints : list_all (constraint_suits schema.tables) schema.constraints ≡ true
+  pub triggers : list_all (trigger_suits schema.tables) schema.triggers ≡ true

@@ -2,16 +2,17 @@
 use Rattle.std.specs.Prelude.{◌≡◌, List, true, Ok}
 use Rattle.std.specs.List.{list_all}
 use Rattle.iv_syntax.specs.declared.statement.Statement.{Statement}
-use Rattle.iv_catalogue.specs.Catalogues.{Schema}
+use Rattle.iv_catalogue.specs.Catalogues.{Schema, after, empty_schema}
 use Rattle.iv_catalogue.specs.declared.catalogue.Table.{Table}
 use Rattle.iv_catalogue.specs.declared.constraint.Constraint.{Constraint}
 use Rattle.iv_catalogue.specs.declared.plan.DataStatement.{DataStatement}
 use Rattle.iv_catalogue.specs.declared.plan.Plan.TheVariants as plan
 use Rattle.iv_catalogue.specs.declared.plan.QueryPlan.{QueryPlan}
+use Rattle.iv_catalogue.specs.declared.plan.SchemaPlan.{SchemaPlan}
 use Rattle.iv_catalogue.specs.declared.plan.SchemaPlan.TheVariants.{CreateTable, AddConstraint, CreateTrigger}
 use Rattle.iv_catalogue.specs.declared.plan.Trigger.{Trigger}
 use Rattle.iv_resolution.specs.Resolution.{resolution}
-use Rattle.iv_fitting.specs.ConstraintShapes.{constraint_suits, TableFits, ConstraintFits}
+use Rattle.iv_fitting.specs.ConstraintShapes.{constraint_suits, TableFits, ConstraintFits, SchemaSuits}
 use Rattle.iv_fitting.specs.PlanShapes.{plain_shape, table_suits, data_suits, query_suits, trigger_suits}
 
 -- The plan of an INSERT, UPDATE or DELETE fits.
@@ -45,3 +46,13 @@ AdditionsFit =
     (schema : Schema) (s : Statement) (k : Constraint)
     → list_all table_suits schema.tables ≡ true → list_all (constraint_suits schema.tables) schema.constraints ≡ true
     → resolution schema s ≡ Ok (plan.Schema (AddConstraint k)) → ConstraintFits schema k
+
+-- All that a schema has suits its tables, and so it stays after each schema statement that deserves no cause. So it is in every schema
+-- that statements lead to from the empty one.
+abbrev pub SchemasStaySuited : Type 0
+SchemasStaySuited =
+    (schema : Schema) (s : Statement) (p : SchemaPlan)
+    → SchemaSuits schema → resolution schema s ≡ Ok (plan.Schema p) → SchemaSuits (after schema p)
+
+abbrev pub EmptySchemaSuits : Type 0
+EmptySchemaSuits = SchemaSuits empty_schema

@@ -1,5 +1,5 @@
 //! Laws of plans, as the contract of a function that does nothing.
-ghost use Rattle.iv_fitting.specs.Laws.{AdditionsFit, ChangesFit, QueriesFit, TablesFit, TriggersFit};
+ghost use Rattle.iv_fitting.specs.Laws.{AdditionsFit, ChangesFit, EmptySchemaSuits, QueriesFit, SchemasStaySuited, TablesFit, TriggersFit};
 
 /// A plan of resolution fits the tables of its schema: its columns are there, and its values are of their
 /// columns' kinds.
@@ -9,4 +9,11 @@ pub fn plans_fit()
     ensures triggers { TriggersFit }
     ensures tables { TablesFit }
     ensures additions { AdditionsFit }
+{}
+
+/// Every schema that statements lead to from the empty one suits: its constraints and triggers name columns
+/// that are there, with values of their kinds.
+pub fn schemas_suit()
+    ensures empty { EmptySchemaSuits }
+    ensures after { SchemasStaySuited }
 {}

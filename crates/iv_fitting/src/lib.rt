@@ -5,4 +5,4 @@ mod laws;
 #[cfg(test)]
 mod tests;
 
-pub use laws::plans_fit;
+pub use laws::{plans_fit, schemas_suit};

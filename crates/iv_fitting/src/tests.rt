@@ -1,7 +1,8 @@
-//! The law is a call that returns.
-use crate::plans_fit;
+//! Each law is a call that returns.
+use crate::{plans_fit, schemas_suit};
 
 #[test]
 fn laws_are_called(rt: HostRuntime) {
     plans_fit();
+    schemas_suit();
 }
