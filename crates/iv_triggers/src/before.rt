@@ -1,0 +1,377 @@
+//! BEFORE triggers: those of a statement, and those of the rows of a wave ("Execution of BEFORE triggers").
+ghost use Rattle.std.specs.Prelude.{◌≡◌, ◌≤◌, ◌<◌, ◌+◌, ◌^◌, ◌&&◌, length, slice_set, filter, IfOk, OnOk};
+ghost use Rattle.std.specs.List.{enumerate_from};
+ghost use Rattle.iv_catalogue.specs.Catalogues.{BodiesWithinLimit};
+ghost use Rattle.iv_catalogue.specs.declared.limits.TheConstants.{MOST_BODY_STATEMENTS};
+ghost use Rattle.iv_expr.specs.Evaluation.{value};
+ghost use Rattle.iv_expr.specs.Scopes.{no_frame, scope_of};
+ghost use Rattle.iv_machine.specs.BeforeTriggers.{before_row_run, before_statement, before_statement_run, change_after_set, change_after_statement, change_after_trigger, change_frame, changes_after_triggers, is_before_row, is_before_statement, is_on, is_signal, placed_statements, unless_signal, with_new_value};
+ghost use Rattle.iv_machine.specs.Context.{each, in_turn, while_running};
+ghost use Rattle.iv_machine.specs.Proposals.{holds, stored_value};
+ghost use Rattle.iv_triggers.specs.Answering.{AnswersCause, AnswersRefusal};
+
+use crate::context::Context;
+use crate::matching::{event_of_change, is_before_row, is_before_statement, is_on};
+use crate::values::{holds, stored_value};
+use iv_catalogue::{BodyStatement, Cause, Refusal, Setting, Trigger};
+use iv_expr::{Change, Frame, Row, Rows, Scope, TableId};
+use iv_syntax::TriggerEvent;
+use iv_value::Value;
+use std::alloc::{AllocError, Global};
+
+fn copied(alloc: Global, row: &[Value]) -> Result<Vec<Value>, AllocError>
+    ensures { IfOk result (λ values. values.items ≡ row.now) }
+{
+    let mut values = Vec::new(alloc);
+    for value in row {
+        let copy = value.clone()?;
+        values.push(copy)?;
+    }
+    Ok(values)
+}
+
+// The row with a column set.
+fn with_value(alloc: Global, row: &[Value], column: u32, value: Value) -> Result<Row, AllocError>
+    ensures { IfOk result (λ r. r ≡ slice_set row.now column value) }
+{
+    let mut values = copied(alloc, row)?;
+    let place = column as usize;
+    if place < values.len() {
+        values[place] = value;
+    }
+    Row::new(values)
+}
+
+// Sets a column of the new row.
+fn set_new_value(
+    alloc: Global,
+    change: &mut Change,
+    column: u32,
+    value: Value,
+) -> Result<(), AllocError>
+    ensures { OnOk result (change.exit.now ≡ with_new_value change.entry.now column value) }
+{
+    if let Some(row) = &change.new {
+        let set = with_value(alloc, row.values(), column, value)?;
+        change.new = Some(set);
+    }
+    Ok(())
+}
+
+// The value of a SET at a change.
+fn value_of_set<'x, R: Rows>(
+    context: &Context<'_>,
+    rows: &'x R,
+    setting: &Setting,
+    change: &'x Change,
+) -> Result<Value, Cause>
+    ensures { AnswersCause (λ v. v) result (stored_value context.now change.now.table setting.now.column
+        (value (scope_of (change_frame change.now) (R.rows rows.now)) setting.now.value)) }
+{
+    let frame = Frame::at(&[], change);
+    let scope = Scope::new(rows, &frame);
+    stored_value(
+        context,
+        change.table,
+        setting.column,
+        &setting.value,
+        &scope,
+    )
+}
+
+// A SET at a change.
+fn set<R: Rows>(
+    alloc: Global,
+    context: &Context<'_>,
+    rows: &R,
+    setting: &Setting,
+    change: &mut Change,
+) -> Result<(), Cause>
+    ensures { AnswersCause (λ _. change.exit.now) result
+        (change_after_set context.now (R.rows rows.now) setting.now change.entry.now) }
+{
+    match value_of_set(context, rows, setting, &*change) {
+        Ok(value) => match set_new_value(alloc, change, setting.column, value) {
+            Ok(()) => Ok(()),
+            Err(_) => Err(Cause::OutOfMemory),
+        },
+        Err(cause) => Err(cause),
+    }
+}
+
+// A statement of a trigger's body at a change. A BEFORE trigger has no data statement.
+fn run_statement<R: Rows>(
+    alloc: Global,
+    context: &Context<'_>,
+    rows: &R,
+    trigger: &Trigger,
+    place: u32,
+    statement: &BodyStatement,
+    change: &mut Change,
+) -> Result<(), Cause>
+    ensures { AnswersCause (λ _. change.exit.now) result
+        (change_after_statement context.now (R.rows rows.now) trigger.now place statement.now change.entry.now) }
+{
+    match statement {
+        BodyStatement::Set(setting) => set(alloc, context, rows, setting, change),
+        BodyStatement::Signal(_) => Err(Cause::Signal(trigger.id, place)),
+        BodyStatement::Data(_) => Ok(()),
+    }
+}
+
+// The statements of a trigger's body at a change, in their order.
+fn run_body<R: Rows>(
+    alloc: Global,
+    context: &Context<'_>,
+    rows: &R,
+    trigger: &Trigger,
+    change: &mut Change,
+) -> Result<(), Cause>
+    requires { length trigger.now.body ≤ MOST_BODY_STATEMENTS }
+    ensures { AnswersCause (λ _. change.exit.now) result
+        (in_turn (λ s. change_after_statement context.now (R.rows rows.now) trigger.now s.0 s.1) (placed_statements trigger.now) change.entry.now) }
+{
+    let body = trigger.body.as_slice();
+    let mut at = 0usize;
+    let mut place = 1u32;
+    while at < body.len() {
+        match run_statement(alloc, context, rows, trigger, place, &body[at], change) {
+            Ok(()) => {
+                at += 1;
+                place += 1;
+            }
+            Err(cause) => return Err(cause),
+        }
+    }
+    Ok(())
+}
+
+// Whether the WHEN of a trigger takes effect at a change.
+fn fires<'x, R: Rows>(rows: &'x R, trigger: &Trigger, change: &'x Change) -> Result<bool, Cause>
+    ensures { result ≡ holds (scope_of (change_frame change.now) (R.rows rows.now)) trigger.now.when }
+{
+    let frame = Frame::at(&[], change);
+    let scope = Scope::new(rows, &frame);
+    holds(&trigger.when, &scope)
+}
+
+// A BEFORE row trigger at a change, where its WHEN is true.
+#[tactic(auto, using(crate::proofs::Answers::cause_exact))]
+fn run_at_row<R: Rows>(
+    alloc: Global,
+    context: &Context<'_>,
+    rows: &R,
+    trigger: &Trigger,
+    change: &mut Change,
+) -> Result<(), Cause>
+    requires { length trigger.now.body ≤ MOST_BODY_STATEMENTS }
+    ensures { AnswersCause (λ _. change.exit.now) result
+        (before_row_run context.now (R.rows rows.now) trigger.now change.entry.now) }
+{
+    match fires(rows, trigger, &*change) {
+        Ok(true) => run_body(alloc, context, rows, trigger, change),
+        Ok(false) => Ok(()),
+        Err(cause) => Err(cause),
+    }
+}
+
+// A BEFORE row trigger at a change of any table and event.
+#[tactic(auto, using(crate::proofs::Answers::while_running_answers))]
+fn run_at_change<R: Rows>(
+    alloc: Global,
+    context: &Context<'_>,
+    rows: &R,
+    trigger: &Trigger,
+    change: &mut Change,
+) -> Result<(), Refusal>
+    requires { length trigger.now.body ≤ MOST_BODY_STATEMENTS }
+    ensures { AnswersRefusal (λ _. change.exit.now) result
+        (change_after_trigger context.now (R.rows rows.now) trigger.now change.entry.now) }
+{
+    if is_on(change.table, event_of_change(&*change), trigger) {
+        match run_at_row(alloc, context, rows, trigger, change) {
+            Ok(()) => Ok(()),
+            Err(cause) => Err(Refusal {
+                cause,
+                trigger: Some(trigger.id),
+            }),
+        }
+    } else {
+        Ok(())
+    }
+}
+
+// A BEFORE row trigger at each change, in their order.
+fn run_at_each<R: Rows>(
+    alloc: Global,
+    context: &Context<'_>,
+    rows: &R,
+    trigger: &Trigger,
+    changes: &mut [Change],
+) -> Result<(), Refusal>
+    requires { length trigger.now.body ≤ MOST_BODY_STATEMENTS }
+    ensures length { length changes.exit.now ≡ length changes.entry.now }
+    ensures answer { AnswersRefusal (λ _. changes.exit.now) result
+        (each (change_after_trigger context.now (R.rows rows.now) trigger.now) changes.entry.now) }
+{
+    let mut at = 0usize;
+    while at < changes.len() {
+        match run_at_change(alloc, context, rows, trigger, &mut changes[at]) {
+            Ok(()) => at += 1,
+            Err(refusal) => return Err(refusal),
+        }
+    }
+    Ok(())
+}
+
+// Those of the triggers that are BEFORE row triggers, by creation, each at the changes.
+#[tactic(auto, using(crate::proofs::Answers::refusal_then))]
+fn run_all<R: Rows>(
+    alloc: Global,
+    context: &Context<'_>,
+    rows: &R,
+    triggers: &[Trigger],
+    changes: &mut [Change],
+) -> Result<(), Refusal>
+    requires { BodiesWithinLimit triggers.now }
+    ensures length { length changes.exit.now ≡ length changes.entry.now }
+    ensures answer { AnswersRefusal (λ _. changes.exit.now) result
+        (changes_after_triggers context.now (R.rows rows.now) (filter is_before_row triggers.now) changes.entry.now) }
+{
+    match triggers {
+        [] => Ok(()),
+        [trigger, rest @ ..] => {
+            if is_before_row(trigger) {
+                match run_at_each(alloc, context, rows, trigger, changes) {
+                    Ok(()) => run_all(alloc, context, rows, rest, changes),
+                    Err(refusal) => Err(refusal),
+                }
+            } else {
+                run_all(alloc, context, rows, rest, changes)
+            }
+        }
+    }
+}
+
+/// The changes of a wave after its BEFORE row triggers, by their creation. They see the tables with these
+/// rows, as they are before the wave. Where they refuse it, nothing is said of the changes.
+pub fn before_rows<R: Rows>(
+    alloc: Global,
+    context: &Context<'_>,
+    rows: &R,
+    changes: &mut [Change],
+) -> Result<(), Refusal>
+    ensures length { length changes.exit.now ≡ length changes.entry.now }
+    ensures answer { AnswersRefusal (λ _. changes.exit.now) result
+        (changes_after_triggers context.now (R.rows rows.now) (filter is_before_row context.now.schema.triggers) changes.entry.now) }
+{
+    run_all(
+        alloc,
+        context,
+        rows,
+        context.catalogue().triggers(),
+        changes,
+    )
+}
+
+// Whether the WHEN of a trigger takes effect where there is no row variable.
+fn fires_for_statement<R: Rows>(rows: &R, trigger: &Trigger) -> Result<bool, Cause>
+    ensures { result ≡ holds (scope_of no_frame (R.rows rows.now)) trigger.now.when }
+{
+    let frame = Frame::none();
+    let scope = Scope::new(rows, &frame);
+    holds(&trigger.when, &scope)
+}
+
+fn is_signal(statement: &BodyStatement) -> bool
+    ensures { result ≡ is_signal statement.now }
+{
+    matches!(statement, BodyStatement::Signal(_))
+}
+
+// Refused with the first SIGNAL of the body, where there is one.
+fn unless_signal(trigger: &Trigger) -> Result<(), Cause>
+    requires { length trigger.now.body ≤ MOST_BODY_STATEMENTS }
+    ensures { result ≡ unless_signal trigger.now }
+{
+    let body = trigger.body.as_slice();
+    let mut at = 0usize;
+    let mut place = 1u32;
+    while at < body.len() {
+        if is_signal(&body[at]) {
+            return Err(Cause::Signal(trigger.id, place));
+        }
+        at += 1;
+        place += 1;
+    }
+    Ok(())
+}
+
+// A BEFORE statement trigger, where its WHEN is true.
+fn run_for_statement<R: Rows>(rows: &R, trigger: &Trigger) -> Result<(), Cause>
+    requires { length trigger.now.body ≤ MOST_BODY_STATEMENTS }
+    ensures { result ≡ before_statement_run (R.rows rows.now) trigger.now }
+{
+    match fires_for_statement(rows, trigger) {
+        Ok(true) => unless_signal(trigger),
+        Ok(false) => Ok(()),
+        Err(cause) => Err(cause),
+    }
+}
+
+fn run_named<R: Rows>(rows: &R, trigger: &Trigger) -> Result<(), Refusal>
+    requires { length trigger.now.body ≤ MOST_BODY_STATEMENTS }
+    ensures { result ≡ while_running trigger.now.id (before_statement_run (R.rows rows.now) trigger.now) }
+{
+    match run_for_statement(rows, trigger) {
+        Ok(()) => Ok(()),
+        Err(cause) => Err(Refusal {
+            cause,
+            trigger: Some(trigger.id),
+        }),
+    }
+}
+
+fn is_meant(table: TableId, event: TriggerEvent, trigger: &Trigger) -> bool
+    ensures { result ≡ (is_before_statement trigger.now && is_on table event trigger.now) }
+{
+    is_before_statement(trigger) && is_on(table, event, trigger)
+}
+
+// Those of the triggers that are BEFORE statement triggers of the table and event.
+fn run_statement_triggers<R: Rows>(
+    rows: &R,
+    triggers: &[Trigger],
+    table: TableId,
+    event: TriggerEvent,
+) -> Result<(), Refusal>
+    requires { BodiesWithinLimit triggers.now }
+    ensures { result ≡ in_turn (λ t _. while_running t.id (before_statement_run (R.rows rows.now) t))
+        (filter (λ t. is_before_statement t && is_on table event t) triggers.now) tt }
+{
+    match triggers {
+        [] => Ok(()),
+        [trigger, rest @ ..] => {
+            if is_meant(table, event, trigger) {
+                match run_named(rows, trigger) {
+                    Ok(()) => run_statement_triggers(rows, rest, table, event),
+                    Err(refusal) => Err(refusal),
+                }
+            } else {
+                run_statement_triggers(rows, rest, table, event)
+            }
+        }
+    }
+}
+
+/// The BEFORE statement triggers of a table and event, by creation. They take no memory.
+pub fn before_statement<R: Rows>(
+    context: &Context<'_>,
+    rows: &R,
+    table: TableId,
+    event: TriggerEvent,
+) -> Result<(), Refusal>
+    ensures { result ≡ before_statement context.now (R.rows rows.now) table event }
+{
+    run_statement_triggers(rows, context.catalogue().triggers(), table, event)
+}

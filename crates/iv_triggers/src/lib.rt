@@ -1,0 +1,12 @@
+//! Triggers: what runs before a statement and before the rows of a wave.
+#![tactic(auto)]
+
+mod before;
+mod context;
+mod matching;
+mod values;
+
+pub use before::{before_rows, before_statement};
+pub use context::Context;
+pub use matching::{event_of_change, is_on};
+pub use values::{holds, stored_value};
