@@ -6,3 +6,4 @@ pub mod Rows
 pub mod Matching
 pub mod Found
 pub mod Answering
+pub mod Tables

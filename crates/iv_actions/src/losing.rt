@@ -1,11 +1,12 @@
 //! Foreign keys whose referenced keys a wave took away.
-ghost use Rattle.std.specs.Prelude.{◌≡◌, ◌<◌, ◌≤◌, ◌+◌, ◌^◌, List, drop, length, slice_get, IfOk, OnOk};
+ghost use Rattle.std.specs.Prelude.{◌≡◌, ◌<◌, ◌≤◌, ◌+◌, ◌^◌, ◌||◌, ◌==◌, ℕ, List, drop, length, slice_get, IfOk, OnOk};
 ghost use Rattle.std.specs.Option.{option_copied};
 ghost use Rattle.std.specs.List.{list_any};
 ghost use Rattle.std.specs.BTreeMap.{get};
 ghost use Rattle.iv_value.specs.declared.value.Value.{Value as Cell};
 ghost use Rattle.iv_machine.specs.ReferentialActions.{reference};
 ghost use Rattle.iv_laws.specs.Holders.{leaves_key};
+ghost use Rattle.iv_action_laws.specs.RowByRow.{is_among};
 ghost use Rattle.iv_actions.specs.KeyOrder.{key_cmp};
 ghost use Rattle.iv_actions.specs.Losing.{key_taken, first_taking, acts, action_for, acts_on, under_wave, losing_where, losing_from, change_taking};
 
@@ -108,6 +109,45 @@ fn acts_on_any(key: &ForeignKey, changes: &[Change]) -> bool
     changes.iter().any(|change| acts_on(key, change))
 }
 
+fn is_among(numbers: &[u32], number: u32) -> bool
+    ensures { result ≡ is_among numbers.now number }
+{
+    numbers.iter().any(|n| *n == number)
+}
+
+// Adds the table of a change, where it isn't among those that are there.
+fn note_table(tables: &mut Vec<u32>, change: &Change) -> Result<(), AllocError>
+    ensures { OnOk result ((t : ℕ) → is_among tables.new.items t ≡
+        (is_among tables.old.items t || (change.now.table == t))) }
+{
+    let table = change.table.place();
+    if !is_among(tables.as_slice(), table) {
+        tables.push(table)?;
+    }
+    Ok(())
+}
+
+// The tables of the changes, each once; a catalogue has 64 at most.
+fn tables_of(alloc: Global, changes: &[Change]) -> Result<Vec<u32>, AllocError>
+    ensures { IfOk result (λ v. (t : ℕ) →
+        is_among v.items t ≡ list_any (λ c. c.table == t) changes.now) }
+{
+    let mut tables = Vec::new(alloc);
+    for change in changes {
+        note_table(&mut tables, change)?;
+    }
+    Ok(tables)
+}
+
+// Whether a change takes a key away for which the foreign key does something. The changes are looked at only
+// where the referenced table is one of theirs.
+fn acts_in(key: &ForeignKey, changes: &[Change], tables: &[u32]) -> bool
+    requires { (t : ℕ) → is_among tables.now t ≡ list_any (λ c. c.table == t) changes.now }
+    ensures { result ≡ list_any (acts_on key.now) changes.now }
+{
+    is_among(tables, key.referenced.place()) && acts_on_any(key, changes)
+}
+
 // Notes the place of a change before those that come after it.
 fn note<'a>(
     firsts: &mut BTreeMap<OrderedKey<'a>, usize>,
@@ -168,13 +208,15 @@ fn losing_where<'a>(
     id: u32,
     constraint: &'a Constraint,
     changes: &'a [Change],
+    tables: &[u32],
 ) -> Result<Option<Losing<'a>>, AllocError>
+    requires { (t : ℕ) → is_among tables.now t ≡ list_any (λ c. c.table == t) changes.now }
     ensures { IfOk result (λ o. o ≡
         losing_where changes.entry.now (reference (id, constraint.entry.now))) }
 {
     match &constraint.rule {
         Rule::ForeignKey(key) => {
-            if acts_on_any(key, changes) {
+            if acts_in(key, changes, tables) {
                 Ok(Some(under_wave(alloc, id, constraint.table, key, changes)?))
             } else {
                 Ok(None)
@@ -193,10 +235,11 @@ pub fn losing_of<'a>(
     requires { length constraints.now ≤ 2 ^ 31 }
     ensures { IfOk result (λ v. v.items ≡ losing_from changes.entry.now 0 constraints.entry.now) }
 {
+    let tables = tables_of(alloc, changes)?;
     let mut found = Vec::new(alloc);
     let mut id = 0u32;
     for constraint in constraints {
-        if let Some(losing) = losing_where(alloc, id, constraint, changes)? {
+        if let Some(losing) = losing_where(alloc, id, constraint, changes, tables.as_slice())? {
             found.push(losing)?;
         }
         id += 1;
