@@ -1,9 +1,9 @@
 -- What `next_wave` answers, where its parts answer what they promise.
-use Rattle.std.proofs.Common.{◌≡◌, ℕ, ◌+◌, ◌*◌, ◌≤◌, Bool, true, false, if◌then◌else◌, List, [], ◌∷◌, length, map, filter, Option, Some, None, Result, sym, ap, subst, ◌∙◌, arith}
+use Rattle.std.proofs.Common.{◌≡◌, ℕ, ◌+◌, ◌*◌, ◌≤◌, List, [], ◌∷◌, length, map, filter, Option, Some, None, Result, sym, ap, subst, ◌∙◌, arith}
 use Rattle.std.specs.List.{cons_option}
 use Rattle.std.proofs.Math.Nat.{mul-le-mul_right}
 use Rattle.iv_expr.specs.declared.row.Change.{Change}
-use Rattle.iv_expr.specs.Changes.{Wave, wave_of}
+use Rattle.iv_expr.specs.Changes.{Wave}
 use Rattle.iv_catalogue.specs.Catalogues.{Schema}
 use Rattle.iv_catalogue.specs.declared.cause.Refusal.{Refusal}
 use Rattle.iv_catalogue.specs.declared.constraint.Constraint.{Constraint}
@@ -11,9 +11,8 @@ use Rattle.iv_machine.specs.declared.database.Database.{Database}
 use Rattle.iv_machine.specs.Context.{Context}
 use Rattle.iv_machine.specs.ReferentialActions.{Reference, reference, references, following_wave}
 use Rattle.iv_store.specs.Stores.{StoreState, RisingNumbers}
-use Rattle.iv_laws.specs.Holders.{keys_lost_by}
 use Rattle.iv_laws.proofs.Members.{In, of_filter}
-use Rattle.iv_action_laws.specs.RowByRow.{is_among, answer_at, LedTo}
+use Rattle.iv_action_laws.specs.RowByRow.{is_among, LedTo}
 use Rattle.iv_action_laws.proofs.Followed.{waves_follow_row_by_row}
 use Rattle.iv_actions.specs.Losing.{Losing, under_wave, acts_in, losing_where, losing_from}
 use Rattle.iv_actions.specs.Finding.{found}

@@ -1,8 +1,7 @@
 -- The rows that are found are those of the wave, and those to which a foreign key does something.
-use Rattle.std.proofs.Common.{◌≡◌, refl, ℕ, zero, suc, ◌+◌, Bool, true, false, ◌&&◌, ◌||◌, if◌then◌else◌, List, [], ◌∷◌, ◌++◌, map, filter, filter_map, flat_map, find, Option, Some, None, is_some, slice_get, sym, ap, subst, ◌∙◌, inl, inr, arith}
+use Rattle.std.proofs.Common.{◌≡◌, refl, ℕ, zero, suc, ◌+◌, Bool, true, false, ◌&&◌, ◌||◌, if◌then◌else◌, List, [], ◌∷◌, map, filter, flat_map, find, Option, Some, None, is_some, slice_get, sym, ap, subst, ◌∙◌, inl, inr, arith}
 use Rattle.std.specs.Bool.{◌==◌}
-use Rattle.std.specs.List.{list_any, enumerate_from}
-use Rattle.std.specs.Option.{option_map}
+use Rattle.std.specs.List.{enumerate_from}
 use Rattle.std.proofs.lemmas.Bool.{eq-eqb, true≢false}
 use Rattle.iv_value.specs.declared.value.Value.{Value}
 use Rattle.iv_value.specs.Values.{all_same}
@@ -15,18 +14,18 @@ use Rattle.iv_syntax.specs.declared.table.ReferentialAction.TheVariants as actio
 use Rattle.iv_catalogue.specs.declared.constraint.Constraint.{Constraint}
 use Rattle.iv_catalogue.specs.declared.constraint.ForeignKey.{ForeignKey}
 use Rattle.iv_machine.specs.Databases.{row_at, key_of, none_null, holds_key, has_change}
-use Rattle.iv_machine.specs.ReferentialActions.{Reference, foreign_key, reference, references, Loss, LostKeys, lost_reference, action_on}
+use Rattle.iv_machine.specs.ReferentialActions.{Reference, foreign_key, reference, references, Loss, LostKeys, action_on}
 use Rattle.iv_store.specs.Stores.{StoreState, RisingNumbers, reference_at, numbers_by, children_of}
 use Rattle.iv_laws.specs.Holders.{loses_key, loss_of_new, keys_lost_by}
 use Rattle.iv_laws.proofs.RowNumbers.{some_none, some_same}
 use Rattle.iv_laws.proofs.Keys.{false_true, all_same_itself, all_same_is}
-use Rattle.iv_laws.proofs.Members.{In, in_filter, of_filter, any_in, of_filter_map, in_flat_map, in_rows}
+use Rattle.iv_laws.proofs.Members.{In, in_filter, any_in, of_filter_map, in_flat_map, in_rows}
 use Rattle.iv_action_laws.specs.RowByRow.{is_among, EachReference, IsIdle, IsIdleElsewhere, FindsRows}
-use Rattle.iv_actions.specs.Losing.{Losing, under_wave, acts, action_for, acts_on, acts_in, key_taken, change_losing}
+use Rattle.iv_actions.specs.Losing.{Losing, under_wave, acts, action_for, acts_on, acts_in, key_taken}
 use Rattle.iv_actions.specs.Finding.{leads, found_by, found_by_all, found}
 use Rattle.iv_actions.proofs.Taking.{loses_is}
 use Rattle.iv_actions.proofs.Numbers.{any_of_both}
-use Rattle.iv_actions.proofs.Matching.{loss_by, reference_lost}
+use Rattle.iv_actions.proofs.Matching.{loss_by}
 
 -- ---- elements
 

@@ -7,7 +7,6 @@ use Rattle.iv_value.specs.declared.value.Value.{Value}
 use Rattle.iv_expr.specs.declared.row.StoredRow.{StoredRow}
 use Rattle.iv_expr.specs.declared.row.Change.{Change}
 use Rattle.iv_expr.specs.Changes.{Wave, wave_of}
-use Rattle.iv_syntax.specs.declared.table.ReferentialAction.{ReferentialAction}
 use Rattle.iv_catalogue.specs.Catalogues.{Schema}
 use Rattle.iv_catalogue.specs.declared.cause.Fault.{Fault}
 use Rattle.iv_catalogue.specs.declared.cause.Cause.TheVariants.{Restrict, ActionConflict}
@@ -17,7 +16,7 @@ use Rattle.iv_machine.specs.declared.database.Database.{Database}
 use Rattle.iv_machine.specs.declared.effect.Effect.{Effect}
 use Rattle.iv_machine.specs.Context.{Failure, fails}
 use Rattle.iv_machine.specs.Databases.{row_at, fault_at, key_of, none_null}
-use Rattle.iv_machine.specs.ReferentialActions.{Reference, reference, references, Loss, LostKeys, lost_reference, action_on, is_restrict, is_restricted, effects_of_loss, effects_of_action, keeps_reference, change_by}
+use Rattle.iv_machine.specs.ReferentialActions.{Reference, reference, Loss, LostKeys, lost_reference, action_on, is_restrict, effects_of_loss, keeps_reference, change_by}
 use Rattle.iv_laws.specs.Holders.{loss_of_new, loses_key, keys_lost_by, row_before}
 use Rattle.iv_action_laws.specs.RowByRow as laws
 use Rattle.iv_actions.specs.Losing.{Losing, under_wave, acts_in, losing_where, losing_from, change_losing, action_for}

@@ -1,6 +1,5 @@
 -- The rows to which foreign keys may do something after a wave.
 use Rattle.std.specs.Prelude.{ℕ, Bool, false, ◌&&◌, if◌then◌else◌, ◌==◌, List, [], ◌++◌, map, flat_map, Some, None}
-use Rattle.std.specs.List.{list_any}
 use Rattle.iv_value.specs.declared.value.Value.{Value}
 use Rattle.iv_expr.specs.declared.row.Change.{Change}
 use Rattle.iv_store.specs.Stores.{StoreState, children_of}

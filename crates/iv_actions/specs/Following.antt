@@ -1,6 +1,5 @@
 -- What foreign keys do to a row, from the changes that took keys away.
-use Rattle.std.specs.Prelude.{ℕ, Bool, false, ◌&&◌, if◌then◌else◌, ◌==◌, nat_lt, List, [], ◌∷◌, map, filter, filter_map, flat_map, find, Option, Some, None, Result, Ok}
-use Rattle.std.specs.List.{list_any}
+use Rattle.std.specs.Prelude.{ℕ, Bool, false, ◌&&◌, ◌==◌, List, [], ◌∷◌, map, filter, filter_map, flat_map, find, Option, Some, None, Result, Ok}
 use Rattle.std.specs.Option.{option_map}
 use Rattle.iv_expr.specs.declared.row.StoredRow.{StoredRow}
 use Rattle.iv_expr.specs.declared.row.Change.{Change}
@@ -12,7 +11,7 @@ use Rattle.iv_machine.specs.declared.database.Database.{Database}
 use Rattle.iv_machine.specs.declared.effect.Effect.{Effect}
 use Rattle.iv_machine.specs.Context.{Failure, fails}
 use Rattle.iv_machine.specs.Databases.{row_at, fault_at}
-use Rattle.iv_machine.specs.ReferentialActions.{is_restrict, effects_of_action, keeps_reference, have_deletion, disagree, change_by}
+use Rattle.iv_machine.specs.ReferentialActions.{is_restrict, effects_of_action, keeps_reference, change_by}
 use Rattle.iv_laws.specs.Holders.{loss_of_new, row_before}
 use Rattle.iv_action_laws.specs.RowByRow.{first_conflict, least}
 use Rattle.iv_actions.specs.Losing.{Losing, action_for, change_losing}

@@ -1,5 +1,5 @@
 -- Foreign keys whose referenced keys a wave took away.
-use Rattle.std.specs.Prelude.{ℕ, ◌+◌, Bool, true, false, ◌&&◌, if◌then◌else◌, ◌==◌, List, [], ◌∷◌, filter, find, Option, Some, None, is_some}
+use Rattle.std.specs.Prelude.{ℕ, ◌+◌, Bool, true, false, ◌&&◌, if◌then◌else◌, ◌==◌, List, [], ◌∷◌, find, Option, Some, None, is_some}
 use Rattle.std.specs.List.{list_any, cons_option}
 use Rattle.iv_value.specs.declared.value.Value.{Value}
 use Rattle.iv_expr.specs.declared.row.StoredRow.{StoredRow}
@@ -10,7 +10,7 @@ use Rattle.iv_syntax.specs.declared.table.ReferentialAction.TheVariants as actio
 use Rattle.iv_catalogue.specs.declared.constraint.Constraint.{Constraint}
 use Rattle.iv_catalogue.specs.declared.constraint.ForeignKey.{ForeignKey}
 use Rattle.iv_machine.specs.Databases.{key_of, none_null}
-use Rattle.iv_machine.specs.ReferentialActions.{Reference, reference, references, Loss, LostKeys, lost_reference, action_on}
+use Rattle.iv_machine.specs.ReferentialActions.{Reference, reference, LostKeys, action_on}
 use Rattle.iv_laws.specs.Holders.{leaves_key, loses_key, loss_of_new, keys_lost_by}
 
 -- ---- what a change takes away

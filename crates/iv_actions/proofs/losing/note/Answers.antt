@@ -1,4 +1,4 @@
-use Rattle.std.proofs.Common.{◌≡◌, ◌∙◌, sym, ap, if◌then◌else◌, Some, None, false}
+use Rattle.std.proofs.Common.{◌∙◌, sym, ap, if◌then◌else◌, Some, None, false}
 use Rattle.std.specs.BTreeMap.{get}
 use Rattle.std.proofs.Common.{drop, ◌+◌}
 use Rattle.iv_value.specs.Values.{all_same}

@@ -1,9 +1,8 @@
-use Rattle.std.proofs.Common.{◌≡◌, ◌∙◌, sym, ap, Some, None, slice_get, Option}
+use Rattle.std.proofs.Common.{◌∙◌, sym, ap, Some, None, slice_get}
 use Rattle.std.specs.Option.{option_copied}
 use Rattle.std.specs.BTreeMap.{get_by}
-use Rattle.iv_expr.specs.declared.row.Change.{Change}
 use Rattle.iv_actions.specs.KeyOrder.{key_cmp}
-use Rattle.iv_actions.specs.Losing.{change_taking, first_taking}
+use Rattle.iv_actions.specs.Losing.{change_taking}
 use Rattle.iv_actions.proofs.Taking.{change_found}
 use Rattle.iv_actions.proofs.losing.Losing.change_taking.Goals as goal
 
