@@ -137,7 +137,10 @@ pub fn is_writable(statement: &Statement) -> bool
     ensures { result ≡ is_writable statement.now }
 {
     match statement {
-        Statement::CreateTable { name, elements } => is_table_definition(name.as_str(), elements.as_slice()),
+        Statement::CreateTable { name, elements } => is_table_definition(
+            name.as_str(),
+            elements.as_slice(),
+        ),
         Statement::AlterTable { table, constraint } => {
             is_name(table.as_str()) && is_addition(constraint)
         }
