@@ -7,3 +7,4 @@ pub mod Matching
 pub mod Found
 pub mod Answering
 pub mod Tables
+pub mod Nothing

@@ -224,6 +224,9 @@ fn answer_among<K: Kin>(
     ensures { Tells result (answer_among
         catalogue.now losings.now changes.now (K.view store.now).base numbers.now) }
 {
+    if losings.is_empty() {
+        return Ok(Wave::new(store.allocator()));
+    }
     if let Some(fault) = first_restricted(store, losings, changes, numbers) {
         return Err(refusal(Cause::Restrict(fault)));
     }
