@@ -32,10 +32,12 @@ no_row_is_zero low (c ∷ changes) h =
 
 rising_after : (n : ℕ) (numbers : List ℕ) → IsStrictlyIncreasing (n ∷ numbers) → RisingNumbers n numbers
 rising_after n [] h = tt
-rising_after n (m ∷ numbers) h =
-    (h 0 (omega arith), rising_after m numbers (λ i within.
-    let e : suc i + 1 ≡ suc (i + 1) = omega arith in
-    subst (λ j. get_or (m ∷ numbers) i 0 < get_or (n ∷ m ∷ numbers) j 0) e (h (suc i) (omega arith))))
+rising_after n (m ∷ numbers) h = (
+  h 0 (omega arith),
+  rising_after m numbers (λ i within.
+      let e : suc i + 1 ≡ suc (i + 1) = omega arith in
+      subst (λ j. get_or (m ∷ numbers) i 0 < get_or (n ∷ m ∷ numbers) j 0) e (h (suc i) (omega arith))),
+)
 
 pub rising_numbers : (numbers : List ℕ) → IsStrictlyIncreasing numbers → is_among numbers 0 ≡ false → RisingNumbers 0 numbers
 rising_numbers [] h none = tt

@@ -96,12 +96,7 @@ fn push_defaults(
     }
 }
 
-fn set_key(
-    alloc: Global,
-    columns: &[u32],
-    key: &[u32],
-    row: &[Value],
-) -> Result<Effect, AllocError>
+fn set_key(alloc: Global, columns: &[u32], key: &[u32], row: &[Value]) -> Result<Effect, AllocError>
     ensures { IfOk result (λ e. e ≡ SetColumns (zip columns.now (key_of key.now row.now))) }
 {
     let mut pairs = Vec::new(alloc);

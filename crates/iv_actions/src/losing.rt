@@ -41,8 +41,8 @@ impl<'a> Model for Losing<'a> {
     ghost Value = { Seen };
 
     ghost view = { λ x. record {
-        reference = record { id = x.id; table = x.table; key = x.key.now };
-        changes = x.changes.now
+      reference = record { id = x.id; table = x.table; key = x.key.now };
+      changes = x.changes.now;
     } };
 
     ghost invariant = { λ x. (key : List Cell) → get key_cmp x.firsts key ≡ first_taking x.key.now key 0 x.changes.now };
@@ -54,8 +54,10 @@ fn leaves_key(key: &ForeignKey, old: &[Value], new: &Option<Row>) -> bool
 {
     match new {
         None => true,
-        Some(new) => !Key::new(key.key.as_slice(), new.values())
-            .same(&Key::new(key.key.as_slice(), old)),
+        Some(new) => !Key::new(key.key.as_slice(), new.values()).same(&Key::new(
+            key.key.as_slice(),
+            old,
+        )),
     }
 }
 

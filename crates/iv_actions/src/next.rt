@@ -230,23 +230,15 @@ fn answer_among<K: Kin>(
     if let Some(fault) = first_restricted(store, losings, changes, numbers) {
         return Err(refusal(Cause::Restrict(fault)));
     }
-    match first_disagreement(store, catalogue, losings, changes, numbers) {
-        Ok(None) => match next_changes(store, catalogue, losings, changes, numbers) {
-            Ok(next) => Ok(next),
-            Err(_) => Err(refusal(Cause::OutOfMemory)),
-        },
-        Ok(Some(fault)) => Err(refusal(Cause::ActionConflict(fault))),
-        Err(_) => Err(refusal(Cause::OutOfMemory)),
+    if let Some(fault) = first_disagreement(store, catalogue, losings, changes, numbers)? {
+        return Err(refusal(Cause::ActionConflict(fault)));
     }
+    Ok(next_changes(store, catalogue, losings, changes, numbers)?)
 }
 
 /// The wave that follows from a wave by referential actions, in a store that is as after the wave: the first row
 /// that refers to a key lost under RESTRICT is told first, then the first on which two foreign keys disagree.
-pub fn next_wave<K: Kin>(
-    store: &mut K,
-    catalogue: &Catalogue,
-    wave: &Wave,
-) -> Result<Wave, Refusal>
+pub fn next_wave<K: Kin>(store: &mut K, catalogue: &Catalogue, wave: &Wave) -> Result<Wave, Refusal>
     ensures followed { (before : Database) (context : Context)
         → context.schema ≡ catalogue.now
         → (K.view store.old).constraints ≡ catalogue.now.constraints
@@ -258,12 +250,8 @@ pub fn next_wave<K: Kin>(
 {
     let alloc = store.allocator();
     let changes = wave.changes();
-    let Ok(losings) = losing_of(alloc, catalogue.constraints(), changes) else {
-        return Err(refusal(Cause::OutOfMemory));
-    };
-    let Ok(numbers) = found(store, alloc, losings.as_slice(), changes) else {
-        return Err(refusal(Cause::OutOfMemory));
-    };
+    let losings = losing_of(alloc, catalogue.constraints(), changes)?;
+    let numbers = found(store, alloc, losings.as_slice(), changes)?;
     answer_among(
         &*store,
         catalogue,

@@ -5,9 +5,9 @@ use Rattle.iv_actions.proofs.finding.push_found_by.Given as goal
 
 abbrev pub invariant-loop-change : goal.invariant-loop-change
 invariant-loop-change g l = record {
-    looked : g.K.Kin.lookups l.store ≤ g.K.Kin.lookups l.initial.store + l.change-index;
-    positive : is_among l.initial.numbers.items 0 ≡ false → is_among l.numbers.items 0 ≡ false;
-    kept : g.K.Kin.view l.store ≡ g.K.Kin.view l.initial.store;
-    told : l.numbers.items ++ flat_map (found_by (g.K.Kin.view l.initial.store) l.losing) (drop l.change-index l.changes)
-        ≡ l.initial.numbers.items ++ flat_map (found_by (g.K.Kin.view l.initial.store) l.losing) l.changes
-  }
+  looked : g.K.Kin.lookups l.store ≤ g.K.Kin.lookups l.initial.store + l.change-index;
+  positive : is_among l.initial.numbers.items 0 ≡ false → is_among l.numbers.items 0 ≡ false;
+  kept : g.K.Kin.view l.store ≡ g.K.Kin.view l.initial.store;
+  told : l.numbers.items ++ flat_map (found_by (g.K.Kin.view l.initial.store) l.losing) (drop l.change-index l.changes)
+      ≡ l.initial.numbers.items ++ flat_map (found_by (g.K.Kin.view l.initial.store) l.losing) l.changes;
+}

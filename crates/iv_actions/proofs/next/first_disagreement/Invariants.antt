@@ -5,9 +5,9 @@ use Rattle.iv_actions.proofs.next.first_disagreement.Given as goal
 
 abbrev pub invariant-loop-left : goal.invariant-loop-left
 invariant-loop-left g l = record {
-    within : l.left ≤ length l.numbers;
-    told : l.first ≡ least (conflict_at l.catalogue l.losings l.changes (g.K.Kin.view l.store).base.rows) (drop l.left l.numbers)
-  }
+  within : l.left ≤ length l.numbers;
+  told : l.first ≡ least (conflict_at l.catalogue l.losings l.changes (g.K.Kin.view l.store).base.rows) (drop l.left l.numbers);
+}
 
 abbrev pub decreases-loop-left : goal.decreases-loop-left
 decreases-loop-left g l = l.left
