@@ -15,6 +15,7 @@ CRATES = os.path.join(os.path.dirname(os.path.abspath(__file__)), '..', 'crates'
 # The file, the function, the word, and why it is there.
 EXCEPTIONS = [
     ('iv_expr/src/expression.rt', 'copy', 'NoMemory', 'the copy of a text, which answers an AllocError or none'),
+    ('iv_triggers/src/values.rt', 'cause_of', 'OutOfMemory', 'the evaluation was refused memory, which is a fault of its own'),
     ('iv_print/src/device.rt', 'read', 'DeviceFault', 'the reader under the device failed'),
     ('iv_print/src/device.rt', 'write', 'DeviceFault', 'the writer under the device failed, or took none of some bytes'),
 ]

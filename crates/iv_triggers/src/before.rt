@@ -93,7 +93,7 @@ fn set<R: Rows>(
     match value_of_set(context, rows, setting, &*change) {
         Ok(value) => match set_new_value(alloc, change, setting.column, value) {
             Ok(()) => Ok(()),
-            Err(_) => Err(Cause::OutOfMemory),
+            Err(error) => Err(Refusal::from(error).cause),
         },
         Err(cause) => Err(cause),
     }
