@@ -123,7 +123,7 @@ at_range old new (x ∷ xs) vs (k ∷ ks) m v (suc n) r h = one_further old new 
 
 -- ---- the sort of the column that a name names
 
-there_below : {X : Type 0} (xs : List X) (i : ℕ) (x : X) → slice_get xs i ≡ Some x → i < length xs
+pub there_below : {X : Type 0} (xs : List X) (i : ℕ) (x : X) → slice_get xs i ≡ Some x → i < length xs
 there_below [] i x h = cc
 there_below (y ∷ ys) zero x h = omega arith
 there_below (y ∷ ys) (suc n) x h = let l = there_below ys n x h in omega arith

@@ -2,6 +2,7 @@ pub mod Changes
 pub mod ColumnKinds
 pub mod Conditions
 pub mod Expressions
+pub mod KeysThere
 pub mod MoreTables
 pub mod NewConstraints
 pub mod NewTables

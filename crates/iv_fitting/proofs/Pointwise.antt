@@ -29,7 +29,7 @@ all_at p [] n j x h = cc
 all_at p (y ∷ ys) n zero x h = ap p (sym (some_is y x h)) ∙ (parts_of (p y) (list_all p ys) n).0
 all_at p (y ∷ ys) n (suc j) x h = all_at p ys (parts_of (p y) (list_all p ys) n).1 j x h
 
-abbrev some_pair : {X Y : Type 0} → X → Y → Option (X × Y)
+abbrev pub some_pair : {X Y : Type 0} → X → Y → Option (X × Y)
 some_pair x y = Some (x, y)
 
 pub zip_at : {X Y : Type 0} (xs : List X) (ys : List Y) (j : ℕ) (x : X) (y : Y) → slice_get xs j ≡ Some x → slice_get ys j ≡ Some y → slice_get (zip xs ys) j ≡ Some (x, y)

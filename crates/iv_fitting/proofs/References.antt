@@ -27,7 +27,7 @@ use Rattle.iv_fitting.proofs.Targets.{few_columns, distinct_columns}
 
 -- ---- columns of one name each
 
-same_self : (n : List ℕ) → bytes_eq n n ≡ true
+pub same_self : (n : List ℕ) → bytes_eq n n ≡ true
 same_self [] = refl
 same_self (x ∷ xs) = let e : (x == x) ≡ true = grind (arith, nat_tests) in ap (λ b. b && bytes_eq xs xs) e ∙ same_self xs
 
@@ -44,15 +44,15 @@ distinct_first (x ∷ xs) d (suc p) c h =
     let other = any_at (bytes_eq x.name) (map (λ (y : NamedColumn). y.name) xs) parts.0 p c.name (map_at (λ (y : NamedColumn). y.name) xs p ∙ ap (option_map (λ (y : NamedColumn). y.name)) h) in
     ap (λ b. cond b (Some x) (find (column_is_called c.name) xs)) (same_either_way c.name x.name ∙ other) ∙ distinct_first xs parts.1 p c h
 
-names_kept : (columns : List Column) → map (λ (c : NamedColumn). c.name) (named_columns columns) ≡ map (λ (c : Column). c.name) columns
+pub names_kept : (columns : List Column) → map (λ (c : NamedColumn). c.name) (named_columns columns) ≡ map (λ (c : Column). c.name) columns
 names_kept [] = refl
 names_kept (c ∷ cs) = ap (λ l. c.name ∷ l) (names_kept cs)
 
-is_false : (b : Bool) → not b ≡ true → b ≡ false
+pub is_false : (b : Bool) → not b ≡ true → b ≡ false
 is_false true h = cc
 is_false false h = refl
 
-at_place : (kinds : List Kind) (place : ℕ) → nat_lt place (length kinds) ≡ true → (k : Kind) × (slice_get kinds place ≡ Some k)
+pub at_place : (kinds : List Kind) (place : ℕ) → nat_lt place (length kinds) ≡ true → (k : Kind) × (slice_get kinds place ≡ Some k)
 at_place [] place h = let n : nat_lt place 0 ≡ false = grind (arith, nat_tests) in let e : true ≡ false = sym h ∙ n in cc
 at_place (k ∷ ks) zero h = (k, refl)
 at_place (k ∷ ks) (suc n) h = at_place ks n (grind (arith, nat_tests))

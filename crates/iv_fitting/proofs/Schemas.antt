@@ -27,10 +27,11 @@ use Rattle.iv_resolution.specs.Bound.{table_id, bound_kind, bound_column_definit
 use Rattle.iv_resolution.specs.Resolution.{of_altered, is_there}
 use Rattle.iv_naming.specs.Naming.{table_is_called}
 use Rattle.iv_naming.proofs.Firsts.{Search, nothing, something, search, neither, first_position, first_there, none_position}
-use Rattle.iv_fitting.specs.ConstraintShapes.{rule_suits, constraint_suits, TableFits, ConstraintFits}
+use Rattle.iv_fitting.specs.ConstraintShapes.{has_named_key, rule_suits, constraint_suits, TableFits, ConstraintFits}
 use Rattle.iv_fitting.specs.Laws.{TablesFit, AdditionsFit}
 use Rattle.iv_fitting.specs.PlanShapes.{kinds_of, table_kinds, table_suits}
 use Rattle.iv_fitting.proofs.ColumnKinds.{ColumnsMatch, some_is, stored_match}
+use Rattle.iv_fitting.proofs.KeysThere.{AllNamed, written_keys_named, stored_keys_named, others_named, key_of_rule_there}
 use Rattle.iv_fitting.proofs.NewConstraints.{KeyMatches, key_of_names}
 use Rattle.iv_fitting.proofs.NewTables.{columns_suit, new_names, all_on}
 use Rattle.iv_fitting.proofs.Plans.{Accepted, accepted}
@@ -106,6 +107,20 @@ written_suit schema own tables kinds o ks u f w =
     (ap (λ (l : List Kind). rule_suits tables l (bound_place schema own made.0).rule) o.of_kinds
     ∙ rule_of_written_suits schema (creating schema own) own tables kinds o made.0.1.rule known fine.1 shaped))
 
+-- the key that each foreign key names is there, or comes with it
+written_keys_there : (schema : Schema) (own : Altered) (ks : List WrittenConstraint) → AllNamed schema own (schema.constraints ++ map (bound_place schema own) (enumerate_from 1 ks))
+    → list_any (λ k. unknown_rule schema (creating schema own) own k.rule) ks ≡ false → list_any (faulty_constraint schema own) ks ≡ false
+    → list_all (has_named_key (schema.constraints ++ map (bound_place schema own) (enumerate_from 1 ks))) (map (bound_place schema own) (enumerate_from 1 ks)) ≡ true
+written_keys_there schema own ks n u f =
+    all_by (has_named_key (schema.constraints ++ map (bound_place schema own) (enumerate_from 1 ks))) (map (bound_place schema own) (enumerate_from 1 ks))
+    (λ j k h.
+    let made = made_of (bound_place schema own) (enumerate_from 1 ks) j k h in
+    let placed = placed_at 1 ks j made.0 made.1 in
+    let known = any_at (λ (x : WrittenConstraint). unknown_rule schema (creating schema own) own x.rule) ks u j made.0.1 placed.0 in
+    let fine = neither (is_contradictory made.0.1.time) (faulty_rule schema own made.0.1.rule) (any_at (faulty_constraint schema own) ks f j made.0.1 placed.0) in
+    ap (has_named_key (schema.constraints ++ map (bound_place schema own) (enumerate_from 1 ks))) made.2
+    ∙ key_of_rule_there schema (creating schema own) own (schema.constraints ++ map (bound_place schema own) (enumerate_from 1 ks)) n made.0.1.rule known fine.1)
+
 -- ---- CREATE TABLE
 
 pub table_fits : (schema : Schema) → list_all table_suits schema.tables ≡ true → list_all (constraint_suits schema.tables) schema.constraints ≡ true
@@ -150,6 +165,10 @@ table_fits schema d c name elements a =
       names = new_names schema own ks unused.0 distinct.0;
       suit = columns_suit elements columns.0 defaults.0 once.0 name;
       rules = written_suit schema own tables kinds fits ks a.known faults.1 a.shaped;
+      keys = written_keys_there schema own ks (record {
+        own_keys = written_keys_named schema own ks;
+        others = others_named schema d c (map (bound_place schema own) (enumerate_from 1 ks));
+      }) a.known faults.1;
     }
 
 pub tables_fit : TablesFit
@@ -235,6 +254,12 @@ addition_fits schema d c place t h k u n f w l =
       suits = two _ _ there
           (ap (λ (ks : List Kind). rule_suits schema.tables ks (bound_rule schema (table_names schema) own k.rule)) kinds
           ∙ rule_of_written_suits schema (table_names schema) own schema.tables (kinds_of t) fits k.rule u fine.1 w);
+      key = key_of_rule_there schema (table_names schema) own
+          (schema.constraints ++ bound_constraint schema (table_names schema) own (added_name schema own k) k ∷ [])
+          (record {
+            own_keys = stored_keys_named schema d c (bound_constraint schema (table_names schema) own (added_name schema own k) k ∷ []) place t h;
+            others = others_named schema d c (bound_constraint schema (table_names schema) own (added_name schema own k) k ∷ []);
+          }) k.rule u fine.1;
     }
 
 the_addition : (schema : Schema) → list_all table_suits schema.tables ≡ true → list_all (constraint_suits schema.tables) schema.constraints ≡ true

@@ -13,6 +13,8 @@ use Rattle.iv_catalogue.specs.declared.constraint.ForeignKey.{ForeignKey}
 use Rattle.iv_catalogue.specs.declared.constraint.Rule.{Rule}
 use Rattle.iv_catalogue.specs.declared.constraint.Rule.TheVariants as rule
 use Rattle.iv_catalogue.specs.declared.limits.TheConstants.{MOST_CONSTRAINTS, MOST_TABLES}
+use Rattle.iv_machine.specs.ReferentialActions.{foreign_key}
+use Rattle.iv_store.specs.Stores.{has_key}
 use Rattle.iv_fitting.specs.PlanShapes.{table_kinds, is_there, table_suits, trigger_suits}
 
 -- a place of one of these columns
@@ -46,6 +48,10 @@ rule_suits tables kinds (rule.ForeignKey fk) = is_there tables fk.referenced && 
 abbrev pub constraint_suits : List Table → Constraint → Bool
 constraint_suits tables k = is_there tables k.table && rule_suits tables (table_kinds tables k.table) k.rule
 
+-- the key that a foreign key names is among these constraints
+abbrev pub has_named_key : List Constraint → Constraint → Bool
+has_named_key constraints k = has_key constraints (foreign_key k.rule)
+
 -- A new table and its constraints fit: they suit, and all holds that adding them to the catalogue asks for.
 pub record TableFits (schema : Schema) (table : Table) (constraints : List Constraint) : Type 0 where
   pub room : length schema.tables < MOST_TABLES
@@ -55,6 +61,7 @@ pub record TableFits (schema : Schema) (table : Table) (constraints : List Const
   pub names : has_repeated (map (λ k. k.name) schema.constraints) (map (λ k. k.name) constraints) ≡ false
   pub suit : table_suits table ≡ true
   pub rules : list_all (constraint_suits (schema.tables ++ table ∷ [])) constraints ≡ true
+  pub keys : list_all (has_named_key (schema.constraints ++ constraints)) constraints ≡ true
 
 -- A new constraint of a table that is there fits.
 pub record ConstraintFits (schema : Schema) (k : Constraint) : Type 0 where
@@ -62,6 +69,7 @@ pub record ConstraintFits (schema : Schema) (k : Constraint) : Type 0 where
   pub few : length (constraint_places schema k.table) < MOST_CONSTRAINTS
   pub free : has_constraint schema k.name ≡ false
   pub suits : constraint_suits schema.tables k ≡ true
+  pub key : has_named_key (schema.constraints ++ k ∷ []) k ≡ true
 
 -- All that a schema has suits its tables.
 pub record SchemaSuits (schema : Schema) : Type 0 where
