@@ -1,0 +1,5 @@
+pub mod PickedRows
+pub mod FirstPairs
+pub mod Conflicts
+pub mod Idle
+pub mod Followed
