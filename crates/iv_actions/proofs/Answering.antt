@@ -1,0 +1,75 @@
+-- What `next_wave` answers, where its parts answer what they promise.
+use Rattle.std.proofs.Common.{◌≡◌, ℕ, ◌+◌, ◌*◌, ◌≤◌, List, [], ◌∷◌, length, map, filter, Option, Some, None, Result, sym, ap, subst, ◌∙◌, arith}
+use Rattle.std.specs.List.{cons_option}
+use Rattle.std.proofs.Math.Nat.{mul-le-mul_right}
+use Rattle.iv_expr.specs.declared.row.Change.{Change}
+use Rattle.iv_expr.specs.Changes.{Wave}
+use Rattle.iv_catalogue.specs.Catalogues.{Schema}
+use Rattle.iv_catalogue.specs.declared.cause.Refusal.{Refusal}
+use Rattle.iv_catalogue.specs.declared.constraint.Constraint.{Constraint}
+use Rattle.iv_machine.specs.declared.database.Database.{Database}
+use Rattle.iv_machine.specs.Context.{Context}
+use Rattle.iv_machine.specs.ReferentialActions.{Reference, reference, references, following_wave}
+use Rattle.iv_store.specs.Stores.{StoreState, RisingNumbers}
+use Rattle.iv_laws.proofs.Members.{In, of_filter}
+use Rattle.iv_action_laws.specs.RowByRow.{is_among, LedTo}
+use Rattle.iv_action_laws.proofs.Followed.{waves_follow_row_by_row}
+use Rattle.iv_actions.specs.Losing.{Losing, under_wave, acts_in, losing_where, losing_from}
+use Rattle.iv_actions.specs.Finding.{found}
+use Rattle.iv_actions.specs.Following.{answer_among}
+use Rattle.iv_actions.specs.Answers.{Tells}
+use Rattle.iv_actions.proofs.Matching.{losing_is, answer_is}
+use Rattle.iv_actions.proofs.Found.{idle, finds_rows}
+
+-- what follows, by the context's own catalogue
+answer_follows : (context : Context) (before : Database) (s : StoreState) (changes : List Change) (xs : List Losing) (numbers : List ℕ)
+    → xs ≡ losing_from changes 0 context.schema.constraints → RisingNumbers 0 numbers
+    → ((number : ℕ) → is_among numbers number ≡ is_among (found s xs changes) number)
+    → s.constraints ≡ context.schema.constraints → LedTo before changes s.base
+    → answer_among context.schema xs changes s.base numbers ≡ following_wave context before s.base
+answer_follows context before s changes xs numbers are up all same led =
+    ap (λ l. answer_among context.schema l changes s.base numbers) under
+    ∙ answer_is changes context.schema ks s.base numbers
+    ∙ sym (waves_follow_row_by_row context before changes s.base (acts_in changes) numbers led (idle changes)
+    (finds_rows changes s ks here numbers (λ n. all n ∙ ap (λ l. is_among (found s l changes) n) under) up))
+  where
+    ks : List Reference
+    ks = filter (acts_in changes) (references context.schema.constraints)
+
+    under : xs ≡ map (under_wave changes) ks
+    under = are ∙ losing_is changes 0 context.schema.constraints
+
+    here : (k : Reference) → In k ks → In k (references s.constraints)
+    here k i = subst (λ l. In k (references l)) (sym same) (of_filter (acts_in changes) k (references context.schema.constraints) i).0
+
+pub answered : (catalogue : Schema) (s s2 : StoreState) (changes : List Change) (xs : List Losing) (numbers : List ℕ) (answer : Result Wave Refusal)
+    → s2 ≡ s → xs ≡ losing_from changes 0 catalogue.constraints → RisingNumbers 0 numbers
+    → ((number : ℕ) → is_among numbers number ≡ is_among (found s xs changes) number)
+    → Tells answer (answer_among catalogue xs changes s2.base numbers)
+    → (before : Database) (context : Context) → context.schema ≡ catalogue → s.constraints ≡ catalogue.constraints → LedTo before changes s.base
+    → Tells answer (following_wave context before s.base)
+answered catalogue s s2 changes xs numbers answer kept are up all tells before context e same led =
+    subst (Tells answer)
+    ((λ i. answer_among (sym e i) xs changes (kept i).base numbers)
+    ∙ answer_follows context before s changes xs numbers (are ∙ ap (λ c. losing_from changes 0 c.constraints) (sym e)) up all
+    (same ∙ ap (λ c. c.constraints) (sym e)) led) tells
+
+-- ---- look-ups
+
+few : (changes : List Change) (id : ℕ) (constraints : List Constraint) → length (losing_from changes id constraints) ≤ length constraints
+few changes id [] = omega arith
+few changes id (c ∷ constraints) = by_option (losing_where changes (reference (id, c))) (few changes (id + 1) constraints)
+  where
+    by_option : (o : Option Losing) → length (losing_from changes (id + 1) constraints) ≤ length constraints
+        → length (cons_option o (losing_from changes (id + 1) constraints)) ≤ length (c ∷ constraints)
+    by_option None h = omega (arith, h)
+    by_option (Some x) h = omega (arith, h)
+
+pub looked_at_most : (xs : List Losing) (changes others : List Change) (constraints : List Constraint) (new old : ℕ)
+    → xs ≡ losing_from changes 0 constraints → changes ≡ others
+    → new ≤ old + length xs * length changes → new ≤ old + length constraints * length others
+looked_at_most xs changes others constraints new old are same h =
+    let less : length xs ≤ length constraints = subst (λ l. length l ≤ length constraints) (sym are) (few changes 0 constraints) in
+    let times : length xs * length others ≤ length constraints * length others = mul-le-mul_right (length others) less in
+    let here : new ≤ old + length xs * length others = subst (λ l. new ≤ old + length xs * length l) same h in
+    omega (arith, times, here)

@@ -1,0 +1,16 @@
+use Rattle.std.proofs.Common.{◌+◌, ◌++◌, ◌∙◌, ap, arith, drop, filter_map}
+use Rattle.iv_actions.specs.Following.{change_at}
+use Rattle.iv_actions.proofs.Numbers.{rising_rest, made_next}
+use Rattle.iv_actions.proofs.next.next_changes.Goals as goal
+
+pub loop-number-preserved : goal.loop-number-preserved
+loop-number-preserved g c =
+    let f = change_at c.args.catalogue.now c.args.losings.now c.args.changes.now (g.K.Kin.view c.args.store.now).base.rows in
+    let numbers = c.args.numbers.now in
+    let i = c.loop-number.number-index in
+    record {
+      above = rising_rest _ _ numbers i (omega arith) c.loop-number.invariant.above c.in_ok-push_change.ensures.last;
+      told =
+          ap (λ l. l ++ filter_map f (drop (i + 1) numbers)) c.in_ok-push_change.ensures.told
+          ∙ made_next f c.loop-number.next.changes numbers i (omega arith) ∙ c.loop-number.invariant.told;
+    }

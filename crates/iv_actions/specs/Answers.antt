@@ -1,0 +1,15 @@
+-- What `next_wave` answers.
+use Rattle.std.specs.Prelude.{◌≡◌, Result, Ok, Err, MatchBool}
+use Rattle.iv_expr.specs.Changes.{Wave}
+use Rattle.iv_catalogue.specs.declared.cause.Refusal.{Refusal}
+use Rattle.iv_catalogue.specs.Refusals.{is_memory}
+use Rattle.iv_machine.specs.Context.{Failure}
+
+-- a refusal as it is told, without the count of the changes that stood
+abbrev pub told : Result Wave Failure → Result Wave Refusal
+told (Ok wave) = Ok wave
+told (Err failure) = Err (record { cause = failure.cause; trigger = failure.trigger })
+
+-- The program answers what the definition gives, or that memory was refused.
+abbrev pub Tells : Result Wave Refusal → Result Wave Failure → Type 0
+Tells answer given = MatchBool (is_memory answer) (Unit {0}) (answer ≡ told given)

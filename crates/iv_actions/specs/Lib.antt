@@ -1,0 +1,5 @@
+pub mod KeyOrder
+pub mod Losing
+pub mod Following
+pub mod Finding
+pub mod Answers

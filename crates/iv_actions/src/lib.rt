@@ -1,0 +1,14 @@
+//! Referential actions: the wave that follows from a wave.
+#![tactic(auto)]
+
+mod change;
+mod conflict;
+mod effect;
+mod finding;
+mod key_order;
+mod losing;
+mod next;
+mod restrict;
+mod row;
+
+pub use next::next_wave;

@@ -1,0 +1,65 @@
+//! Rows that refer to keys which were lost under RESTRICT.
+ghost use Rattle.std.specs.Prelude.{◌≡◌, find};
+ghost use Rattle.std.specs.Option.{option_map, option_copied};
+ghost use Rattle.iv_actions.specs.Losing.{change_losing};
+ghost use Rattle.iv_actions.specs.Following.{restricts, restricted_fault};
+
+use crate::key_order::OrderedKey;
+use crate::losing::{Losing, action_for};
+use crate::row::LentRow;
+use iv_catalogue::{ConstraintId, Fault};
+use iv_expr::Change;
+use iv_syntax::ReferentialAction;
+
+/// The first change that took away the key which a row refers to.
+pub fn change_losing<'a>(losing: &Losing<'a>, row: &LentRow<'_>) -> Option<&'a Change>
+    ensures { option_copied result ≡ change_losing losing.now row.now }
+{
+    let key = OrderedKey::new(losing.key().columns.as_slice(), row.values());
+    if key.key().none_null() {
+        losing.change_taking(&key)
+    } else {
+        None
+    }
+}
+
+// Whether a foreign key restricts a row.
+fn restricts(losing: &Losing<'_>, row: &LentRow<'_>) -> bool
+    ensures { result ≡ restricts row.now losing.now }
+{
+    if row.table() != losing.table() {
+        return false;
+    }
+    match change_losing(losing, row) {
+        Some(change) => matches!(
+            action_for(losing.key(), change),
+            ReferentialAction::Restrict
+        ),
+        None => false,
+    }
+}
+
+// The number of the first foreign key that restricts a row.
+fn first_restricting(losings: &[Losing<'_>], row: &LentRow<'_>) -> Option<u32>
+    ensures { result ≡ option_map (λ x. x.reference.id) (find (restricts row.now) losings.now) }
+{
+    for losing in losings {
+        if restricts(losing, row) {
+            return Some(losing.id());
+        }
+    }
+    None
+}
+
+/// A row with the first foreign key that restricts it.
+pub fn restricted_fault(losings: &[Losing<'_>], row: &LentRow<'_>) -> Option<Fault>
+    ensures { result ≡ restricted_fault losings.now row.now }
+{
+    match first_restricting(losings, row) {
+        Some(id) => Some(Fault {
+            constraint: ConstraintId::new(id),
+            row: row.number(),
+        }),
+        None => None,
+    }
+}
