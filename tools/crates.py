@@ -13,7 +13,6 @@ import subprocess
 import sys
 import tempfile
 import time
-from concurrent.futures import FIRST_COMPLETED, ThreadPoolExecutor, wait
 
 ROOT = os.path.dirname(os.path.dirname(os.path.realpath(__file__)))
 PROGRAM = "sqlkeep"
@@ -66,27 +65,29 @@ def run(crate, words):
     return ran.returncode, ran.stdout, time.monotonic() - began
 
 
+def in_order(wanted, named):
+    """These crates, each after those below it."""
+    ordered = []
+    left = sorted(wanted)
+    while left:
+        ready = [crate for crate in left if not set(named[crate]) & set(left)]
+        ordered += ready
+        left = [crate for crate in left if crate not in ready]
+    return ordered
+
+
 def prove(wanted, named, jobs):
-    """Proves the crates, each after those below it, so many at a time; whether all are proved."""
-    left = {crate: {low for low in named[crate] if low in wanted} for crate in wanted}
-    running = {}
-    with ThreadPoolExecutor(jobs) as pool:
-        while left or running:
-            for crate in sorted(crate for crate, lows in left.items() if not lows):
-                if len(running) < jobs:
-                    del left[crate]
-                    running[pool.submit(run, crate, ["check", "--jobs", "1"])] = crate
-            done, _ = wait(running, return_when=FIRST_COMPLETED)
-            for one in done:
-                crate = running.pop(one)
-                status, output, seconds = one.result()
-                if status != 0:
-                    say(output)
-                    say(f"{crate}: not proved")
-                    return False
-                say(f"{crate}: proved, {seconds:.0f} s; {len(left) + len(running)} to go")
-                for lows in left.values():
-                    lows.discard(crate)
+    """Proves the crates one after the other, each after those below it, with so many jobs in a crate; whether all are proved.
+
+    A check locks the folders of its crate and of all below it, so two at a time would wait for each other."""
+    ordered = in_order(wanted, named)
+    for place, crate in enumerate(ordered, 1):
+        status, output, seconds = run(crate, ["check", "--jobs", str(jobs)])
+        if status != 0:
+            say(output)
+            say(f"{crate}: not proved")
+            return False
+        say(f"{crate}: proved, {seconds:.0f} s; {len(ordered) - place} to go")
     return True
 
 
