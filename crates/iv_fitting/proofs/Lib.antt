@@ -10,6 +10,7 @@ pub mod Plans
 pub mod Pointwise
 pub mod References
 pub mod Rules
+pub mod Running
 pub mod Schemas
 pub mod Staying
 pub mod Statements

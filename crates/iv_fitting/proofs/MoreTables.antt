@@ -166,7 +166,7 @@ suits_wider few many w (exists_c r a) h =
 
 -- ---- statements
 
-sort_suits_some : (k : Kind) (o : Option Sort) → sort_suits k o ≡ true → is_some o ≡ true
+pub sort_suits_some : (k : Kind) (o : Option Sort) → sort_suits k o ≡ true → is_some o ≡ true
 sort_suits_some k None h = by k h
   where
     by : (x : Kind) → sort_suits x None ≡ true → false ≡ true

@@ -1,3 +1,4 @@
 pub mod ConstraintShapes
 pub mod Laws
 pub mod PlanShapes
+pub mod Running

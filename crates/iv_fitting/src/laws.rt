@@ -1,5 +1,6 @@
 //! Laws of plans, as the contract of a function that does nothing.
 ghost use Rattle.iv_fitting.specs.Laws.{AdditionsFit, ChangesFit, EmptySchemaSuits, QueriesFit, SchemasStaySuited, TablesFit, TriggersFit};
+ghost use Rattle.iv_fitting.specs.Running.{ProposalsMeetNoMisfit};
 
 /// A plan of resolution fits the tables of its schema: its columns are there, and its values are of their
 /// columns' kinds.
@@ -16,4 +17,10 @@ pub fn plans_fit()
 pub fn schemas_suit()
     ensures empty { EmptySchemaSuits }
     ensures after { SchemasStaySuited }
+{}
+
+/// A data statement that suits the tables, over rows that do, is refused for its values alone while its rows
+/// are found and its values are made: a number out of range, or a text that is too long.
+pub fn proposals_meet_no_misfit()
+    ensures { ProposalsMeetNoMisfit }
 {}

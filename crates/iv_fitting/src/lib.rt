@@ -5,4 +5,4 @@ mod laws;
 #[cfg(test)]
 mod tests;
 
-pub use laws::{plans_fit, schemas_suit};
+pub use laws::{plans_fit, proposals_meet_no_misfit, schemas_suit};
