@@ -2,4 +2,4 @@ pub mod ChangesAt
 pub mod Chained
 pub mod Nets
 pub mod Merges
-pub mod Partings
+pub mod FiringsByTable

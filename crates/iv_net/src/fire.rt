@@ -2,9 +2,9 @@
 ghost use Rattle.std.specs.Prelude.{◌≡◌};
 ghost use Rattle.iv_machine.specs.BeforeTriggers.{is_before, is_on, same_event, for_each_row};
 ghost use Rattle.iv_machine.specs.Proposals.{table_of, event_of};
-ghost use Rattle.iv_net.specs.Parts.{expanded, after_firings};
+ghost use Rattle.iv_net.specs.ByTable.{expanded, after_firings};
 
-use crate::parts::Transitions;
+use crate::by_table::Transitions;
 use iv_catalogue::{DataStatement, Trigger};
 use iv_expr::{Change, TableId};
 use iv_syntax::{ActionTime, Granularity, TriggerEvent};

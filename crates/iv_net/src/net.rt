@@ -53,7 +53,7 @@ fn push_joined(net: &mut Wave, older: &Change, newer: &Change) -> Result<(), All
 }
 
 // The copy shares the rows.
-pub fn copy_change(change: &Change) -> Result<Change, AllocError>
+pub(crate) fn copy_change(change: &Change) -> Result<Change, AllocError>
     ensures { IfOk result (λ c. c ≡ change.now) }
 {
     change.clone()

@@ -1,6 +1,6 @@
 //! Each call that takes memory, with enough of it.
+use crate::by_table::transitions_of;
 use crate::net::transitions;
-use crate::parts::transitions_of;
 use iv_expr::{Change, Row, TableId, Wave};
 use iv_syntax::TriggerEvent;
 use iv_value::Value;
@@ -114,5 +114,24 @@ fn net_changes_by_table_and_event(rt: HostRuntime) -> Result<(), Fail> {
     let deletions = shown(alloc, parts.of(TableId::new(2), TriggerEvent::Delete))?;
     assert_eq!(rt; deletions.as_str(), "2 5 50 0, ");
     assert!(rt; parts.of(TableId::new(1), TriggerEvent::Insert).is_empty());
+    Ok(())
+}
+
+/// So many waves, each of which inserts one row.
+fn insertions(alloc: Global, count: u64) -> Result<Vec<Wave>, AllocError> {
+    let mut waves = Vec::new(alloc);
+    for number in 0..count {
+        waves.push(wave(alloc, &[Step(0, number + 1, None, Some(1))])?)?;
+    }
+    Ok(waves)
+}
+
+#[test]
+fn net_changes_of_many_waves(rt: HostRuntime) -> Result<(), Fail> {
+    let alloc = rt.alloc();
+    let waves = insertions(alloc, 65_536)?;
+    let net = transitions(alloc, waves.as_slice())?;
+    let parts = transitions_of(alloc, &net)?;
+    assert!(rt; parts.of(TableId::new(0), TriggerEvent::Insert).len() == 65_536);
     Ok(())
 }

@@ -1,7 +1,7 @@
 //! The net changes of a data statement by table and event.
 ghost use Rattle.std.specs.Prelude.{◌≡◌, ◌<◌, ◌≤◌, ◌*◌, ◌+◌, ◌++◌, ◌∷◌, [], length, slice_set, replicate, IfOk, OnOk};
 ghost use Rattle.iv_machine.specs.BeforeTriggers.{event_of_change};
-ghost use Rattle.iv_net.specs.Parts.{event_place, part_place, part_of, Parted, WithTables};
+ghost use Rattle.iv_net.specs.ByTable.{event_place, place_of, transitions_on, ByTableAndEvent, OfTablesBelow};
 
 use crate::net::copy_change;
 use iv_expr::{Change, TableId, Wave};
@@ -39,7 +39,7 @@ fn event_place(event: TriggerEvent) -> usize
 impl Transitions {
     /// The changes of a table and event, lent.
     pub fn of(&self, table: TableId, event: TriggerEvent) -> &[Change]
-        ensures { result.now ≡ part_of self.now table event }
+        ensures { result.now ≡ transitions_on self.now table event }
     {
         match self
             .parts
@@ -73,7 +73,7 @@ fn push_to(part: &mut Items<Change>, change: Change) -> Result<(), AllocError>
 fn add(parts: &mut [Items<Change>], change: Change) -> Result<(), AllocError>
     requires { 3 * change.table + 2 < length parts.old }
     ensures length { length parts.new ≡ length parts.old }
-    ensures added { OnOk result (parts.new ≡ slice_set parts.old (part_place change.table (event_of_change change)) (part_of parts.old change.table (event_of_change change) ++ change ∷ [])) }
+    ensures added { OnOk result (parts.new ≡ slice_set parts.old (place_of change.table (event_of_change change)) (transitions_on parts.old change.table (event_of_change change) ++ change ∷ [])) }
 {
     let at = 3 * change.table.place() as usize + event_place(event_of(&change));
     push_to(&mut parts[at], change)
@@ -94,9 +94,9 @@ fn empty(alloc: Global, count: usize) -> Result<Vec<Items<Change>>, AllocError>
 // Adds changes to lists that are empty.
 fn fill(parts: &mut [Items<Change>], tables: usize, changes: &[Change]) -> Result<(), AllocError>
     requires empty { parts.old ≡ replicate (3 * tables) [] }
-    requires tables { WithTables tables changes.now }
+    requires tables { OfTablesBelow tables changes.now }
     ensures length { length parts.new ≡ length parts.old }
-    ensures parted { OnOk result (Parted parts.new changes.now) }
+    ensures parted { OnOk result (ByTableAndEvent parts.new changes.now) }
 {
     for change in changes {
         let copy = copy_change(change)?;
@@ -118,7 +118,7 @@ fn with_table(tables: usize, change: &Change) -> usize
 
 // So many tables that those of the changes are among them.
 fn tables_of(changes: &[Change]) -> usize
-    ensures within { WithTables result changes.now }
+    ensures within { OfTablesBelow result changes.now }
     ensures few { result ≤ 4294967296 }
 {
     let mut tables = 0usize;
@@ -131,7 +131,7 @@ fn tables_of(changes: &[Change]) -> usize
 /// The changes of a wave by their table and event. Made once for a data statement, they are lent to each
 /// trigger that fires. The rows are shared.
 pub fn transitions_of(alloc: Global, net: &Wave) -> Result<Transitions, AllocError>
-    ensures { IfOk result (λ parts. Parted parts net.now.changes) }
+    ensures { IfOk result (λ parts. ByTableAndEvent parts net.now.changes) }
 {
     let changes = net.changes();
     let tables = tables_of(changes);

@@ -1,7 +1,7 @@
 use Rattle.std.proofs.Common.{sym, subst, arith}
-use Rattle.iv_net.specs.Parts.{WithTables}
+use Rattle.iv_net.specs.ByTable.{OfTablesBelow}
 use Rattle.iv_net.proofs.Merges.{drop_read}
-use Rattle.iv_net.proofs.parts.tables_of.Goals as goal
+use Rattle.iv_net.proofs.by_table.tables_of.Goals as goal
 
 pub loop-change-preserved : goal.loop-change-preserved
 loop-change-preserved c =
@@ -9,5 +9,5 @@ loop-change-preserved c =
     record {
       few = c.with_table-tables.ensures.few;
       within = λ more enough rest. c.loop-change.invariant.within more (omega (arith, c.with_table-tables.ensures.most, enough))
-          (subst (WithTables more) (sym next) (omega (arith, c.with_table-tables.ensures.within, enough), rest));
+          (subst (OfTablesBelow more) (sym next) (omega (arith, c.with_table-tables.ensures.within, enough), rest));
     }

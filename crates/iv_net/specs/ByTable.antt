@@ -16,24 +16,24 @@ event_place event.Insert = 0
 event_place event.Update = 1
 event_place event.Delete = 2
 
-abbrev pub part_place : ℕ → TriggerEvent → ℕ
-part_place t e = 3 * t + event_place e
+abbrev pub place_of : ℕ → TriggerEvent → ℕ
+place_of t e = 3 * t + event_place e
 
 -- the changes of a table and event
-abbrev pub part_of : List (List Change) → ℕ → TriggerEvent → List Change
-part_of parts t e = get_or parts (part_place t e) []
+abbrev pub transitions_on : List (List Change) → ℕ → TriggerEvent → List Change
+transitions_on parts t e = get_or parts (place_of t e) []
 
 abbrev pub is_of : ℕ → TriggerEvent → Change → Bool
 is_of t e c = (t == c.table) && same_event e (event_of_change c)
 
 -- These are the changes by their table and event.
-abbrev pub Parted : List (List Change) → List Change → Type 0
-Parted parts changes = (t : ℕ) (e : TriggerEvent) → part_of parts t e ≡ filter (is_of t e) changes
+abbrev pub ByTableAndEvent : List (List Change) → List Change → Type 0
+ByTableAndEvent parts changes = (t : ℕ) (e : TriggerEvent) → transitions_on parts t e ≡ filter (is_of t e) changes
 
 -- the changes are of tables below this one
-abbrev pub WithTables : ℕ → List Change → Type 0
-WithTables tables [] = Unit {0}
-WithTables tables (c ∷ changes) = (c.table < tables) × WithTables tables changes
+abbrev pub OfTablesBelow : ℕ → List Change → Type 0
+OfTablesBelow tables [] = Unit {0}
+OfTablesBelow tables (c ∷ changes) = (c.table < tables) × OfTablesBelow tables changes
 
 -- how a trigger fires on its transitions: not at all, once, or for each of them
 abbrev pub expanded : Trigger → Fires → List Firing
@@ -43,7 +43,7 @@ expanded t (fires.EachRow transitions) = map (row_firing t transitions.now) tran
 
 -- the firings of one trigger, where it is no BEFORE trigger
 abbrev pub after_firings : DataStatement → List (List Change) → Trigger → List Firing
-after_firings statement parts t = if is_before t then [] else firings_of statement t (part_of parts t.table t.event)
+after_firings statement parts t = if is_before t then [] else firings_of statement t (transitions_on parts t.table t.event)
 
 -- the firings of triggers, by creation
 abbrev pub all_firings : DataStatement → List (List Change) → List Trigger → List Firing

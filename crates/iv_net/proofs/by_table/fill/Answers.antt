@@ -2,10 +2,10 @@ use Rattle.std.proofs.Common.{◌≡◌, ◌∙◌, ◌++◌, [], ◌∷◌, len
 use Rattle.std.proofs.lemmas.List.{take_more}
 use Rattle.iv_expr.specs.declared.row.Change.{Change}
 use Rattle.iv_machine.specs.BeforeTriggers.{event_of_change}
-use Rattle.iv_net.specs.Parts.{Parted, part_place, part_of}
+use Rattle.iv_net.specs.ByTable.{ByTableAndEvent, place_of, transitions_on}
 use Rattle.iv_net.proofs.Merges.{drop_read}
-use Rattle.iv_net.proofs.Partings.{table_of_next, place_within, parted_more}
-use Rattle.iv_net.proofs.parts.fill.Goals as goal
+use Rattle.iv_net.proofs.FiringsByTable.{table_of_next, place_within, parted_more}
+use Rattle.iv_net.proofs.by_table.fill.Goals as goal
 
 pub add-requires : goal.add-requires
 add-requires c =
@@ -20,11 +20,11 @@ loop-change-preserved c =
     let same = c.loop-change.invariant.same in
     let within = place_within c.args.tables (length c.loop-change.parts) c.change-item.result here.0 (omega (arith, same)) in
     let copy : c.in_ok-copy.copy ≡ c.change-item.result = c.in_ok-copy.ensures in
-    let added : c.add.new.parts ≡ slice_set c.loop-change.parts (part_place c.change-item.result.table (event_of_change c.change-item.result)) (part_of c.loop-change.parts c.change-item.result.table (event_of_change c.change-item.result) ++ c.change-item.result ∷ []) =
-    c.in_ok-add.ensures.added ∙ ap (λ (x : Change). slice_set c.loop-change.parts (part_place x.table (event_of_change x)) (part_of c.loop-change.parts x.table (event_of_change x) ++ x ∷ [])) copy in
+    let added : c.add.new.parts ≡ slice_set c.loop-change.parts (place_of c.change-item.result.table (event_of_change c.change-item.result)) (transitions_on c.loop-change.parts c.change-item.result.table (event_of_change c.change-item.result) ++ c.change-item.result ∷ []) =
+    c.in_ok-add.ensures.added ∙ ap (λ (x : Change). slice_set c.loop-change.parts (place_of x.table (event_of_change x)) (transitions_on c.loop-change.parts x.table (event_of_change x) ++ x ∷ [])) copy in
     record {
       same = c.in_ok-add.ensures.length ∙ same;
-      parted = subst (Parted c.add.new.parts) (sym (take_more c.args.changes.now c.loop-change.change-index c.change-item.result (omega arith) ∙ ap (λ x. take c.loop-change.change-index c.args.changes.now ++ x ∷ []) (sym c.change-item.is)))
+      parted = subst (ByTableAndEvent c.add.new.parts) (sym (take_more c.args.changes.now c.loop-change.change-index c.change-item.result (omega arith) ∙ ap (λ x. take c.loop-change.change-index c.args.changes.now ++ x ∷ []) (sym c.change-item.is)))
           (parted_more c.loop-change.parts c.add.new.parts (take c.loop-change.change-index c.args.changes.now) c.change-item.result within added c.loop-change.invariant.parted);
       tables = here.1;
     }
