@@ -1,0 +1,5 @@
+pub mod ChangesAt
+pub mod Chained
+pub mod Nets
+pub mod Merges
+pub mod FiringsByTable

@@ -1,0 +1,14 @@
+//! What a data statement with its waves changes on the whole, and which AFTER triggers fire on it.
+#![tactic(auto)]
+
+mod by_table;
+mod fire;
+mod laws;
+mod net;
+#[cfg(test)]
+mod tests;
+
+pub use by_table::{Transitions, transitions_of};
+pub use fire::{Fires, firings};
+pub use laws::firings_are_the_machines;
+pub use net::transitions;
