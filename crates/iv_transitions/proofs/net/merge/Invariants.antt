@@ -1,0 +1,9 @@
+use Rattle.std.proofs.Common.{◌+◌, ◌-◌, length}
+use Rattle.iv_transitions.specs.Merging.{Merging}
+use Rattle.iv_transitions.proofs.net.merge.Given as goal
+
+abbrev pub invariant-loop-at : goal.invariant-loop-at
+invariant-loop-at l = Merging l.older l.newer l.at l.to l.net.changes
+
+abbrev pub decreases-loop-at : goal.decreases-loop-at
+decreases-loop-at l = (length l.older - l.at) + (length l.newer - l.to)

@@ -1,0 +1,50 @@
+-- The net changes of a level by their table and event, and which AFTER triggers fire on them.
+use Rattle.std.specs.Prelude.{◌≡◌, ◌<◌, ℕ, ◌+◌, ◌*◌, Bool, ◌&&◌, if◌then◌else◌, ◌==◌, List, [], ◌∷◌, map, filter, flat_map, get_or}
+use Rattle.iv_expr.specs.declared.row.Change.{Change}
+use Rattle.iv_syntax.specs.declared.trigger.TriggerEvent.{TriggerEvent}
+use Rattle.iv_syntax.specs.declared.trigger.TriggerEvent.TheVariants as event
+use Rattle.iv_catalogue.specs.declared.plan.DataStatement.{DataStatement}
+use Rattle.iv_catalogue.specs.declared.plan.Trigger.{Trigger}
+use Rattle.iv_machine.specs.BeforeTriggers.{is_before, event_of_change, same_event}
+use Rattle.iv_machine.specs.Levels.{Firing, row_firing, statement_firing, firings_of}
+use Rattle.iv_transitions.specs.declared.fire.Fires.{Fires}
+use Rattle.iv_transitions.specs.declared.fire.Fires.TheVariants as fires
+
+-- a table's insertions, updates and deletions stand side by side
+abbrev pub event_place : TriggerEvent → ℕ
+event_place event.Insert = 0
+event_place event.Update = 1
+event_place event.Delete = 2
+
+abbrev pub place_of : ℕ → TriggerEvent → ℕ
+place_of t e = 3 * t + event_place e
+
+-- the changes of a table and event
+abbrev pub transitions_on : List (List Change) → ℕ → TriggerEvent → List Change
+transitions_on parts t e = get_or parts (place_of t e) []
+
+abbrev pub is_of : ℕ → TriggerEvent → Change → Bool
+is_of t e c = (t == c.table) && same_event e (event_of_change c)
+
+-- These are the changes by their table and event.
+abbrev pub ByTableAndEvent : List (List Change) → List Change → Type 0
+ByTableAndEvent parts changes = (t : ℕ) (e : TriggerEvent) → transitions_on parts t e ≡ filter (is_of t e) changes
+
+-- the changes are of tables below this one
+abbrev pub OfTablesBelow : ℕ → List Change → Type 0
+OfTablesBelow tables [] = Unit {0}
+OfTablesBelow tables (c ∷ changes) = (c.table < tables) × OfTablesBelow tables changes
+
+-- how a trigger fires on its transitions: not at all, once, or for each of them
+abbrev pub expanded : Trigger → Fires → List Firing
+expanded t fires.Never = []
+expanded t (fires.Once transitions) = statement_firing t transitions.now ∷ []
+expanded t (fires.EachRow transitions) = map (row_firing t transitions.now) transitions.now
+
+-- the firings of one trigger, where it is no BEFORE trigger
+abbrev pub after_firings : DataStatement → List (List Change) → Trigger → List Firing
+after_firings statement parts t = if is_before t then [] else firings_of statement t (transitions_on parts t.table t.event)
+
+-- the firings of triggers, by creation
+abbrev pub all_firings : DataStatement → List (List Change) → List Trigger → List Firing
+all_firings statement parts ts = flat_map (after_firings statement parts) ts

@@ -1,0 +1,14 @@
+-- What the firings of triggers one by one have to do with those of the machine.
+use Rattle.std.specs.Prelude.{◌≡◌, List}
+use Rattle.iv_expr.specs.declared.row.Change.{Change}
+use Rattle.iv_expr.specs.Changes.{Wave}
+use Rattle.iv_catalogue.specs.declared.plan.DataStatement.{DataStatement}
+use Rattle.iv_machine.specs.Context.{Context}
+use Rattle.iv_machine.specs.Levels.{firings}
+use Rattle.iv_transitions.specs.ByTable.{ByTableAndEvent, all_firings}
+
+-- The firings on transitions that stand by table and event are the machine's on the net changes.
+abbrev pub FiringsAreTheMachines : Type 0
+FiringsAreTheMachines =
+    (context : Context) (statement : DataStatement) (parts : List (List Change)) (net : Wave)
+    → ByTableAndEvent parts net.changes → all_firings statement parts context.schema.triggers ≡ firings context statement net

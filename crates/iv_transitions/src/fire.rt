@@ -1,0 +1,69 @@
+//! Which AFTER triggers fire, and on what.
+ghost use Rattle.std.specs.Prelude.{◌≡◌};
+ghost use Rattle.iv_machine.specs.BeforeTriggers.{is_before, is_on, same_event, for_each_row};
+ghost use Rattle.iv_machine.specs.Proposals.{table_of, event_of};
+ghost use Rattle.iv_transitions.specs.ByTable.{expanded, after_firings};
+
+use crate::by_table::Transitions;
+use iv_catalogue::{DataStatement, Trigger};
+use iv_expr::{Change, TableId};
+use iv_syntax::{ActionTime, Granularity, TriggerEvent};
+use iv_triggers::is_on;
+
+/// How a trigger fires: not at all, once, or for each of the transitions of its table and event.
+#[derive(Clone, Copy)]
+pub enum Fires<'a> {
+    Never,
+    Once(&'a [Change]),
+    EachRow(&'a [Change]),
+}
+
+fn is_before(trigger: &Trigger) -> bool
+    ensures { result ≡ is_before trigger.now }
+{
+    match trigger.time {
+        ActionTime::Before => true,
+        ActionTime::After => false,
+    }
+}
+
+fn for_each_row(trigger: &Trigger) -> bool
+    ensures { result ≡ for_each_row trigger.now }
+{
+    match trigger.granularity {
+        Granularity::Row => true,
+        Granularity::Statement => false,
+    }
+}
+
+fn is_of_statement(statement: &DataStatement, trigger: &Trigger) -> bool
+    ensures { result ≡ is_on (table_of statement.now) (event_of statement.now) trigger.now }
+{
+    match statement {
+        DataStatement::Insert { table, .. } => is_on(*table, TriggerEvent::Insert, trigger),
+        DataStatement::Update { table, .. } => is_on(*table, TriggerEvent::Update, trigger),
+        DataStatement::Delete { table, .. } => is_on(*table, TriggerEvent::Delete, trigger),
+    }
+}
+
+/// How a trigger fires after a data statement, and on which transitions. They are lent, and nothing is
+/// copied for a trigger.
+pub fn firings<'a>(
+    statement: &DataStatement,
+    trigger: &Trigger,
+    transitions: &'a Transitions,
+) -> Fires<'a>
+    ensures { expanded trigger.now result ≡ after_firings statement.now transitions.entry.now trigger.now }
+{
+    if is_before(trigger) {
+        return Fires::Never;
+    }
+    let changes = transitions.of(trigger.table, trigger.event);
+    if for_each_row(trigger) {
+        Fires::EachRow(changes)
+    } else if is_of_statement(statement, trigger) || changes.len() > 0 {
+        Fires::Once(changes)
+    } else {
+        Fires::Never
+    }
+}
