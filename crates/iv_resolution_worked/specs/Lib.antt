@@ -1,0 +1,4 @@
+pub mod Words
+pub mod WorkedUnknown
+pub mod WorkedDuplicates
+pub mod WorkedSchemaFaults

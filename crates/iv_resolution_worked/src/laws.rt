@@ -1,0 +1,11 @@
+//! Worked statements as contracts of a function that does nothing.
+ghost use Rattle.iv_resolution_worked.specs.WorkedUnknown.{WorkedUnknown};
+ghost use Rattle.iv_resolution_worked.specs.WorkedDuplicates.{WorkedDuplicates};
+ghost use Rattle.iv_resolution_worked.specs.WorkedSchemaFaults.{WorkedSchemaFaults};
+
+/// Each worked statement deserves the cause that is said of it, or none.
+pub fn worked_statements()
+    ensures unknown { WorkedUnknown }
+    ensures duplicates { WorkedDuplicates }
+    ensures faults { WorkedSchemaFaults }
+{}
