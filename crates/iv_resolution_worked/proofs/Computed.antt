@@ -5,6 +5,8 @@ use Rattle.iv_value.proofs.OnLiterals.{values_on_literals}
 use Rattle.iv_resolution_worked.specs.WorkedUnknown.{WorkedUnknown}
 use Rattle.iv_resolution_worked.specs.WorkedDuplicates.{WorkedDuplicates}
 use Rattle.iv_resolution_worked.specs.WorkedSchemaFaults.{WorkedSchemaFaults}
+use Rattle.iv_resolution_worked.specs.WorkedShapes.{WorkedShapes}
+use Rattle.iv_resolution_worked.specs.WorkedOrder.{WorkedOrder}
 
 pub unknown : WorkedUnknown
 unfolding Rattle.iv_resolution.specs.Scopes.column_meant Rattle.iv_resolution.specs.Scopes.source_named Rattle.iv_resolution.specs.Scopes.is_source Rattle.iv_resolution.specs.Scopes.source_columns Rattle.iv_resolution.specs.Scopes.source_range Rattle.iv_resolution.specs.Scopes.range_of Rattle.iv_resolution.specs.Terms.unknown_condition Rattle.iv_resolution.specs.Terms.clash Rattle.iv_resolution.specs.Terms.some_text Rattle.iv_resolution.specs.Terms.misshaped_condition Rattle.iv_resolution.specs.Terms.integer_of Rattle.iv_resolution.specs.Terms.bound_condition Rattle.iv_resolution.specs.Constraints.comes_twice Rattle.iv_resolution.specs.Changes.clashes_with Rattle.iv_resolution.specs.Changes.value_clashes Rattle.iv_resolution.specs.Changes.misshaped_value Rattle.iv_resolution.specs.Changes.tuple_clashes Rattle.iv_resolution.specs.Changes.misshaped_tuple Rattle.iv_resolution.specs.Changes.kinds_clash Rattle.iv_resolution.specs.Changes.values_clash Rattle.iv_resolution.specs.Changes.columns_clash Rattle.iv_resolution.specs.Changes.list_clashes Rattle.iv_resolution.specs.Changes.misshaped_source Rattle.iv_resolution.specs.Changes.misshaped_assignment Rattle.iv_resolution.specs.Triggers.subject_of Rattle.iv_resolution.specs.Triggers.trigger_names Rattle.iv_resolution.specs.Triggers.trigger_variables Rattle.iv_resolution.specs.Triggers.variable_named Rattle.iv_resolution.specs.Triggers.unknown_set Rattle.iv_resolution.specs.Triggers.unknown_action Rattle.iv_resolution.specs.Triggers.is_allowed_item Rattle.iv_resolution.specs.Triggers.is_allowed_action Rattle.iv_resolution.specs.Triggers.sets_old Rattle.iv_resolution.specs.Triggers.misshaped_action Rattle.iv_resolution.specs.Bound.table_id Rattle.iv_resolution.specs.Bound.default_at Rattle.iv_resolution.specs.Bound.bound_value Rattle.iv_resolution.specs.Bound.target_place Rattle.iv_resolution.specs.Bound.bound_tuple Rattle.iv_resolution.specs.Bound.bound_list Rattle.iv_resolution.specs.Bound.bound_source Rattle.iv_resolution.specs.Bound.bound_columns Rattle.iv_resolution.specs.Bound.bound_assignment Rattle.iv_catalogue.specs.Names.generated digits
@@ -334,4 +336,168 @@ faults = record {
   second_action_after = refl;
   set_of_the_old_row = refl;
   set_by_the_old_row = refl;
+}
+
+pub shapes : WorkedShapes
+unfolding Rattle.iv_resolution.specs.Scopes.column_meant Rattle.iv_resolution.specs.Scopes.source_named Rattle.iv_resolution.specs.Scopes.is_source Rattle.iv_resolution.specs.Scopes.source_columns Rattle.iv_resolution.specs.Scopes.source_range Rattle.iv_resolution.specs.Scopes.range_of Rattle.iv_resolution.specs.Terms.unknown_condition Rattle.iv_resolution.specs.Terms.clash Rattle.iv_resolution.specs.Terms.some_text Rattle.iv_resolution.specs.Terms.misshaped_condition Rattle.iv_resolution.specs.Terms.integer_of Rattle.iv_resolution.specs.Terms.bound_condition Rattle.iv_resolution.specs.Constraints.comes_twice Rattle.iv_resolution.specs.Changes.clashes_with Rattle.iv_resolution.specs.Changes.value_clashes Rattle.iv_resolution.specs.Changes.misshaped_value Rattle.iv_resolution.specs.Changes.tuple_clashes Rattle.iv_resolution.specs.Changes.misshaped_tuple Rattle.iv_resolution.specs.Changes.kinds_clash Rattle.iv_resolution.specs.Changes.values_clash Rattle.iv_resolution.specs.Changes.columns_clash Rattle.iv_resolution.specs.Changes.list_clashes Rattle.iv_resolution.specs.Changes.misshaped_source Rattle.iv_resolution.specs.Changes.misshaped_assignment Rattle.iv_resolution.specs.Triggers.subject_of Rattle.iv_resolution.specs.Triggers.trigger_names Rattle.iv_resolution.specs.Triggers.trigger_variables Rattle.iv_resolution.specs.Triggers.variable_named Rattle.iv_resolution.specs.Triggers.unknown_set Rattle.iv_resolution.specs.Triggers.unknown_action Rattle.iv_resolution.specs.Triggers.is_allowed_item Rattle.iv_resolution.specs.Triggers.is_allowed_action Rattle.iv_resolution.specs.Triggers.sets_old Rattle.iv_resolution.specs.Triggers.misshaped_action Rattle.iv_resolution.specs.Bound.table_id Rattle.iv_resolution.specs.Bound.default_at Rattle.iv_resolution.specs.Bound.bound_value Rattle.iv_resolution.specs.Bound.target_place Rattle.iv_resolution.specs.Bound.bound_tuple Rattle.iv_resolution.specs.Bound.bound_list Rattle.iv_resolution.specs.Bound.bound_source Rattle.iv_resolution.specs.Bound.bound_columns Rattle.iv_resolution.specs.Bound.bound_assignment Rattle.iv_catalogue.specs.Names.generated digits
+shapes = record {
+  text_compared_in_a_check = refl;
+  integer_compared_in_a_check = refl;
+  sum_of_a_text_in_a_check = refl;
+  text_in_an_added_check = refl;
+  text_in_an_added_check_of_texts = refl;
+  sign_of_a_text_in_an_added_check = refl;
+  too_many_values = refl;
+  as_many_values = refl;
+  more_values_than_listed = refl;
+  fewer_values_than_listed = refl;
+  second_tuple_of_two = refl;
+  text_into_an_integer = refl;
+  integer_into_a_text = refl;
+  nulls_into_each = refl;
+  defaults_into_each = refl;
+  too_many_defaults = refl;
+  sign_of_null_into_a_text = refl;
+  sign_of_null_into_an_integer = refl;
+  enclosed_null_into_a_text = refl;
+  enclosed_text_into_an_integer = refl;
+  sum_of_nulls_into_a_text = refl;
+  product_of_nulls_into_a_text = refl;
+  sum_with_a_text = refl;
+  sum_with_null = refl;
+  values_in_the_order_of_the_columns = refl;
+  values_in_the_order_of_the_list = refl;
+  one_column_into_two = refl;
+  two_columns_into_two = refl;
+  one_column_into_a_list_of_one = refl;
+  integer_column_into_a_text = refl;
+  text_column_into_an_integer = refl;
+  integer_columns_into_integers = refl;
+  columns_into_a_list_in_another_order = refl;
+  one_value_into_two_columns = refl;
+  two_values_into_two_columns = refl;
+  selected_values_crossed = refl;
+  selected_null = refl;
+  selected_sign_of_a_text = refl;
+  selected_sign_of_an_integer = refl;
+  selected_where_a_text_is_an_integer = refl;
+  selected_where_a_text_is_a_text = refl;
+  integer_set_to_a_text = refl;
+  text_set_to_an_integer = refl;
+  text_set_to_a_text = refl;
+  text_set_to_null = refl;
+  text_set_to_its_default = refl;
+  integer_set_to_a_text_column = refl;
+  text_set_to_an_integer_column = refl;
+  text_set_to_a_text_column = refl;
+  text_set_to_a_sign_of_null = refl;
+  integer_set_to_a_sum_of_a_text = refl;
+  integer_set_to_a_sum = refl;
+  second_of_two_assignments = refl;
+  updated_where_a_text_is_an_integer = refl;
+  updated_where_a_text_is_a_text = refl;
+  integer_less_than_a_text = refl;
+  integer_less_than_an_integer = refl;
+  text_less_than_an_integer = refl;
+  text_less_than_a_text = refl;
+  number_is_a_text = refl;
+  null_is_null = refl;
+  text_is_a_sum_of_nulls = refl;
+  text_is_an_enclosed_null = refl;
+  sum_of_a_text_on_the_right = refl;
+  sum_of_a_text_is_null = refl;
+  sum_of_an_integer_is_null = refl;
+  sum_of_a_text_is_not_null = refl;
+  sum_of_an_integer_is_not_null = refl;
+  exists_where_an_integer_is_a_text = refl;
+  exists_where_an_integer_is_an_integer = refl;
+  enclosed_clash = refl;
+  negated_clash = refl;
+  clash_before_and = refl;
+  clash_after_and = refl;
+  clash_before_or = refl;
+  clash_after_or = refl;
+  no_clash = refl;
+  sign_of_a_text = refl;
+  sign_of_an_integer = refl;
+  sign_of_an_enclosed_text = refl;
+  enclosed_sign_of_a_text = refl;
+  enclosed_text = refl;
+  sign_of_an_enclosed_sign_of_a_text = refl;
+  product_with_a_text_on_the_left = refl;
+  product_with_a_text_on_the_right = refl;
+  product_of_integers = refl;
+  product_with_a_sign_of_a_text_on_the_left = refl;
+  product_with_a_sign_of_a_text_on_the_right = refl;
+  sum_with_a_text_on_the_left = refl;
+  difference_with_a_text_on_the_right = refl;
+  sum_of_integers = refl;
+  sum_with_a_sign_of_a_text_on_the_left = refl;
+  sum_with_a_sign_of_a_text_on_the_right = refl;
+  second_of_the_list = refl;
+  selected_integer_and_text = refl;
+  rows_where_a_text_is_an_integer = refl;
+  rows_where_a_text_is_a_text = refl;
+  count_where_a_text_is_an_integer = refl;
+  count_where_a_text_is_a_text = refl;
+  when_an_integer_is_a_text = refl;
+  when_a_text_is_a_text = refl;
+  triggered_insert_of_a_text = refl;
+  triggered_insert_of_an_integer = refl;
+  triggered_insert_of_too_many = refl;
+  transition_table_of_two_columns_into_one = refl;
+  transition_table_of_two_columns_into_two = refl;
+  triggered_update_to_a_text = refl;
+  triggered_update_to_an_integer = refl;
+  triggered_delete_where_an_integer_is_a_text = refl;
+  triggered_delete_where_an_integer_is_an_integer = refl;
+  new_integer_set_to_a_text = refl;
+  new_text_set_to_an_integer = refl;
+  new_text_set_to_a_text = refl;
+  new_text_set_to_null = refl;
+  new_integer_set_to_a_sign_of_a_text = refl;
+  second_of_a_body = refl;
+}
+
+pub order : WorkedOrder
+unfolding Rattle.iv_resolution.specs.Scopes.column_meant Rattle.iv_resolution.specs.Scopes.source_named Rattle.iv_resolution.specs.Scopes.is_source Rattle.iv_resolution.specs.Scopes.source_columns Rattle.iv_resolution.specs.Scopes.source_range Rattle.iv_resolution.specs.Scopes.range_of Rattle.iv_resolution.specs.Terms.unknown_condition Rattle.iv_resolution.specs.Terms.clash Rattle.iv_resolution.specs.Terms.some_text Rattle.iv_resolution.specs.Terms.misshaped_condition Rattle.iv_resolution.specs.Terms.integer_of Rattle.iv_resolution.specs.Terms.bound_condition Rattle.iv_resolution.specs.Constraints.comes_twice Rattle.iv_resolution.specs.Changes.clashes_with Rattle.iv_resolution.specs.Changes.value_clashes Rattle.iv_resolution.specs.Changes.misshaped_value Rattle.iv_resolution.specs.Changes.tuple_clashes Rattle.iv_resolution.specs.Changes.misshaped_tuple Rattle.iv_resolution.specs.Changes.kinds_clash Rattle.iv_resolution.specs.Changes.values_clash Rattle.iv_resolution.specs.Changes.columns_clash Rattle.iv_resolution.specs.Changes.list_clashes Rattle.iv_resolution.specs.Changes.misshaped_source Rattle.iv_resolution.specs.Changes.misshaped_assignment Rattle.iv_resolution.specs.Triggers.subject_of Rattle.iv_resolution.specs.Triggers.trigger_names Rattle.iv_resolution.specs.Triggers.trigger_variables Rattle.iv_resolution.specs.Triggers.variable_named Rattle.iv_resolution.specs.Triggers.unknown_set Rattle.iv_resolution.specs.Triggers.unknown_action Rattle.iv_resolution.specs.Triggers.is_allowed_item Rattle.iv_resolution.specs.Triggers.is_allowed_action Rattle.iv_resolution.specs.Triggers.sets_old Rattle.iv_resolution.specs.Triggers.misshaped_action Rattle.iv_resolution.specs.Bound.table_id Rattle.iv_resolution.specs.Bound.default_at Rattle.iv_resolution.specs.Bound.bound_value Rattle.iv_resolution.specs.Bound.target_place Rattle.iv_resolution.specs.Bound.bound_tuple Rattle.iv_resolution.specs.Bound.bound_list Rattle.iv_resolution.specs.Bound.bound_source Rattle.iv_resolution.specs.Bound.bound_columns Rattle.iv_resolution.specs.Bound.bound_assignment Rattle.iv_catalogue.specs.Names.generated digits values_on_literals
+order = record {
+  table_in_use_that_refers_to_nothing = refl;
+  check_of_nothing_with_exists = refl;
+  check_of_nothing_with_a_clash = refl;
+  long_text_that_refers_to_nothing = refl;
+  table_in_use_without_columns = refl;
+  table_in_use_with_a_clash = refl;
+  table_in_use_with_a_long_text = refl;
+  exists_with_a_clash = refl;
+  default_that_no_text_of_no_character_is = refl;
+  default_that_a_text_of_no_character_is = refl;
+  clash_with_a_long_text = refl;
+  all_five = refl;
+  constraint_in_use_of_nothing = refl;
+  constraint_in_use_of_no_table = refl;
+  constraint_in_use_with_exists = refl;
+  constraint_in_use_with_a_clash = refl;
+  second_primary_key_of_nothing = refl;
+  second_primary_key_of_a_column_twice = refl;
+  deferred_clash_not_deferrable = refl;
+  trigger_in_use_on_nothing = refl;
+  insert_into_nothing_before = refl;
+  insert_of_a_column_twice_before = refl;
+  one_name_for_the_old_row_twice = refl;
+  trigger_in_use_with_a_clash = refl;
+  clash_before = refl;
+  set_of_no_column_of_the_old_row = refl;
+  column_twice_and_nothing = refl;
+  column_twice_for_one_value = refl;
+  too_few_values_of_nothing = refl;
+  too_few_values_beyond_integers = refl;
+  update_of_a_column_twice_and_of_nothing = refl;
+  update_of_a_column_twice_to_a_text = refl;
+  update_of_a_column_twice_beyond_integers = refl;
+  update_of_a_text_beyond_integers = refl;
+  clash_where_nothing = refl;
+  clash_beyond_integers = refl;
+  nothing_beyond_integers = refl;
+  column_beyond_integers = refl;
 }

@@ -2,3 +2,5 @@ pub mod Words
 pub mod WorkedUnknown
 pub mod WorkedDuplicates
 pub mod WorkedSchemaFaults
+pub mod WorkedShapes
+pub mod WorkedOrder

@@ -1,4 +1,4 @@
-use Rattle.iv_resolution_worked.proofs.Computed.{unknown, duplicates, faults}
+use Rattle.iv_resolution_worked.proofs.Computed.{unknown, duplicates, faults, shapes, order}
 use Rattle.iv_resolution_worked.proofs.laws.worked_statements.Goals as goal
 
 pub returns-clause-unknown : goal.returns-clause-unknown
@@ -9,3 +9,9 @@ returns-clause-duplicates c = duplicates
 
 pub returns-clause-faults : goal.returns-clause-faults
 returns-clause-faults c = faults
+
+pub returns-clause-shapes : goal.returns-clause-shapes
+returns-clause-shapes c = shapes
+
+pub returns-clause-order : goal.returns-clause-order
+returns-clause-order c = order
