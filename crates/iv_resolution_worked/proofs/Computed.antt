@@ -6,6 +6,7 @@ use Rattle.iv_resolution_worked.specs.WorkedUnknown.{WorkedUnknown}
 use Rattle.iv_resolution_worked.specs.WorkedDuplicates.{WorkedDuplicates}
 use Rattle.iv_resolution_worked.specs.WorkedSchemaFaults.{WorkedSchemaFaults}
 use Rattle.iv_resolution_worked.specs.WorkedShapes.{WorkedShapes}
+use Rattle.iv_resolution_worked.specs.WorkedLimits.{WorkedLimits}
 use Rattle.iv_resolution_worked.specs.WorkedOrder.{WorkedOrder}
 
 pub unknown : WorkedUnknown
@@ -457,6 +458,120 @@ shapes = record {
   new_text_set_to_null = refl;
   new_integer_set_to_a_sign_of_a_text = refl;
   second_of_a_body = refl;
+}
+
+pub limits : WorkedLimits
+unfolding Rattle.iv_resolution.specs.Scopes.column_meant Rattle.iv_resolution.specs.Scopes.source_named Rattle.iv_resolution.specs.Scopes.is_source Rattle.iv_resolution.specs.Scopes.source_columns Rattle.iv_resolution.specs.Scopes.source_range Rattle.iv_resolution.specs.Scopes.range_of Rattle.iv_resolution.specs.Terms.unknown_condition Rattle.iv_resolution.specs.Terms.clash Rattle.iv_resolution.specs.Terms.some_text Rattle.iv_resolution.specs.Terms.misshaped_condition Rattle.iv_resolution.specs.Terms.integer_of Rattle.iv_resolution.specs.Terms.bound_condition Rattle.iv_resolution.specs.Constraints.comes_twice Rattle.iv_resolution.specs.Changes.clashes_with Rattle.iv_resolution.specs.Changes.value_clashes Rattle.iv_resolution.specs.Changes.misshaped_value Rattle.iv_resolution.specs.Changes.tuple_clashes Rattle.iv_resolution.specs.Changes.misshaped_tuple Rattle.iv_resolution.specs.Changes.kinds_clash Rattle.iv_resolution.specs.Changes.values_clash Rattle.iv_resolution.specs.Changes.columns_clash Rattle.iv_resolution.specs.Changes.list_clashes Rattle.iv_resolution.specs.Changes.misshaped_source Rattle.iv_resolution.specs.Changes.misshaped_assignment Rattle.iv_resolution.specs.Triggers.subject_of Rattle.iv_resolution.specs.Triggers.trigger_names Rattle.iv_resolution.specs.Triggers.trigger_variables Rattle.iv_resolution.specs.Triggers.variable_named Rattle.iv_resolution.specs.Triggers.unknown_set Rattle.iv_resolution.specs.Triggers.unknown_action Rattle.iv_resolution.specs.Triggers.is_allowed_item Rattle.iv_resolution.specs.Triggers.is_allowed_action Rattle.iv_resolution.specs.Triggers.sets_old Rattle.iv_resolution.specs.Triggers.misshaped_action Rattle.iv_resolution.specs.Bound.table_id Rattle.iv_resolution.specs.Bound.default_at Rattle.iv_resolution.specs.Bound.bound_value Rattle.iv_resolution.specs.Bound.target_place Rattle.iv_resolution.specs.Bound.bound_tuple Rattle.iv_resolution.specs.Bound.bound_list Rattle.iv_resolution.specs.Bound.bound_source Rattle.iv_resolution.specs.Bound.bound_columns Rattle.iv_resolution.specs.Bound.bound_assignment Rattle.iv_catalogue.specs.Names.generated digits
+limits = record {
+  table_65 = refl;
+  table_64 = refl;
+  columns_33 = refl;
+  columns_32 = refl;
+  constraints_65 = refl;
+  constraints_64 = refl;
+  text_of_one_character = refl;
+  unique_of_9_columns = refl;
+  unique_of_8_columns = refl;
+  primary_key_of_9_columns = refl;
+  primary_key_of_8_columns = refl;
+  added_constraint_65 = refl;
+  added_constraint_64 = refl;
+  added_constraint_of_another_table = refl;
+  added_unique_of_9_columns = refl;
+  added_unique_of_8_columns = refl;
+  added_primary_key_of_9_columns = refl;
+  added_primary_key_of_8_columns = refl;
+  trigger_257 = refl;
+  trigger_256 = refl;
+  last_trigger_ever_was_created = refl;
+  last_trigger_ever = refl;
+  body_of_33 = refl;
+  body_of_32 = refl;
+  body_of_none = refl;
+  name_of_129_letters = refl;
+  name_of_128_letters = refl;
+  name_of_no_letter = refl;
+  name_with_a_digit_first = refl;
+  name_with_a_digit_last = refl;
+  name_with_an_underscore_first = refl;
+  name_of_the_outermost_letters = refl;
+  name_in_lower_case = refl;
+  name_with_a_space = refl;
+  name_before_the_letters = refl;
+  name_after_the_letters = refl;
+  name_after_the_digits = refl;
+  name_with_a_letter_of_two_bytes = refl;
+  released_name = refl;
+  name_to_roll_back_to = refl;
+  name_of_a_table = refl;
+  name_of_a_column = refl;
+  name_of_a_constraint = refl;
+  name_of_a_constraint_of_a_column = refl;
+  name_of_an_added_constraint = refl;
+  name_of_a_trigger = refl;
+  name_of_a_transition_table = refl;
+  name_of_a_range = refl;
+  name_of_a_counted_range = refl;
+  name_of_a_range_of_an_insert = refl;
+  name_of_a_range_in_exists = refl;
+  name_of_a_range_in_exists_where = refl;
+  number_of_a_default = refl;
+  greatest_number_of_a_default = refl;
+  negative_number_of_a_default = refl;
+  greatest_number = refl;
+  number_on_the_left = refl;
+  number_is_null = refl;
+  number_is_not_null = refl;
+  number_in_exists = refl;
+  enclosed_number = refl;
+  negated_number = refl;
+  number_before_and = refl;
+  number_after_and = refl;
+  number_before_or = refl;
+  number_after_or = refl;
+  number_in_values = refl;
+  number_in_a_second_tuple = refl;
+  number_in_the_list_of_an_insert = refl;
+  number_in_the_condition_of_an_insert = refl;
+  number_in_an_update = refl;
+  number_in_the_condition_of_an_update = refl;
+  number_in_a_list = refl;
+  number_in_the_condition_of_a_select = refl;
+  number_in_the_condition_of_a_count = refl;
+  grouped_number = refl;
+  signed_number = refl;
+  number_in_a_product_on_the_left = refl;
+  number_in_a_product_on_the_right = refl;
+  number_in_a_sum_on_the_left = refl;
+  number_in_a_sum_on_the_right = refl;
+  number_in_a_check = refl;
+  number_in_an_added_check = refl;
+  number_in_when = refl;
+  number_in_a_set = refl;
+  number_in_a_triggered_insert = refl;
+  number_in_a_triggered_update = refl;
+  number_in_a_triggered_delete = refl;
+  value_of_depth_65 = refl;
+  value_of_depth_64 = refl;
+  sum_of_depth_65 = refl;
+  sum_of_depth_64 = refl;
+  sign_of_depth_65 = refl;
+  sign_of_depth_64 = refl;
+  condition_of_depth_65 = refl;
+  condition_of_depth_64 = refl;
+  comparison_of_depth_65 = refl;
+  comparison_of_depth_64 = refl;
+  exists_of_depth_65 = refl;
+  exists_of_depth_64 = refl;
+  exists_where_of_depth_65 = refl;
+  exists_where_of_depth_64 = refl;
+  listed_columns = refl;
+  tuples = refl;
+  assignments = refl;
+  selected_values = refl;
+  unique_columns = refl;
+  primary_key_columns = refl;
+  constraint_names = refl;
 }
 
 pub order : WorkedOrder

@@ -1,4 +1,4 @@
-use Rattle.iv_resolution_worked.proofs.Computed.{unknown, duplicates, faults, shapes, order}
+use Rattle.iv_resolution_worked.proofs.Computed.{unknown, duplicates, faults, shapes, limits, order}
 use Rattle.iv_resolution_worked.proofs.laws.worked_statements.Goals as goal
 
 pub returns-clause-unknown : goal.returns-clause-unknown
@@ -12,6 +12,9 @@ returns-clause-faults c = faults
 
 pub returns-clause-shapes : goal.returns-clause-shapes
 returns-clause-shapes c = shapes
+
+pub returns-clause-limits : goal.returns-clause-limits
+returns-clause-limits c = limits
 
 pub returns-clause-order : goal.returns-clause-order
 returns-clause-order c = order
