@@ -572,6 +572,7 @@ limits = record {
   unique_columns = refl;
   primary_key_columns = refl;
   constraint_names = refl;
+  tuple_of_none = refl;
 }
 
 pub order : WorkedOrder

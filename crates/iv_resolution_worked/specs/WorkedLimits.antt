@@ -279,3 +279,5 @@ pub record WorkedLimits : Type 0 where
   pub primary_key_columns : least schema (create (defined a type.Integer None [] ∷ constrained (table_rule.PrimaryKey []) ∷ [])) ≡ Some Limit
   -- SET CONSTRAINTS DEFERRED;
   pub constraint_names : least schema (statement.SetConstraints (constraints.Named []) mode.Deferred) ≡ Some Limit
+  -- INSERT INTO t () VALUES ();
+  pub tuple_of_none : least schema (statement.Insert (insert.Rows t (Some []) (source.Values ([] ∷ [])))) ≡ Some Limit
