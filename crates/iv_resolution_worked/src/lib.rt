@@ -1,0 +1,8 @@
+//! Worked statements: what each deserves to be refused for, as the contract of a function that does nothing.
+#![tactic(auto)]
+
+mod laws;
+#[cfg(test)]
+mod tests;
+
+pub use laws::worked_statements;
