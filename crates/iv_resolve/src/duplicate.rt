@@ -20,9 +20,9 @@ pub fn is_duplicate(alloc: Global, statement: &Statement, catalogue: &Catalogue)
         Statement::AlterTable { table, constraint } => {
             duplicate_addition(alloc, table.as_str(), constraint, catalogue)
         }
-        Statement::CreateTrigger(trigger) => duplicate_trigger(trigger, catalogue),
-        Statement::Insert(insert) => duplicate_insert(insert),
-        Statement::Update(update) => duplicate_update(update),
+        Statement::CreateTrigger(trigger) => duplicate_trigger(alloc, trigger, catalogue),
+        Statement::Insert(insert) => duplicate_insert(alloc, insert),
+        Statement::Update(update) => duplicate_update(alloc, update),
         _ => false,
     }
 }

@@ -1,15 +1,12 @@
 -- Two lists side by side, from a place on.
-use Rattle.std.proofs.Common.{◌≡◌, refl, ℕ, ◌+◌, ◌<◌, ◌≤◌, Bool, true, false, ◌||◌, List, [], ◌∷◌, ◌∙◌, sym, ap, inl, inr, length, drop, map, get_or, slice_get, Option, Some, None, option_map, zip}
+use Rattle.std.proofs.Common.{◌≡◌, refl, ℕ, ◌+◌, ◌<◌, ◌≤◌, Bool, true, false, ◌||◌, List, [], ◌∷◌, ◌∙◌, sym, ap, inl, inr, length, drop, get_or, slice_get, Option, Some, None, option_map, zip}
 use Rattle.std.proofs.lemmas.Option.{slice_get_cases, slice_get_within, get_or_from_slice_get, slice_get-map}
 use Rattle.std.specs.List.{list_any}
 use Rattle.iv_scope.proofs.Places.{next_of, none_left}
 use Rattle.iv_syntax.specs.declared.table.ColumnType.{ColumnType}
 use Rattle.iv_syntax.specs.declared.tree.Expression.{Expression}
 use Rattle.iv_syntax.specs.declared.statement.ValueOrDefault.{ValueOrDefault}
-use Rattle.iv_syntax.specs.declared.statement.Assignment.{Assignment}
-use Rattle.iv_catalogue.specs.Names.{is_among}
 use Rattle.iv_catalogue.specs.declared.catalogue.Column.{Column}
-use Rattle.iv_resolution.specs.Constraints.{comes_twice}
 use Rattle.iv_resolution.specs.Scopes.{NamedColumn, NamedRange, named_columns, type_named}
 use Rattle.iv_resolution.specs.Changes.{clashes_with, kinds_clash, target_types, tuple_clashes, value_clashes, values_clash, columns_clash}
 
@@ -112,23 +109,3 @@ all_at columns i = slice_get-map (λ c. Some c.kind) (named_columns columns) i �
 pub listed_at : (columns : List Column) (names : List (List ℕ)) (i : ℕ)
     → slice_get (target_types (named_columns columns) (Some names)) i ≡ option_map (type_named (named_columns columns)) (slice_get names i)
 listed_at columns names i = slice_get-map (type_named (named_columns columns)) names i
-
--- ---- names that come twice
-
-pub twice_step : (names : List (List ℕ)) (i : ℕ) (name : List ℕ) → i < length names → name ≡ get_or names i name
-    → comes_twice (drop i names) ≡ (is_among (drop (i + 1) names) name || comes_twice (drop (i + 1) names))
-unfolding comes_twice
-twice_step names i name h g = rw (next_of names i name h g) refl
-
-pub twice_end : (names : List (List ℕ)) (i : ℕ) → length names ≤ i → comes_twice (drop i names) ≡ false
-unfolding comes_twice
-twice_end names i h = rw (none_left names i h) refl
-
-pub set_twice_step : (xs : List Assignment) (i : ℕ) (a : Assignment) → i < length xs → a ≡ get_or xs i a
-    → comes_twice (map (λ x. x.column) (drop i xs)) ≡ (is_among (map (λ x. x.column) (drop (i + 1) xs)) a.column || comes_twice (map (λ x. x.column) (drop (i + 1) xs)))
-unfolding comes_twice
-set_twice_step xs i a h g = rw (next_of xs i a h g) refl
-
-pub set_twice_end : (xs : List Assignment) (i : ℕ) → length xs ≤ i → comes_twice (map (λ x. x.column) (drop i xs)) ≡ false
-unfolding comes_twice
-set_twice_end xs i h = rw (none_left xs i h) refl

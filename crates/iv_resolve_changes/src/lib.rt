@@ -12,5 +12,5 @@ pub use binding::{bound_delete, bound_insert, bound_select, bound_update, places
 pub use lists::{stored_columns, unknown_names};
 pub use misshaped::{misshaped_delete, misshaped_insert, misshaped_select, misshaped_update};
 pub use targets::Targets;
-pub use twice::{comes_twice, duplicate_insert, duplicate_update};
+pub use twice::{duplicate_insert, duplicate_update};
 pub use unknown::{is_table, unknown_delete, unknown_insert, unknown_select, unknown_update};

@@ -1,29 +1,37 @@
-//! Columns that come twice in a list.
-ghost use Rattle.std.specs.Prelude.{◌≡◌, map};
+//! Columns that come twice in a list. A set of names finds them; where memory for it is refused they are compared in place, in time in
+//! proportion to the square of their number: so no call wants memory.
+ghost use Rattle.std.specs.Prelude.{◌≡◌, IfOk, map};
 ghost use Rattle.iv_catalogue.specs.Names.{is_among};
 ghost use Rattle.iv_resolution.specs.Changes.{duplicate_insert, duplicate_update};
 ghost use Rattle.iv_resolution.specs.Constraints.{comes_twice};
+ghost use Rattle.iv_scope.specs.Sets.{comes_again};
 
-use iv_syntax::{Assignment, Insert, Name, Update};
+use iv_scope::{NameSet, comes_again, comes_twice};
+use iv_syntax::{Assignment, Insert, Update};
+use std::alloc::{AllocError, Global};
 
-fn is_among(names: &[Name], name: &str) -> bool
-    ensures { result ≡ is_among names.now name.now }
+#[tactic(auto, using(iv_scope::proofs::Sets::again_none, iv_scope::proofs::Places::none_left))]
+fn some_comes_again(
+    alloc: Global,
+    set: &mut NameSet,
+    assignments: &[Assignment],
+) -> Result<bool, AllocError>
+    ensures { IfOk result (λ found. found ≡ comes_again set.old (map (λ a. a.column) assignments.now)) }
 {
-    names.iter().any(|other| name == other.as_str())
-}
-
-/// Whether a name comes twice. It takes no memory, and time in proportion to the names for each different one before the first that
-/// comes again.
-#[tactic(auto, using(crate::proofs::Pairs::twice_step, crate::proofs::Pairs::twice_end))]
-pub fn comes_twice(names: &[Name]) -> bool
-    ensures { result ≡ comes_twice names.now }
-{
-    for at in 0..names.len() {
-        if is_among(&names[at + 1..], names[at].as_str()) {
-            return true;
+    for assignment in assignments {
+        if comes_again(alloc, set, assignment.column.as_str())? {
+            return Ok(true);
         }
     }
-    false
+    Ok(false)
+}
+
+#[tactic(auto, using(iv_scope::proofs::Sets::again_first))]
+fn repeats_column(alloc: Global, assignments: &[Assignment]) -> Result<bool, AllocError>
+    ensures { IfOk result (λ found. found ≡ comes_twice (map (λ a. a.column) assignments.now)) }
+{
+    let mut set = NameSet::new(alloc);
+    some_comes_again(alloc, &mut set, assignments)
 }
 
 fn sets(assignments: &[Assignment], name: &str) -> bool
@@ -37,34 +45,45 @@ fn sets(assignments: &[Assignment], name: &str) -> bool
     false
 }
 
-#[tactic(auto, using(crate::proofs::Pairs::set_twice_step, crate::proofs::Pairs::set_twice_end))]
-fn sets_twice(assignments: &[Assignment]) -> bool
+#[tactic(auto, unfolding(iv_resolution::specs::Constraints::comes_twice))]
+fn repeats_in_place(assignments: &[Assignment]) -> bool
     ensures { result ≡ comes_twice (map (λ a. a.column) assignments.now) }
 {
-    for at in 0..assignments.len() {
-        if sets(&assignments[at + 1..], assignments[at].column.as_str()) {
+    let mut rest = assignments;
+    while let Some((assignment, others)) = rest.split_first() {
+        if sets(others, assignment.column.as_str()) {
             return true;
         }
+        rest = others;
     }
     false
 }
 
+fn sets_twice(alloc: Global, assignments: &[Assignment]) -> bool
+    ensures { result ≡ comes_twice (map (λ a. a.column) assignments.now) }
+{
+    match repeats_column(alloc, assignments) {
+        Ok(found) => found,
+        Err(_) => repeats_in_place(assignments),
+    }
+}
+
 /// Whether a column comes twice in the list of an INSERT.
-pub fn duplicate_insert(insert: &Insert) -> bool
+pub fn duplicate_insert(alloc: Global, insert: &Insert) -> bool
     ensures { result ≡ duplicate_insert insert.now }
 {
     match insert {
         Insert::DefaultValues(_) => false,
         Insert::Rows { columns, .. } => match columns {
-            Some(names) => comes_twice(names.as_slice()),
+            Some(names) => comes_twice(alloc, names.as_slice()),
             None => false,
         },
     }
 }
 
 /// Whether an UPDATE sets a column twice.
-pub fn duplicate_update(update: &Update) -> bool
+pub fn duplicate_update(alloc: Global, update: &Update) -> bool
     ensures { result ≡ duplicate_update update.now }
 {
-    sets_twice(update.assignments.as_slice())
+    sets_twice(alloc, update.assignments.as_slice())
 }

@@ -1,4 +1,3 @@
 pub mod Seen
 pub mod Left
 pub mod Keys
-pub mod Sets

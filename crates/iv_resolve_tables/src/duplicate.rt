@@ -10,17 +10,15 @@ ghost use Rattle.iv_resolution.specs.Constraints.{comes_twice, constraint_names,
 ghost use Rattle.iv_resolution.specs.Resolution.{of_altered};
 ghost use Rattle.iv_resolution.specs.Tables.{added_name, duplicate_rule, duplicate_table};
 ghost use Rattle.iv_resolve_tables.specs.Left.{left_seen};
-ghost use Rattle.iv_resolve_tables.specs.Sets.{comes_again};
+ghost use Rattle.iv_scope.specs.Sets.{comes_again};
 ghost use Rattle.iv_resolve_tables.specs.Seen.{rule_seen};
 
 use crate::generated::{are_same, generated, is_generated, is_named};
 use crate::left::{Left, count_constraints};
 use crate::limits::count_stored;
-use crate::names::NameSet;
 use crate::written::{WrittenRule, table_constraint};
 use iv_catalogue::{Catalogue, Constraint, Table};
-use iv_resolve_changes::comes_twice;
-use iv_scope::table_place;
+use iv_scope::{NameSet, comes_again, comes_twice, table_place};
 use iv_syntax::{Name, TableConstraint, TableElement};
 use sqlite_items::Items;
 use std::alloc::{AllocError, Global};
@@ -41,49 +39,11 @@ fn has_constraint(catalogue: &Catalogue, name: &str) -> bool
 
 // ---- the columns of a list
 
-// Adds a name to the set, and says whether it was there.
-#[tactic(auto, using(crate::proofs::Sets::one_added))]
-fn comes_again(alloc: Global, set: &mut NameSet, name: &str) -> Result<bool, AllocError>
-    ensures { IfOk result (λ found. (names : List (List ℕ))
-        → comes_again set.old (name.now ∷ names) ≡ (found || comes_again set.new names)) }
-{
-    Ok(!set.add(alloc, name)?)
-}
-
-#[tactic(auto, using(iv_scope::proofs::Places::next_of, crate::proofs::Sets::again_end))]
-fn some_comes_again(alloc: Global, set: &mut NameSet, names: &[Name]) -> Result<bool, AllocError>
-    ensures { IfOk result (λ found. found ≡ comes_again set.old names.now) }
-{
-    for name in names {
-        if comes_again(alloc, set, name.as_str())? {
-            return Ok(true);
-        }
-    }
-    Ok(false)
-}
-
-#[tactic(auto, using(crate::proofs::Sets::again_first))]
-fn repeats_name(alloc: Global, names: &[Name]) -> Result<bool, AllocError>
-    ensures { IfOk result (λ found. found ≡ comes_twice names.now) }
-{
-    let mut set = NameSet::new(alloc);
-    some_comes_again(alloc, &mut set, names)
-}
-
-fn names_come_twice(alloc: Global, names: &[Name]) -> bool
-    ensures { result ≡ comes_twice names.now }
-{
-    match repeats_name(alloc, names) {
-        Ok(found) => found,
-        Err(_) => comes_twice(names),
-    }
-}
-
 fn duplicate_listed(alloc: Global, names: &Option<Items<Name>>) -> bool
     ensures { result ≡ elim names.now [ Some listed ↦ comes_twice listed | None ↦ false ] }
 {
     match names {
-        Some(listed) => names_come_twice(alloc, listed.as_slice()),
+        Some(listed) => comes_twice(alloc, listed.as_slice()),
         None => false,
     }
 }
@@ -93,11 +53,11 @@ fn duplicate_rule(alloc: Global, rule: &WrittenRule<'_>) -> bool
 {
     match rule {
         WrittenRule::NotNull(_) => false,
-        WrittenRule::Unique(columns) => names_come_twice(alloc, columns),
-        WrittenRule::PrimaryKey(columns) => names_come_twice(alloc, columns),
+        WrittenRule::Unique(columns) => comes_twice(alloc, columns),
+        WrittenRule::PrimaryKey(columns) => comes_twice(alloc, columns),
         WrittenRule::Check(_) => false,
         WrittenRule::ForeignKey(columns, references) => {
-            names_come_twice(alloc, columns) || duplicate_listed(alloc, &references.columns)
+            comes_twice(alloc, columns) || duplicate_listed(alloc, &references.columns)
         }
     }
 }
@@ -117,7 +77,7 @@ fn some_rule_is_duplicate(alloc: Global, elements: &[TableElement]) -> bool
 
 // ---- the columns of the table
 
-#[tactic(auto, using(crate::proofs::Sets::again_none, iv_scope::proofs::Places::none_left))]
+#[tactic(auto, using(iv_scope::proofs::Sets::again_none, iv_scope::proofs::Places::none_left))]
 fn some_column_comes_again(
     alloc: Global,
     set: &mut NameSet,
@@ -135,7 +95,7 @@ fn some_column_comes_again(
     Ok(false)
 }
 
-#[tactic(auto, using(crate::proofs::Sets::again_first))]
+#[tactic(auto, using(iv_scope::proofs::Sets::again_first))]
 fn repeats_column(alloc: Global, elements: &[TableElement]) -> Result<bool, AllocError>
     ensures { IfOk result (λ found. found ≡ comes_twice (map (λ c. c.name) (written_columns elements.now))) }
 {
@@ -253,7 +213,7 @@ fn constraint_comes_again(
     }
 }
 
-#[tactic(auto, using(crate::proofs::Sets::again_none, iv_scope::proofs::Places::none_left))]
+#[tactic(auto, using(iv_scope::proofs::Sets::again_none, iv_scope::proofs::Places::none_left))]
 fn some_constraint_comes_again(
     alloc: Global,
     set: &mut NameSet,
@@ -275,7 +235,7 @@ fn some_constraint_comes_again(
     Ok(false)
 }
 
-#[tactic(auto, using(crate::proofs::Sets::again_first))]
+#[tactic(auto, using(iv_scope::proofs::Sets::again_first))]
 fn repeats_constraint(
     alloc: Global,
     table: &str,

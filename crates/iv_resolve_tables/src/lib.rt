@@ -13,7 +13,6 @@ mod keys;
 mod left;
 mod limits;
 mod misshaped;
-mod names;
 mod own;
 mod plan;
 mod primary;

@@ -1,13 +1,11 @@
 -- The row variable of a name, item by item.
-use Rattle.std.proofs.Common.{◌≡◌, refl, ℕ, ◌+◌, ◌<◌, ◌≤◌, Bool, true, false, ◌&&◌, ◌||◌, get_or, map, List, ◌∷◌, cond, Some, None, length, drop, option_map, find}
+use Rattle.std.proofs.Common.{◌≡◌, refl, ℕ, ◌≤◌, Bool, true, false, ◌&&◌, List, ◌∷◌, cond, Some, None, length, drop, option_map, find}
 use Rattle.std.specs.Str.{bytes_eq}
 use Rattle.iv_syntax.specs.declared.trigger.Referencing.{Referencing}
 use Rattle.iv_syntax.specs.declared.trigger.TransitionName.{TransitionName}
 use Rattle.iv_syntax.specs.declared.trigger.TransitionName.TheVariants.{Row, Table}
 use Rattle.iv_resolution.specs.declared.origin.Origin.TheVariants.{Variable}
 use Rattle.iv_resolution.specs.Scopes.{NamedColumn}
-use Rattle.iv_catalogue.specs.Names.{is_among}
-use Rattle.iv_resolution.specs.Constraints.{comes_twice}
 use Rattle.iv_scope.proofs.Places.{next_of, none_left}
 use Rattle.iv_resolution.specs.Triggers.{names_row, row_variables, variable_named}
 
@@ -34,14 +32,3 @@ pub named_past : (columns : List NamedColumn) (items : List Referencing) (i : �
     → length items ≤ i → variable_named (row_variables columns (drop i items)) name ≡ None
 unfolding variable_named
 named_past columns items i name h = rw (none_left items i h) refl
-
--- ---- names of REFERENCING that come twice
-
-pub item_twice_step : (xs : List Referencing) (i : ℕ) (x : Referencing) → i < length xs → x ≡ get_or xs i x
-    → comes_twice (map (λ y. y.name) (drop i xs)) ≡ (is_among (map (λ y. y.name) (drop (i + 1) xs)) x.name || comes_twice (map (λ y. y.name) (drop (i + 1) xs)))
-unfolding comes_twice
-item_twice_step xs i x h g = rw (next_of xs i x h g) refl
-
-pub item_twice_end : (xs : List Referencing) (i : ℕ) → length xs ≤ i → comes_twice (map (λ y. y.name) (drop i xs)) ≡ false
-unfolding comes_twice
-item_twice_end xs i h = rw (none_left xs i h) refl

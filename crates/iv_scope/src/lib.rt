@@ -5,6 +5,7 @@
 mod binding;
 mod columns;
 mod kinds;
+mod name_set;
 mod names;
 mod ranges;
 mod unknown;
@@ -15,6 +16,7 @@ pub use kinds::{
     clashes_with, has_exists, is_integer_type, is_text_type, kinds_clash, misshaped_condition,
     misshaped_expression, misshaped_filter,
 };
+pub use name_set::{NameSet, comes_again, comes_twice};
 pub use names::{
     Created, Names, Source, inside, is_source, source_columns, source_named, source_range,
     table_place,

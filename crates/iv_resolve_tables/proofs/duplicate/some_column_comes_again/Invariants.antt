@@ -1,6 +1,6 @@
 use Rattle.std.proofs.Common.{◌≡◌, drop, map}
 use Rattle.iv_resolution.specs.Constraints.{written_columns}
-use Rattle.iv_resolve_tables.specs.Sets.{comes_again}
+use Rattle.iv_scope.specs.Sets.{comes_again}
 use Rattle.iv_resolve_tables.proofs.duplicate.some_column_comes_again.Given as goal
 
 abbrev pub invariant-loop-element : goal.invariant-loop-element

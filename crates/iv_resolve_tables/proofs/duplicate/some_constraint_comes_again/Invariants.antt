@@ -1,7 +1,7 @@
 use Rattle.std.proofs.Common.{◌≡◌, ◌+◌, length}
 use Rattle.iv_resolution.specs.Constraints.{constraint_names, written_constraints}
 use Rattle.iv_resolve_tables.specs.Left.{left_seen}
-use Rattle.iv_resolve_tables.specs.Sets.{comes_again}
+use Rattle.iv_scope.specs.Sets.{comes_again}
 use Rattle.iv_resolve_tables.proofs.duplicate.some_constraint_comes_again.Given as goal
 
 abbrev pub invariant-loop-constraint : goal.invariant-loop-constraint
