@@ -4,9 +4,10 @@
   tests/edits.py [CRATE..] [--all] [--jobs N] [--keep FOLDER]
 
 An edit has a line `file: src/..`, and pairs of lines `old: TEXT` and `new: TEXT`; each old text occurs once in its file.
-A round has at most one edit of a function, and an edit outside of every function has a round of its own; it is made on a
-copy of the crate, over the work that a check kept, and one `rt check` has to name every edited function as refused. The
-last line is `N passed, N failed`.
+A round has at most one edit of a function, and an edit outside of every function has a round of its own. A function
+that calls another edited one isn't judged in the same round: a line `round: N` puts an edit into that round or a later
+one. A round is made on a copy of the crate, over the work that a check kept, and one `rt check` has to name every
+edited function as refused. The last line is `N passed, N failed`.
 
 The file tests/edits/DIGESTS has a digest for each crate whose edits were all refused: of the edits, of the crate and of
 what it depends on. Where it is still the same the edits aren't tried again, except with --all; where they are tried and
@@ -56,6 +57,7 @@ class Edit:
             start = source.index(old)
             self.spans.append((start, start + len(old), new))
         self.function = enclosing(source, self.spans[0][0]) if self.file.endswith(".rt") else None
+        self.round = int(next((text for key, _, text in lines if key == "round"), "1"))
 
     def module(self):
         """The path of the file's module."""
@@ -78,8 +80,8 @@ def enclosing(source, place):
 def rounds_of(edits):
     """The edits in rounds, each with at most one edit of a function."""
     rounds = []
-    for edit in edits:
-        for one in rounds:
+    for edit in sorted(edits, key=lambda edit: edit.round):
+        for one in rounds[edit.round - 1 :]:
             if edit.function and all(other.function and (edit.file, edit.function) != (other.file, other.function) for other in one):
                 one.append(edit)
                 break
