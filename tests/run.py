@@ -8,11 +8,15 @@ import json
 import os
 import re
 import resource
+import shlex
 import subprocess
 
 HERE = os.path.dirname(os.path.abspath(__file__))
 # One statement that was read, its rows, and the end of an open transaction.
 READ = re.compile(rb'1 (ok( \d+)?|rows \d+|refused \d+ [^\n]*)\n(\| [^\n]*\n)*(end rolled back\n)?')
+
+
+PARTS = ['scripts', 'options', 'pages', 'statements', 'prefixes', 'devices']
 
 
 def files(directory):
@@ -29,18 +33,22 @@ def read(*path):
 
 
 def stored(directory, name):
-    """A stored file, or what its generator file makes: lines `repeat COUNT "TEXT"`, {n} is the place from 1."""
+    """A stored file, or what its generator file makes: lines `repeat COUNT "TEXT"`, where {n} is the place from 1 and {n+7} is 7 more."""
     plan, made = read(directory, name + '.gen'), []
     for line in (plan or b'').decode().splitlines():
         count, text = line.removeprefix('repeat ').split(' ', 1)
         text, numbers = json.loads(text), range(1, int(count) + 1)
-        made += [text.replace('{n}', str(n)) for n in numbers] if '{n}' in text else [text * len(numbers)]
+        place = re.compile(r'\{n(?:\+(\d+))?\}')
+        numbered = [place.sub(lambda found: str(n + int(found[1] or 0)), text) for n in numbers] if place.search(text) else None
+        made += numbered or [text * len(numbers)]
     return ''.join(made).encode() if plan is not None else read(directory, name)
 
 
-def run(program, script):
+def run(program, script, words=()):
+    """Standard output, status and standard error; a FILE among the words is looked for beside the scripts."""
     try:
-        done = subprocess.run([program], input=script, capture_output=True, timeout=300)
+        beside = os.path.join(HERE, 'scripts')
+        done = subprocess.run([program, *words], input=script, capture_output=True, timeout=300, cwd=beside)
         return done.stdout, done.returncode, done.stderr
     except subprocess.TimeoutExpired:
         return b'no answer in 300 s', -1, b''
@@ -57,9 +65,10 @@ def compare(what, want, got):
     return [] if want == got else ['%s, line %d: expected %r, got %r' % (what, at + 1, lines[at:at + 1], found[at:at + 1])]
 
 
-def judge(program, script, want, err=b'', status=None):
-    out, got, errors = run(program, script)
-    why = compare('transcript', want, out) + compare('standard error', err, errors)
+def judge(program, script, want, err=b'', status=None, words=()):
+    """Why a run isn't as it should be; standard error isn't compared where `err` is None."""
+    out, got, errors = run(program, script, words)
+    why = compare('transcript', want, out) + (compare('standard error', err, errors) if err is not None else [])
     expected = status_of(want) if status is None else int(status)
     return why + (['expected status %d, got %d' % (expected, got)] if got != expected else [])
 
@@ -69,8 +78,20 @@ def scripts(program):
     for directory in ('scripts', '../examples'):
         for name in sorted({file.split('.')[0] for file in files(directory)}):
             script, want = stored(directory, name + '.sql'), stored(directory, name + '.out')
-            err, status = read(directory, name + '.err') or b'', read(directory, name + '.status')
-            yield directory + '/' + name, judge(program, script, want, err, status)
+            err, status = read(directory, name + '.err'), read(directory, name + '.status')
+            words = shlex.split((read(directory, name + '.args') or b'').decode())
+            # a fault of the command line is told in the words of the library that reads it
+            err = err or (None if words and status == b'2\n' else b'')
+            why = judge(program, script, want, err, status, words)
+            there = read(directory, name + '.nofile') is not None and os.path.exists(os.path.join(HERE, directory, words[-1]))
+            yield directory + '/' + name, why + (['%s is there' % words[-1]] if there else [])
+
+
+def options(program):
+    """The text of --help, which names every option, and nothing else."""
+    out, status, err = run(program, b'SELECT * FROM t;', ['--help'])
+    good = status == 0 and err == b'' and all(word in out for word in (b'--depth', b'--changes', b'FILE'))
+    yield 'options: --help', [] if good else ['status %d, got %r, standard error %r' % (status, out[:200], err[:200])]
 
 
 def pages(program):
@@ -151,11 +172,11 @@ def devices(program):
 def main():
     parser = argparse.ArgumentParser()
     parser.add_argument('--program', action='append', required=True)
-    parser.add_argument('--only', choices=['scripts', 'pages', 'statements', 'prefixes', 'devices'])
-    options, passed, failed = parser.parse_args(), 0, 0
-    for program in options.program:
-        for part in [globals()[options.only]] if options.only else [scripts, pages, statements, prefixes, devices]:
-            for name, why in part(os.path.abspath(program)):
+    parser.add_argument('--only', choices=PARTS)
+    given, passed, failed = parser.parse_args(), 0, 0
+    for program in given.program:
+        for part in [given.only] if given.only else PARTS:
+            for name, why in globals()[part](os.path.abspath(program)):
                 passed, failed = passed + (not why), failed + bool(why)
                 if why:
                     print('FAILED %s over %s: %s' % (name, program, '; '.join(why)))

@@ -3,7 +3,7 @@
     crates.py build                          proves the program and all below it, and builds it
     crates.py check CRATE.. [--above] [--edits] [--jobs N]
                                              proves these crates, and with --above those that depend on them
-    crates.py try [FILE]                     runs a script, or standard input, without any proof
+    crates.py try [WORD..]                   runs the program with these words without any proof
 
 Progress goes to standard error. A step that fails ends the work with status 1.
 """
@@ -145,11 +145,13 @@ def check(words):
     return 0
 
 
-def try_script(words):
-    """Runs the program over a script without proof: its status, its output and its lines of standard error."""
-    script = open(words[0], "rb") if words else sys.stdin.buffer
+def try_program(words):
+    """Runs the program with these words without proof: its status, its output and its lines of standard error.
+
+    It runs in a folder of its own, so a file is named by its whole path."""
+    words = [os.path.abspath(word) if os.path.exists(word) else word for word in words]
     with tempfile.TemporaryFile() as errors:
-        status = subprocess.run(["rt", "try", "--seconds", "3600"], cwd=folder(PROGRAM), stdin=script, stderr=errors, check=False).returncode
+        status = subprocess.run(["rt", "try", "--seconds", "3600", "--", *words], cwd=folder(PROGRAM), stdin=sys.stdin.buffer, stderr=errors, check=False).returncode
         errors.seek(0)
         lines = errors.read().decode("utf-8", "replace").splitlines()
     ended = any(line.startswith("run=ended ") for line in lines)
@@ -167,8 +169,8 @@ def main(words):
         return build()
     if words[:1] == ["check"]:
         return check(words[1:])
-    if words[:1] == ["try"] and len(words) <= 2:
-        return try_script(words[1:])
+    if words[:1] == ["try"]:
+        return try_program(words[1:])
     say(__doc__)
     return 2
 

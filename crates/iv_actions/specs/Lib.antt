@@ -1,5 +1,6 @@
 pub mod KeyOrder
 pub mod Losing
+pub mod ByTable
 pub mod Following
 pub mod Finding
 pub mod Answers

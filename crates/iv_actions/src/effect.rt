@@ -7,8 +7,10 @@ ghost use Rattle.iv_machine.specs.Databases.{value_at, key_of};
 ghost use Rattle.iv_machine.specs.Proposals.{defaults_of};
 ghost use Rattle.iv_machine.specs.ReferentialActions.{cascade, keeps_reference};
 ghost use Rattle.iv_laws.specs.Holders.{loss_of_new};
+ghost use Rattle.iv_actions.specs.ByTable.{at_places};
 ghost use Rattle.iv_actions.specs.Following.{effects_for, effects_by, effects_among, one_or_none};
 
+use crate::by_table::ByTable;
 use crate::key_order::value_at;
 use crate::losing::{Losing, action_for};
 use crate::restrict::change_losing;
@@ -217,20 +219,38 @@ fn push_where_kept(
     Ok(())
 }
 
+// What the foreign keys at these places do to a row.
+fn effects_at_places(
+    alloc: Global,
+    catalogue: &Catalogue,
+    losings: &ByTable<'_>,
+    places: &[usize],
+    before: &LentRow<'_>,
+    after: &LentRow<'_>,
+) -> Result<Vec<(u32, Effect)>, AllocError>
+    ensures { IfOk result (λ v. v.items ≡
+        effects_among catalogue.now (at_places losings.now places.now) before.now after.now) }
+{
+    let mut effects = Vec::new(alloc);
+    for place in places {
+        if let Some(losing) = losings.at(*place) {
+            push_where_kept(&mut effects, alloc, catalogue, losing, before, after)?;
+        }
+    }
+    Ok(effects)
+}
+
 /// What these foreign keys do to a row.
 pub fn effects_among(
     alloc: Global,
     catalogue: &Catalogue,
-    losings: &[Losing<'_>],
+    losings: &ByTable<'_>,
     before: &LentRow<'_>,
     after: &LentRow<'_>,
 ) -> Result<Vec<(u32, Effect)>, AllocError>
     ensures { IfOk result (λ v. v.items ≡
         effects_among catalogue.now losings.now before.now after.now) }
 {
-    let mut effects = Vec::new(alloc);
-    for losing in losings {
-        push_where_kept(&mut effects, alloc, catalogue, losing, before, after)?;
-    }
-    Ok(effects)
+    let places = losings.places_on(before.table());
+    effects_at_places(alloc, catalogue, losings, places, before, after)
 }

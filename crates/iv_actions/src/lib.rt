@@ -1,6 +1,7 @@
 //! Referential actions: the wave that follows from a wave.
 #![tactic(auto)]
 
+mod by_table;
 mod change;
 mod conflict;
 mod effect;

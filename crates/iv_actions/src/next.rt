@@ -10,11 +10,11 @@ ghost use Rattle.iv_action_laws.specs.RowByRow.{earlier, least, LedTo};
 ghost use Rattle.iv_actions.specs.Following.{restricted_at, effects_at, conflict_at, change_at, answer_among};
 ghost use Rattle.iv_actions.specs.Answers.{Tells};
 
+use crate::by_table::{ByTable, losing_by_table};
 use crate::change::change_by;
 use crate::conflict::first_conflict;
 use crate::effect::effects_among;
 use crate::finding::found;
-use crate::losing::{Losing, losing_of};
 use crate::restrict::restricted_fault;
 use crate::row::{LentRow, row_before};
 use iv_catalogue::{Catalogue, Cause, ConstraintId, Fault, Refusal};
@@ -44,7 +44,7 @@ fn earlier(fault: Option<Fault>, other: Option<Fault>) -> Option<Fault>
 
 fn restricted_at<K: Kin>(
     store: &K,
-    losings: &[Losing<'_>],
+    losings: &ByTable<'_>,
     changes: &[Change],
     number: u64,
 ) -> Option<Fault>
@@ -61,7 +61,7 @@ fn restricted_at<K: Kin>(
 // The first row of these numbers that refers to a key lost under RESTRICT.
 fn first_restricted<K: Kin>(
     store: &K,
-    losings: &[Losing<'_>],
+    losings: &ByTable<'_>,
     changes: &[Change],
     numbers: &[u64],
 ) -> Option<Fault>
@@ -82,7 +82,7 @@ fn first_restricted<K: Kin>(
 fn effects_at<K: Kin>(
     store: &K,
     catalogue: &Catalogue,
-    losings: &[Losing<'_>],
+    losings: &ByTable<'_>,
     changes: &[Change],
     after: &StoredRow,
 ) -> Result<Vec<(u32, Effect)>, AllocError>
@@ -100,7 +100,7 @@ fn effects_at<K: Kin>(
 fn conflict_at<K: Kin>(
     store: &K,
     catalogue: &Catalogue,
-    losings: &[Losing<'_>],
+    losings: &ByTable<'_>,
     changes: &[Change],
     number: u64,
 ) -> Result<Option<Fault>, AllocError>
@@ -125,7 +125,7 @@ fn conflict_at<K: Kin>(
 fn first_disagreement<K: Kin>(
     store: &K,
     catalogue: &Catalogue,
-    losings: &[Losing<'_>],
+    losings: &ByTable<'_>,
     changes: &[Change],
     numbers: &[u64],
 ) -> Result<Option<Fault>, AllocError>
@@ -146,7 +146,7 @@ fn first_disagreement<K: Kin>(
 fn change_at<K: Kin>(
     store: &K,
     catalogue: &Catalogue,
-    losings: &[Losing<'_>],
+    losings: &ByTable<'_>,
     changes: &[Change],
     number: u64,
 ) -> Result<Option<Change>, AllocError>
@@ -166,7 +166,7 @@ fn push_change<K: Kin>(
     store: &K,
     next: &mut Wave,
     catalogue: &Catalogue,
-    losings: &[Losing<'_>],
+    losings: &ByTable<'_>,
     changes: &[Change],
     number: u64,
 ) -> Result<(), AllocError>
@@ -186,7 +186,7 @@ fn push_change<K: Kin>(
 fn next_changes<K: Kin>(
     store: &K,
     catalogue: &Catalogue,
-    losings: &[Losing<'_>],
+    losings: &ByTable<'_>,
     changes: &[Change],
     numbers: &[u64],
 ) -> Result<Wave, AllocError>
@@ -215,7 +215,7 @@ fn refusal(cause: Cause) -> Refusal
 fn answer_among<K: Kin>(
     store: &K,
     catalogue: &Catalogue,
-    losings: &[Losing<'_>],
+    losings: &ByTable<'_>,
     changes: &[Change],
     numbers: &[u64],
 ) -> Result<Wave, Refusal>
@@ -250,13 +250,7 @@ pub fn next_wave<K: Kin>(store: &mut K, catalogue: &Catalogue, wave: &Wave) -> R
 {
     let alloc = store.allocator();
     let changes = wave.changes();
-    let losings = losing_of(alloc, catalogue.constraints(), changes)?;
+    let losings = losing_by_table(alloc, catalogue.constraints(), changes)?;
     let numbers = found(store, alloc, losings.as_slice(), changes)?;
-    answer_among(
-        &*store,
-        catalogue,
-        losings.as_slice(),
-        changes,
-        numbers.as_slice(),
-    )
+    answer_among(&*store, catalogue, &losings, changes, numbers.as_slice())
 }

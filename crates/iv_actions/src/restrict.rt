@@ -2,8 +2,10 @@
 ghost use Rattle.std.specs.Prelude.{◌≡◌, find};
 ghost use Rattle.std.specs.Option.{option_map, option_copied};
 ghost use Rattle.iv_actions.specs.Losing.{change_losing};
+ghost use Rattle.iv_actions.specs.ByTable.{at_places};
 ghost use Rattle.iv_actions.specs.Following.{restricts, restricted_fault};
 
+use crate::by_table::ByTable;
 use crate::key_order::OrderedKey;
 use crate::losing::{Losing, action_for};
 use crate::row::LentRow;
@@ -39,20 +41,30 @@ fn restricts(losing: &Losing<'_>, row: &LentRow<'_>) -> bool
     }
 }
 
-// The number of the first foreign key that restricts a row.
-fn first_restricting(losings: &[Losing<'_>], row: &LentRow<'_>) -> Option<u32>
-    ensures { result ≡ option_map (λ x. x.reference.id) (find (restricts row.now) losings.now) }
+// The number of the first foreign key, of those at these places, that restricts a row.
+fn first_among(losings: &ByTable<'_>, places: &[usize], row: &LentRow<'_>) -> Option<u32>
+    ensures { result ≡ option_map (λ x. x.reference.id)
+        (find (restricts row.now) (at_places losings.now places.now)) }
 {
-    for losing in losings {
-        if restricts(losing, row) {
-            return Some(losing.id());
+    for place in places {
+        if let Some(losing) = losings.at(*place) {
+            if restricts(losing, row) {
+                return Some(losing.id());
+            }
         }
     }
     None
 }
 
+// The number of the first foreign key that restricts a row.
+fn first_restricting(losings: &ByTable<'_>, row: &LentRow<'_>) -> Option<u32>
+    ensures { result ≡ option_map (λ x. x.reference.id) (find (restricts row.now) losings.now) }
+{
+    first_among(losings, losings.places_on(row.table()), row)
+}
+
 /// A row with the first foreign key that restricts it.
-pub fn restricted_fault(losings: &[Losing<'_>], row: &LentRow<'_>) -> Option<Fault>
+pub fn restricted_fault(losings: &ByTable<'_>, row: &LentRow<'_>) -> Option<Fault>
     ensures { result ≡ restricted_fault losings.now row.now }
 {
     match first_restricting(losings, row) {

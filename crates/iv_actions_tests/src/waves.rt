@@ -213,3 +213,103 @@ fn an_update_is_followed_by_both_foreign_keys(rt: HostRuntime) -> Result<(), Fai
     }
     Ok(())
 }
+
+/// Adds the change of a row of T to this one.
+fn push(
+    wave: &mut Wave,
+    store: &PlainStore,
+    number: u64,
+    new: Option<Row>,
+) -> Result<(), AllocError> {
+    let change = Change {
+        table: TableId::new(0),
+        row: number,
+        old: held(store, number)?,
+        new,
+    };
+    if wave.last_row() < change.row {
+        wave.push(change)?;
+    }
+    Ok(())
+}
+
+/// Makes a wave of the rows 1 and 2, which become these.
+fn wave_of_both(
+    store: &mut PlainStore,
+    alloc: Global,
+    first: Option<Row>,
+    second: Option<Row>,
+) -> Result<Wave, AllocError> {
+    let mut wave = Wave::new(alloc);
+    push(&mut wave, &*store, 1, first)?;
+    push(&mut wave, &*store, 2, second)?;
+    apply(store, &wave)?;
+    Ok(wave)
+}
+
+/// Rows 1 to 4 of T: 3 refers to 1 and 4 to 2, and 2 has this B.
+fn add_pairs(store: &mut PlainStore, alloc: Global, second: Value) -> Result<(), AllocError> {
+    make(store, 1, row(alloc, 1, Value::Null)?)?;
+    make(store, 2, row(alloc, 2, second)?)?;
+    make(store, 3, row(alloc, 3, Value::Int(1))?)?;
+    make(store, 4, row(alloc, 4, Value::Int(2))?)?;
+    Ok(())
+}
+
+/// What follows where the rows 1 and 2 swap their keys.
+fn follow_swap(
+    store: &mut PlainStore,
+    catalogue: &Catalogue,
+    alloc: Global,
+) -> Result<String, AllocError> {
+    add_pairs(store, alloc, Value::Null)?;
+    let first = row(alloc, 2, Value::Null)?;
+    let second = row(alloc, 1, Value::Null)?;
+    let wave = wave_of_both(store, alloc, first, second)?;
+    follow(store, catalogue, alloc, wave)
+}
+
+/// What follows where the rows 1 and 2 are deleted, and 2 refers to 1.
+fn follow_deletions(
+    store: &mut PlainStore,
+    catalogue: &Catalogue,
+    alloc: Global,
+) -> Result<String, AllocError> {
+    add_pairs(store, alloc, Value::Int(1))?;
+    let wave = wave_of_both(store, alloc, None, None)?;
+    follow(store, catalogue, alloc, wave)
+}
+
+/// What follows a wave of two rows, where the first foreign key has this action.
+fn following_both(
+    alloc: Global,
+    action: ReferentialAction,
+    deleted: bool,
+) -> Result<String, AllocError> {
+    let mut store = PlainStore::new(alloc);
+    let mut catalogue = Catalogue::new(alloc);
+    let first = actions(action, action);
+    let second = actions(ReferentialAction::NoAction, ReferentialAction::NoAction);
+    let text = match add_t(&mut store, &mut catalogue, alloc, first, second) {
+        Ok(()) if deleted => follow_deletions(&mut store, &catalogue, alloc),
+        Ok(()) => follow_swap(&mut store, &catalogue, alloc),
+        Err(error) => Err(error),
+    };
+    drop(store);
+    drop(catalogue);
+    text
+}
+
+#[test]
+fn a_cascade_follows_a_swap_of_keys_as_a_whole(rt: HostRuntime) -> Result<(), Fail> {
+    let told = following_both(rt.alloc(), ReferentialAction::Cascade, false)?;
+    assert_eq!(rt; told.as_str(), " 3 2 4 1;;;");
+    Ok(())
+}
+
+#[test]
+fn restrict_protects_a_row_that_is_deleted_too(rt: HostRuntime) -> Result<(), Fail> {
+    let told = following_both(rt.alloc(), ReferentialAction::Restrict, true)?;
+    assert_eq!(rt; told.as_str(), " restrict 1 2");
+    Ok(())
+}

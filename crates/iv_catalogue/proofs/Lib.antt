@@ -1,10 +1,4 @@
-pub mod NameSets
-pub mod Literals
-pub mod Meanings
-pub mod NameLists
 pub mod WrittenNames
-pub mod TakenUp
-pub mod InPlace
 pub mod NamedLists
 pub mod Placing
 pub mod TriggerNumbers

@@ -2,4 +2,3 @@ pub mod Names
 pub mod Catalogues
 pub mod ConstraintPlaces
 pub mod Refusals
-pub mod Resolution

@@ -13,5 +13,5 @@ has_repeated earlier [] = false
 has_repeated earlier (name ∷ names) = is_among earlier name || has_repeated (earlier ++ name ∷ []) names
 
 -- an unnamed constraint is called after its table and its place among the table's constraints, from 1: T_C1, T_C2, ..
-unfoldable pub generated : List ℕ → ℕ → List ℕ
-generated table place = table ++ (codes "_C" ++ decimal place)
+unfoldable pub generated_name : List ℕ → ℕ → List ℕ
+generated_name table place = table ++ (codes "_C" ++ decimal place)

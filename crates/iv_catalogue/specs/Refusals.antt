@@ -9,8 +9,8 @@ abbrev pub refusal_of : Cause → Refusal
 refusal_of c = record { cause = c; trigger = None }
 
 -- the answer that is this refusal
-abbrev pub refused : {A : Type 0} → Cause → Result A Refusal
-refused c = Err (refusal_of c)
+abbrev pub refusal_answer : {A : Type 0} → Cause → Result A Refusal
+refusal_answer c = Err (refusal_of c)
 
 -- memory was refused
 abbrev pub out_of_memory : Refusal

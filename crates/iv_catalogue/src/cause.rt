@@ -19,7 +19,7 @@ pub enum Cause {
     Unknown,
     /// A name that is in use or comes twice.
     Duplicate,
-    /// A definition that no schema can have, or a statement that isn't taken up.
+    /// A definition that no schema can have.
     SchemaFault,
     /// A schema statement inside a transaction.
     InTransaction,

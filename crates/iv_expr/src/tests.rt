@@ -429,3 +429,18 @@ fn conditions_of_depth_64_are_evaluated(rt: HostRuntime) -> Result<(), Fail> {
     }
     Ok(())
 }
+
+#[test]
+fn a_wave_is_made_of_changes_and_gives_them_back(rt: HostRuntime) -> Result<(), Fail> {
+    let mut changes = Vec::new(rt.alloc());
+    changes.push(updated(
+        TableId::new(0),
+        7,
+        row(rt.alloc(), Value::Null)?,
+        row(rt.alloc(), Value::Int(1))?,
+    ))?;
+    let wave = Wave::from_vec(changes);
+    assert_eq!(rt; wave.last_row(), 7);
+    assert_eq!(rt; wave.into_vec().len(), 1);
+    Ok(())
+}

@@ -25,6 +25,17 @@ impl Model for Wave {
     ghost invariant = { λ w. (w.last ≡ last_row w.changes.items) × RisingChanges w.changes.items };
 }
 
+// The row number of the last of these changes, or 0 where there is none.
+fn last_row_of(changes: &[Change]) -> u64
+    ensures { result ≡ last_row changes.now }
+{
+    let mut last = 0;
+    for change in changes {
+        last = change.row;
+    }
+    last
+}
+
 impl Wave {
     /// No changes.
     pub fn new(alloc: Global) -> Wave
@@ -34,6 +45,15 @@ impl Wave {
             changes: Vec::new(alloc),
             last: 0,
         }
+    }
+
+    /// The wave of changes that are by rising row number. It takes no memory; its time is linear.
+    pub fn from_vec(changes: Vec<Change>) -> Wave
+        requires { RisingChanges changes.items }
+        ensures { result.changes ≡ changes.items }
+    {
+        let last = last_row_of(&changes);
+        Wave { changes, last }
     }
 
     /// The row number of the last change, or 0 where there is none.
@@ -53,6 +73,14 @@ impl Wave {
         self.changes.push(change)?;
         self.last = row;
         Ok(())
+    }
+
+    /// The changes, which are no longer a wave: their rows may be numbered anew.
+    pub fn into_vec(self) -> Vec<Change>
+        ensures { result.items ≡ self.changes }
+    {
+        let Wave { changes, .. } = self;
+        changes
     }
 
     /// The changes.

@@ -1,10 +1,11 @@
 -- The plan of a CREATE TABLE that deserves no cause.
-use Rattle.std.proofs.Common.{◌≡◌, ℕ, nat_lt, Bool, true, false, not, ◌&&◌, ◌||◌, ◌==◌, List, [], ◌∷◌, ◌++◌, ◌∙◌, Option, Some, None, refl, sym, ap, length, map, arith}
+use Rattle.std.proofs.Common.{◌≡◌, ℕ, ◌≤◌, min, nat_lt, nat_le, Bool, true, false, not, ◌&&◌, ◌||◌, ◌==◌, if◌then◌else◌, List, [], ◌∷◌, ◌++◌, ◌∙◌, Option, Some, None, refl, sym, ap, chars, length, map, arith}
 use Rattle.std.specs.List.{list_any, enumerate_from}
 use Rattle.std.specs.Str.{bytes_eq}
 use Rattle.std.proofs.lemmas.Bool.Decides.{nat_tests}
 use Rattle.std.proofs.lemmas.List.Folds.{list_any-append}
-use Rattle.iv_expr.specs.Suiting.{nulls, sort_of_value}
+use Rattle.iv_value.specs.declared.value.Fit.TheVariants.{Yes, TooLong}
+use Rattle.iv_value.specs.Values.{fit_of}
 use Rattle.iv_syntax.specs.declared.tree.Sign.TheVariants as sign
 use Rattle.iv_syntax.specs.declared.table.ColumnType.{ColumnType}
 use Rattle.iv_syntax.specs.declared.table.ColumnType.TheVariants as type
@@ -17,42 +18,48 @@ use Rattle.iv_catalogue.specs.Names.{is_among, has_repeated}
 use Rattle.iv_catalogue.proofs.NamedLists.{any_map}
 use Rattle.iv_catalogue.specs.declared.catalogue.Column.{Column}
 use Rattle.iv_catalogue.specs.declared.constraint.Constraint.{Constraint}
-use Rattle.iv_catalogue.specs.declared.limits.TheConstants.{MOST_COLUMNS}
+use Rattle.iv_catalogue.specs.declared.limits.TheConstants.{MOST_CHARACTERS, MOST_COLUMNS}
 use Rattle.iv_resolution.specs.Constraints.{WrittenConstraint, written_columns, constraint_name, constraint_names, comes_twice, Altered, default_fits, literal_fits}
+use Rattle.iv_resolution.specs.Tables.{type_beyond_limits}
 use Rattle.iv_resolution.specs.Bound.{bound_literal, bound_kind, bound_default, bound_column_definition, bound_place}
+use Rattle.iv_store.specs.Stores.{is_fit}
 use Rattle.iv_naming.proofs.Firsts.{neither}
-use Rattle.iv_fitting.specs.PlanShapes.{sort_suits, default_suits, table_suits}
+use Rattle.iv_fitting.specs.PlanShapes.{default_suits, table_suits}
 use Rattle.iv_fitting.proofs.Pointwise.{two, not_false, any_at, made_of, mapped_length, all_by}
 
 -- ---- defaults
 
-literal_sort : (t : ColumnType) (l : Literal) → literal_fits t l ≡ true → sort_suits (bound_kind t) (Some (sort_of_value (bound_literal l))) ≡ true
-literal_sort type.Integer (literal.Number None n) h = refl
-literal_sort type.Integer (literal.Number (Some sign.Plus) n) h = refl
-literal_sort type.Integer (literal.Number (Some sign.Minus) n) h = refl
-literal_sort (type.Varchar m) (literal.Number s n) h = cc
-literal_sort type.Integer (literal.Text t) h = cc
-literal_sort (type.Varchar m) (literal.Text t) h = refl
-literal_sort type.Integer literal.Null h = refl
-literal_sort (type.Varchar m) literal.Null h = refl
+-- the length of a type within limits is kept
+kept_length : (n : ℕ) → type_beyond_limits (type.Varchar n) ≡ false → min n 65535 ≡ n
+kept_length n h =
+    let parts = neither (n == 0) (nat_lt MOST_CHARACTERS n) h in
+    let low : n ≤ MOST_CHARACTERS = let x = parts.1 in grind (arith, nat_tests) in
+    omega arith
 
-null_sort : (t : ColumnType) → sort_suits (bound_kind t) (Some nulls) ≡ true
-null_sort type.Integer = refl
-null_sort (type.Varchar m) = refl
+literal_fit : (t : ColumnType) (l : Literal) → type_beyond_limits t ≡ false → literal_fits t l ≡ true → is_fit (fit_of (bound_literal l) (bound_kind t)) ≡ true
+literal_fit type.Integer (literal.Number None n) b h = refl
+literal_fit type.Integer (literal.Number (Some sign.Plus) n) b h = refl
+literal_fit type.Integer (literal.Number (Some sign.Minus) n) b h = refl
+literal_fit (type.Varchar m) (literal.Number s n) b h = cc
+literal_fit type.Integer (literal.Text t) b h = cc
+literal_fit (type.Varchar m) (literal.Text t) b h =
+    ap (λ n. is_fit (if nat_le (length (chars t)) n then Yes else TooLong)) (kept_length m b) ∙ ap (λ x. is_fit (if x then Yes else TooLong)) h
+literal_fit type.Integer literal.Null b h = refl
+literal_fit (type.Varchar m) literal.Null b h = refl
 
-default_sort : (t : ColumnType) (o : Option Literal) → elim o as (λ x. Bool) [ Some l ↦ literal_fits t l | None ↦ true ] ≡ true
-    → sort_suits (bound_kind t) (Some (sort_of_value (bound_default o))) ≡ true
-default_sort t None h = null_sort t
-default_sort t (Some l) h = literal_sort t l h
+default_fit : (t : ColumnType) (o : Option Literal) → type_beyond_limits t ≡ false → elim o as (λ x. Bool) [ Some l ↦ literal_fits t l | None ↦ true ] ≡ true
+    → is_fit (fit_of (bound_default o) (bound_kind t)) ≡ true
+default_fit t None b h = refl
+default_fit t (Some l) b h = literal_fit t l b h
 
 names_of_columns : (cs : List ColumnDefinition) → map (λ (c : Column). c.name) (map bound_column_definition cs) ≡ map (λ (c : ColumnDefinition). c.name) cs
 names_of_columns [] = refl
 names_of_columns (c ∷ cs) = ap (λ l. c.name ∷ l) (names_of_columns cs)
 
 pub columns_suit : (elements : List TableElement) → nat_lt MOST_COLUMNS (length (written_columns elements)) ≡ false → list_any (λ c. not (default_fits c)) (written_columns elements) ≡ false
-    → comes_twice (map (λ c. c.name) (written_columns elements)) ≡ false
+    → comes_twice (map (λ c. c.name) (written_columns elements)) ≡ false → list_any (λ c. type_beyond_limits c.kind) (written_columns elements) ≡ false
     → (name : List ℕ) → table_suits (record { name = name; columns = map bound_column_definition (written_columns elements) }) ≡ true
-columns_suit elements few fits once name =
+columns_suit elements few fits once types name =
     let length_is = mapped_length bound_column_definition (written_columns elements) in
     two _ _ (grind (arith, nat_tests))
     (two _ _
@@ -60,7 +67,7 @@ columns_suit elements few fits once name =
     (λ j c h.
     let made = made_of bound_column_definition (written_columns elements) j c h in
     ap default_suits made.2
-    ∙ default_sort made.0.kind made.0.default
+    ∙ default_fit made.0.kind made.0.default (any_at (λ (x : ColumnDefinition). type_beyond_limits x.kind) (written_columns elements) types j made.0 made.1)
     (not_false (default_fits made.0) (any_at (λ (x : ColumnDefinition). not (default_fits x)) (written_columns elements) fits j made.0 made.1))))
     (ap (λ (names : List (List ℕ)). not (comes_twice names)) (names_of_columns (written_columns elements)) ∙ ap (λ b. not b) once))
 

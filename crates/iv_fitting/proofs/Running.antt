@@ -127,7 +127,8 @@ values_plain context table pairs h =
 
 -- ---- conditions
 
-holds_plain : (shape : Shape) (s : Scope) (c : Cond) → HasShape s shape → suits shape c ≡ true → Plain (holds s c)
+-- whether a condition that suits takes effect
+pub holds_plain : (shape : Shape) (s : Scope) (c : Cond) → HasShape s shape → suits shape c ≡ true → Plain (holds s c)
 holds_plain shape s c h g = by (truth s c) (truth_fine shape s c h g)
   where
     by : (r : Result Truth ExprFault) → Fine r → Plain (elim r as (λ x. Result Bool Cause) [ Ok t ↦ Ok (is_true t) | Err fault ↦ Err (cause_of fault) ])

@@ -6,6 +6,7 @@ use Rattle.iv_value.specs.declared.value.Value.{Value}
 use Rattle.iv_value.specs.declared.value.Value.TheVariants as value
 use Rattle.iv_value.specs.declared.value.Kind.{Kind}
 use Rattle.iv_value.specs.declared.value.Kind.TheVariants as kind
+use Rattle.iv_value.specs.Values.{fit_of}
 use Rattle.iv_expr.specs.Suiting.{Sort, nulls, numbers, texts, Shape, sort_of_value}
 use Rattle.iv_syntax.specs.declared.table.ColumnType.{ColumnType}
 use Rattle.iv_syntax.specs.declared.tree.Expression.{Expression}
@@ -19,6 +20,7 @@ use Rattle.iv_resolution.specs.Terms.{is_text, bound_expression}
 use Rattle.iv_resolution.specs.Constraints.{places_of, comes_twice}
 use Rattle.iv_resolution.specs.Changes.{is_table, stored_columns, unknown_listed, unknown_value, clashes_with, value_clashes, misshaped_value, target_types}
 use Rattle.iv_resolution.specs.Bound.{table_id, default_at, bound_value, target_place, bound_columns}
+use Rattle.iv_store.specs.Stores.{is_fit}
 use Rattle.iv_naming.specs.Naming.{column_is_called, table_is_called}
 use Rattle.iv_naming.proofs.Firsts.{Search, nothing, something, search, neither, first_position, first_found, first_there, none_position}
 use Rattle.iv_fitting.specs.PlanShapes.{kinds_of, table_kinds, is_there, sort_suits, value_suits, default_suits, table_suits, target_kinds}
@@ -172,6 +174,14 @@ pub expression_suits : (ranges : List NamedRange) (shape : Shape) (e : Expressio
     → value_suits shape (Some k) (bound_expression ranges e) ≡ true
 expression_suits ranges shape e k x h = ap (sort_suits k) x.is ∙ suited ranges e k x.sort x.agrees h
 
+-- a value that fits a column is of its sort
+pub fit_sorted : (k : Kind) (v : Value) → is_fit (fit_of v k) ≡ true → sort_suits k (Some (sort_of_value v)) ≡ true
+fit_sorted k value.Null h = refl
+fit_sorted kind.Integer (value.Int a) h = refl
+fit_sorted (kind.Varchar n) (value.Text t) h = refl
+fit_sorted (kind.Varchar n) (value.Int a) h = cc
+fit_sorted kind.Integer (value.Text t) h = cc
+
 pub value_of_column : (ranges : List NamedRange) (shape : Shape) → Matches ranges shape → length ranges ≤ greatest → (columns : List Column) → list_all default_suits columns ≡ true
     → (place : ℕ) (column : Column) → slice_get columns place ≡ Some column → (v : ValueOrDefault)
     → unknown_value ranges v ≡ false → misshaped_value ranges v ≡ false → value_clashes (Some (type_of column.kind)) ranges v ≡ false
@@ -180,4 +190,4 @@ unfolding bound_value default_at misshaped_value value_clashes
 value_of_column ranges shape m l columns d place column h (given.Value e) u w c = expression_suits ranges shape e column.kind (sorted ranges shape m l e u w) c
 value_of_column ranges shape m l columns d place column h given.Default u w c =
     ap (λ (o : Option Column). sort_suits column.kind (Some (sort_of_value (elim o as (λ x. Value) [ Some x ↦ x.default | None ↦ value.Null ])))) h
-    ∙ all_at default_suits columns d place column h
+    ∙ fit_sorted column.kind column.default (all_at default_suits columns d place column h)

@@ -4,10 +4,11 @@ use Rattle.std.specs.Prelude.{ℕ, Bool, true, false, not, ◌&&◌, List, [], �
 use Rattle.std.specs.List.{list_all}
 use Rattle.iv_value.specs.declared.value.Kind.{Kind}
 use Rattle.iv_value.specs.declared.value.Kind.TheVariants.{Integer, Varchar}
+use Rattle.iv_value.specs.Values.{fit_of}
 use Rattle.iv_expr.specs.declared.tree.Expr.{Expr}
 use Rattle.iv_expr.specs.declared.tree.Range.{Range}
 use Rattle.iv_expr.specs.declared.tree.Range.TheVariants as range
-use Rattle.iv_expr.specs.Suiting.{Sort, nulls, numbers, texts, Shape, shape_within, range_kinds, sort_of, sort_of_value, suits}
+use Rattle.iv_expr.specs.Suiting.{Sort, nulls, numbers, texts, Shape, shape_within, range_kinds, sort_of, suits}
 use Rattle.iv_syntax.specs.declared.trigger.Granularity.{Granularity}
 use Rattle.iv_syntax.specs.declared.trigger.Granularity.TheVariants as granularity
 use Rattle.iv_syntax.specs.declared.trigger.TriggerEvent.{TriggerEvent}
@@ -30,6 +31,7 @@ use Rattle.iv_catalogue.specs.declared.plan.QueryPlan.TheVariants as query
 use Rattle.iv_catalogue.specs.declared.plan.Setting.{Setting}
 use Rattle.iv_catalogue.specs.declared.plan.Trigger.{Trigger}
 use Rattle.iv_resolution.specs.Constraints.{comes_twice}
+use Rattle.iv_store.specs.Stores.{is_fit}
 
 -- ---- kinds of tables
 
@@ -85,11 +87,11 @@ kinds_suit _ _ = false
 
 -- ---- tables
 
--- a default suits its column
+-- a default fits its column, by its kind and its length
 abbrev pub default_suits : Column → Bool
-default_suits c = sort_suits c.kind (Some (sort_of_value c.default))
+default_suits c = is_fit (fit_of c.default c.kind)
 
--- A table has no more columns than it may, each has a name of its own, and each default suits its column.
+-- A table has no more columns than it may, each has a name of its own, and each default fits its column.
 abbrev pub table_suits : Table → Bool
 table_suits t = nat_le (length t.columns) MOST_COLUMNS && (list_all default_suits t.columns && not (comes_twice (map (λ c. c.name) t.columns)))
 

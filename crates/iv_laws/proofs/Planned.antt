@@ -207,7 +207,7 @@ plan_keeps s (plan.Query p) None e u h = queried_reachable s p h
 plan_keeps s (plan.Query p) (Some d) e u h = queried_reachable s p h
 plan_keeps s (plan.Transaction p) start e u h = transaction_keeps s p start e h
 
-planned_reachable : (s : State) (p : Plan) → FitsSchema s.schema p → Reachable s → Reachable (planned s p).state
+pub planned_reachable : (s : State) (p : Plan) → FitsSchema s.schema p → Reachable s → Reachable (planned s p).state
 planned_reachable s p u h = plan_keeps s p s.start refl u h
 
 reached_reachable : (s : State) (plans : List Plan) → AllFit s plans → Reachable s → Reachable (reached s plans)

@@ -1,10 +1,5 @@
 pub mod Firsts
 pub mod Scans
 pub mod Orders
-pub mod Plain
-pub mod Plans
 pub mod Modes
-pub mod Occasions
-pub mod Sound
-pub mod Selected
 pub mod Puts

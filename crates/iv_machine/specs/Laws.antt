@@ -1,13 +1,9 @@
--- The laws of the states that statements reach, which public functions carry.
-use Rattle.std.specs.Prelude.{◌≡◌, ◌↔◌, List, [], ◌∷◌, None, Ok}
-use Rattle.iv_syntax.specs.declared.statement.Statement.{Statement}
+-- What is true of every state that statements reach.
+use Rattle.std.specs.Prelude.{◌≡◌, ◌↔◌, List, [], ◌∷◌, None}
 use Rattle.iv_catalogue.specs.Catalogues.{Schema, TriggersNumbered}
-use Rattle.iv_catalogue.specs.declared.plan.Plan.{Plan}
-use Rattle.iv_catalogue.specs.Resolution.{resolution}
 use Rattle.iv_machine.specs.declared.database.Which.TheVariants.{Immediate, Deferred, All}
-use Rattle.iv_machine.specs.Bounds.{Bounds}
 use Rattle.iv_machine.specs.Databases.{scan, is_chosen, initial_modes}
-use Rattle.iv_machine.specs.Machine.{State, Savepoint, empty_state, run, occasion_of, plan_occasion}
+use Rattle.iv_machine.specs.Machine.{State, Savepoint}
 use Rattle.iv_machine.specs.Invariants.{Rising}
 
 -- Outside a transaction no constraint is violated, modes are initial, there is no savepoint, and no row change stands.
@@ -36,11 +32,3 @@ pub record IsSound (s : State) : Type 0 where
   pub saves : EachSaveHolds s.schema s.savepoints
   pub rising : Rising 0 s.database.rows s.database.next
   pub triggers : TriggersNumbered s.schema
-
--- In every state that a run reaches from an empty one.
-abbrev pub ReachedStatesAreSound : Type 0
-ReachedStatesAreSound = (limits : Bounds) (statements : List Statement) → IsSound (run (empty_state limits) statements).1
-
--- A statement and its plan may run on the same occasions.
-abbrev pub PlansKeepTheOccasion : Type 0
-PlansKeepTheOccasion = (c : Schema) (st : Statement) (p : Plan) → resolution c st ≡ Ok p → plan_occasion p ≡ occasion_of st

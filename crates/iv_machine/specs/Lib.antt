@@ -8,5 +8,4 @@ pub mod Waves
 pub mod Levels
 pub mod Machine
 pub mod Invariants
-pub mod Fitting
 pub mod Laws

@@ -1,5 +1,5 @@
--- The machine: its states, and what a statement answers and leaves ("SQL-transactions", "Transaction management").
-use Rattle.std.specs.Prelude.{◌≡◌, ℕ, ◌-◌, nat_lt, Bool, true, false, not, ◌&&◌, ◌||◌, if◌then◌else◌, ◌==◌, List, [], ◌∷◌, length, map, filter, find, fold, pos, slice_get, slice_set, Option, Some, None, is_some, unwrap_or, Result, Ok, Err, MatchBool}
+-- The machine: its states, and what a resolved statement answers and leaves ("SQL-transactions", "Transaction management").
+use Rattle.std.specs.Prelude.{◌≡◌, ℕ, ◌-◌, nat_lt, Bool, true, false, not, ◌&&◌, if◌then◌else◌, ◌==◌, List, [], ◌∷◌, length, map, filter, find, fold, pos, slice_get, slice_set, Option, Some, None, is_some, unwrap_or, Result, Ok, Err}
 use Rattle.std.specs.List.{enumerate_from}
 use Rattle.std.specs.Str.{bytes_eq}
 use Rattle.iv_value.specs.declared.value.Value.{Value}
@@ -14,7 +14,7 @@ use Rattle.iv_syntax.specs.declared.statement.Statement.TheVariants as statement
 use Rattle.iv_catalogue.specs.Catalogues.{Schema, empty_schema, with_table, with_constraint, with_trigger, without_trigger}
 use Rattle.iv_catalogue.specs.declared.constraint.Constraint.{Constraint}
 use Rattle.iv_catalogue.specs.declared.cause.Cause.{Cause}
-use Rattle.iv_catalogue.specs.declared.cause.Cause.TheVariants.{SchemaFault, InTransaction, NoTransaction, ActiveTransaction, UnknownSavepoint, NotDeferrable, Violation, CommitRefused, AddRefused}
+use Rattle.iv_catalogue.specs.declared.cause.Cause.TheVariants.{InTransaction, NoTransaction, ActiveTransaction, UnknownSavepoint, NotDeferrable, Violation, CommitRefused, AddRefused}
 use Rattle.iv_catalogue.specs.declared.cause.Fault.{Fault}
 use Rattle.iv_catalogue.specs.declared.cause.Refusal.{Refusal}
 use Rattle.iv_catalogue.specs.declared.plan.ConstraintSet.{ConstraintSet}
@@ -29,8 +29,7 @@ use Rattle.iv_catalogue.specs.declared.plan.QueryPlan.{QueryPlan}
 use Rattle.iv_catalogue.specs.declared.plan.QueryPlan.TheVariants as query
 use Rattle.iv_catalogue.specs.declared.plan.TransactionPlan.{TransactionPlan}
 use Rattle.iv_catalogue.specs.declared.plan.TransactionPlan.TheVariants as transaction
-use Rattle.iv_catalogue.specs.Refusals.{refused, is_memory, out_of_memory}
-use Rattle.iv_catalogue.specs.Resolution.{is_taken_up, resolution}
+use Rattle.iv_catalogue.specs.Refusals.{refusal_answer, out_of_memory}
 use Rattle.iv_machine.specs.declared.database.Database.{Database}
 use Rattle.iv_machine.specs.declared.database.Which.TheVariants.{All}
 use Rattle.iv_machine.specs.declared.answer.Answer.{Answer}
@@ -92,7 +91,7 @@ accept s a = record { answer = Ok a; state = s; work = no_work }
 
 -- a refusal leaves the state
 abbrev pub refuse : State → Cause → Outcome
-refuse s c = record { answer = refused c; state = s; work = no_work }
+refuse s c = record { answer = refusal_answer c; state = s; work = no_work }
 
 -- refused for the first fault, where there is one
 abbrev pub refuse_first : State → (Fault → Cause) → Option Fault → Outcome → Outcome
@@ -167,7 +166,7 @@ first_violation s = first (scan s.database.rows s.schema.constraints (is_chosen 
 abbrev pub commit_by : State → Option Database → Option Fault → Outcome
 commit_by s None violation = accept s Done
 commit_by s (Some start) None = accept (state_at_end s s.database) Done
-commit_by s (Some start) (Some fault) = undo_outcome s start (refused (CommitRefused fault))
+commit_by s (Some start) (Some fault) = undo_outcome s start (refusal_answer (CommitRefused fault))
 
 abbrev pub commit_outcome : State → Outcome
 commit_outcome s = commit_by s s.start (first_violation s)
@@ -330,17 +329,6 @@ abbrev pub outcome_unless : State → Option Cause → Outcome → Outcome
 outcome_unless s (Some cause) o = refuse s cause
 outcome_unless s None o = o
 
--- What a statement answers, and the state after it. A statement that isn't taken up yet is a SchemaFault before all else.
-abbrev pub step : State → Statement → Outcome
-step s st =
-    if not (is_taken_up st) then refuse s SchemaFault
-    else outcome_unless s (transaction_cause (is_open s) (occasion_of st)) (resolution_outcome s (resolution s.schema st))
-
--- The answers to a list of statements, in their order, and the state after them.
-abbrev pub run : State → List Statement → List (Result Answer Refusal) × State
-run s [] = ([], s)
-run s (st ∷ sts) = let o : Outcome = step s st in let rest : List (Result Answer Refusal) × State = run o.state sts in (o.answer ∷ rest.0, rest.1)
-
 -- ---- what a session promises
 
 -- the statement may run a trigger: it changes rows, and there are triggers
@@ -353,14 +341,3 @@ may_run_triggers s _ = false
 -- Memory was refused: the state stays, and the refusal tells a trigger only where one may have run.
 abbrev pub Starved : State → Statement → Result Answer Refusal → State → Type 0
 Starved old st r new = (new ≡ old) × (may_run_triggers old st ≡ false → r ≡ Err out_of_memory)
-
--- The answer and the next state are those of the machine, or memory was refused.
-abbrev pub Executes : State → Statement → Result Answer Refusal → State → Type 0
-Executes old st r new = MatchBool (is_memory r) (Starved old st r new) ((r ≡ (step old st).answer) × (new ≡ (step old st).state))
-
--- The statement takes no memory: COMMIT, ROLLBACK, one that isn't taken up, and one that is refused for the transaction that is open
--- or isn't.
-abbrev pub takes_no_memory : State → Statement → Bool
-takes_no_memory s statement.Commit = true
-takes_no_memory s statement.Rollback = true
-takes_no_memory s st = not (is_taken_up st) || is_some (transaction_cause (is_open s) (occasion_of st))

@@ -4,7 +4,6 @@
 mod answer;
 mod database;
 mod effect;
-mod laws;
 mod limits;
 mod scan;
 #[cfg(test)]
@@ -14,7 +13,6 @@ mod wave;
 pub use answer::Answer;
 pub use database::{Database, Which};
 pub use effect::Effect;
-pub use laws::{plans_keep_the_occasion, reached_states_are_sound};
 pub use limits::{
     FEWEST_CHANGES_IN_A_STATEMENT, GREATEST_DEPTH, LAST_ROW_NUMBER, LEAST_DEPTH, Limits,
     MOST_CHANGES_IN_A_STATEMENT, MOST_CHANGES_IN_A_TRANSACTION,

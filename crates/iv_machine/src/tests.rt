@@ -2,8 +2,7 @@
 ghost use Rattle.std.specs.Prelude.{◌≡◌};
 
 use crate::{
-    Database, Limits, Which, count_faults, database_after, first_fault, list_faults,
-    plans_keep_the_occasion, reached_states_are_sound, satisfies,
+    Database, Limits, Which, count_faults, database_after, first_fault, list_faults, satisfies,
 };
 use iv_catalogue::{Constraint, Fault, ForeignKey, Rule};
 use iv_expr::{Change, Comparison, Cond, Expr, Row, StoredRow, TableId, Wave};
@@ -230,10 +229,4 @@ fn a_wave_adds_replaces_and_leaves_out(rt: HostRuntime) -> Result<(), Fail> {
     assert_eq!(rt; later.next, 10);
     assert_eq!(rt; later.count, 5);
     Ok(())
-}
-
-#[test]
-fn laws_are_called(rt: HostRuntime) {
-    plans_keep_the_occasion();
-    reached_states_are_sound();
 }

@@ -1,15 +1,18 @@
 -- The lines of an outcome in a transcript.
-use Rattle.std.specs.Prelude.{ℕ, ◌==◌, if◌then◌else◌, List, [], ◌∷◌, ◌++◌, length, codes, decimal, slice_get, Option, Some, None, Result, Ok, Err}
+use Rattle.std.specs.Prelude.{ℕ, ◌==◌, ◌-◌, if◌then◌else◌, List, [], ◌∷◌, ◌++◌, length, codes, decimal, slice_get, Option, Some, None, Result, Ok, Err}
 use Rattle.std.specs.Fmt.{signed_decimal}
 use Rattle.std.specs.List.{flat_map}
 use Rattle.iv_value.specs.declared.value.Value.{Value}
 use Rattle.iv_value.specs.declared.value.Value.TheVariants.{Null, Int, Text}
-use Rattle.iv_catalogue.specs.Catalogues.{Schema}
+use Rattle.iv_catalogue.specs.Catalogues.{Schema, trigger_numbered}
 use Rattle.iv_catalogue.specs.declared.constraint.Constraint.{Constraint}
 use Rattle.iv_catalogue.specs.declared.cause.Cause.{Cause}
 use Rattle.iv_catalogue.specs.declared.cause.Cause.TheVariants as cause
 use Rattle.iv_catalogue.specs.declared.cause.Fault.{Fault}
 use Rattle.iv_catalogue.specs.declared.cause.Refusal.{Refusal}
+use Rattle.iv_catalogue.specs.declared.plan.BodyStatement.{BodyStatement}
+use Rattle.iv_catalogue.specs.declared.plan.BodyStatement.TheVariants as body
+use Rattle.iv_catalogue.specs.declared.plan.Trigger.{Trigger}
 use Rattle.iv_machine.specs.declared.answer.Answer.{Answer}
 use Rattle.iv_machine.specs.declared.answer.Answer.TheVariants.{Done, Changed, Rows}
 
@@ -74,16 +77,54 @@ cause_words (cause.AddRefused row) = codes "20 AddRefused"
 cause_words cause.Limit = codes "21 Limit"
 cause_words cause.OutOfMemory = codes "22 OutOfMemory"
 
--- the constraint and the row that a cause speaks of; triggers have no names yet, since no statement
--- makes one
+-- ---- triggers
+
+-- the name of a trigger that is there
+abbrev pub trigger_name : Option Trigger → List ℕ
+trigger_name (Some t) = t.name
+trigger_name None = []
+
+abbrev pub trigger_text : Schema → ℕ → List ℕ
+trigger_text s id = codes " " ++ trigger_name (trigger_numbered s id)
+
+-- the statement at this place of a trigger's body, of which the first has place 1
+abbrev pub body_statement : Option Trigger → ℕ → Option BodyStatement
+body_statement (Some t) place = slice_get t.body (place - 1)
+body_statement None place = None
+
+-- the text of a SIGNAL
+abbrev pub signal_text : Option BodyStatement → List ℕ
+signal_text (Some (body.Signal text)) = text
+signal_text _ = []
+
+-- the trigger of a SIGNAL, and its text as a value
+abbrev pub signal_details : Schema → ℕ → ℕ → List ℕ
+signal_details s id place =
+    trigger_text s id ++ (codes " " ++ value_text (Text (signal_text (body_statement (trigger_numbered s id) place))))
+
+-- ---- refusals
+
+-- the constraint, the row or the trigger that a cause speaks of
 abbrev pub details : Schema → Cause → List ℕ
 details s (cause.NotDeferrable c) = constraint_text s c
 details s (cause.Restrict f) = fault_text s f
 details s (cause.Violation f) = fault_text s f
 details s (cause.ActionConflict f) = fault_text s f
 details s (cause.CommitRefused f) = fault_text s f
+details s (cause.Signal id place) = signal_details s id place
+details s (cause.DepthLimit id) = trigger_text s id
 details s (cause.AddRefused row) = row_number_text row
 details s _ = []
+
+abbrev pub inside_trigger : Schema → Option ℕ → List ℕ
+inside_trigger s None = []
+inside_trigger s (Some id) = codes " in" ++ trigger_text s id
+
+-- the innermost trigger that was running, for every cause that doesn't speak of a trigger itself
+abbrev pub inside_text : Schema → Cause → Option ℕ → List ℕ
+inside_text s (cause.Signal id place) trigger = []
+inside_text s (cause.DepthLimit id) trigger = []
+inside_text s _ trigger = inside_trigger s trigger
 
 abbrev pub answer_text : Answer → List ℕ
 answer_text Done = codes " ok\n"
@@ -91,12 +132,13 @@ answer_text (Changed k) = codes " ok " ++ (decimal k ++ codes "\n")
 answer_text (Rows rows) =
     codes " rows " ++ (decimal (length rows) ++ (codes "\n" ++ flat_map row_text rows))
 
-abbrev pub refusal_text : Schema → Cause → List ℕ
-refusal_text s c = codes " refused " ++ (cause_words c ++ (details s c ++ codes "\n"))
+abbrev pub refusal_text : Schema → Refusal → List ℕ
+refusal_text s r =
+    codes " refused " ++ (cause_words r.cause ++ (details s r.cause ++ (inside_text s r.cause r.trigger ++ codes "\n")))
 
 abbrev pub outcome_text : Schema → Result Answer Refusal → List ℕ
 outcome_text s (Ok a) = answer_text a
-outcome_text s (Err r) = refusal_text s r.cause
+outcome_text s (Err r) = refusal_text s r
 
 -- The lines of the outcome of statement n, with names as the catalogue has them directly after it.
 abbrev pub line : ℕ → Result Answer Refusal → Schema → List ℕ

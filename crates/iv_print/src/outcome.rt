@@ -1,13 +1,16 @@
 //! The text of an outcome.
 ghost use Rattle.std.specs.Prelude.{◌≡◌, ℕ, ◌++◌, length, slice_get, codes};
 ghost use Rattle.std.specs.List.{flat_map};
+ghost use Rattle.iv_catalogue.specs.Catalogues.{trigger_numbered};
 ghost use Rattle.iv_print.specs.Writing.{Writes};
-ghost use Rattle.iv_print.specs.Lines.{quote_doubled, value_text, further_text, values_text, row_text, name_of, constraint_text, row_number_text, fault_text, cause_words, details, answer_text, refusal_text, line};
+ghost use Rattle.iv_print.specs.Lines.{quote_doubled, value_text, further_text, values_text, row_text, name_of, constraint_text, row_number_text, fault_text, trigger_text, body_statement, signal_text, signal_details, cause_words, details, inside_trigger, inside_text, answer_text, refusal_text, line};
 
 use crate::device::{DeviceFault, Sink};
 use crate::write::{write_all, write_number};
 use itoa::Buffer;
-use iv_catalogue::{Catalogue, Cause, Constraint, ConstraintId, Fault, Refusal};
+use iv_catalogue::{
+    BodyStatement, Catalogue, Cause, Constraint, ConstraintId, Fault, Refusal, TriggerId,
+};
 use iv_expr::Row;
 use iv_machine::Answer;
 use iv_value::Value;
@@ -182,7 +185,54 @@ fn cause_words(cause: &Cause) -> &'static str
     }
 }
 
-// The constraint and the row that a cause speaks of.
+fn write_trigger<W: Sink>(
+    sink: &mut W,
+    catalogue: &Catalogue,
+    id: TriggerId,
+) -> Result<(), DeviceFault>
+    ensures { Writes (W.state sink.old) (W.state sink.new) result (trigger_text catalogue.now id) }
+{
+    write_all(sink, b" ")?;
+    match catalogue.trigger(id) {
+        Some(trigger) => write_all(sink, trigger.name.as_str().as_bytes()),
+        None => write_all(sink, b""),
+    }
+}
+
+// The text of the SIGNAL at this place of a trigger's body, from 1; none where there is no SIGNAL.
+fn signal_text(catalogue: &Catalogue, id: TriggerId, place: u32) -> &str
+    ensures { result.now ≡
+        signal_text (body_statement (trigger_numbered catalogue.now id) place) }
+{
+    let Some(trigger) = catalogue.trigger(id) else {
+        return "";
+    };
+    match trigger
+        .body
+        .as_slice()
+        .get((place as usize).saturating_sub(1))
+    {
+        Some(BodyStatement::Signal(text)) => text.as_str(),
+        _ => "",
+    }
+}
+
+// The trigger of a SIGNAL and its text.
+fn write_signal<W: Sink>(
+    sink: &mut W,
+    catalogue: &Catalogue,
+    id: TriggerId,
+    place: u32,
+) -> Result<(), DeviceFault>
+    ensures { Writes (W.state sink.old) (W.state sink.new) result
+        (signal_details catalogue.now id place) }
+{
+    write_trigger(sink, catalogue, id)?;
+    write_all(sink, b" ")?;
+    write_text(sink, signal_text(catalogue, id, place))
+}
+
+// The constraint, the row or the trigger that a cause speaks of.
 fn write_details<W: Sink>(
     sink: &mut W,
     catalogue: &Catalogue,
@@ -197,22 +247,58 @@ fn write_details<W: Sink>(
         Cause::Violation(fault) => write_fault(sink, catalogue, *fault),
         Cause::ActionConflict(fault) => write_fault(sink, catalogue, *fault),
         Cause::CommitRefused(fault) => write_fault(sink, catalogue, *fault),
+        Cause::Signal(id, place) => write_signal(sink, catalogue, *id, *place),
+        Cause::DepthLimit(id) => write_trigger(sink, catalogue, *id),
         Cause::AddRefused(row) => write_row_number(sink, *row),
         _ => write_all(sink, b""),
+    }
+}
+
+fn write_inside_trigger<W: Sink>(
+    sink: &mut W,
+    catalogue: &Catalogue,
+    trigger: Option<TriggerId>,
+) -> Result<(), DeviceFault>
+    ensures { Writes (W.state sink.old) (W.state sink.new) result
+        (inside_trigger catalogue.now trigger) }
+{
+    match trigger {
+        Some(id) => {
+            write_all(sink, b" in")?;
+            write_trigger(sink, catalogue, id)
+        }
+        None => write_all(sink, b""),
+    }
+}
+
+// The innermost trigger that was running, for every cause that doesn't speak of a trigger itself.
+fn write_inside<W: Sink>(
+    sink: &mut W,
+    catalogue: &Catalogue,
+    cause: &Cause,
+    trigger: Option<TriggerId>,
+) -> Result<(), DeviceFault>
+    ensures { Writes (W.state sink.old) (W.state sink.new) result
+        (inside_text catalogue.now cause.now trigger) }
+{
+    match cause {
+        Cause::Signal(_, _) | Cause::DepthLimit(_) => write_all(sink, b""),
+        _ => write_inside_trigger(sink, catalogue, trigger),
     }
 }
 
 fn write_refusal<W: Sink>(
     sink: &mut W,
     catalogue: &Catalogue,
-    cause: &Cause,
+    refusal: &Refusal,
 ) -> Result<(), DeviceFault>
     ensures { Writes (W.state sink.old) (W.state sink.new) result
-        (refusal_text catalogue.now cause.now) }
+        (refusal_text catalogue.now refusal.now) }
 {
     write_all(sink, b" refused ")?;
-    write_all(sink, cause_words(cause).as_bytes())?;
-    write_details(sink, catalogue, cause)?;
+    write_all(sink, cause_words(&refusal.cause).as_bytes())?;
+    write_details(sink, catalogue, &refusal.cause)?;
+    write_inside(sink, catalogue, &refusal.cause, refusal.trigger)?;
     write_all(sink, b"\n")
 }
 
@@ -237,7 +323,7 @@ fn write_answer<W: Sink>(sink: &mut W, answer: &Answer) -> Result<(), DeviceFaul
 }
 
 /// Writes the lines of the outcome of statement `number`, a place in the script from 1, with the names of
-/// constraints as the catalogue has them. It takes no memory.
+/// constraints and triggers as the catalogue has them. It takes no memory.
 pub fn write_outcome<W: Sink>(
     sink: &mut W,
     number: u64,
@@ -250,6 +336,6 @@ pub fn write_outcome<W: Sink>(
     write_number(sink, number)?;
     match outcome {
         Ok(answer) => write_answer(sink, answer),
-        Err(refusal) => write_refusal(sink, catalogue, &refusal.cause),
+        Err(refusal) => write_refusal(sink, catalogue, refusal),
     }
 }

@@ -21,7 +21,7 @@ use Rattle.iv_syntax.specs.declared.table.TableConstraint.{TableConstraint}
 use Rattle.iv_syntax.specs.declared.table.TableElement.{TableElement}
 use Rattle.iv_syntax.specs.declared.table.TableElement.TheVariants as element
 use Rattle.iv_syntax.specs.declared.tree.Condition.{Condition}
-use Rattle.iv_catalogue.specs.Names.{is_among, generated}
+use Rattle.iv_catalogue.specs.Names.{is_among, generated_name}
 use Rattle.iv_catalogue.specs.Catalogues.{Schema}
 use Rattle.iv_catalogue.specs.declared.constraint.Constraint.{Constraint}
 use Rattle.iv_catalogue.specs.declared.constraint.Rule.{Rule}
@@ -91,7 +91,7 @@ written_constraints elements = flat_map element_constraints elements
 
 -- A constraint without a name is called after its table and its place among all constraints of the table, from 1.
 abbrev pub constraint_name : List ℕ → ℕ → WrittenConstraint → List ℕ
-constraint_name table place k = unwrap_or k.name (generated table place)
+constraint_name table place k = unwrap_or k.name (generated_name table place)
 
 -- the names of a table's new constraints, the first of which has this place
 abbrev pub constraint_names : List ℕ → ℕ → List WrittenConstraint → List (List ℕ)

@@ -6,7 +6,7 @@ use Rattle.iv_syntax.specs.declared.statement.ConstraintList.TheVariants as cons
 use Rattle.iv_syntax.specs.declared.statement.Statement.{Statement}
 use Rattle.iv_syntax.specs.declared.statement.Statement.TheVariants as statement
 use Rattle.iv_catalogue.specs.Catalogues.{Schema, has_constraint, has_trigger}
-use Rattle.iv_catalogue.specs.Refusals.{refused, out_of_memory, is_memory}
+use Rattle.iv_catalogue.specs.Refusals.{refusal_answer, out_of_memory, is_memory}
 use Rattle.iv_catalogue.specs.declared.cause.Cause.{Cause}
 use Rattle.iv_catalogue.specs.declared.cause.Cause.TheVariants.{Unknown, Duplicate, SchemaFault, WrongShape, Limit}
 use Rattle.iv_catalogue.specs.declared.cause.Refusal.{Refusal}
@@ -114,7 +114,7 @@ abbrev pub least : Schema → Statement → Option Cause
 least schema s = find (deserves schema s) causes
 
 abbrev pub refused_or_planned : Option Cause → Plan → Result Plan Refusal
-refused_or_planned (Some cause) p = refused cause
+refused_or_planned (Some cause) p = refusal_answer cause
 refused_or_planned None p = Ok p
 
 -- The plan of a statement, or the least cause that it deserves.

@@ -49,7 +49,7 @@ use Rattle.iv_syntax.specs.declared.trigger.TransitionName.TheVariants as what
 use Rattle.iv_syntax.specs.declared.trigger.TriggerAction.{TriggerAction}
 use Rattle.iv_syntax.specs.declared.trigger.TriggerAction.TheVariants as action
 use Rattle.iv_syntax.specs.declared.trigger.Referencing.{Referencing}
-use Rattle.iv_catalogue.specs.Names.{generated}
+use Rattle.iv_catalogue.specs.Names.{generated_name}
 use Rattle.iv_catalogue.specs.Catalogues.{Schema}
 use Rattle.iv_catalogue.specs.declared.cause.Cause.{Cause}
 use Rattle.iv_catalogue.specs.declared.cause.Cause.TheVariants.{Unknown, Duplicate, SchemaFault, WrongShape, Limit}
@@ -213,15 +213,15 @@ pub record WorkedStatements : Type 0 where
   pub constraints_in_the_order_of_the_text :
       bound tables (create (defined a type.Integer None (column_rule.NotNull ∷ column_rule.References (to_table p) ∷ []) ∷ constrained (table_rule.Check (condition.Compare Greater (column a) one)) ∷ []))
       ≡ plan.Schema (CreateTable (record { name = w; columns = record { name = a; kind = kind.Integer; default = value.Null } ∷ [] })
-      (record { name = generated w 1; table = 2; rule = rule.NotNull 0; deferrable = false; initially = mode.Immediate }
+      (record { name = generated_name w 1; table = 2; rule = rule.NotNull 0; deferrable = false; initially = mode.Immediate }
       ∷ record {
-        name = generated w 2;
+        name = generated_name w 2;
         table = 2;
         rule = rule.ForeignKey (record { columns = 0 ∷ []; referenced = 1; key = 0 ∷ []; matching = Simple; on_delete = NoAction; on_update = NoAction });
         deferrable = false;
         initially = mode.Immediate;
       }
-      ∷ record { name = generated w 3; table = 2; rule = rule.Check (cond.Compare Greater (expr.Column 0 0) (expr.Literal (value.Int (pos 1)))); deferrable = false; initially = mode.Immediate } ∷ []))
+      ∷ record { name = generated_name w 3; table = 2; rule = rule.Check (cond.Compare Greater (expr.Column 0 0) (expr.Literal (value.Int (pos 1)))); deferrable = false; initially = mode.Immediate } ∷ []))
   -- ALTER TABLE p ADD CONSTRAINT z PRIMARY KEY (k);
   pub primary_key_added_again : least tables (statement.AlterTable p (record { name = Some z; rule = table_rule.PrimaryKey (k ∷ []); time = any_time })) ≡ Some SchemaFault
   -- ALTER TABLE t ADD CONSTRAINT p_c1 UNIQUE (a);

@@ -10,7 +10,7 @@ use Rattle.iv_resolution_worked.specs.WorkedLimits.{WorkedLimits}
 use Rattle.iv_resolution_worked.specs.WorkedOrder.{WorkedOrder}
 
 pub unknown : WorkedUnknown
-unfolding Rattle.iv_resolution.specs.Scopes.column_meant Rattle.iv_resolution.specs.Scopes.source_named Rattle.iv_resolution.specs.Scopes.is_source Rattle.iv_resolution.specs.Scopes.source_columns Rattle.iv_resolution.specs.Scopes.source_range Rattle.iv_resolution.specs.Scopes.range_of Rattle.iv_resolution.specs.Terms.unknown_condition Rattle.iv_resolution.specs.Terms.clash Rattle.iv_resolution.specs.Terms.some_text Rattle.iv_resolution.specs.Terms.misshaped_condition Rattle.iv_resolution.specs.Terms.integer_of Rattle.iv_resolution.specs.Terms.bound_condition Rattle.iv_resolution.specs.Constraints.comes_twice Rattle.iv_resolution.specs.Changes.clashes_with Rattle.iv_resolution.specs.Changes.value_clashes Rattle.iv_resolution.specs.Changes.misshaped_value Rattle.iv_resolution.specs.Changes.tuple_clashes Rattle.iv_resolution.specs.Changes.misshaped_tuple Rattle.iv_resolution.specs.Changes.kinds_clash Rattle.iv_resolution.specs.Changes.values_clash Rattle.iv_resolution.specs.Changes.columns_clash Rattle.iv_resolution.specs.Changes.list_clashes Rattle.iv_resolution.specs.Changes.misshaped_source Rattle.iv_resolution.specs.Changes.misshaped_assignment Rattle.iv_resolution.specs.Triggers.subject_of Rattle.iv_resolution.specs.Triggers.trigger_names Rattle.iv_resolution.specs.Triggers.trigger_variables Rattle.iv_resolution.specs.Triggers.variable_named Rattle.iv_resolution.specs.Triggers.unknown_set Rattle.iv_resolution.specs.Triggers.unknown_action Rattle.iv_resolution.specs.Triggers.is_allowed_item Rattle.iv_resolution.specs.Triggers.is_allowed_action Rattle.iv_resolution.specs.Triggers.sets_old Rattle.iv_resolution.specs.Triggers.misshaped_action Rattle.iv_resolution.specs.Bound.table_id Rattle.iv_resolution.specs.Bound.default_at Rattle.iv_resolution.specs.Bound.bound_value Rattle.iv_resolution.specs.Bound.target_place Rattle.iv_resolution.specs.Bound.bound_tuple Rattle.iv_resolution.specs.Bound.bound_list Rattle.iv_resolution.specs.Bound.bound_source Rattle.iv_resolution.specs.Bound.bound_columns Rattle.iv_resolution.specs.Bound.bound_assignment Rattle.iv_catalogue.specs.Names.generated digits
+unfolding Rattle.iv_resolution.specs.Scopes.column_meant Rattle.iv_resolution.specs.Scopes.source_named Rattle.iv_resolution.specs.Scopes.is_source Rattle.iv_resolution.specs.Scopes.source_columns Rattle.iv_resolution.specs.Scopes.source_range Rattle.iv_resolution.specs.Scopes.range_of Rattle.iv_resolution.specs.Terms.unknown_condition Rattle.iv_resolution.specs.Terms.clash Rattle.iv_resolution.specs.Terms.some_text Rattle.iv_resolution.specs.Terms.misshaped_condition Rattle.iv_resolution.specs.Terms.integer_of Rattle.iv_resolution.specs.Terms.bound_condition Rattle.iv_resolution.specs.Constraints.comes_twice Rattle.iv_resolution.specs.Changes.clashes_with Rattle.iv_resolution.specs.Changes.value_clashes Rattle.iv_resolution.specs.Changes.misshaped_value Rattle.iv_resolution.specs.Changes.tuple_clashes Rattle.iv_resolution.specs.Changes.misshaped_tuple Rattle.iv_resolution.specs.Changes.kinds_clash Rattle.iv_resolution.specs.Changes.values_clash Rattle.iv_resolution.specs.Changes.columns_clash Rattle.iv_resolution.specs.Changes.list_clashes Rattle.iv_resolution.specs.Changes.misshaped_source Rattle.iv_resolution.specs.Changes.misshaped_assignment Rattle.iv_resolution.specs.Triggers.subject_of Rattle.iv_resolution.specs.Triggers.trigger_names Rattle.iv_resolution.specs.Triggers.trigger_variables Rattle.iv_resolution.specs.Triggers.variable_named Rattle.iv_resolution.specs.Triggers.unknown_set Rattle.iv_resolution.specs.Triggers.unknown_action Rattle.iv_resolution.specs.Triggers.is_allowed_item Rattle.iv_resolution.specs.Triggers.is_allowed_action Rattle.iv_resolution.specs.Triggers.sets_old Rattle.iv_resolution.specs.Triggers.misshaped_action Rattle.iv_resolution.specs.Bound.table_id Rattle.iv_resolution.specs.Bound.default_at Rattle.iv_resolution.specs.Bound.bound_value Rattle.iv_resolution.specs.Bound.target_place Rattle.iv_resolution.specs.Bound.bound_tuple Rattle.iv_resolution.specs.Bound.bound_list Rattle.iv_resolution.specs.Bound.bound_source Rattle.iv_resolution.specs.Bound.bound_columns Rattle.iv_resolution.specs.Bound.bound_assignment Rattle.iv_catalogue.specs.Names.generated_name digits
 unknown = record {
   unique_of_nothing = refl;
   unique_of_a_column = refl;
@@ -173,7 +173,7 @@ unknown = record {
 }
 
 pub duplicates : WorkedDuplicates
-unfolding Rattle.iv_resolution.specs.Scopes.column_meant Rattle.iv_resolution.specs.Scopes.source_named Rattle.iv_resolution.specs.Scopes.is_source Rattle.iv_resolution.specs.Scopes.source_columns Rattle.iv_resolution.specs.Scopes.source_range Rattle.iv_resolution.specs.Scopes.range_of Rattle.iv_resolution.specs.Terms.unknown_condition Rattle.iv_resolution.specs.Terms.clash Rattle.iv_resolution.specs.Terms.some_text Rattle.iv_resolution.specs.Terms.misshaped_condition Rattle.iv_resolution.specs.Terms.integer_of Rattle.iv_resolution.specs.Terms.bound_condition Rattle.iv_resolution.specs.Constraints.comes_twice Rattle.iv_resolution.specs.Changes.clashes_with Rattle.iv_resolution.specs.Changes.value_clashes Rattle.iv_resolution.specs.Changes.misshaped_value Rattle.iv_resolution.specs.Changes.tuple_clashes Rattle.iv_resolution.specs.Changes.misshaped_tuple Rattle.iv_resolution.specs.Changes.kinds_clash Rattle.iv_resolution.specs.Changes.values_clash Rattle.iv_resolution.specs.Changes.columns_clash Rattle.iv_resolution.specs.Changes.list_clashes Rattle.iv_resolution.specs.Changes.misshaped_source Rattle.iv_resolution.specs.Changes.misshaped_assignment Rattle.iv_resolution.specs.Triggers.subject_of Rattle.iv_resolution.specs.Triggers.trigger_names Rattle.iv_resolution.specs.Triggers.trigger_variables Rattle.iv_resolution.specs.Triggers.variable_named Rattle.iv_resolution.specs.Triggers.unknown_set Rattle.iv_resolution.specs.Triggers.unknown_action Rattle.iv_resolution.specs.Triggers.is_allowed_item Rattle.iv_resolution.specs.Triggers.is_allowed_action Rattle.iv_resolution.specs.Triggers.sets_old Rattle.iv_resolution.specs.Triggers.misshaped_action Rattle.iv_resolution.specs.Bound.table_id Rattle.iv_resolution.specs.Bound.default_at Rattle.iv_resolution.specs.Bound.bound_value Rattle.iv_resolution.specs.Bound.target_place Rattle.iv_resolution.specs.Bound.bound_tuple Rattle.iv_resolution.specs.Bound.bound_list Rattle.iv_resolution.specs.Bound.bound_source Rattle.iv_resolution.specs.Bound.bound_columns Rattle.iv_resolution.specs.Bound.bound_assignment Rattle.iv_catalogue.specs.Names.generated digits
+unfolding Rattle.iv_resolution.specs.Scopes.column_meant Rattle.iv_resolution.specs.Scopes.source_named Rattle.iv_resolution.specs.Scopes.is_source Rattle.iv_resolution.specs.Scopes.source_columns Rattle.iv_resolution.specs.Scopes.source_range Rattle.iv_resolution.specs.Scopes.range_of Rattle.iv_resolution.specs.Terms.unknown_condition Rattle.iv_resolution.specs.Terms.clash Rattle.iv_resolution.specs.Terms.some_text Rattle.iv_resolution.specs.Terms.misshaped_condition Rattle.iv_resolution.specs.Terms.integer_of Rattle.iv_resolution.specs.Terms.bound_condition Rattle.iv_resolution.specs.Constraints.comes_twice Rattle.iv_resolution.specs.Changes.clashes_with Rattle.iv_resolution.specs.Changes.value_clashes Rattle.iv_resolution.specs.Changes.misshaped_value Rattle.iv_resolution.specs.Changes.tuple_clashes Rattle.iv_resolution.specs.Changes.misshaped_tuple Rattle.iv_resolution.specs.Changes.kinds_clash Rattle.iv_resolution.specs.Changes.values_clash Rattle.iv_resolution.specs.Changes.columns_clash Rattle.iv_resolution.specs.Changes.list_clashes Rattle.iv_resolution.specs.Changes.misshaped_source Rattle.iv_resolution.specs.Changes.misshaped_assignment Rattle.iv_resolution.specs.Triggers.subject_of Rattle.iv_resolution.specs.Triggers.trigger_names Rattle.iv_resolution.specs.Triggers.trigger_variables Rattle.iv_resolution.specs.Triggers.variable_named Rattle.iv_resolution.specs.Triggers.unknown_set Rattle.iv_resolution.specs.Triggers.unknown_action Rattle.iv_resolution.specs.Triggers.is_allowed_item Rattle.iv_resolution.specs.Triggers.is_allowed_action Rattle.iv_resolution.specs.Triggers.sets_old Rattle.iv_resolution.specs.Triggers.misshaped_action Rattle.iv_resolution.specs.Bound.table_id Rattle.iv_resolution.specs.Bound.default_at Rattle.iv_resolution.specs.Bound.bound_value Rattle.iv_resolution.specs.Bound.target_place Rattle.iv_resolution.specs.Bound.bound_tuple Rattle.iv_resolution.specs.Bound.bound_list Rattle.iv_resolution.specs.Bound.bound_source Rattle.iv_resolution.specs.Bound.bound_columns Rattle.iv_resolution.specs.Bound.bound_assignment Rattle.iv_catalogue.specs.Names.generated_name digits
 duplicates = record {
   table_not_in_use = refl;
   table_called_as_a_trigger = refl;
@@ -232,7 +232,7 @@ duplicates = record {
 }
 
 pub faults : WorkedSchemaFaults
-unfolding Rattle.iv_resolution.specs.Scopes.column_meant Rattle.iv_resolution.specs.Scopes.source_named Rattle.iv_resolution.specs.Scopes.is_source Rattle.iv_resolution.specs.Scopes.source_columns Rattle.iv_resolution.specs.Scopes.source_range Rattle.iv_resolution.specs.Scopes.range_of Rattle.iv_resolution.specs.Terms.unknown_condition Rattle.iv_resolution.specs.Terms.clash Rattle.iv_resolution.specs.Terms.some_text Rattle.iv_resolution.specs.Terms.misshaped_condition Rattle.iv_resolution.specs.Terms.integer_of Rattle.iv_resolution.specs.Terms.bound_condition Rattle.iv_resolution.specs.Constraints.comes_twice Rattle.iv_resolution.specs.Changes.clashes_with Rattle.iv_resolution.specs.Changes.value_clashes Rattle.iv_resolution.specs.Changes.misshaped_value Rattle.iv_resolution.specs.Changes.tuple_clashes Rattle.iv_resolution.specs.Changes.misshaped_tuple Rattle.iv_resolution.specs.Changes.kinds_clash Rattle.iv_resolution.specs.Changes.values_clash Rattle.iv_resolution.specs.Changes.columns_clash Rattle.iv_resolution.specs.Changes.list_clashes Rattle.iv_resolution.specs.Changes.misshaped_source Rattle.iv_resolution.specs.Changes.misshaped_assignment Rattle.iv_resolution.specs.Triggers.subject_of Rattle.iv_resolution.specs.Triggers.trigger_names Rattle.iv_resolution.specs.Triggers.trigger_variables Rattle.iv_resolution.specs.Triggers.variable_named Rattle.iv_resolution.specs.Triggers.unknown_set Rattle.iv_resolution.specs.Triggers.unknown_action Rattle.iv_resolution.specs.Triggers.is_allowed_item Rattle.iv_resolution.specs.Triggers.is_allowed_action Rattle.iv_resolution.specs.Triggers.sets_old Rattle.iv_resolution.specs.Triggers.misshaped_action Rattle.iv_resolution.specs.Bound.table_id Rattle.iv_resolution.specs.Bound.default_at Rattle.iv_resolution.specs.Bound.bound_value Rattle.iv_resolution.specs.Bound.target_place Rattle.iv_resolution.specs.Bound.bound_tuple Rattle.iv_resolution.specs.Bound.bound_list Rattle.iv_resolution.specs.Bound.bound_source Rattle.iv_resolution.specs.Bound.bound_columns Rattle.iv_resolution.specs.Bound.bound_assignment Rattle.iv_catalogue.specs.Names.generated digits values_on_literals
+unfolding Rattle.iv_resolution.specs.Scopes.column_meant Rattle.iv_resolution.specs.Scopes.source_named Rattle.iv_resolution.specs.Scopes.is_source Rattle.iv_resolution.specs.Scopes.source_columns Rattle.iv_resolution.specs.Scopes.source_range Rattle.iv_resolution.specs.Scopes.range_of Rattle.iv_resolution.specs.Terms.unknown_condition Rattle.iv_resolution.specs.Terms.clash Rattle.iv_resolution.specs.Terms.some_text Rattle.iv_resolution.specs.Terms.misshaped_condition Rattle.iv_resolution.specs.Terms.integer_of Rattle.iv_resolution.specs.Terms.bound_condition Rattle.iv_resolution.specs.Constraints.comes_twice Rattle.iv_resolution.specs.Changes.clashes_with Rattle.iv_resolution.specs.Changes.value_clashes Rattle.iv_resolution.specs.Changes.misshaped_value Rattle.iv_resolution.specs.Changes.tuple_clashes Rattle.iv_resolution.specs.Changes.misshaped_tuple Rattle.iv_resolution.specs.Changes.kinds_clash Rattle.iv_resolution.specs.Changes.values_clash Rattle.iv_resolution.specs.Changes.columns_clash Rattle.iv_resolution.specs.Changes.list_clashes Rattle.iv_resolution.specs.Changes.misshaped_source Rattle.iv_resolution.specs.Changes.misshaped_assignment Rattle.iv_resolution.specs.Triggers.subject_of Rattle.iv_resolution.specs.Triggers.trigger_names Rattle.iv_resolution.specs.Triggers.trigger_variables Rattle.iv_resolution.specs.Triggers.variable_named Rattle.iv_resolution.specs.Triggers.unknown_set Rattle.iv_resolution.specs.Triggers.unknown_action Rattle.iv_resolution.specs.Triggers.is_allowed_item Rattle.iv_resolution.specs.Triggers.is_allowed_action Rattle.iv_resolution.specs.Triggers.sets_old Rattle.iv_resolution.specs.Triggers.misshaped_action Rattle.iv_resolution.specs.Bound.table_id Rattle.iv_resolution.specs.Bound.default_at Rattle.iv_resolution.specs.Bound.bound_value Rattle.iv_resolution.specs.Bound.target_place Rattle.iv_resolution.specs.Bound.bound_tuple Rattle.iv_resolution.specs.Bound.bound_list Rattle.iv_resolution.specs.Bound.bound_source Rattle.iv_resolution.specs.Bound.bound_columns Rattle.iv_resolution.specs.Bound.bound_assignment Rattle.iv_catalogue.specs.Names.generated_name digits values_on_literals
 faults = record {
   one_column = refl;
   number_for_a_text = refl;
@@ -340,7 +340,7 @@ faults = record {
 }
 
 pub shapes : WorkedShapes
-unfolding Rattle.iv_resolution.specs.Scopes.column_meant Rattle.iv_resolution.specs.Scopes.source_named Rattle.iv_resolution.specs.Scopes.is_source Rattle.iv_resolution.specs.Scopes.source_columns Rattle.iv_resolution.specs.Scopes.source_range Rattle.iv_resolution.specs.Scopes.range_of Rattle.iv_resolution.specs.Terms.unknown_condition Rattle.iv_resolution.specs.Terms.clash Rattle.iv_resolution.specs.Terms.some_text Rattle.iv_resolution.specs.Terms.misshaped_condition Rattle.iv_resolution.specs.Terms.integer_of Rattle.iv_resolution.specs.Terms.bound_condition Rattle.iv_resolution.specs.Constraints.comes_twice Rattle.iv_resolution.specs.Changes.clashes_with Rattle.iv_resolution.specs.Changes.value_clashes Rattle.iv_resolution.specs.Changes.misshaped_value Rattle.iv_resolution.specs.Changes.tuple_clashes Rattle.iv_resolution.specs.Changes.misshaped_tuple Rattle.iv_resolution.specs.Changes.kinds_clash Rattle.iv_resolution.specs.Changes.values_clash Rattle.iv_resolution.specs.Changes.columns_clash Rattle.iv_resolution.specs.Changes.list_clashes Rattle.iv_resolution.specs.Changes.misshaped_source Rattle.iv_resolution.specs.Changes.misshaped_assignment Rattle.iv_resolution.specs.Triggers.subject_of Rattle.iv_resolution.specs.Triggers.trigger_names Rattle.iv_resolution.specs.Triggers.trigger_variables Rattle.iv_resolution.specs.Triggers.variable_named Rattle.iv_resolution.specs.Triggers.unknown_set Rattle.iv_resolution.specs.Triggers.unknown_action Rattle.iv_resolution.specs.Triggers.is_allowed_item Rattle.iv_resolution.specs.Triggers.is_allowed_action Rattle.iv_resolution.specs.Triggers.sets_old Rattle.iv_resolution.specs.Triggers.misshaped_action Rattle.iv_resolution.specs.Bound.table_id Rattle.iv_resolution.specs.Bound.default_at Rattle.iv_resolution.specs.Bound.bound_value Rattle.iv_resolution.specs.Bound.target_place Rattle.iv_resolution.specs.Bound.bound_tuple Rattle.iv_resolution.specs.Bound.bound_list Rattle.iv_resolution.specs.Bound.bound_source Rattle.iv_resolution.specs.Bound.bound_columns Rattle.iv_resolution.specs.Bound.bound_assignment Rattle.iv_catalogue.specs.Names.generated digits
+unfolding Rattle.iv_resolution.specs.Scopes.column_meant Rattle.iv_resolution.specs.Scopes.source_named Rattle.iv_resolution.specs.Scopes.is_source Rattle.iv_resolution.specs.Scopes.source_columns Rattle.iv_resolution.specs.Scopes.source_range Rattle.iv_resolution.specs.Scopes.range_of Rattle.iv_resolution.specs.Terms.unknown_condition Rattle.iv_resolution.specs.Terms.clash Rattle.iv_resolution.specs.Terms.some_text Rattle.iv_resolution.specs.Terms.misshaped_condition Rattle.iv_resolution.specs.Terms.integer_of Rattle.iv_resolution.specs.Terms.bound_condition Rattle.iv_resolution.specs.Constraints.comes_twice Rattle.iv_resolution.specs.Changes.clashes_with Rattle.iv_resolution.specs.Changes.value_clashes Rattle.iv_resolution.specs.Changes.misshaped_value Rattle.iv_resolution.specs.Changes.tuple_clashes Rattle.iv_resolution.specs.Changes.misshaped_tuple Rattle.iv_resolution.specs.Changes.kinds_clash Rattle.iv_resolution.specs.Changes.values_clash Rattle.iv_resolution.specs.Changes.columns_clash Rattle.iv_resolution.specs.Changes.list_clashes Rattle.iv_resolution.specs.Changes.misshaped_source Rattle.iv_resolution.specs.Changes.misshaped_assignment Rattle.iv_resolution.specs.Triggers.subject_of Rattle.iv_resolution.specs.Triggers.trigger_names Rattle.iv_resolution.specs.Triggers.trigger_variables Rattle.iv_resolution.specs.Triggers.variable_named Rattle.iv_resolution.specs.Triggers.unknown_set Rattle.iv_resolution.specs.Triggers.unknown_action Rattle.iv_resolution.specs.Triggers.is_allowed_item Rattle.iv_resolution.specs.Triggers.is_allowed_action Rattle.iv_resolution.specs.Triggers.sets_old Rattle.iv_resolution.specs.Triggers.misshaped_action Rattle.iv_resolution.specs.Bound.table_id Rattle.iv_resolution.specs.Bound.default_at Rattle.iv_resolution.specs.Bound.bound_value Rattle.iv_resolution.specs.Bound.target_place Rattle.iv_resolution.specs.Bound.bound_tuple Rattle.iv_resolution.specs.Bound.bound_list Rattle.iv_resolution.specs.Bound.bound_source Rattle.iv_resolution.specs.Bound.bound_columns Rattle.iv_resolution.specs.Bound.bound_assignment Rattle.iv_catalogue.specs.Names.generated_name digits
 shapes = record {
   text_compared_in_a_check = refl;
   integer_compared_in_a_check = refl;
@@ -461,7 +461,7 @@ shapes = record {
 }
 
 pub limits : WorkedLimits
-unfolding Rattle.iv_resolution.specs.Scopes.column_meant Rattle.iv_resolution.specs.Scopes.source_named Rattle.iv_resolution.specs.Scopes.is_source Rattle.iv_resolution.specs.Scopes.source_columns Rattle.iv_resolution.specs.Scopes.source_range Rattle.iv_resolution.specs.Scopes.range_of Rattle.iv_resolution.specs.Terms.unknown_condition Rattle.iv_resolution.specs.Terms.clash Rattle.iv_resolution.specs.Terms.some_text Rattle.iv_resolution.specs.Terms.misshaped_condition Rattle.iv_resolution.specs.Terms.integer_of Rattle.iv_resolution.specs.Terms.bound_condition Rattle.iv_resolution.specs.Constraints.comes_twice Rattle.iv_resolution.specs.Changes.clashes_with Rattle.iv_resolution.specs.Changes.value_clashes Rattle.iv_resolution.specs.Changes.misshaped_value Rattle.iv_resolution.specs.Changes.tuple_clashes Rattle.iv_resolution.specs.Changes.misshaped_tuple Rattle.iv_resolution.specs.Changes.kinds_clash Rattle.iv_resolution.specs.Changes.values_clash Rattle.iv_resolution.specs.Changes.columns_clash Rattle.iv_resolution.specs.Changes.list_clashes Rattle.iv_resolution.specs.Changes.misshaped_source Rattle.iv_resolution.specs.Changes.misshaped_assignment Rattle.iv_resolution.specs.Triggers.subject_of Rattle.iv_resolution.specs.Triggers.trigger_names Rattle.iv_resolution.specs.Triggers.trigger_variables Rattle.iv_resolution.specs.Triggers.variable_named Rattle.iv_resolution.specs.Triggers.unknown_set Rattle.iv_resolution.specs.Triggers.unknown_action Rattle.iv_resolution.specs.Triggers.is_allowed_item Rattle.iv_resolution.specs.Triggers.is_allowed_action Rattle.iv_resolution.specs.Triggers.sets_old Rattle.iv_resolution.specs.Triggers.misshaped_action Rattle.iv_resolution.specs.Bound.table_id Rattle.iv_resolution.specs.Bound.default_at Rattle.iv_resolution.specs.Bound.bound_value Rattle.iv_resolution.specs.Bound.target_place Rattle.iv_resolution.specs.Bound.bound_tuple Rattle.iv_resolution.specs.Bound.bound_list Rattle.iv_resolution.specs.Bound.bound_source Rattle.iv_resolution.specs.Bound.bound_columns Rattle.iv_resolution.specs.Bound.bound_assignment Rattle.iv_catalogue.specs.Names.generated digits
+unfolding Rattle.iv_resolution.specs.Scopes.column_meant Rattle.iv_resolution.specs.Scopes.source_named Rattle.iv_resolution.specs.Scopes.is_source Rattle.iv_resolution.specs.Scopes.source_columns Rattle.iv_resolution.specs.Scopes.source_range Rattle.iv_resolution.specs.Scopes.range_of Rattle.iv_resolution.specs.Terms.unknown_condition Rattle.iv_resolution.specs.Terms.clash Rattle.iv_resolution.specs.Terms.some_text Rattle.iv_resolution.specs.Terms.misshaped_condition Rattle.iv_resolution.specs.Terms.integer_of Rattle.iv_resolution.specs.Terms.bound_condition Rattle.iv_resolution.specs.Constraints.comes_twice Rattle.iv_resolution.specs.Changes.clashes_with Rattle.iv_resolution.specs.Changes.value_clashes Rattle.iv_resolution.specs.Changes.misshaped_value Rattle.iv_resolution.specs.Changes.tuple_clashes Rattle.iv_resolution.specs.Changes.misshaped_tuple Rattle.iv_resolution.specs.Changes.kinds_clash Rattle.iv_resolution.specs.Changes.values_clash Rattle.iv_resolution.specs.Changes.columns_clash Rattle.iv_resolution.specs.Changes.list_clashes Rattle.iv_resolution.specs.Changes.misshaped_source Rattle.iv_resolution.specs.Changes.misshaped_assignment Rattle.iv_resolution.specs.Triggers.subject_of Rattle.iv_resolution.specs.Triggers.trigger_names Rattle.iv_resolution.specs.Triggers.trigger_variables Rattle.iv_resolution.specs.Triggers.variable_named Rattle.iv_resolution.specs.Triggers.unknown_set Rattle.iv_resolution.specs.Triggers.unknown_action Rattle.iv_resolution.specs.Triggers.is_allowed_item Rattle.iv_resolution.specs.Triggers.is_allowed_action Rattle.iv_resolution.specs.Triggers.sets_old Rattle.iv_resolution.specs.Triggers.misshaped_action Rattle.iv_resolution.specs.Bound.table_id Rattle.iv_resolution.specs.Bound.default_at Rattle.iv_resolution.specs.Bound.bound_value Rattle.iv_resolution.specs.Bound.target_place Rattle.iv_resolution.specs.Bound.bound_tuple Rattle.iv_resolution.specs.Bound.bound_list Rattle.iv_resolution.specs.Bound.bound_source Rattle.iv_resolution.specs.Bound.bound_columns Rattle.iv_resolution.specs.Bound.bound_assignment Rattle.iv_catalogue.specs.Names.generated_name digits
 limits = record {
   table_65 = refl;
   table_64 = refl;
@@ -576,7 +576,7 @@ limits = record {
 }
 
 pub order : WorkedOrder
-unfolding Rattle.iv_resolution.specs.Scopes.column_meant Rattle.iv_resolution.specs.Scopes.source_named Rattle.iv_resolution.specs.Scopes.is_source Rattle.iv_resolution.specs.Scopes.source_columns Rattle.iv_resolution.specs.Scopes.source_range Rattle.iv_resolution.specs.Scopes.range_of Rattle.iv_resolution.specs.Terms.unknown_condition Rattle.iv_resolution.specs.Terms.clash Rattle.iv_resolution.specs.Terms.some_text Rattle.iv_resolution.specs.Terms.misshaped_condition Rattle.iv_resolution.specs.Terms.integer_of Rattle.iv_resolution.specs.Terms.bound_condition Rattle.iv_resolution.specs.Constraints.comes_twice Rattle.iv_resolution.specs.Changes.clashes_with Rattle.iv_resolution.specs.Changes.value_clashes Rattle.iv_resolution.specs.Changes.misshaped_value Rattle.iv_resolution.specs.Changes.tuple_clashes Rattle.iv_resolution.specs.Changes.misshaped_tuple Rattle.iv_resolution.specs.Changes.kinds_clash Rattle.iv_resolution.specs.Changes.values_clash Rattle.iv_resolution.specs.Changes.columns_clash Rattle.iv_resolution.specs.Changes.list_clashes Rattle.iv_resolution.specs.Changes.misshaped_source Rattle.iv_resolution.specs.Changes.misshaped_assignment Rattle.iv_resolution.specs.Triggers.subject_of Rattle.iv_resolution.specs.Triggers.trigger_names Rattle.iv_resolution.specs.Triggers.trigger_variables Rattle.iv_resolution.specs.Triggers.variable_named Rattle.iv_resolution.specs.Triggers.unknown_set Rattle.iv_resolution.specs.Triggers.unknown_action Rattle.iv_resolution.specs.Triggers.is_allowed_item Rattle.iv_resolution.specs.Triggers.is_allowed_action Rattle.iv_resolution.specs.Triggers.sets_old Rattle.iv_resolution.specs.Triggers.misshaped_action Rattle.iv_resolution.specs.Bound.table_id Rattle.iv_resolution.specs.Bound.default_at Rattle.iv_resolution.specs.Bound.bound_value Rattle.iv_resolution.specs.Bound.target_place Rattle.iv_resolution.specs.Bound.bound_tuple Rattle.iv_resolution.specs.Bound.bound_list Rattle.iv_resolution.specs.Bound.bound_source Rattle.iv_resolution.specs.Bound.bound_columns Rattle.iv_resolution.specs.Bound.bound_assignment Rattle.iv_catalogue.specs.Names.generated digits values_on_literals
+unfolding Rattle.iv_resolution.specs.Scopes.column_meant Rattle.iv_resolution.specs.Scopes.source_named Rattle.iv_resolution.specs.Scopes.is_source Rattle.iv_resolution.specs.Scopes.source_columns Rattle.iv_resolution.specs.Scopes.source_range Rattle.iv_resolution.specs.Scopes.range_of Rattle.iv_resolution.specs.Terms.unknown_condition Rattle.iv_resolution.specs.Terms.clash Rattle.iv_resolution.specs.Terms.some_text Rattle.iv_resolution.specs.Terms.misshaped_condition Rattle.iv_resolution.specs.Terms.integer_of Rattle.iv_resolution.specs.Terms.bound_condition Rattle.iv_resolution.specs.Constraints.comes_twice Rattle.iv_resolution.specs.Changes.clashes_with Rattle.iv_resolution.specs.Changes.value_clashes Rattle.iv_resolution.specs.Changes.misshaped_value Rattle.iv_resolution.specs.Changes.tuple_clashes Rattle.iv_resolution.specs.Changes.misshaped_tuple Rattle.iv_resolution.specs.Changes.kinds_clash Rattle.iv_resolution.specs.Changes.values_clash Rattle.iv_resolution.specs.Changes.columns_clash Rattle.iv_resolution.specs.Changes.list_clashes Rattle.iv_resolution.specs.Changes.misshaped_source Rattle.iv_resolution.specs.Changes.misshaped_assignment Rattle.iv_resolution.specs.Triggers.subject_of Rattle.iv_resolution.specs.Triggers.trigger_names Rattle.iv_resolution.specs.Triggers.trigger_variables Rattle.iv_resolution.specs.Triggers.variable_named Rattle.iv_resolution.specs.Triggers.unknown_set Rattle.iv_resolution.specs.Triggers.unknown_action Rattle.iv_resolution.specs.Triggers.is_allowed_item Rattle.iv_resolution.specs.Triggers.is_allowed_action Rattle.iv_resolution.specs.Triggers.sets_old Rattle.iv_resolution.specs.Triggers.misshaped_action Rattle.iv_resolution.specs.Bound.table_id Rattle.iv_resolution.specs.Bound.default_at Rattle.iv_resolution.specs.Bound.bound_value Rattle.iv_resolution.specs.Bound.target_place Rattle.iv_resolution.specs.Bound.bound_tuple Rattle.iv_resolution.specs.Bound.bound_list Rattle.iv_resolution.specs.Bound.bound_source Rattle.iv_resolution.specs.Bound.bound_columns Rattle.iv_resolution.specs.Bound.bound_assignment Rattle.iv_catalogue.specs.Names.generated_name digits values_on_literals
 order = record {
   table_in_use_that_refers_to_nothing = refl;
   check_of_nothing_with_exists = refl;

@@ -16,7 +16,7 @@ use Rattle.iv_syntax.specs.declared.trigger.TriggerEvent.TheVariants as event
 use Rattle.iv_syntax.specs.declared.trigger.Granularity.TheVariants as granularity
 use Rattle.iv_syntax.specs.declared.trigger.TriggerAction.{TriggerAction}
 use Rattle.iv_syntax.specs.declared.trigger.TriggerAction.TheVariants as action
-use Rattle.iv_catalogue.specs.Names.{generated}
+use Rattle.iv_catalogue.specs.Names.{generated_name}
 use Rattle.iv_catalogue.specs.Catalogues.{Schema}
 use Rattle.iv_catalogue.specs.declared.catalogue.Table.{Table}
 use Rattle.iv_catalogue.specs.declared.constraint.Rule.TheVariants as rule
@@ -31,7 +31,7 @@ numbers (suc n) = n ∷ numbers n
 
 -- so many names
 abbrev pub numbered : ℕ → List (List ℕ)
-numbered n = map (generated x) (numbers n)
+numbered n = map (generated_name x) (numbers n)
 
 -- a name of so many letters
 abbrev pub long_name : ℕ → List ℕ

@@ -7,10 +7,11 @@ ghost use Rattle.iv_resolution.specs.Tables.{table_names};
 use crate::outside::table_names;
 use iv_catalogue::Catalogue;
 use iv_resolve_changes::{misshaped_delete, misshaped_insert, misshaped_select, misshaped_update};
-use iv_resolve_tables::{misshaped_addition, misshaped_table};
 use iv_resolve_triggers::misshaped_trigger;
 use iv_scope::Ranges;
 use iv_syntax::{Delete, Insert, Select, Statement, Update};
+use iv_table_causes::{misshaped_addition, misshaped_table};
+use std::alloc::Global;
 
 fn of_insert(insert: &Insert, catalogue: &Catalogue) -> bool
     ensures { result ≡ misshaped_insert (table_names catalogue.now) [] insert.now }
@@ -41,12 +42,12 @@ fn of_select(select: &Select, catalogue: &Catalogue) -> bool
 }
 
 /// Whether the number of values isn't that of the columns, or an integer meets a text.
-pub fn is_misshaped(statement: &Statement, catalogue: &Catalogue) -> bool
+pub fn is_misshaped(alloc: Global, statement: &Statement, catalogue: &Catalogue) -> bool
     ensures { result ≡ is_misshaped catalogue.now statement.now }
 {
     match statement {
         Statement::CreateTable { name, elements } => {
-            misshaped_table(catalogue, name.as_str(), elements.as_slice())
+            misshaped_table(alloc, catalogue, name.as_str(), elements.as_slice())
         }
         Statement::AlterTable { table, constraint } => {
             misshaped_addition(catalogue, table.as_str(), constraint)

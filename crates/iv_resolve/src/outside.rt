@@ -4,7 +4,7 @@ ghost use Rattle.iv_resolution.specs.Tables.{table_names};
 ghost use Rattle.iv_scope.specs.Seen.{names_seen};
 
 use iv_catalogue::{Catalogue, MOST_TABLES};
-use iv_scope::{Columns, Names};
+use iv_scope::{Columns, Names, ReferencingItems};
 
 /// The tables of the catalogue alone.
 pub fn table_names<'a>(catalogue: &'a Catalogue) -> Names<'a>
@@ -14,7 +14,7 @@ pub fn table_names<'a>(catalogue: &'a Catalogue) -> Names<'a>
     Names {
         created: None,
         tables: catalogue.tables(),
-        referencing: &[],
+        referencing: ReferencingItems::Listed(&[]),
         subject: Columns::Stored(&[]),
     }
 }

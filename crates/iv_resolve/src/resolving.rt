@@ -15,8 +15,8 @@ use crate::planning::{
 use crate::unknown::is_unknown;
 use iv_catalogue::{Catalogue, Cause, Plan, Refusal, SchemaPlan, TransactionPlan};
 use iv_resolve_changes::table_id;
-use iv_resolve_tables::{bound_alteration, bound_table};
 use iv_syntax::Statement;
+use iv_table_plans::{bound_alteration, bound_table};
 use std::alloc::{AllocError, Global};
 
 // The least cause that the statement deserves. It takes no memory as seen from outside: where memory is refused, names are compared in
@@ -24,16 +24,16 @@ use std::alloc::{AllocError, Global};
 fn least(alloc: Global, statement: &Statement, catalogue: &Catalogue) -> Option<Cause>
     ensures { result ≡ least catalogue.now statement.now }
 {
-    if is_unknown(statement, catalogue) {
+    if is_unknown(alloc, statement, catalogue) {
         return Some(Cause::Unknown);
     }
     if is_duplicate(alloc, statement, catalogue) {
         return Some(Cause::Duplicate);
     }
-    if is_faulty(statement, catalogue) {
+    if is_faulty(alloc, statement, catalogue) {
         return Some(Cause::SchemaFault);
     }
-    if is_misshaped(statement, catalogue) {
+    if is_misshaped(alloc, statement, catalogue) {
         return Some(Cause::WrongShape);
     }
     if is_beyond_limits(statement, catalogue) {

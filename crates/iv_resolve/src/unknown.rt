@@ -9,10 +9,11 @@ ghost use Rattle.iv_resolution.specs.Tables.{table_names};
 use crate::outside::table_names;
 use iv_catalogue::Catalogue;
 use iv_resolve_changes::{unknown_delete, unknown_insert, unknown_select, unknown_update};
-use iv_resolve_tables::{unknown_addition, unknown_table};
 use iv_resolve_triggers::unknown_trigger;
 use iv_scope::Ranges;
 use iv_syntax::{ConstraintList, Delete, Insert, Name, Select, Statement, Update};
+use iv_table_causes::{unknown_addition, unknown_table};
+use std::alloc::Global;
 
 fn of_insert(insert: &Insert, catalogue: &Catalogue) -> bool
     ensures { result ≡ unknown_insert (table_names catalogue.now) [] insert.now }
@@ -42,7 +43,7 @@ fn of_select(select: &Select, catalogue: &Catalogue) -> bool
     unknown_select(select, &names, &Ranges::Nothing)
 }
 
-#[tactic(auto, using(iv_resolve_tables::proofs::Sets::found))]
+#[tactic(auto, using(iv_table_causes::proofs::Sets::found))]
 fn has_constraint(catalogue: &Catalogue, name: &str) -> bool
     ensures { result ≡ has_constraint catalogue.now name.now }
 {
@@ -74,17 +75,17 @@ fn has_trigger(catalogue: &Catalogue, name: &str) -> bool
 }
 
 /// Whether a name of the statement names nothing.
-pub fn is_unknown(statement: &Statement, catalogue: &Catalogue) -> bool
+pub fn is_unknown(alloc: Global, statement: &Statement, catalogue: &Catalogue) -> bool
     ensures { result ≡ is_unknown catalogue.now statement.now }
 {
     match statement {
         Statement::CreateTable { name, elements } => {
-            unknown_table(catalogue, name.as_str(), elements.as_slice())
+            unknown_table(alloc, catalogue, name.as_str(), elements.as_slice())
         }
         Statement::AlterTable { table, constraint } => {
             unknown_addition(catalogue, table.as_str(), constraint)
         }
-        Statement::CreateTrigger(trigger) => unknown_trigger(trigger, catalogue),
+        Statement::CreateTrigger(trigger) => unknown_trigger(alloc, trigger, catalogue),
         Statement::DropTrigger(name) => !has_trigger(catalogue, name.as_str()),
         Statement::Insert(insert) => of_insert(insert, catalogue),
         Statement::Update(update) => of_update(update, catalogue),

@@ -243,6 +243,50 @@ const TABLES: [(&str, &str); 16] = [
     ),
 ];
 
+// Foreign keys that refer to their own table.
+const OWN_KEYS: [(&str, &str); 10] = [
+    (
+        "CREATE TABLE u (a INTEGER, b INTEGER, UNIQUE (a, b), FOREIGN KEY (a, b) REFERENCES u (b, a));",
+        "U of 2: U_C1 unique of 1 U_C2 foreign key of 1",
+    ),
+    (
+        "CREATE TABLE u (a INTEGER, b INTEGER REFERENCES u (a), UNIQUE (a));",
+        "U of 2: U_C1 foreign key of 1 U_C2 unique of 1",
+    ),
+    (
+        "CREATE TABLE u (a INTEGER PRIMARY KEY, b INTEGER REFERENCES u);",
+        "U of 2: U_C1 primary key of 1 U_C2 foreign key of 1",
+    ),
+    (
+        "CREATE TABLE u (a INTEGER, b INTEGER, UNIQUE (a, b) DEFERRABLE, FOREIGN KEY (a, b) REFERENCES u (a, b));",
+        "SchemaFault",
+    ),
+    (
+        "CREATE TABLE u (a INTEGER UNIQUE, b INTEGER, FOREIGN KEY (a, b) REFERENCES u (a, b));",
+        "SchemaFault",
+    ),
+    (
+        "CREATE TABLE u (a INTEGER, b INTEGER REFERENCES u (a), UNIQUE (a, b));",
+        "SchemaFault",
+    ),
+    (
+        "CREATE TABLE u (a INTEGER PRIMARY KEY DEFERRABLE, b INTEGER REFERENCES u);",
+        "SchemaFault",
+    ),
+    (
+        "CREATE TABLE u (a INTEGER UNIQUE, b INTEGER REFERENCES u);",
+        "SchemaFault",
+    ),
+    (
+        "CREATE TABLE u (a INTEGER UNIQUE, b VARCHAR(3) REFERENCES u (a));",
+        "SchemaFault",
+    ),
+    (
+        "CREATE TABLE u (a INTEGER PRIMARY KEY, b INTEGER, FOREIGN KEY (a, b) REFERENCES u);",
+        "SchemaFault",
+    ),
+];
+
 const OTHERS: [(&str, &str); 24] = [
     (
         "CREATE TRIGGER g AFTER INSERT ON t SIGNAL 'no';",
@@ -283,6 +327,13 @@ fn tried(alloc: Global, texts: &[(&str, &str)]) -> Result<String, AllocError> {
 #[test]
 fn tables_are_resolved(rt: HostRuntime) -> Result<(), Fail> {
     let wrong = tried(rt.alloc(), &TABLES)?;
+    assert_eq!(rt; wrong.as_str(), "");
+    Ok(())
+}
+
+#[test]
+fn foreign_keys_to_their_own_table_are_resolved(rt: HostRuntime) -> Result<(), Fail> {
+    let wrong = tried(rt.alloc(), &OWN_KEYS)?;
     assert_eq!(rt; wrong.as_str(), "");
     Ok(())
 }

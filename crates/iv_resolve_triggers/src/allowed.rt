@@ -2,7 +2,7 @@
 ghost use Rattle.std.specs.Prelude.{◌≡◌, ◌&&◌, not, true, false};
 ghost use Rattle.std.specs.List.{list_any};
 ghost use Rattle.iv_resolution.specs.Triggers.{faulty_trigger, for_each_row, has_side, is_allowed_action, is_allowed_item, is_before, is_old, is_side, item_twice, items_of, names_row, row_variables, sets_old, some_item_twice};
-ghost use Rattle.iv_scope.specs.Seen.{columns_seen};
+ghost use Rattle.iv_scope.specs.Seen.{columns_seen, items_seen};
 
 use crate::variables::{trigger_names, variable_named};
 use iv_catalogue::Catalogue;
@@ -122,7 +122,7 @@ fn is_old(origin: Origin) -> bool
 
 #[tactic(auto, unfolding(iv_resolution::specs::Triggers::sets_old))]
 fn sets_old<'a>(action: &'a TriggerAction, names: &'a Names<'a>) -> bool
-    ensures { result ≡ sets_old (row_variables (columns_seen names.now.subject) names.now.referencing.now) action.now }
+    ensures { result ≡ sets_old (row_variables (columns_seen names.now.subject) (items_seen names.now.referencing)) action.now }
 {
     match action {
         TriggerAction::Set(variable, _, _) => match variable_named(names, variable.as_str()) {
@@ -137,7 +137,7 @@ fn sets_old<'a>(action: &'a TriggerAction, names: &'a Names<'a>) -> bool
 }
 
 fn some_sets_old<'a>(body: &'a [TriggerAction], names: &'a Names<'a>) -> bool
-    ensures { result ≡ list_any (sets_old (row_variables (columns_seen names.now.subject) names.now.referencing.now)) body.now }
+    ensures { result ≡ list_any (sets_old (row_variables (columns_seen names.now.subject) (items_seen names.now.referencing))) body.now }
 {
     body.iter().any(|action| sets_old(action, &*names))
 }

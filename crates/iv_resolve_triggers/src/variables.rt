@@ -1,20 +1,24 @@
 //! What WHEN and the body of a trigger may name.
-ghost use Rattle.std.specs.Prelude.{◌≡◌, ◌&&◌, ◌≤◌, length};
-ghost use Rattle.std.specs.Str.{bytes_eq};
-ghost use Rattle.iv_resolution.specs.Triggers.{names_row, row_variables, trigger_names, trigger_variables, variable_named};
-ghost use Rattle.iv_scope.specs.Seen.{columns_seen, names_seen, ranges_seen};
+ghost use Rattle.std.specs.Prelude.{◌≡◌, ◌≤◌, length};
+ghost use Rattle.iv_resolution.specs.Triggers.{row_variables, trigger_names, trigger_variables, variable_named};
+ghost use Rattle.iv_scope.specs.Seen.{columns_seen, items_seen, names_seen, ranges_seen};
 
 use iv_catalogue::{Catalogue, MOST_TABLES};
 use iv_resolution::Origin;
 use iv_resolve_changes::stored_columns;
-use iv_scope::{Columns, Names, Ranges};
-use iv_syntax::{Referencing, TransitionName, TriggerDefinition};
+use iv_scope::{Columns, Names, Ranges, ReferencingItems};
+use iv_syntax::{TransitionName, TriggerDefinition};
 
-/// The tables that a trigger may name.
+/// The tables that a trigger may name, where its items of REFERENCING are given with an index or without.
 #[tactic(auto, unfolding(iv_resolution::specs::Triggers::trigger_names, iv_resolution::specs::Triggers::trigger_variables, iv_resolution::specs::Triggers::subject_of))]
-pub fn trigger_names<'a>(trigger: &'a TriggerDefinition, catalogue: &'a Catalogue) -> Names<'a>
+pub fn names_among<'a>(
+    trigger: &'a TriggerDefinition,
+    catalogue: &'a Catalogue,
+    items: ReferencingItems<'a>,
+) -> Names<'a>
+    requires { items_seen items ≡ trigger.now.referencing }
     ensures names { names_seen result ≡ trigger_names catalogue.entry.now trigger.entry.now }
-    ensures variables { row_variables (columns_seen result.subject) result.referencing.now
+    ensures variables { row_variables (columns_seen result.subject) (items_seen result.referencing)
         ≡ trigger_variables catalogue.entry.now trigger.entry.now }
     ensures tables { length result.tables.now ≤ MOST_TABLES }
 {
@@ -22,39 +26,37 @@ pub fn trigger_names<'a>(trigger: &'a TriggerDefinition, catalogue: &'a Catalogu
     Names {
         created: None,
         tables,
-        referencing: trigger.referencing.as_slice(),
+        referencing: items,
         subject: Columns::Stored(stored_columns(tables, trigger.table.as_str())),
     }
 }
 
+/// The tables that a trigger may name. Each name is looked for among all items of REFERENCING, which are four at most where none
+/// comes twice.
+pub fn trigger_names<'a>(trigger: &'a TriggerDefinition, catalogue: &'a Catalogue) -> Names<'a>
+    ensures names { names_seen result ≡ trigger_names catalogue.entry.now trigger.entry.now }
+    ensures variables { row_variables (columns_seen result.subject) (items_seen result.referencing)
+        ≡ trigger_variables catalogue.entry.now trigger.entry.now }
+    ensures tables { length result.tables.now ≤ MOST_TABLES }
+{
+    let items = ReferencingItems::Listed(trigger.referencing.as_slice());
+    names_among(trigger, catalogue, items)
+}
+
 /// The row variables of a trigger as ranges.
 pub fn variables<'a>(names: &Names<'a>) -> Ranges<'a>
-    ensures { ranges_seen result ≡ row_variables (columns_seen names.now.subject) names.now.referencing.now }
+    ensures { ranges_seen result ≡ row_variables (columns_seen names.now.subject) (items_seen names.now.referencing) }
 {
     Ranges::Variables(names.referencing, names.subject)
 }
 
-fn is_row_named(item: &Referencing, name: &str) -> bool
-    ensures { result ≡ (names_row item.now && bytes_eq name.now item.now.name) }
-{
-    matches!(item.what, TransitionName::Row) && name == item.name.as_str()
-}
-
-#[tactic(auto, using(crate::proofs::Named::named_past))]
-fn variable_in(items: &[Referencing], columns: &Columns<'_>, name: &str) -> Option<Origin>
-    ensures { result ≡ variable_named (row_variables (columns_seen columns.now) items.now) name.now }
-{
-    for item in items {
-        if is_row_named(item, name) {
-            return Some(Origin::Variable(item.side));
-        }
-    }
-    None
-}
-
 /// The row variable of that name.
+#[tactic(auto, using(crate::proofs::Named::named_first))]
 pub fn variable_named(names: &Names<'_>, name: &str) -> Option<Origin>
-    ensures { result ≡ variable_named (row_variables (columns_seen names.now.subject) names.now.referencing.now) name.now }
+    ensures { result ≡ variable_named (row_variables (columns_seen names.now.subject) (items_seen names.now.referencing)) name.now }
 {
-    variable_in(names.referencing, &names.subject, name)
+    match names.referencing.side(TransitionName::Row, name) {
+        Some(side) => Some(Origin::Variable(side)),
+        None => None,
+    }
 }

@@ -2,3 +2,7 @@ pub mod Places
 pub mod Variables
 pub mod Steps
 pub mod Sets
+pub mod Firsts
+pub mod NameSets
+pub mod Noted
+pub mod FirstItems

@@ -1,2 +1,4 @@
 pub mod Seen
 pub mod Sets
+pub mod FirstColumns
+pub mod FirstItems

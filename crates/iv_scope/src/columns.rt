@@ -5,15 +5,17 @@ ghost use Rattle.iv_resolution.specs.Constraints.{defined_columns};
 ghost use Rattle.iv_resolution.specs.Scopes.{column_place, has_column, named_columns, number, place_of, type_named, type_of};
 ghost use Rattle.iv_scope.specs.Seen.{columns_seen};
 
+use crate::column_index::ColumnIndex;
 use iv_catalogue::Column;
 use iv_syntax::{ColumnType, TableElement};
 use iv_value::Kind;
 
-/// The columns of a table of the catalogue, or those that a CREATE TABLE defines.
+/// The columns of a table of the catalogue, or those that a CREATE TABLE defines, with an index of them or without.
 #[derive(Clone, Copy)]
 pub enum Columns<'a> {
     Stored(&'a [Column]),
     Defined(&'a [TableElement]),
+    Indexed(&'a ColumnIndex),
 }
 
 // The type of a column of this kind, as it is written.
@@ -84,6 +86,26 @@ fn defined_type(elements: &[TableElement], name: &str) -> Option<ColumnType>
     None
 }
 
+#[tactic(auto, using(crate::proofs::Firsts::place_of_first))]
+fn indexed_place(index: &ColumnIndex, name: &str) -> Option<u32>
+    ensures { result ≡ column_place index.now name.now }
+{
+    match index.first(name) {
+        Some(column) => Some(number(column.place)),
+        None => None,
+    }
+}
+
+#[tactic(auto, using(crate::proofs::Firsts::type_of_first))]
+fn indexed_type(index: &ColumnIndex, name: &str) -> Option<ColumnType>
+    ensures { result ≡ type_named index.now name.now }
+{
+    match index.first(name) {
+        Some(column) => Some(column.kind),
+        None => None,
+    }
+}
+
 fn count_defined(elements: &[TableElement]) -> usize
     ensures { result ≡ length (defined_columns elements.now) }
 {
@@ -128,6 +150,7 @@ impl<'a> Columns<'a> {
         match self {
             Columns::Stored(columns) => stored_place(columns, name),
             Columns::Defined(elements) => defined_place(elements, name),
+            Columns::Indexed(index) => indexed_place(index, name),
         }
     }
 
@@ -138,6 +161,7 @@ impl<'a> Columns<'a> {
         match self {
             Columns::Stored(columns) => stored_type(columns, name),
             Columns::Defined(elements) => defined_type(elements, name),
+            Columns::Indexed(index) => indexed_type(index, name),
         }
     }
 
@@ -162,6 +186,7 @@ impl<'a> Columns<'a> {
         match self {
             Columns::Stored(columns) => columns.len(),
             Columns::Defined(elements) => count_defined(elements),
+            Columns::Indexed(index) => index.len(),
         }
     }
 
@@ -172,6 +197,7 @@ impl<'a> Columns<'a> {
         match self {
             Columns::Stored(columns) => stored_type_at(columns, place),
             Columns::Defined(elements) => defined_type_at(elements, place),
+            Columns::Indexed(index) => index.type_at(place),
         }
     }
 }

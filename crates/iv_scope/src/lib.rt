@@ -3,14 +3,20 @@
 #![tactic(auto)]
 
 mod binding;
+mod column_index;
 mod columns;
 mod kinds;
 mod name_set;
 mod names;
 mod ranges;
+mod referencing;
+mod referencing_index;
+#[cfg(test)]
+mod tests;
 mod unknown;
 
 pub use binding::{bound_condition, bound_expression, bound_filter, integer_of};
+pub use column_index::{ColumnIndex, FirstColumn};
 pub use columns::Columns;
 pub use kinds::{
     clashes_with, has_exists, is_integer_type, is_text_type, kinds_clash, misshaped_condition,
@@ -22,4 +28,6 @@ pub use names::{
     table_place,
 };
 pub use ranges::{Found, Ranges, column_meant};
+pub use referencing::ReferencingItems;
+pub use referencing_index::ReferencingIndex;
 pub use unknown::{unknown_condition, unknown_expression, unknown_filter};

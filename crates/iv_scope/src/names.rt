@@ -2,22 +2,22 @@
 ghost use Rattle.std.specs.Prelude.{◌≡◌, ◌<◌, ◌≤◌, ◌∷◌, find, is_some, option_map, IfSome, length};
 ghost use Rattle.std.specs.Str.{bytes_eq};
 ghost use Rattle.iv_resolution.specs.Changes.{stored_columns};
-ghost use Rattle.iv_resolution.specs.Scopes.{created_source, is_source, range_of, source_columns, source_named, source_range, stored_source, table_place, transition_named, transition_source};
-ghost use Rattle.iv_resolution.specs.Triggers.{transition_tables};
+ghost use Rattle.iv_resolution.specs.Scopes.{created_source, is_source, range_of, source_columns, source_named, source_range, stored_source, table_place, transition_source};
 ghost use Rattle.iv_scope.specs.Seen.{columns_seen, names_seen, ranges_seen, source_seen};
 
 use crate::columns::Columns;
 use crate::ranges::Ranges;
+use crate::referencing::ReferencingItems;
 use iv_catalogue::{MOST_TABLES, Table};
 use iv_expr::{Range, Side, TableId};
 use iv_resolution::Origin;
-use iv_syntax::{RangeName, Referencing, TableElement, TransitionName};
+use iv_syntax::{RangeName, TransitionName};
 
 /// The table that a CREATE TABLE makes.
 #[derive(Clone, Copy)]
 pub struct Created<'a> {
     pub name: &'a str,
-    pub elements: &'a [TableElement],
+    pub columns: Columns<'a>,
 }
 
 /// The tables that a FROM may name: the one that a CREATE TABLE makes, those of the catalogue, and in a
@@ -26,7 +26,7 @@ pub struct Created<'a> {
 pub struct Names<'a> {
     pub created: Option<Created<'a>>,
     pub tables: &'a [Table],
-    pub referencing: &'a [Referencing],
+    pub referencing: ReferencingItems<'a>,
     pub subject: Columns<'a>,
 }
 
@@ -70,7 +70,7 @@ fn created_source<'a>(names: &Names<'a>, name: &str) -> Option<Source<'a>>
             if name == created.name {
                 Some(Source {
                     range: Range::Table(TableId::new(names.tables.len() as u32)),
-                    columns: Columns::Defined(created.elements),
+                    columns: created.columns,
                 })
             } else {
                 None
@@ -80,24 +80,11 @@ fn created_source<'a>(names: &Names<'a>, name: &str) -> Option<Source<'a>>
     }
 }
 
-// The side of the transition table of that name.
-fn transition_named(items: &[Referencing], name: &str) -> Option<Side>
-    ensures { result ≡ transition_named (transition_tables items.now) name.now }
-{
-    for item in items {
-        if matches!(item.what, TransitionName::Table) {
-            if name == item.name.as_str() {
-                return Some(item.side);
-            }
-        }
-    }
-    None
-}
-
+#[tactic(auto, using(crate::proofs::FirstItems::table_of_first))]
 fn transition_source<'a>(names: &Names<'a>, name: &str) -> Option<Source<'a>>
     ensures { option_map source_seen result ≡ transition_source (names_seen names.now) name.now }
 {
-    match transition_named(names.referencing, name) {
+    match names.referencing.side(TransitionName::Table, name) {
         Some(side) => Some(Source {
             range: Range::Transition(side),
             columns: names.subject,

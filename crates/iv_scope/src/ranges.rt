@@ -1,20 +1,21 @@
 //! Ranges and row variables, from the innermost outward.
-ghost use Rattle.std.specs.Prelude.{◌≡◌, ◌&&◌, ◌+◌, [], ◌∷◌, Some, option_map, is_some};
+ghost use Rattle.std.specs.Prelude.{◌≡◌, ◌+◌, [], ◌∷◌, Some, option_map, is_some};
 ghost use Rattle.iv_resolution.specs.Scopes.{column_meant, count_outward, found_in, number, qualified, unqualified};
-ghost use Rattle.iv_resolution.specs.Triggers.{names_row, row_variables};
+ghost use Rattle.iv_resolution.specs.Triggers.{row_variables};
 ghost use Rattle.std.specs.Str.{bytes_eq};
-ghost use Rattle.iv_scope.specs.Seen.{columns_seen, found_seen, ranges_seen};
+ghost use Rattle.iv_scope.specs.Seen.{columns_seen, found_seen, items_seen, ranges_seen};
 
 use crate::columns::Columns;
+use crate::referencing::ReferencingItems;
 use iv_resolution::Origin;
-use iv_syntax::{ColumnName, ColumnType, Referencing, TransitionName};
+use iv_syntax::{ColumnName, ColumnType, TransitionName};
 
 /// Ranges and row variables: nothing, the row variables of a trigger with the columns of its table, or a range with the name that it
 /// is called by and those outside of it.
 #[derive(Clone, Copy)]
 pub enum Ranges<'a> {
     Nothing,
-    Variables(&'a [Referencing], Columns<'a>),
+    Variables(ReferencingItems<'a>, Columns<'a>),
     Within(&'a str, Columns<'a>, Origin, &'a Ranges<'a>),
 }
 
@@ -51,31 +52,22 @@ fn found_in(columns: &Columns<'_>, origin: Origin, outward: u32, name: &str) -> 
     }
 }
 
-// Whether an item names a row variable of that name.
-fn is_row_named(item: &Referencing, name: &str) -> bool
-    ensures { result ≡ (names_row item.now && bytes_eq name.now item.now.name) }
-{
-    matches!(item.what, TransitionName::Row) && name == item.name.as_str()
-}
-
 // The column of the first row variable of that name.
-#[tactic(auto, using(crate::proofs::Variables::variable_found, crate::proofs::Variables::variable_passed))]
+#[tactic(auto, using(crate::proofs::Variables::variable_of_first))]
 fn variable_column(
-    items: &[Referencing],
+    items: &ReferencingItems<'_>,
     columns: &Columns<'_>,
     range: &str,
     name: &str,
     outward: u32,
 ) -> Option<Found>
     ensures { option_map found_seen result
-        ≡ qualified range.now name.now outward (row_variables (columns_seen columns.now) items.now) }
+        ≡ qualified range.now name.now outward (row_variables (columns_seen columns.now) (items_seen items.now)) }
 {
-    for item in items {
-        if is_row_named(item, range) {
-            return found_in(columns, Origin::Variable(item.side), outward, name);
-        }
+    match items.side(TransitionName::Row, range) {
+        Some(side) => found_in(columns, Origin::Variable(side), outward, name),
+        None => None,
     }
-    None
 }
 
 // The innermost range that has such a column.

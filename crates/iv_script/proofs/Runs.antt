@@ -1,46 +1,49 @@
 -- One statement after another.
-use Rattle.std.proofs.Common.{◌≡◌, ℕ, ◌+◌, ◌≤◌, Bool, true, false, if◌then◌else◌, List, [], ◌∷◌, ◌++◌, Option, Result, Ok, Err, ◌∙◌, sym, ap, subst, refl, append_assoc, append-nil, length, length-append, arith}
+use Rattle.std.proofs.Common.{◌≡◌, ℕ, ◌+◌, ◌≤◌, Bool, true, false, if◌then◌else◌, List, [], ◌∷◌, ◌++◌, Option, None, Result, Ok, Err, ◌∙◌, sym, ap, subst, refl, append_assoc, append-nil, length, length-append, arith}
 use Rattle.std.specs.Io.KnownBytes.{Appends}
 use Rattle.std.proofs.KnownBytes.{Appends-trans, Appends-nil}
 use Rattle.iv_syntax.specs.declared.statement.Statement.{Statement}
 use Rattle.iv_catalogue.specs.Catalogues.{Schema}
-use Rattle.iv_catalogue.specs.Refusals.{is_memory}
 use Rattle.iv_catalogue.specs.declared.cause.Cause.{Cause}
 use Rattle.iv_catalogue.specs.declared.cause.Cause.TheVariants as cause
 use Rattle.iv_catalogue.specs.declared.cause.Refusal.{Refusal}
 use Rattle.iv_machine.specs.declared.answer.Answer.{Answer}
-use Rattle.iv_machine.specs.Machine.{State, Outcome, step, Executes}
+use Rattle.iv_catalogue.specs.Refusals.{is_memory, out_of_memory}
+use Rattle.iv_machine.specs.Machine.{State, Outcome, Starved, may_run_triggers}
+use Rattle.iv_run.specs.Step.{step, Executes}
 use Rattle.iv_print.specs.Lines.{line}
 use Rattle.iv_print.specs.Sinks.{SinkState, FailsNever}
 use Rattle.iv_print.specs.Writing.{Writes}
 use Rattle.iv_print.proofs.WriteLemmas.{never_then}
 use Rattle.iv_script.specs.declared.statements.Tally.{Tally}
-use Rattle.iv_script.specs.Transcript.{Ran, following, outcome, lines, accepted_of, refused_of, run_from, starved_count}
+use Rattle.iv_script.specs.Transcript.{Memory, granted, denied, Ran, following, outcome, lines, accepted_of, refused_of, run_from, starved_count}
 use Rattle.iv_script.specs.Running.{RanOne, RanAll}
 
 -- ---- one statement
 
--- the answer and the state are those of the machine with or without memory, but for the trigger of a want of memory
+-- the answer and the state are those of the machine, with the memory that this says
 pub record Did (old new : State) (st : Statement) (r : Result Answer Refusal) : Type 0 where
-  pub starves : Bool
-  pub same : is_memory r ≡ starves
-  pub state_is : new ≡ (outcome starves old st).state
-  pub accepted_is : accepted_of r ≡ accepted_of (outcome starves old st).answer
-  pub refused_is : refused_of r ≡ refused_of (outcome starves old st).answer
-  pub lines_are : (n : ℕ) (s : Schema) → line n r s ≡ line n (outcome starves old st).answer s
+  pub memory : Memory
+  pub counted : (if is_memory r then 1 else 0) ≡ starved_count (memory ∷ [])
+  pub answer_is : r ≡ (outcome memory old st).answer
+  pub state_is : new ≡ (outcome memory old st).state
 
 did_plain : (old new : State) (st : Statement) (r : Result Answer Refusal) → is_memory r ≡ false → (r ≡ (step old st).answer) × (new ≡ (step old st).state) → Did old new st r
-did_plain old new st r m e = record {
-  starves = false;
-  same = m;
-  state_is = e.1;
-  accepted_is = ap accepted_of e.0;
-  refused_is = ap refused_of e.0;
-  lines_are = λ n s. ap (λ a. line n a s) e.0;
-}
+did_plain old new st r m e = record { memory = granted; counted = ap (λ b. if b then 1 else 0) m; answer_is = e.0; state_is = e.1 }
+
+-- the refusal for want of memory, where a trigger may have run or not
+denied_is : (may : Bool) (t : Option ℕ)
+    → (may ≡ false → ◌≡◌ {A = Result Answer Refusal} (Err (record { cause = cause.OutOfMemory; trigger = t })) (Err out_of_memory))
+    → ◌≡◌ {A = Result Answer Refusal} (Err (record { cause = cause.OutOfMemory; trigger = t })) (Err (record { cause = cause.OutOfMemory; trigger = if may then t else None }))
+denied_is true t h = refl
+denied_is false t h = h refl
+
+did_denied : (old new : State) (st : Statement) (t : Option ℕ) → Starved old st (Err (record { cause = cause.OutOfMemory; trigger = t })) new
+    → Did old new st (Err (record { cause = cause.OutOfMemory; trigger = t }))
+did_denied old new st t e = record { memory = denied t; counted = refl; answer_is = denied_is (may_run_triggers old st) t e.1; state_is = e.0 }
 
 did_refused : (old new : State) (st : Statement) (c : Cause) (t : Option ℕ) → Executes old st (Err (record { cause = c; trigger = t })) new → Did old new st (Err (record { cause = c; trigger = t }))
-did_refused old new st cause.OutOfMemory t e = record { starves = true; same = refl; state_is = e.0; accepted_is = refl; refused_is = refl; lines_are = λ n s. refl }
+did_refused old new st cause.OutOfMemory t e = did_denied old new st t e
 did_refused old new st cause.Unknown t e = did_plain old new st (Err (record { cause = cause.Unknown; trigger = t })) refl e
 did_refused old new st cause.Duplicate t e = did_plain old new st (Err (record { cause = cause.Duplicate; trigger = t })) refl e
 did_refused old new st cause.SchemaFault t e = did_plain old new st (Err (record { cause = cause.SchemaFault; trigger = t })) refl e
@@ -75,12 +78,13 @@ pub ran_one : (n : ℕ) (old new : State) (st : Statement) (r : Result Answer Re
 ran_one n old new st r schema tally tally_then before after e q w a f s =
     let d : Did old new st r = did old new st r e in
     record {
-      starves = d.starves;
+      memory = d.memory;
       state_is = d.state_is;
-      accepted_is = a ∙ ap (λ k. tally.accepted + k) d.accepted_is;
-      refused_is = f ∙ ap (λ k. tally.refused + k) d.refused_is;
-      starved_is = s ∙ ap (λ b. tally.starved + (if b then 1 else 0)) d.same;
-      appended = subst (Appends before.contents after.contents) (d.lines_are n schema ∙ ap (λ c. line n (outcome d.starves old st).answer c) (q ∙ ap (λ t. t.schema) d.state_is)) w.0;
+      accepted_is = a ∙ ap (λ x. tally.accepted + accepted_of x) d.answer_is;
+      refused_is = f ∙ ap (λ x. tally.refused + refused_of x) d.answer_is;
+      starved_is = s ∙ ap (λ k. tally.starved + k) d.counted;
+      appended = subst (Appends before.contents after.contents)
+          (ap (λ x. line n x schema) d.answer_is ∙ ap (λ c. line n (outcome d.memory old st).answer c) (q ∙ ap (λ t. t.schema) d.state_is)) w.0;
       works = w.1;
     }
 
@@ -106,25 +110,25 @@ following_none r =
     ap (λ k. record { text = r.text; state = r.state; accepted = k; refused = r.refused }) (none_before r.accepted)
     ∙ ap (λ k. record { text = r.text; state = r.state; accepted = 0 + r.accepted; refused = k }) (none_before r.refused)
 
-counted_more : (bs : List Bool) (b : Bool) → starved_count (bs ++ b ∷ []) ≡ starved_count bs + (if b then 1 else 0)
-counted_more [] true = refl
-counted_more [] false = refl
-counted_more (true ∷ bs) b = omega (arith, counted_more bs b)
-counted_more (false ∷ bs) b = counted_more bs b
+counted_more : (ms : List Memory) (m : Memory) → starved_count (ms ++ m ∷ []) ≡ starved_count ms + starved_count (m ∷ [])
+counted_more [] (denied t) = refl
+counted_more [] granted = refl
+counted_more (denied t ∷ ms) m = omega (arith, counted_more ms m)
+counted_more (granted ∷ ms) m = counted_more ms m
 
 -- these ran, and the rest is left
 pub record Onward (old now : State) (all rest : List Statement) (n : ℕ) (tally : Tally) (before after : SinkState) : Type 0 where
-  pub starves : List Bool
+  pub memory : List Memory
   pub written : List ℕ
-  pub each : length starves ≡ n
-  pub starved_is : starved_count starves ≡ tally.starved
+  pub each : length memory ≡ n
+  pub starved_is : starved_count memory ≡ tally.starved
   pub appended : Appends before.contents after.contents written
-  pub onward : (more : List Bool) → run_from old 0 all (starves ++ more) ≡ following written tally.accepted tally.refused (run_from now n rest more)
+  pub onward : (more : List Memory) → run_from old 0 all (memory ++ more) ≡ following written tally.accepted tally.refused (run_from now n rest more)
   pub works : FailsNever before after
 
 pub onward_start : (s : State) (all : List Statement) (tally : Tally) (a : SinkState) → tally.accepted ≡ 0 → tally.refused ≡ 0 → tally.starved ≡ 0 → Onward s s all all 0 tally a a
 onward_start s all tally a p q z = record {
-  starves = [];
+  memory = [];
   written = [];
   each = refl;
   starved_is = sym z;
@@ -136,17 +140,17 @@ onward_start s all tally a p q z = record {
 pub onward_more : (old now new : State) (all left rest : List Statement) (st : Statement) (n : ℕ) (t u : Tally) (a before after : SinkState)
     → Onward old now all left n t a before → left ≡ st ∷ rest → RanOne (n + 1) now new st t u before after → Onward old new all rest (n + 1) u a after
 onward_more old now new all left rest st n t u a before after w e r =
-    let o : Outcome = outcome r.starves now st in
+    let o : Outcome = outcome r.memory now st in
     record {
-      starves = w.starves ++ r.starves ∷ [];
+      memory = w.memory ++ r.memory ∷ [];
       written = w.written ++ lines (n + 1) o;
-      each = omega (arith, length-append w.starves (r.starves ∷ []), w.each);
-      starved_is = counted_more w.starves r.starves ∙ ap (λ z. z + (if r.starves then 1 else 0)) w.starved_is ∙ sym r.starved_is;
+      each = omega (arith, length-append w.memory (r.memory ∷ []), w.each);
+      starved_is = counted_more w.memory r.memory ∙ ap (λ z. z + starved_count (r.memory ∷ [])) w.starved_is ∙ sym r.starved_is;
       appended = Appends-trans a.contents before.contents after.contents w.written (lines (n + 1) o) w.appended r.appended;
       onward = λ more.
-          ap (λ l. run_from old 0 all l) (append_assoc w.starves (r.starves ∷ []) more)
-          ∙ w.onward (r.starves ∷ more)
-          ∙ ap (λ l. following w.written t.accepted t.refused (run_from now n l (r.starves ∷ more))) e
+          ap (λ l. run_from old 0 all l) (append_assoc w.memory (r.memory ∷ []) more)
+          ∙ w.onward (r.memory ∷ more)
+          ∙ ap (λ l. following w.written t.accepted t.refused (run_from now n l (r.memory ∷ more))) e
           ∙ following_twice w.written (lines (n + 1) o) t.accepted (accepted_of o.answer) t.refused (refused_of o.answer) (run_from o.state (n + 1) rest more)
           ∙ ap (λ z. following (w.written ++ lines (n + 1) o) z (t.refused + refused_of o.answer) (run_from o.state (n + 1) rest more)) (sym r.accepted_is)
           ∙ ap (λ z. following (w.written ++ lines (n + 1) o) u.accepted z (run_from o.state (n + 1) rest more)) (sym r.refused_is)
@@ -156,10 +160,10 @@ onward_more old now new all left rest st n t u a before after w e r =
 
 pub onward_end : (old now : State) (all rest : List Statement) (n : ℕ) (t : Tally) (a b : SinkState) → Onward old now all rest n t a b → rest ≡ [] → n ≡ length all → RanAll old now all t a b
 onward_end old now all rest n t a b w e q =
-    let done : run_from old 0 all w.starves ≡ following w.written t.accepted t.refused (record { text = []; state = now; accepted = 0; refused = 0 }) =
-    ap (run_from old 0 all) (sym (append-nil w.starves)) ∙ w.onward [] ∙ ap (λ l. following w.written t.accepted t.refused (run_from now n l [])) e in
+    let done : run_from old 0 all w.memory ≡ following w.written t.accepted t.refused (record { text = []; state = now; accepted = 0; refused = 0 }) =
+    ap (run_from old 0 all) (sym (append-nil w.memory)) ∙ w.onward [] ∙ ap (λ l. following w.written t.accepted t.refused (run_from now n l [])) e in
     record {
-      starves = w.starves;
+      memory = w.memory;
       each = w.each ∙ q;
       starved_is = w.starved_is;
       accepted_is = ap (λ r. r.accepted) done ∙ none_more t.accepted;
@@ -177,15 +181,15 @@ one_refused : (r : Result Answer Refusal) → refused_of r ≤ 1
 one_refused (Ok a) = omega arith
 one_refused (Err r) = omega arith
 
-one_starved : (b : Bool) → (if b then 1 else 0) ≤ 1
-one_starved true = omega arith
-one_starved false = omega arith
+one_starved : (m : Memory) → starved_count (m ∷ []) ≤ 1
+one_starved (denied t) = omega arith
+one_starved granted = omega arith
 
 -- a statement is counted once
 pub few_more : (n k : ℕ) (now new : State) (st : Statement) (t u : Tally) (before after : SinkState) → RanOne n now new st t u before after
     → t.accepted ≤ k → t.refused ≤ k → t.starved ≤ k → (u.accepted ≤ k + 1) × (u.refused ≤ k + 1) × (u.starved ≤ k + 1)
 few_more n k now new st t u before after r a f s = (
-  omega (arith, r.accepted_is, one_accepted (outcome r.starves now st).answer, a),
-  omega (arith, r.refused_is, one_refused (outcome r.starves now st).answer, f),
-  omega (arith, r.starved_is, one_starved r.starves, s),
+  omega (arith, r.accepted_is, one_accepted (outcome r.memory now st).answer, a),
+  omega (arith, r.refused_is, one_refused (outcome r.memory now st).answer, f),
+  omega (arith, r.starved_is, one_starved r.memory, s),
 )

@@ -5,21 +5,22 @@ use Rattle.std.proofs.KnownBytes.{Appends-trans}
 use Rattle.iv_syntax.specs.declared.statement.Statement.{Statement}
 use Rattle.iv_parse.specs.Script.{IsScript}
 use Rattle.iv_machine.specs.Bounds.{Bounds}
-use Rattle.iv_machine.specs.Machine.{State, empty_state, step}
+use Rattle.iv_machine.specs.Machine.{State, empty_state}
+use Rattle.iv_run.specs.Step.{step}
 use Rattle.iv_print.specs.Sinks.{SinkState}
 use Rattle.iv_print.specs.Writing.{Writes}
 use Rattle.iv_print.proofs.WriteLemmas.{never_then}
 use Rattle.iv_parse.specs.declared.parser.SyntaxFault.{SyntaxFault}
 use Rattle.iv_script.specs.declared.statements.Tally.{Tally}
 use Rattle.iv_script.specs.declared.summary.Summary.{Summary}
-use Rattle.iv_script.specs.Transcript.{Ran, following, outcome, lines, accepted_of, refused_of, run_from, starved_count, fault_line, end_line, closing_lines, fault_place, RanScript, RanFed}
+use Rattle.iv_script.specs.Transcript.{Memory, granted, denied, Ran, following, outcome, lines, accepted_of, refused_of, run_from, starved_count, fault_line, end_line, closing_lines, fault_place, RanScript, RanFed}
 use Rattle.iv_script.specs.Running.{RanAll, RanParsed}
 
 pub ran_parsed : (old new : State) (sts : List Statement) (fault : Option ℕ) (tally : Tally) (b0 b1 b2 b3 : SinkState)
     → RanAll old new sts tally b0 b1 → Writes b1 b2 (Ok tt) (fault_line (length sts) fault) → Writes b2 b3 (Ok tt) (end_line (is_some new.start))
     → RanParsed old sts fault tally b0 b3
 ran_parsed old new sts fault tally b0 b1 b2 b3 r p q = record {
-  starves = r.starves;
+  memory = r.memory;
   each = r.each;
   starved_is = r.starved_is;
   accepted_is = r.accepted_is;
@@ -39,7 +40,7 @@ pub ran_script : (bytes : List ℕ) (limits : Bounds) (sts : List Statement) (fa
     → RanScript bytes limits (summary_of tally fault) a b
 ran_script bytes limits sts fault tally a b s r = record {
   statements = sts;
-  starves = r.starves;
+  memory = r.memory;
   is_script = s;
   each = r.each;
   starved_is = r.starved_is;
@@ -49,12 +50,12 @@ ran_script bytes limits sts fault tally a b s r = record {
 }
 
 -- where no statement wants memory, the run is the machine's
-run_fed : (s : State) (n : ℕ) (sts : List Statement) (starves : List Bool) → starved_count starves ≡ 0 → run_from s n sts starves ≡ run_from s n sts []
-run_fed s n [] starves h = refl
+run_fed : (s : State) (n : ℕ) (sts : List Statement) (memory : List Memory) → starved_count memory ≡ 0 → run_from s n sts memory ≡ run_from s n sts []
+run_fed s n [] memory h = refl
 run_fed s n (st ∷ sts) [] h = refl
-run_fed s n (st ∷ sts) (true ∷ bs) h = absurd (omega (arith, h))
-run_fed s n (st ∷ sts) (false ∷ bs) h =
-    ap (following (lines (n + 1) (outcome false s st)) (accepted_of (step s st).answer) (refused_of (step s st).answer)) (run_fed (step s st).state (n + 1) sts bs h)
+run_fed s n (st ∷ sts) (denied t ∷ ms) h = absurd (omega (arith, h))
+run_fed s n (st ∷ sts) (granted ∷ ms) h =
+    ap (following (lines (n + 1) (outcome granted s st)) (accepted_of (step s st).answer) (refused_of (step s st).answer)) (run_fed (step s st).state (n + 1) sts ms h)
 
 pub ran_fed : (bytes : List ℕ) (limits : Bounds) (summary : Summary) (a b : SinkState)
     → RanScript bytes limits summary a b → summary.starved ≡ 0 → RanFed bytes limits (fault_place summary) a b
@@ -62,5 +63,5 @@ ran_fed bytes limits summary a b r z = record {
   statements = r.statements;
   is_script = r.is_script;
   appended = subst (λ (q : Ran). Appends a.contents b.contents (q.text ++ closing_lines (length r.statements) (fault_place summary) q.state))
-      (run_fed (empty_state limits) 0 r.statements r.starves (r.starved_is ∙ z)) r.appended;
+      (run_fed (empty_state limits) 0 r.statements r.memory (r.starved_is ∙ z)) r.appended;
 }

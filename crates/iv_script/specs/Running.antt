@@ -1,45 +1,45 @@
 -- What running statements and writing their lines does.
-use Rattle.std.specs.Prelude.{◌≡◌, ℕ, ◌+◌, Bool, if◌then◌else◌, List, Option, ◌++◌, length}
+use Rattle.std.specs.Prelude.{◌≡◌, ℕ, ◌+◌, List, Option, ◌++◌, [], ◌∷◌, length}
 use Rattle.std.specs.Io.KnownBytes.{Appends}
 use Rattle.iv_syntax.specs.declared.statement.Statement.{Statement}
 use Rattle.iv_machine.specs.Machine.{State}
 use Rattle.iv_print.specs.Sinks.{SinkState, FailsNever}
 use Rattle.iv_script.specs.declared.statements.Tally.{Tally}
-use Rattle.iv_script.specs.Transcript.{outcome, lines, accepted_of, refused_of, run_from, starved_count, closing_lines}
+use Rattle.iv_script.specs.Transcript.{Memory, outcome, lines, accepted_of, refused_of, run_from, starved_count, closing_lines}
 
 -- one statement ran, with or without memory: its lines were written, and this is the state after it
 pub record RanOne (n : ℕ) (old new : State) (st : Statement) (tally tally_then : Tally)
     (before after : SinkState) : Type 0 where
-  pub starves : Bool
-  pub state_is : new ≡ (outcome starves old st).state
+  pub memory : Memory
+  pub state_is : new ≡ (outcome memory old st).state
   pub accepted_is : tally_then.accepted
-      ≡ tally.accepted + accepted_of (outcome starves old st).answer
-  pub refused_is : tally_then.refused ≡ tally.refused + refused_of (outcome starves old st).answer
-  pub starved_is : tally_then.starved ≡ tally.starved + (if starves then 1 else 0)
-  pub appended : Appends before.contents after.contents (lines n (outcome starves old st))
+      ≡ tally.accepted + accepted_of (outcome memory old st).answer
+  pub refused_is : tally_then.refused ≡ tally.refused + refused_of (outcome memory old st).answer
+  pub starved_is : tally_then.starved ≡ tally.starved + starved_count (memory ∷ [])
+  pub appended : Appends before.contents after.contents (lines n (outcome memory old st))
   pub works : FailsNever before after
 
 -- all statements ran; for each it is chosen whether it was refused memory
 pub record RanAll (old new : State) (sts : List Statement) (tally : Tally)
     (before after : SinkState) : Type 0 where
-  pub starves : List Bool
-  pub each : length starves ≡ length sts
-  pub starved_is : starved_count starves ≡ tally.starved
-  pub accepted_is : (run_from old 0 sts starves).accepted ≡ tally.accepted
-  pub refused_is : (run_from old 0 sts starves).refused ≡ tally.refused
-  pub state_is : new ≡ (run_from old 0 sts starves).state
-  pub appended : Appends before.contents after.contents (run_from old 0 sts starves).text
+  pub memory : List Memory
+  pub each : length memory ≡ length sts
+  pub starved_is : starved_count memory ≡ tally.starved
+  pub accepted_is : (run_from old 0 sts memory).accepted ≡ tally.accepted
+  pub refused_is : (run_from old 0 sts memory).refused ≡ tally.refused
+  pub state_is : new ≡ (run_from old 0 sts memory).state
+  pub appended : Appends before.contents after.contents (run_from old 0 sts memory).text
   pub works : FailsNever before after
 
 -- the statements ran, and the lines of the script's end were written
 pub record RanParsed (old : State) (sts : List Statement) (fault : Option ℕ) (tally : Tally)
     (before after : SinkState) : Type 0 where
-  pub starves : List Bool
-  pub each : length starves ≡ length sts
-  pub starved_is : starved_count starves ≡ tally.starved
-  pub accepted_is : (run_from old 0 sts starves).accepted ≡ tally.accepted
-  pub refused_is : (run_from old 0 sts starves).refused ≡ tally.refused
+  pub memory : List Memory
+  pub each : length memory ≡ length sts
+  pub starved_is : starved_count memory ≡ tally.starved
+  pub accepted_is : (run_from old 0 sts memory).accepted ≡ tally.accepted
+  pub refused_is : (run_from old 0 sts memory).refused ≡ tally.refused
   pub appended : Appends before.contents after.contents
-      ((run_from old 0 sts starves).text
-      ++ closing_lines (length sts) fault (run_from old 0 sts starves).state)
+      ((run_from old 0 sts memory).text
+      ++ closing_lines (length sts) fault (run_from old 0 sts memory).state)
   pub works : FailsNever before after

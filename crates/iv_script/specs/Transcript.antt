@@ -1,5 +1,5 @@
 -- The transcript of a script: what its bytes are answered with.
-use Rattle.std.specs.Prelude.{◌≡◌, ℕ, ◌+◌, Bool, true, false, List, [], ◌∷◌, ◌++◌, codes, decimal, Option, Some, None, Result, Ok, Err, length, is_some, option_map}
+use Rattle.std.specs.Prelude.{◌≡◌, ℕ, ◌+◌, Bool, true, false, if◌then◌else◌, List, [], ◌∷◌, ◌++◌, codes, decimal, Option, Some, None, Result, Ok, Err, length, is_some, option_map}
 use Rattle.std.specs.Io.KnownBytes.{Appends}
 use Rattle.iv_syntax.specs.declared.statement.Statement.{Statement}
 use Rattle.iv_parse.specs.Script.{IsScript}
@@ -7,7 +7,8 @@ use Rattle.iv_catalogue.specs.declared.cause.Cause.TheVariants.{OutOfMemory}
 use Rattle.iv_catalogue.specs.declared.cause.Refusal.{Refusal}
 use Rattle.iv_machine.specs.declared.answer.Answer.{Answer}
 use Rattle.iv_machine.specs.Bounds.{Bounds}
-use Rattle.iv_machine.specs.Machine.{State, Outcome, refuse, step, empty_state}
+use Rattle.iv_machine.specs.Machine.{State, Outcome, no_work, may_run_triggers, empty_state}
+use Rattle.iv_run.specs.Step.{step}
 use Rattle.iv_print.specs.Lines.{line}
 use Rattle.iv_print.specs.Sinks.{SinkState}
 use Rattle.iv_script.specs.declared.summary.Summary.{Summary}
@@ -37,31 +38,44 @@ abbrev pub refused_of : Result Answer Refusal → ℕ
 refused_of (Ok a) = 0
 refused_of (Err r) = 1
 
--- what a statement does: the machine's step, or cause 22, which leaves the state
-abbrev pub outcome : Bool → State → Statement → Outcome
-outcome true s st = refuse s OutOfMemory
-outcome false s st = step s st
+-- For a statement: it has the memory that it takes, or memory is refused, in this trigger or outside of every one.
+pub data Memory : Type 0 where
+  granted : Memory
+  denied : Option ℕ → Memory
+
+-- Cause 22, which leaves the state. A trigger is told only where one may have run.
+abbrev pub starved_outcome : State → Statement → Option ℕ → Outcome
+starved_outcome s st trigger = record {
+  answer = Err (record { cause = OutOfMemory; trigger = if may_run_triggers s st then trigger else None });
+  state = s;
+  work = no_work;
+}
+
+-- what a statement does: the machine's step, or cause 22
+abbrev pub outcome : Memory → State → Statement → Outcome
+outcome granted s st = step s st
+outcome (denied trigger) s st = starved_outcome s st trigger
 
 -- the lines of a statement's outcome, with the catalogue as it is directly after it
 abbrev pub lines : ℕ → Outcome → List ℕ
 lines n o = line n o.answer o.state.schema
 
--- whether the first statement is refused memory; not where the list is empty
-abbrev pub first_starves : List Bool → Bool
-first_starves [] = false
-first_starves (b ∷ bs) = b
+-- the memory of the first statement; it is granted where the list is empty
+abbrev pub first_memory : List Memory → Memory
+first_memory [] = granted
+first_memory (m ∷ ms) = m
 
-abbrev pub later_starve : List Bool → List Bool
-later_starve [] = []
-later_starve (b ∷ bs) = bs
+abbrev pub later_memory : List Memory → List Memory
+later_memory [] = []
+later_memory (m ∷ ms) = ms
 
 -- The run of statements after the n-th, where the list says which of them are refused memory.
-abbrev pub run_from : State → ℕ → List Statement → List Bool → Ran
-run_from s n [] starves = record { text = []; state = s; accepted = 0; refused = 0 }
-run_from s n (st ∷ sts) starves =
-    let o : Outcome = outcome (first_starves starves) s st in
+abbrev pub run_from : State → ℕ → List Statement → List Memory → Ran
+run_from s n [] memory = record { text = []; state = s; accepted = 0; refused = 0 }
+run_from s n (st ∷ sts) memory =
+    let o : Outcome = outcome (first_memory memory) s st in
     following (lines (n + 1) o) (accepted_of o.answer) (refused_of o.answer)
-    (run_from o.state (n + 1) sts (later_starve starves))
+    (run_from o.state (n + 1) sts (later_memory memory))
 
 -- the line of a fault after so many statements
 abbrev pub fault_line : ℕ → Option ℕ → List ℕ
@@ -79,16 +93,16 @@ closing_lines n fault s = fault_line n fault ++ end_line (is_some s.start)
 
 -- The transcript of a script that has these statements and this fault, run in a new session with
 -- these limits; the list says which statements are refused memory.
-abbrev pub transcript : Bounds → List Statement → Option ℕ → List Bool → List ℕ
-transcript limits statements fault starves =
-    let r : Ran = run_from (empty_state limits) 0 statements starves in
+abbrev pub transcript : Bounds → List Statement → Option ℕ → List Memory → List ℕ
+transcript limits statements fault memory =
+    let r : Ran = run_from (empty_state limits) 0 statements memory in
     r.text ++ closing_lines (length statements) fault r.state
 
 -- how many statements are refused memory
-abbrev pub starved_count : List Bool → ℕ
+abbrev pub starved_count : List Memory → ℕ
 starved_count [] = 0
-starved_count (true ∷ bs) = 1 + starved_count bs
-starved_count (false ∷ bs) = starved_count bs
+starved_count (denied trigger ∷ ms) = 1 + starved_count ms
+starved_count (granted ∷ ms) = starved_count ms
 
 -- the place of the script's fault, where it has one
 abbrev pub fault_place : Summary → Option ℕ
@@ -100,14 +114,14 @@ fault_place summary = option_map (λ f. f.at) summary.fault
 pub record RanScript (bytes : List ℕ) (limits : Bounds) (summary : Summary)
     (before after : SinkState) : Type 0 where
   pub statements : List Statement
-  pub starves : List Bool
+  pub memory : List Memory
   pub is_script : IsScript bytes statements (fault_place summary)
-  pub each : length starves ≡ length statements
-  pub starved_is : starved_count starves ≡ summary.starved
-  pub accepted_is : (run_from (empty_state limits) 0 statements starves).accepted ≡ summary.accepted
-  pub refused_is : (run_from (empty_state limits) 0 statements starves).refused ≡ summary.refused
+  pub each : length memory ≡ length statements
+  pub starved_is : starved_count memory ≡ summary.starved
+  pub accepted_is : (run_from (empty_state limits) 0 statements memory).accepted ≡ summary.accepted
+  pub refused_is : (run_from (empty_state limits) 0 statements memory).refused ≡ summary.refused
   pub appended : Appends before.contents after.contents
-      (transcript limits statements (fault_place summary) starves)
+      (transcript limits statements (fault_place summary) memory)
 
 -- The transcript of these bytes was appended, and no statement was refused memory.
 pub record RanFed (bytes : List ℕ) (limits : Bounds) (fault : Option ℕ)

@@ -17,6 +17,7 @@ use iv_machine::Limits;
 use iv_parse::{Parsed, SyntaxFault, script};
 use iv_print::{Buffered, DeviceFault, Sink, Source, write_all, write_number};
 use iv_session::Session;
+use iv_store::PlainStore;
 use iv_syntax::Statement;
 use std::alloc::Global;
 use std::str::from_utf8;
@@ -55,14 +56,14 @@ fn write_end<W: Sink>(writer: &mut W, is_open: bool) -> Result<(), DeviceFault>
 
 // Runs the statements, and writes their lines and those of the script's end.
 fn run_parsed<W: Sink>(
-    session: &mut Session,
+    session: &mut Session<PlainStore>,
     statements: &[Statement],
     fault: Option<SyntaxFault>,
     writer: &mut W,
 ) -> Result<Tally, DeviceFault>
     requires { length statements.now < 2 ^ 63 }
     ensures { MatchResult result
-        (λ t. RanParsed session.old statements.now (option_map (λ f. f.at) fault) t
+        (λ t. RanParsed session.old.state statements.now (option_map (λ f. f.at) fault) t
         (W.state writer.old) (W.state writer.new))
         (λ _. FailsOnce (W.state writer.old) (W.state writer.new)) }
 {
@@ -74,14 +75,14 @@ fn run_parsed<W: Sink>(
 
 // The same with a buffer in front of the writer, which is empty again at the end.
 fn run_buffered<W: Sink>(
-    session: &mut Session,
+    session: &mut Session<PlainStore>,
     statements: &[Statement],
     fault: Option<SyntaxFault>,
     writer: &mut W,
 ) -> Result<Tally, DeviceFault>
     requires { length statements.now < 2 ^ 63 }
     ensures { MatchResult result
-        (λ t. RanParsed session.old statements.now (option_map (λ f. f.at) fault) t
+        (λ t. RanParsed session.old.state statements.now (option_map (λ f. f.at) fault) t
         (W.state writer.old) (W.state writer.new))
         (λ _. FailsOnce (W.state writer.old) (W.state writer.new)) }
 {
@@ -112,7 +113,7 @@ fn run_text<W: Sink>(
     ensures works { OnOk result (FailsNever (W.state writer.old) (W.state writer.new)) }
 {
     let Parsed { statements, fault } = script(alloc, text)?;
-    let mut session = Session::new(alloc, limits)?;
+    let mut session = Session::<PlainStore>::new(alloc, limits)?;
     match run_buffered(&mut session, statements.as_slice(), fault, writer) {
         Ok(tally) => Ok(Summary {
             accepted: tally.accepted,

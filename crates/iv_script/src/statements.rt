@@ -9,6 +9,7 @@ use iv_catalogue::{Cause, Refusal};
 use iv_machine::Answer;
 use iv_print::{DeviceFault, Sink, write_outcome};
 use iv_session::{Outcome, Session};
+use iv_store::PlainStore;
 use iv_syntax::Statement;
 
 /// How many statements were accepted and refused, and how many of the refused had cause 22.
@@ -55,7 +56,7 @@ fn with(tally: Tally, outcome: &Outcome) -> Tally
 // Runs one statement and writes its lines.
 #[tactic(auto, using(crate::proofs::Runs::ran_one))]
 fn run_one<W: Sink>(
-    session: &mut Session,
+    session: &mut Session<PlainStore>,
     number: u64,
     statement: &Statement,
     writer: &mut W,
@@ -65,7 +66,7 @@ fn run_one<W: Sink>(
     requires refused { tally.refused < 2 ^ 63 }
     requires starved { tally.starved < 2 ^ 63 }
     ensures { MatchResult result
-        (λ t. RanOne number session.old session.new statement.now tally t
+        (λ t. RanOne number session.old.state session.new.state statement.now tally t
         (W.state writer.old) (W.state writer.new))
         (λ _. FailsOnce (W.state writer.old) (W.state writer.new)) }
 {
@@ -76,12 +77,12 @@ fn run_one<W: Sink>(
 
 /// Runs the statements and writes their lines.
 pub fn run_statements<W: Sink>(
-    session: &mut Session,
+    session: &mut Session<PlainStore>,
     statements: &[Statement],
     writer: &mut W,
 ) -> Result<Tally, DeviceFault>
     ensures { MatchResult result
-        (λ t. RanAll session.old session.new statements.now t
+        (λ t. RanAll session.old.state session.new.state statements.now t
         (W.state writer.old) (W.state writer.new))
         (λ _. FailsOnce (W.state writer.old) (W.state writer.new)) }
 {

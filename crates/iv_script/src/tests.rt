@@ -4,12 +4,14 @@ use iv_catalogue::Fault;
 use iv_machine::Limits;
 use iv_parse::script;
 use iv_session::Session;
+use iv_store::PlainStore;
 use std::alloc::Global;
 use std::io;
 use std::io::{ErrorKind, Read, Write};
 use std::test::Fail;
 
 mod outcomes;
+mod sessions;
 
 const ONE_CHECK: &str =
     "CREATE TABLE t (a INTEGER, CHECK (a > 0)); INSERT INTO t VALUES (1); COMMIT; SELECT * FROM t;";
@@ -279,7 +281,7 @@ fn tells_what_is_pending(rt: HostRuntime) -> Result<(), Fail> {
     let Some(limits) = usual_limits() else {
         return Ok(());
     };
-    let mut session = Session::new(rt.alloc(), limits)?;
+    let mut session = Session::<PlainStore>::new(rt.alloc(), limits)?;
     let wanted = [0usize, 1, 1, 0];
     for (statement, count) in parsed.statements.as_slice().iter().zip(wanted) {
         let _ = session.execute(statement);
@@ -304,7 +306,7 @@ fn commits_and_rolls_back(rt: HostRuntime) -> Result<(), Fail> {
     let Some(limits) = usual_limits() else {
         return Ok(());
     };
-    let mut session = Session::new(rt.alloc(), limits)?;
+    let mut session = Session::<PlainStore>::new(rt.alloc(), limits)?;
     for statement in parsed.statements.as_slice().iter().take(2) {
         let _ = session.execute(statement);
     }

@@ -1,4 +1,7 @@
+pub mod Changing
 pub mod Ending
-pub mod Inserts
+pub mod Fits
+pub mod Kept
 pub mod Performing
-pub mod States
+pub mod Saving
+pub mod RunningAll

@@ -1,17 +1,38 @@
--- What the parts of `execute` do: the same as the whole, of what a statement means.
-use Rattle.std.specs.Prelude.{◌≡◌, Err, MatchBool, Result}
+-- What the parts of `execute` do: the answer, the next state and the work of an outcome, or memory was refused and the state stays.
+use Rattle.std.specs.Prelude.{◌≡◌, Bool, false, length, nat_lt, Result, Err, MatchBool}
 use Rattle.iv_catalogue.specs.declared.cause.Refusal.{Refusal}
-use Rattle.iv_catalogue.specs.declared.plan.Plan.{Plan}
 use Rattle.iv_catalogue.specs.Refusals.{is_memory, out_of_memory}
 use Rattle.iv_machine.specs.declared.answer.Answer.{Answer}
-use Rattle.iv_machine.specs.Machine.{State, plan_outcome, resolution_outcome}
+use Rattle.iv_syntax.specs.declared.statement.Statement.{Statement}
+use Rattle.iv_catalogue.specs.declared.plan.Plan.{Plan}
+use Rattle.iv_catalogue.specs.declared.plan.Plan.TheVariants as plan
+use Rattle.iv_machine.specs.Machine.{State, Outcome, may_run_triggers, plan_outcome}
+use Rattle.iv_session.specs.Kept.{Seen}
 
--- The answer and the next state are the plan's, or memory was refused and the state stays.
-abbrev pub Performs : State → Plan → Result Answer Refusal → State → Type 0
-Performs old p r new =
-    MatchBool (is_memory r) ((new ≡ old) × (r ≡ Err out_of_memory)) ((r ≡ (plan_outcome old p).answer) × (new ≡ (plan_outcome old p).state))
+-- the answer, the next state and the work are these
+abbrev pub Did : Outcome → Result Answer Refusal → Seen → Type 0
+Did said r new = (r ≡ said.answer) × (new.state ≡ said.state) × (new.work ≡ said.work)
 
--- the same of what resolution gives
-abbrev pub Follows : State → Result Plan Refusal → Result Answer Refusal → State → Type 0
-Follows old p r new =
-    MatchBool (is_memory r) ((new ≡ old) × (r ≡ Err out_of_memory)) ((r ≡ (resolution_outcome old p).answer) × (new ≡ (resolution_outcome old p).state))
+-- Memory is refused outside of every trigger.
+abbrev pub Performs : State → Outcome → Result Answer Refusal → Seen → Type 0
+Performs old said r new = MatchBool (is_memory r) ((new.state ≡ old) × (r ≡ Err out_of_memory)) (Did said r new)
+
+-- Memory may be refused inside a trigger, where there are any.
+abbrev pub Follows : State → Outcome → Result Answer Refusal → Seen → Type 0
+Follows old said r new =
+    MatchBool (is_memory r) ((new.state ≡ old) × (nat_lt 0 (length old.schema.triggers) ≡ false → r ≡ Err out_of_memory)) (Did said r new)
+
+-- the plan may run a trigger
+abbrev pub plan_may_run : State → Plan → Bool
+plan_may_run s (plan.Change d) = nat_lt 0 (length s.schema.triggers)
+plan_may_run s _ = false
+
+-- so of a plan
+abbrev pub PerformsPlan : State → Plan → Result Answer Refusal → Seen → Type 0
+PerformsPlan old p r new =
+    MatchBool (is_memory r) ((new.state ≡ old) × (plan_may_run old p ≡ false → r ≡ Err out_of_memory)) (Did (plan_outcome old p) r new)
+
+-- so of a statement, with this outcome
+abbrev pub Runs : State → Statement → Outcome → Result Answer Refusal → Seen → Type 0
+Runs old st said r new =
+    MatchBool (is_memory r) ((new.state ≡ old) × (may_run_triggers old st ≡ false → r ≡ Err out_of_memory)) (Did said r new)

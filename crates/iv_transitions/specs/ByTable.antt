@@ -1,11 +1,11 @@
 -- The net changes of a level by their table and event, and which AFTER triggers fire on them.
-use Rattle.std.specs.Prelude.{◌≡◌, ◌<◌, ℕ, ◌+◌, ◌*◌, Bool, ◌&&◌, if◌then◌else◌, ◌==◌, List, [], ◌∷◌, map, filter, flat_map, get_or}
+use Rattle.std.specs.Prelude.{◌≡◌, ◌<◌, ℕ, ◌+◌, ◌*◌, Bool, false, ◌&&◌, if◌then◌else◌, ◌==◌, List, [], ◌∷◌, map, filter, flat_map, get_or}
 use Rattle.iv_expr.specs.declared.row.Change.{Change}
 use Rattle.iv_syntax.specs.declared.trigger.TriggerEvent.{TriggerEvent}
 use Rattle.iv_syntax.specs.declared.trigger.TriggerEvent.TheVariants as event
 use Rattle.iv_catalogue.specs.declared.plan.DataStatement.{DataStatement}
 use Rattle.iv_catalogue.specs.declared.plan.Trigger.{Trigger}
-use Rattle.iv_machine.specs.BeforeTriggers.{is_before, event_of_change, same_event}
+use Rattle.iv_machine.specs.BeforeTriggers.{is_before, event_of_change, for_each_row, same_event}
 use Rattle.iv_machine.specs.Levels.{Firing, row_firing, statement_firing, firings_of}
 use Rattle.iv_transitions.specs.declared.fire.Fires.{Fires}
 use Rattle.iv_transitions.specs.declared.fire.Fires.TheVariants as fires
@@ -48,3 +48,9 @@ after_firings statement parts t = if is_before t then [] else firings_of stateme
 -- the firings of triggers, by creation
 abbrev pub all_firings : DataStatement → List (List Change) → List Trigger → List Firing
 all_firings statement parts ts = flat_map (after_firings statement parts) ts
+
+-- A trigger fires on the changes of its table and event: once only if it isn't a row trigger.
+abbrev pub FiresOn : Trigger → List (List Change) → Fires → Type 0
+FiresOn t parts fires.Never = Unit {0}
+FiresOn t parts (fires.Once transitions) = (for_each_row t ≡ false) × (transitions.now ≡ transitions_on parts t.table t.event)
+FiresOn t parts (fires.EachRow transitions) = transitions.now ≡ transitions_on parts t.table t.event

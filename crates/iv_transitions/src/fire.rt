@@ -2,7 +2,7 @@
 ghost use Rattle.std.specs.Prelude.{◌≡◌};
 ghost use Rattle.iv_machine.specs.BeforeTriggers.{is_before, is_on, same_event, for_each_row};
 ghost use Rattle.iv_machine.specs.Proposals.{table_of, event_of};
-ghost use Rattle.iv_transitions.specs.ByTable.{expanded, after_firings};
+ghost use Rattle.iv_transitions.specs.ByTable.{FiresOn, expanded, after_firings};
 
 use crate::by_table::Transitions;
 use iv_catalogue::{DataStatement, Trigger};
@@ -53,7 +53,8 @@ pub fn firings<'a>(
     trigger: &Trigger,
     transitions: &'a Transitions,
 ) -> Fires<'a>
-    ensures { expanded trigger.now result ≡ after_firings statement.now transitions.entry.now trigger.now }
+    ensures fires { expanded trigger.now result ≡ after_firings statement.now transitions.entry.now trigger.now }
+    ensures lent { FiresOn trigger.now transitions.entry.now result }
 {
     if is_before(trigger) {
         return Fires::Never;

@@ -73,7 +73,7 @@ fn value_of_set<'x, R: Rows>(
     stored_value(
         context,
         change.table,
-        setting.column,
+        setting.column as usize,
         &setting.value,
         &scope,
     )

@@ -2,14 +2,14 @@
 ghost use Rattle.std.specs.Prelude.{◌≡◌};
 
 use iv_catalogue::Catalogue;
-use iv_syntax::ConstraintMode;
+use iv_modes::Modes;
 use std::marker::Model;
 
 /// The catalogue, and the mode of each constraint, both lent.
 #[derive(Drop)]
 pub struct Context<'a> {
     pub catalogue: &'a Catalogue,
-    pub modes: &'a [ConstraintMode],
+    pub modes: &'a Modes,
 }
 
 impl<'a> Model for Context<'a> {
@@ -22,7 +22,7 @@ impl<'a> Model for Context<'a> {
 
     ghost coded = { Prim.hlevel (codes, cond.the_row.coded, expr.the_row.coded) };
 
-    ghost view = { λ c. record { schema = c.catalogue.now; modes = c.modes.now } };
+    ghost view = { λ c. record { schema = c.catalogue.now; modes = c.modes.now.modes } };
 }
 
 impl<'a> Context<'a> {
@@ -31,5 +31,12 @@ impl<'a> Context<'a> {
         ensures { result.now ≡ self.now.schema }
     {
         self.catalogue
+    }
+
+    /// The modes of its constraints.
+    pub fn modes(&self) -> &Modes
+        ensures { result.now.modes ≡ self.now.modes }
+    {
+        self.modes
     }
 }

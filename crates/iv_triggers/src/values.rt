@@ -1,16 +1,17 @@
 //! Conditions that take effect, and values that are stored in columns ("Store assignment").
-ghost use Rattle.std.specs.Prelude.{◌≡◌};
+ghost use Rattle.std.specs.Prelude.{◌≡◌, Ok};
 ghost use Rattle.std.specs.Option.{option_copied};
 ghost use Rattle.iv_expr.specs.Evaluation.{value};
 ghost use Rattle.iv_machine.specs.Proposals.{cause_of, column_at, holds, stored_value, value_for_column};
 ghost use Rattle.iv_triggers.specs.Answering.{AnswersCause};
 
 use crate::context::Context;
-use iv_catalogue::{Catalogue, Cause, Column};
+use iv_catalogue::{Catalogue, Cause, Column, Refusal};
 use iv_expr::{Cond, Expr, ExprFault, Rows, Scope, TableId, eval, truth};
 use iv_value::{Fit, Truth, Value, fit};
 
-fn cause_of(fault: ExprFault) -> Cause
+/// Why a statement is refused for a fault of evaluation.
+pub fn cause_of(fault: ExprFault) -> Cause
     ensures { result ≡ cause_of fault }
 {
     match fault {
@@ -31,11 +32,11 @@ pub fn holds<R: Rows>(condition: &Cond, scope: &Scope<'_, R>) -> Result<bool, Ca
     }
 }
 
-fn column_at(catalogue: &Catalogue, table: TableId, column: u32) -> Option<&Column>
+fn column_at(catalogue: &Catalogue, table: TableId, column: usize) -> Option<&Column>
     ensures { option_copied result ≡ column_at catalogue.now table column }
 {
     match catalogue.tables().get(table.place() as usize) {
-        Some(table) => table.columns.get(column as usize),
+        Some(table) => table.columns.get(column),
         None => None,
     }
 }
@@ -57,7 +58,7 @@ fn value_for_column(column: Option<&Column>, value: Value) -> Result<Value, Caus
 pub fn stored_value<R: Rows>(
     context: &Context<'_>,
     table: TableId,
-    column: u32,
+    column: usize,
     expression: &Expr,
     scope: &Scope<'_, R>,
 ) -> Result<Value, Cause>
@@ -67,5 +68,20 @@ pub fn stored_value<R: Rows>(
     match eval(expression, scope) {
         Ok(value) => value_for_column(column_at(context.catalogue(), table, column), value),
         Err(fault) => Err(cause_of(fault)),
+    }
+}
+
+/// A copy of a value for a column of a table; it has to fit the column.
+pub fn stored_copy(
+    context: &Context<'_>,
+    table: TableId,
+    column: usize,
+    value: &Value,
+) -> Result<Value, Cause>
+    ensures { AnswersCause (λ v. v) result (stored_value context.now table column (Ok value.now)) }
+{
+    match value.clone() {
+        Ok(copy) => value_for_column(column_at(context.catalogue(), table, column), copy),
+        Err(error) => Err(Refusal::from(error).cause),
     }
 }

@@ -1,7 +1,6 @@
 -- The worked scripts compute.
 use Rattle.std.proofs.Common.{refl}
 use Rattle.iv_value.proofs.OnLiterals.{values_on_literals}
-use Rattle.iv_worked.specs.WorkedScripts.{WorkedScripts}
 use Rattle.iv_worked.specs.WorkedConstraints.{WorkedConstraints}
 use Rattle.iv_worked.specs.WorkedActions.{WorkedActions}
 use Rattle.iv_worked.specs.WorkedTriggers.{WorkedTriggers}
@@ -13,14 +12,6 @@ use Rattle.iv_worked.specs.WorkedBeforeTriggers.{WorkedBeforeTriggers}
 use Rattle.iv_worked.specs.WorkedTransitions.{WorkedTransitions}
 use Rattle.iv_worked.specs.WorkedLimits.{WorkedLimits}
 use Rattle.iv_worked.specs.WorkedOccasions.{WorkedOccasions}
-
-pub scripts : WorkedScripts
-unfolding Rattle.iv_catalogue.specs.Names.has_repeated Rattle.iv_catalogue.specs.Names.generated
-scripts = record {
-  one_check = refl;
-  two_checks = refl;
-  table_in_transaction = refl;
-}
 
 pub constraints : WorkedConstraints
 constraints = record {

@@ -1,6 +1,5 @@
 pub mod WorkedPlans
 pub mod WorkedAnswers
-pub mod WorkedScripts
 pub mod WorkedConstraints
 pub mod WorkedActions
 pub mod WorkedTriggers

@@ -13,7 +13,7 @@ use Rattle.iv_machine.specs.declared.answer.Answer.TheVariants.{Done, Changed, R
 use Rattle.iv_machine.specs.declared.database.Which.TheVariants.{Deferred}
 use Rattle.iv_machine.specs.Bounds.{Bounds}
 use Rattle.iv_machine.specs.Databases.{scan, is_chosen}
-use Rattle.iv_machine.specs.Machine.{State, Outcome, Work, empty_state, plan_outcome, run, occasion_of, transaction_cause}
+use Rattle.iv_machine.specs.Machine.{State, Outcome, Work, empty_state, plan_outcome, occasion_of, transaction_cause}
 
 -- ---- answers
 
@@ -93,10 +93,6 @@ answers_within changes plans = answers_of (under_limits changes plans)
 
 abbrev pub works_within : ℕ → List Plan → List Work
 works_within changes plans = works_of (under_limits changes plans)
-
--- the answers to parsed statements
-abbrev pub answers_to : List Statement → List Answered
-answers_to statements = (run (empty_state usual_limits) statements).0
 
 -- ---- states
 

@@ -9,12 +9,10 @@ ghost use Rattle.iv_worked.specs.WorkedLimits.{WorkedLimits};
 ghost use Rattle.iv_worked.specs.WorkedOccasions.{WorkedOccasions};
 ghost use Rattle.iv_worked.specs.WorkedActions.{WorkedActions};
 ghost use Rattle.iv_worked.specs.WorkedConstraints.{WorkedConstraints};
-ghost use Rattle.iv_worked.specs.WorkedScripts.{WorkedScripts};
 ghost use Rattle.iv_worked.specs.WorkedTriggers.{WorkedTriggers};
 
 /// Worked scripts answer what they should.
 pub fn worked_scripts()
-    ensures scripts { WorkedScripts }
     ensures constraints { WorkedConstraints }
     ensures actions { WorkedActions }
     ensures triggers { WorkedTriggers }

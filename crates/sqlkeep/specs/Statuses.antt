@@ -1,8 +1,6 @@
 -- What the status of the program means, and what it writes on standard error.
 use Rattle.std.specs.Prelude.{◌≡◌, ℕ, ◌<◌, ◌≤◌, ◌==◌, ◌&&◌, if◌then◌else◌, List, ◌++◌, codes, length, Option, Result, is_none, IfSome}
 use Rattle.std.specs.Str.{IsUtf8}
-use Rattle.iv_machine.specs.declared.limits.TheConstants.{MOST_CHANGES_IN_A_STATEMENT}
-use Rattle.sqlkeep.specs.declared.TheConstants.{USUAL_DEPTH}
 use Rattle.iv_machine.specs.Bounds.{Bounds}
 use Rattle.iv_print.specs.Counts.{counted}
 use Rattle.iv_print.specs.Sinks.{SinkState, FailsOnce}
@@ -15,20 +13,16 @@ use Rattle.iv_script.specs.declared.summary.RunFault.{RunFault}
 use Rattle.iv_script.specs.declared.summary.RunFault.TheVariants.{Read, TooLong, NotUtf8, Write, NoMemory}
 use Rattle.iv_script.specs.declared.summary.Summary.{Summary}
 
--- the limits of a run without options: triggers nest 16 deep, and a statement changes 65,536 rows
-abbrev pub usual_limits : Bounds
-usual_limits = record { depth = USUAL_DEPTH; changes = MOST_CHANGES_IN_A_STATEMENT }
-
 -- the status of a script that ran to its end: 0 where nothing was refused and it has no fault, else
 -- 1
 abbrev pub status_of : Summary → ℕ
 status_of summary = if (summary.refused == 0) && is_none summary.fault then 0 else 1
 
--- The transcript of these bytes was appended, for some choice of statements that were refused
--- memory, and the status says whether all was accepted.
-pub record Told (bytes : List ℕ) (status : ℕ) (before after : SinkState) : Type 0 where
+-- The transcript of these bytes under these limits was appended, for some choice of statements that were
+-- refused memory, and the status says whether all was accepted.
+pub record Told (bytes : List ℕ) (limits : Bounds) (status : ℕ) (before after : SinkState) : Type 0 where
   pub summary : Summary
-  pub ran : RanScript bytes usual_limits summary before after
+  pub ran : RanScript bytes limits summary before after
   pub status_is : status ≡ status_of summary
 
 -- What is known where a run did not end because of this fault: of the bytes of its script, of the

@@ -1,5 +1,8 @@
 //! Runs of the program over what it is given in place of standard input, output and error.
-use crate::{go, status};
+use crate::go;
+use crate::running::{run_script, status};
+use iv_machine::{Limits, MOST_CHANGES_IN_A_STATEMENT};
+use iv_options::USUAL_DEPTH;
 use iv_script::{RunFault, Std};
 use std::alloc::Global;
 use std::io;
@@ -26,8 +29,55 @@ impl Read for Interrupted {
 fn ended<R: Read + Drop>(alloc: Global, reader: R) -> Result<(u8, Vec<u8>, Vec<u8>), Fail> {
     let mut writer = Std::new(Vec::new(alloc));
     let mut faults = Std::new(Vec::new(alloc));
-    let status = go(alloc, &mut Std::new(reader), &mut writer, &mut faults);
+    let Some(limits) = usual_limits() else {
+        return Ok((9, writer.into_inner(), faults.into_inner()));
+    };
+    let mut reader = Std::new(reader);
+    let status = run_script(alloc, limits, &mut reader, &mut writer, &mut faults);
     Ok((status, writer.into_inner(), faults.into_inner()))
+}
+
+fn usual_limits() -> Option<Limits> {
+    Limits::new(USUAL_DEPTH, MOST_CHANGES_IN_A_STATEMENT)
+}
+
+// The same of words: no words of these tests open a file that is there or read standard input.
+fn ended_by_words(rt: &HostRuntime, words: &[&str]) -> (u8, Vec<u8>, Vec<u8>) {
+    let mut writer = Std::new(Vec::new(rt.alloc()));
+    let mut faults = Std::new(Vec::new(rt.alloc()));
+    let status = go(rt.alloc(), rt, words, &mut writer, &mut faults);
+    (status, writer.into_inner(), faults.into_inner())
+}
+
+#[test]
+fn words_that_are_refused_have_status_2(rt: HostRuntime) {
+    for (option, value) in [
+        ("--depth", "0"),
+        ("--depth", "33"),
+        ("--changes", "0"),
+        ("--changes", "65537"),
+    ] {
+        let (status, written, faults) = ended_by_words(&rt, ["sqlkeep", option, value].as_slice());
+        assert_eq!(rt; (status, written.len()), (2, 0), "{option} {value}");
+        assert_eq!(rt; faults.is_empty(), false, "{option} {value}");
+    }
+}
+
+#[test]
+fn help_goes_to_standard_output(rt: HostRuntime) {
+    let (status, written, faults) = ended_by_words(&rt, ["sqlkeep", "--help"].as_slice());
+    assert_eq!(rt; (status, faults.len()), (0, 0));
+    assert_eq!(rt; written.is_empty(), false);
+}
+
+#[test]
+fn file_that_cannot_be_opened_has_its_line(rt: HostRuntime) {
+    let (status, written, faults) = ended_by_words(&rt, ["sqlkeep", "absent.sql"].as_slice());
+    assert_eq!(rt; (status, written.len()), (2, 0));
+    assert_eq!(rt;
+        faults.as_slice(),
+        b"sqlkeep: cannot read the script\n".as_slice()
+    );
 }
 
 #[test]
@@ -76,7 +126,10 @@ fn fault_of_writing_has_its_line(rt: HostRuntime) -> Result<(), Fail> {
     let mut faults = Std::new(Vec::new(rt.alloc()));
     let mut reader = Std::new(ACCEPTED.as_bytes());
     let mut writer = Std::new(room.as_mut_slice());
-    let status = go(rt.alloc(), &mut reader, &mut writer, &mut faults);
+    let Some(limits) = usual_limits() else {
+        return Ok(());
+    };
+    let status = run_script(rt.alloc(), limits, &mut reader, &mut writer, &mut faults);
     let line = faults.into_inner();
     assert_eq!(rt; status, 2);
     assert_eq!(rt; line.as_slice(), b"sqlkeep: cannot write\n".as_slice());
@@ -124,7 +177,10 @@ fn line_that_cannot_be_written_changes_no_status(rt: HostRuntime) -> Result<(), 
     let mut writer = Std::new(Vec::new(rt.alloc()));
     let mut faults = Std::new(none.as_mut_slice());
     let mut reader = Std::new(Interrupted);
-    let status = go(rt.alloc(), &mut reader, &mut writer, &mut faults);
+    let Some(limits) = usual_limits() else {
+        return Ok(());
+    };
+    let status = run_script(rt.alloc(), limits, &mut reader, &mut writer, &mut faults);
     assert_eq!(rt; status, 2);
     Ok(())
 }

@@ -7,6 +7,7 @@ use iv_machine::Answer;
 use iv_parse::script;
 use iv_print::write_outcome;
 use iv_session::{Outcome, Session};
+use iv_store::PlainStore;
 use iv_value::{Value, text};
 use sqlite_items::Items;
 use std::alloc::Global;
@@ -16,12 +17,12 @@ const TWO_NAMES: &str =
     "CREATE TABLE t (a INT, CONSTRAINT pos CHECK (a > 0), CONSTRAINT big CHECK (a < 9));";
 
 // A session that has the constraints POS and BIG.
-fn with_two_names(alloc: Global) -> Result<Option<Session>, Fail> {
+fn with_two_names(alloc: Global) -> Result<Option<Session<PlainStore>>, Fail> {
     let parsed = script(alloc, TWO_NAMES)?;
     let Some(limits) = usual_limits() else {
         return Ok(None);
     };
-    let mut session = Session::new(alloc, limits)?;
+    let mut session = Session::<PlainStore>::new(alloc, limits)?;
     for statement in parsed.statements.as_slice() {
         let _ = session.execute(statement);
     }

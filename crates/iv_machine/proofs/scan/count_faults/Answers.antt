@@ -1,7 +1,6 @@
 use Rattle.std.proofs.Common.{◌≡◌, ◌∙◌, ◌+◌, ◌-◌, ◌^◌, sym, ap, min, drop, length, [], arith}
-use Rattle.iv_catalogue.proofs.NameLists.{no_item}
 use Rattle.iv_machine.specs.Databases.{is_chosen}
-use Rattle.iv_machine.proofs.Scans.{scan_from}
+use Rattle.iv_machine.proofs.Scans.{no_item, scan_from}
 use Rattle.iv_machine.proofs.scan.count_faults.Goals as goal
 
 pub returns : goal.returns

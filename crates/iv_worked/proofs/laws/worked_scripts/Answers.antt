@@ -1,8 +1,5 @@
-use Rattle.iv_worked.proofs.Worked.{scripts, constraints, actions, triggers, statements, keys, transactions, effects, before_triggers, transitions, limits, occasions}
+use Rattle.iv_worked.proofs.Worked.{constraints, actions, triggers, statements, keys, transactions, effects, before_triggers, transitions, limits, occasions}
 use Rattle.iv_worked.proofs.laws.worked_scripts.Goals as goal
-
-pub returns-clause-scripts : goal.returns-clause-scripts
-returns-clause-scripts c = scripts
 
 pub returns-clause-constraints : goal.returns-clause-constraints
 returns-clause-constraints c = constraints

@@ -1,0 +1,151 @@
+-- The steps of a level put together.
+use Rattle.std.proofs.Common.{◌≡◌, refl, ℕ, zero, suc, ◌-◌, Bool, List, length, Result, Ok, Err, MatchBool, ap, sym, ◌∙◌, arith}
+use Rattle.iv_expr.specs.declared.row.Change.{Change}
+use Rattle.iv_expr.specs.Changes.{Wave, wave_of}
+use Rattle.iv_expr.specs.Evaluation.{and_then}
+use Rattle.iv_expr.specs.Scopes.{Frame}
+use Rattle.iv_catalogue.specs.declared.plan.DataStatement.{DataStatement}
+use Rattle.iv_catalogue.specs.declared.plan.Trigger.{Trigger}
+use Rattle.iv_machine.specs.declared.database.Database.{Database}
+use Rattle.iv_machine.specs.BeforeTriggers.{before_statement}
+use Rattle.iv_machine.specs.Context.{Context, Failure, over, with_count}
+use Rattle.iv_machine.specs.Databases.{size}
+use Rattle.iv_machine.specs.Levels.{Finished, Runs, Standing, firings, firings_run, immediate_check, level, level_steps, nested_level}
+use Rattle.iv_machine.specs.Proposals.{event_of, proposed_wave, table_of}
+use Rattle.iv_machine.specs.Waves.{SettledWaves, net_wave, settled_waves}
+use Rattle.iv_transitions.specs.ByTable.{ByTableAndEvent, all_firings}
+use Rattle.iv_transitions.proofs.FiringsByTable.{firings_parted}
+use Rattle.iv_triggers.proofs.Answers.{unless_memory}
+use Rattle.iv_exec.specs.Steps.{allowed_wave, finished, standing, waves_and_after}
+use Rattle.iv_exec.specs.Settled.{SettledParts}
+
+-- ---- the check and the triggers
+
+abbrev then_fired : Runs → Context → DataStatement → Wave → Standing → Result (Unit {0}) Failure → Result Standing Failure
+then_fired run w d net at r = and_then r (λ _. firings_run run (firings w d net) at)
+
+same_firings : (w : Context) (d : DataStatement) (parts : List (List Change)) (net : Wave) (triggers : List Trigger) → ByTableAndEvent parts net.changes → triggers ≡ w.schema.triggers
+    → all_firings d parts triggers ≡ firings w d net
+same_firings w d parts net triggers h e = ap (all_firings d parts) e ∙ firings_parted w d parts net h
+
+pub finished_is : (run : Runs) (w : Context) (d : DataStatement) (parts : List (List Change)) (net : Wave) (triggers : List Trigger) (at : Standing) (r : Result Standing Failure)
+    → immediate_check w at.database ≡ Ok tt → ByTableAndEvent parts net.changes → triggers ≡ w.schema.triggers
+    → firings_run run (all_firings d parts triggers) at ≡ r → finished run w d net at ≡ r
+finished_is run w d parts net triggers at r check h e fired =
+    ap (then_fired run w d net at) check ∙ ap (λ xs. firings_run run xs at) (sym (same_firings w d parts net triggers h e)) ∙ fired
+
+pub finished_refused : (memory : Bool) (run : Runs) (w : Context) (d : DataStatement) (parts : List (List Change)) (net : Wave) (triggers : List Trigger) (at : Standing) (f : Failure)
+    → immediate_check w at.database ≡ Ok tt → ByTableAndEvent parts net.changes → triggers ≡ w.schema.triggers
+    → MatchBool memory (Unit {0}) (firings_run run (all_firings d parts triggers) at ≡ Err f) → MatchBool memory (Unit {0}) (finished run w d net at ≡ Err f)
+finished_refused memory run w d parts net triggers at f check h e fired =
+    unless_memory memory (firings_run run (all_firings d parts triggers) at ≡ Err f) (finished run w d net at ≡ Err f)
+    (finished_is run w d parts net triggers at (Err f) check h e) fired
+
+-- ---- the waves and what comes after them
+
+abbrev done : ℕ → Standing → Finished
+done n at = record { database = at.database; rest = at.budget; size = n }
+
+abbrev then_finished : Runs → Context → DataStatement → Database → ℕ → Result SettledWaves Failure → Result Finished Failure
+then_finished run w d db n r =
+    and_then r (λ s. and_then (finished run w d (net_wave db.rows s.last.rows s.waves) (standing s.last s.rest)) (λ at. Ok (done n at)))
+
+pub waves_done : (run : Runs) (w : Context) (d : DataStatement) (db last : Database) (budget rest : ℕ) (changes : List Change) (parts : List (List Change)) (n : ℕ) (at : Standing)
+    → SettledParts w db budget changes last rest parts → n ≡ length changes
+    → ((net : Wave) → ByTableAndEvent parts net.changes → finished run w d net (standing last rest) ≡ Ok at)
+    → waves_and_after run w d db budget (wave_of changes) ≡ Ok (record { database = at.database; rest = at.budget; size = n })
+waves_done run w d db last budget rest changes parts n at h same f =
+    ap (then_finished run w d db (length changes)) h.is
+    ∙ ap (λ r. and_then {B = Finished} r (λ x. Ok (done (length changes) x))) (f (net_wave db.rows last.rows h.waves) h.by_table)
+    ∙ (λ i. Ok (done (sym same i) at))
+
+pub waves_refused : (memory : Bool) (run : Runs) (w : Context) (d : DataStatement) (db last : Database) (budget rest : ℕ) (changes : List Change) (parts : List (List Change)) (failure : Failure)
+    → SettledParts w db budget changes last rest parts
+    → ((net : Wave) → ByTableAndEvent parts net.changes → MatchBool memory (Unit {0}) (finished run w d net (standing last rest) ≡ Err failure))
+    → MatchBool memory (Unit {0}) (waves_and_after run w d db budget (wave_of changes) ≡ Err failure)
+waves_refused memory run w d db last budget rest changes parts failure h f =
+    unless_memory memory (finished run w d (net_wave db.rows last.rows h.waves) (standing last rest) ≡ Err failure)
+    (waves_and_after run w d db budget (wave_of changes) ≡ Err failure)
+    (λ e. ap (then_finished run w d db (length changes)) h.is ∙ ap (λ r. and_then {B = Finished} r (λ x. Ok (done (length changes) x))) e)
+    (f (net_wave db.rows last.rows h.waves) h.by_table)
+
+pub settling_refused : (memory : Bool) (run : Runs) (w : Context) (d : DataStatement) (db : Database) (budget : ℕ) (changes : List Change) (failure : Failure)
+    → MatchBool memory (Unit {0}) (settled_waves w db budget (wave_of changes) ≡ Err failure)
+    → MatchBool memory (Unit {0}) (waves_and_after run w d db budget (wave_of changes) ≡ Err failure)
+settling_refused memory run w d db budget changes failure h =
+    unless_memory memory (settled_waves w db budget (wave_of changes) ≡ Err failure) (waves_and_after run w d db budget (wave_of changes) ≡ Err failure)
+    (λ e. ap (then_finished run w d db (length changes)) e) h
+
+-- ---- a level
+
+assoc : {A B C E : Type 0} (r : Result A E) (f : A → Result B E) (g : B → Result C E) → and_then (and_then r f) g ≡ and_then r (λ x. and_then (f x) g)
+assoc (Ok x) f g = refl
+assoc (Err e) f g = refl
+
+same_then : {A B E : Type 0} (r : Result A E) (f g : A → Result B E) → ((x : A) → f x ≡ g x) → and_then r f ≡ and_then r g
+same_then (Ok x) f g h = h x
+same_then (Err e) f g h = refl
+
+-- the steps after a proposal that was allowed
+abbrev waves_in_one : Runs → Context → DataStatement → Database → ℕ → Wave → Result Finished Failure
+waves_in_one run w d db budget wave =
+    and_then (settled_waves w db budget wave) (λ s.
+    and_then (immediate_check w s.last) (λ _.
+    and_then (firings_run run (firings w d (net_wave db.rows s.last.rows s.waves)) (standing s.last s.rest)) (λ at. Ok (done (size wave) at))))
+
+in_two : (run : Runs) (w : Context) (d : DataStatement) (db : Database) (budget : ℕ) (wave : Wave)
+    → waves_in_one run w d db budget wave ≡ waves_and_after run w d db budget wave
+in_two run w d db budget wave =
+    same_then (settled_waves w db budget wave) _ _ (λ s.
+    sym (assoc (immediate_check w s.last) (λ _. firings_run run (firings w d (net_wave db.rows s.last.rows s.waves)) (standing s.last s.rest)) (λ at. Ok (done (size wave) at))))
+
+abbrev before : Context → DataStatement → Database → Result (Unit {0}) Failure
+before w d db = with_count db (before_statement w db.rows (table_of d) (event_of d))
+
+regrouped : (run : Runs) (w : Context) (d : DataStatement) (f : Frame) (db : Database) (budget : ℕ)
+    → level_steps run w d f db budget ≡ and_then (allowed_wave w d f db) (waves_and_after run w d db budget)
+regrouped run w d f db budget =
+    same_then (over db (proposed_wave w db f d)) _ (λ wave. and_then (and_then (before w d db) (λ _. Ok wave)) (waves_and_after run w d db budget))
+    (λ wave.
+    same_then (before w d db) (λ _. waves_in_one run w d db budget wave) (λ _. waves_and_after run w d db budget wave) (λ _. in_two run w d db budget wave)
+    ∙ sym (assoc (before w d db) (λ _. Ok wave) (waves_and_after run w d db budget)))
+    ∙ sym (assoc (over db (proposed_wave w db f d)) (λ wave. and_then (before w d db) (λ _. Ok wave)) (waves_and_after run w d db budget))
+
+pub level_opens : (deeper : ℕ) (w : Context) (d : DataStatement) (f : Frame) (db : Database) (budget : ℕ) → (budget ≡ 0 → ⊥)
+    → level deeper w d f db budget ≡ and_then (allowed_wave w d f db) (waves_and_after (nested_level deeper w) w d db (budget - 1))
+level_opens deeper w d f db zero e = absurd (e refl)
+level_opens deeper w d f db (suc budget) e =
+    let less : suc budget - 1 ≡ budget = omega arith in
+    regrouped (nested_level deeper w) w d f db budget ∙ ap (λ n. and_then (allowed_wave w d f db) (waves_and_after (nested_level deeper w) w d db n)) (sym less)
+
+pub level_done : (deeper : ℕ) (w : Context) (d : DataStatement) (f : Frame) (db : Database) (budget : ℕ) (wave : Wave) (r : Result Finished Failure) → (budget ≡ 0 → ⊥)
+    → allowed_wave w d f db ≡ Ok wave → waves_and_after (nested_level deeper w) w d db (budget - 1) wave ≡ r → level deeper w d f db budget ≡ r
+level_done deeper w d f db budget wave r e a h =
+    level_opens deeper w d f db budget e ∙ ap (λ x. and_then x (waves_and_after (nested_level deeper w) w d db (budget - 1))) a ∙ h
+
+pub level_refused : (memory : Bool) (deeper : ℕ) (w : Context) (d : DataStatement) (f : Frame) (db : Database) (budget : ℕ) (wave : Wave) (failure : Failure) → (budget ≡ 0 → ⊥)
+    → allowed_wave w d f db ≡ Ok wave → MatchBool memory (Unit {0}) (waves_and_after (nested_level deeper w) w d db (budget - 1) wave ≡ Err failure)
+    → MatchBool memory (Unit {0}) (level deeper w d f db budget ≡ Err failure)
+level_refused memory deeper w d f db budget wave failure e a h =
+    unless_memory memory (waves_and_after (nested_level deeper w) w d db (budget - 1) wave ≡ Err failure) (level deeper w d f db budget ≡ Err failure)
+    (level_done deeper w d f db budget wave (Err failure) e a) h
+
+pub level_not_allowed : (memory : Bool) (deeper : ℕ) (w : Context) (d : DataStatement) (f : Frame) (db : Database) (budget : ℕ) (failure : Failure) → (budget ≡ 0 → ⊥)
+    → MatchBool memory (Unit {0}) (allowed_wave w d f db ≡ Err failure) → MatchBool memory (Unit {0}) (level deeper w d f db budget ≡ Err failure)
+level_not_allowed memory deeper w d f db budget failure e h =
+    unless_memory memory (allowed_wave w d f db ≡ Err failure) (level deeper w d f db budget ≡ Err failure)
+    (λ a. level_opens deeper w d f db budget e ∙ ap (λ x. and_then x (waves_and_after (nested_level deeper w) w d db (budget - 1))) a) h
+
+-- a nested level is a level that is one less deep
+pub nested_opens : (deeper : ℕ) (w : Context) (trigger : ℕ) (d : DataStatement) (f : Frame) (db : Database) (budget : ℕ) → (deeper ≡ 0 → ⊥)
+    → nested_level deeper w trigger d f db budget ≡ level (deeper - 1) w d f db budget
+nested_opens zero w trigger d f db budget e = absurd (e refl)
+nested_opens (suc deeper) w trigger d f db budget e =
+    let less : suc deeper - 1 ≡ deeper = omega arith in
+    ap (λ n. level n w d f db budget) (sym less)
+
+pub nested_refused : (memory : Bool) (deeper : ℕ) (w : Context) (trigger : ℕ) (d : DataStatement) (f : Frame) (db : Database) (budget : ℕ) (failure : Failure) → (deeper ≡ 0 → ⊥)
+    → MatchBool memory (Unit {0}) (level (deeper - 1) w d f db budget ≡ Err failure) → MatchBool memory (Unit {0}) (nested_level deeper w trigger d f db budget ≡ Err failure)
+nested_refused memory deeper w trigger d f db budget failure e h =
+    unless_memory memory (level (deeper - 1) w d f db budget ≡ Err failure) (nested_level deeper w trigger d f db budget ≡ Err failure)
+    (λ x. nested_opens deeper w trigger d f db budget e ∙ x) h

@@ -1,0 +1,4 @@
+pub mod Lending
+pub mod Refusing
+pub mod Turns
+pub mod Levels

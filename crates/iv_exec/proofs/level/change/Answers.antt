@@ -1,0 +1,9 @@
+use Rattle.std.proofs.Common.{subst, sym}
+use Rattle.iv_row_laws.specs.RowFits.{StatementFits}
+use Rattle.iv_row_laws.proofs.FittingFrames.{plain_statements_fit}
+use Rattle.iv_exec.proofs.level.change.Goals as goal
+
+pub run_level-requires-clause-statement : goal.run_level-requires-clause-statement
+run_level-requires-clause-statement g c =
+    subst (λ frame. StatementFits c.args.catalogue.now.tables frame c.args.statement.now) (sym c.none-frame.ensures)
+    (plain_statements_fit c.args.catalogue.now.tables c.args.statement.now c.requires.statement)

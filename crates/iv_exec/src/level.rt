@@ -1,0 +1,473 @@
+//! A level: one data statement, the waves that follow from it, and the triggers that it fires.
+ghost use Rattle.std.specs.Prelude.{◌≡◌, ◌-◌, ◌≤◌, ◌<◌, ◌∷◌, [], length, map, true, false, OnOk};
+ghost use Rattle.std.specs.List.{list_all};
+ghost use Rattle.iv_catalogue.specs.Catalogues.{BodiesWithinLimit};
+ghost use Rattle.iv_catalogue.specs.declared.limits.TheConstants.{MOST_BODY_STATEMENTS};
+ghost use Rattle.iv_expr.specs.Scopes.{no_frame};
+ghost use Rattle.iv_fitting.specs.PlanShapes.{data_suits, plain_shape, trigger_suits};
+ghost use Rattle.iv_expr.specs.Changes.{Wave as Changes, wave_of};
+ghost use Rattle.iv_machine.specs.BeforeTriggers.{for_each_row, placed_statements};
+ghost use Rattle.iv_machine.specs.Levels.{body_run, firing_run, firings_run, level, nested_level, row_firing, statement_firing, statement_run};
+ghost use Rattle.iv_row_laws.specs.RowFits.{BodyFits, StatementFits, changes_fit};
+ghost use Rattle.iv_transitions.specs.ByTable.{ByTableAndEvent, after_firings, all_firings};
+ghost use Rattle.iv_waves.specs.Answers.{AnswersAt, UnlessMemory, with_database};
+ghost use Rattle.iv_waves.specs.Applying.{Proposes, StoreFits};
+ghost use Rattle.iv_waves.specs.Lookups.{LooksUp};
+ghost use Rattle.iv_exec.specs.Firing.{ActionFits, AreParts, AreTransitions, CanFire};
+ghost use Rattle.iv_exec.specs.Steps.{body_run_where_true, finished, innermost, standing, told, waves_and_after};
+
+use crate::lent::{are_transitions, row_frame, statement_at, statement_frame, trigger_at};
+use crate::start::{allowed, check, settle_waves, takes_effect};
+use iv_catalogue::{BodyStatement, Catalogue, Cause, DataStatement, Refusal, Trigger, TriggerId};
+use iv_expr::{Change, Frame};
+use iv_machine::Limits;
+use iv_modes::Modes;
+use iv_store::Keeper;
+use iv_transitions::{Fires, Transitions, firings};
+use iv_triggers::Context;
+
+// A statement at a place of a trigger's body. SET is for BEFORE triggers alone.
+#[cycle(level)]
+fn run_statement<K: Keeper>(
+    store: &mut K,
+    context: &Context<'_>,
+    trigger: &Trigger,
+    frame: &Frame<'_>,
+    place: u32,
+    statement: &BodyStatement,
+    deeper: u8,
+    budget: &mut u64,
+) -> Result<(), Refusal>
+    requires store { StoreFits context.now.schema (K.view store.old) }
+    requires statement { ActionFits context.now.schema.tables frame.now statement.now }
+    ensures answer { AnswersAt (λ _. standing (K.view store.new).base budget.new) (K.view store.new).base.count result
+        (statement_run (nested_level deeper context.now) (record { trigger = trigger.now; frame = frame.now }) place statement.now (standing (K.view store.old).base budget.old)) }
+    ensures kept { K.view store.new ≡ with_database (K.view store.old) (K.view store.new).base }
+    ensures looked { UnlessMemory result (LooksUp
+        (K.view store.old) (K.lookups store.old) (K.view store.new) (K.lookups store.new)) }
+    ensures store { OnOk result (StoreFits context.now.schema (K.view store.new)) }
+{
+    match statement {
+        BodyStatement::Data(statement) => match nested(
+            store, &*context, trigger.id, statement, &*frame, deeper, budget,
+        ) {
+            Ok(_) => Ok(()),
+            Err(refusal) => Err(refusal),
+        },
+        BodyStatement::Signal(_) => Err(Refusal::of(Cause::Signal(trigger.id, place))),
+        BodyStatement::Set(_) => Ok(()),
+    }
+}
+
+// A data statement of a trigger's body.
+#[cycle(level)]
+fn nested<K: Keeper>(
+    store: &mut K,
+    context: &Context<'_>,
+    trigger: TriggerId,
+    statement: &DataStatement,
+    frame: &Frame<'_>,
+    deeper: u8,
+    budget: &mut u64,
+) -> Result<u64, Refusal>
+    requires store { StoreFits context.now.schema (K.view store.old) }
+    requires statement { StatementFits context.now.schema.tables frame.now statement.now }
+    ensures answer { AnswersAt (λ size. record { database = (K.view store.new).base; rest = budget.new; size = size }) (K.view store.new).base.count result
+        (nested_level deeper context.now trigger statement.now frame.now (K.view store.old).base budget.old) }
+    ensures kept { K.view store.new ≡ with_database (K.view store.old) (K.view store.new).base }
+    ensures looked { UnlessMemory result (LooksUp
+        (K.view store.old) (K.lookups store.old) (K.view store.new) (K.lookups store.new)) }
+    ensures store { OnOk result (StoreFits context.now.schema (K.view store.new)) }
+{
+    if deeper == 0 {
+        return Err(Refusal::of(Cause::DepthLimit(trigger)));
+    }
+    match run_level(store, &*context, statement, &*frame, deeper - 1, budget) {
+        Ok(size) => Ok(size),
+        Err(refusal) => Err(refusal),
+    }
+}
+
+// The statements of a trigger's body, in their order.
+#[cycle(level)]
+fn run_body<K: Keeper>(
+    store: &mut K,
+    context: &Context<'_>,
+    trigger: &Trigger,
+    frame: &Frame<'_>,
+    deeper: u8,
+    budget: &mut u64,
+) -> Result<(), Refusal>
+    requires store { StoreFits context.now.schema (K.view store.old) }
+    requires fires { CanFire context.now.schema.tables trigger.now }
+    requires body { BodyFits context.now.schema.tables frame.now trigger.now.body }
+    ensures answer { AnswersAt (λ _. standing (K.view store.new).base budget.new) (K.view store.new).base.count result
+        (body_run (nested_level deeper context.now) (record { trigger = trigger.now; frame = frame.now }) (placed_statements trigger.now) (standing (K.view store.old).base budget.old)) }
+    ensures kept { K.view store.new ≡ with_database (K.view store.old) (K.view store.new).base }
+    ensures looked { UnlessMemory result (LooksUp
+        (K.view store.old) (K.lookups store.old) (K.view store.new) (K.lookups store.new)) }
+    ensures store { OnOk result (StoreFits context.now.schema (K.view store.new)) }
+{
+    let body = trigger.body.as_slice();
+    let mut at = 0usize;
+    let mut place = 1u32;
+    while at < body.len() {
+        let statement = statement_at(&*context, &*frame, body, at);
+        match run_statement(
+            store, &*context, trigger, &*frame, place, statement, deeper, budget,
+        ) {
+            Ok(()) => {
+                at += 1;
+                place += 1;
+            }
+            Err(refusal) => return Err(refusal),
+        }
+    }
+    Ok(())
+}
+
+// The body of a trigger, where its WHEN is true.
+#[cycle(level)]
+fn run_where_true<K: Keeper>(
+    store: &mut K,
+    context: &Context<'_>,
+    trigger: &Trigger,
+    frame: &Frame<'_>,
+    deeper: u8,
+    budget: &mut u64,
+) -> Result<(), Refusal>
+    requires store { StoreFits context.now.schema (K.view store.old) }
+    requires fires { CanFire context.now.schema.tables trigger.now }
+    requires body { BodyFits context.now.schema.tables frame.now trigger.now.body }
+    ensures answer { AnswersAt (λ _. standing (K.view store.new).base budget.new) (K.view store.new).base.count result
+        (body_run_where_true (nested_level deeper context.now) (record { trigger = trigger.now; frame = frame.now }) (standing (K.view store.old).base budget.old)) }
+    ensures kept { K.view store.new ≡ with_database (K.view store.old) (K.view store.new).base }
+    ensures looked { UnlessMemory result (LooksUp
+        (K.view store.old) (K.lookups store.old) (K.view store.new) (K.lookups store.new)) }
+    ensures store { OnOk result (StoreFits context.now.schema (K.view store.new)) }
+{
+    match takes_effect(&*store, trigger, &*frame) {
+        Ok(true) => match run_body(store, &*context, trigger, &*frame, deeper, budget) {
+            Ok(()) => Ok(()),
+            Err(refusal) => Err(refusal),
+        },
+        Ok(false) => Ok(()),
+        Err(cause) => Err(Refusal::of(cause)),
+    }
+}
+
+// The innermost trigger of a refusal that comes while this one runs.
+fn innermost(trigger: TriggerId, inner: Option<TriggerId>) -> Option<TriggerId>
+    ensures { result ≡ innermost trigger inner }
+{
+    match inner {
+        Some(inner) => Some(inner),
+        None => Some(trigger),
+    }
+}
+
+// A trigger at one firing. A refusal is told with it, unless it came inside another that it runs.
+#[cycle(level)]
+fn fire<K: Keeper>(
+    store: &mut K,
+    context: &Context<'_>,
+    trigger: &Trigger,
+    frame: &Frame<'_>,
+    deeper: u8,
+    budget: &mut u64,
+) -> Result<(), Refusal>
+    requires store { StoreFits context.now.schema (K.view store.old) }
+    requires fires { CanFire context.now.schema.tables trigger.now }
+    requires body { BodyFits context.now.schema.tables frame.now trigger.now.body }
+    ensures answer { AnswersAt (λ _. standing (K.view store.new).base budget.new) (K.view store.new).base.count result
+        (firing_run (nested_level deeper context.now) (record { trigger = trigger.now; frame = frame.now }) (standing (K.view store.old).base budget.old)) }
+    ensures kept { K.view store.new ≡ with_database (K.view store.old) (K.view store.new).base }
+    ensures looked { UnlessMemory result (LooksUp
+        (K.view store.old) (K.lookups store.old) (K.view store.new) (K.lookups store.new)) }
+    ensures store { OnOk result (StoreFits context.now.schema (K.view store.new)) }
+{
+    match run_where_true(store, &*context, trigger, &*frame, deeper, budget) {
+        Ok(()) => Ok(()),
+        Err(refusal) => Err(Refusal {
+            cause: refusal.cause,
+            trigger: innermost(trigger.id, refusal.trigger),
+        }),
+    }
+}
+
+// A row trigger at each of its transitions, which it is lent.
+#[cycle(level)]
+fn fire_rows<K: Keeper>(
+    store: &mut K,
+    context: &Context<'_>,
+    trigger: &Trigger,
+    transitions: &[Change],
+    deeper: u8,
+    budget: &mut u64,
+) -> Result<(), Refusal>
+    requires store { StoreFits context.now.schema (K.view store.old) }
+    requires fires { CanFire context.now.schema.tables trigger.now }
+    requires transitions { AreTransitions context.now.schema.tables trigger.now transitions.now }
+    ensures answer { AnswersAt (λ _. standing (K.view store.new).base budget.new) (K.view store.new).base.count result
+        (firings_run (nested_level deeper context.now) (map (row_firing trigger.now transitions.now) transitions.now) (standing (K.view store.old).base budget.old)) }
+    ensures kept { K.view store.new ≡ with_database (K.view store.old) (K.view store.new).base }
+    ensures looked { UnlessMemory result (LooksUp
+        (K.view store.old) (K.lookups store.old) (K.view store.new) (K.lookups store.new)) }
+    ensures store { OnOk result (StoreFits context.now.schema (K.view store.new)) }
+{
+    let mut at = 0usize;
+    while at < transitions.len() {
+        let frame = row_frame(&*context, trigger, transitions, at);
+        match fire(store, &*context, trigger, &frame, deeper, budget) {
+            Ok(()) => at += 1,
+            Err(refusal) => return Err(refusal),
+        }
+    }
+    Ok(())
+}
+
+// A statement trigger, which is lent its transitions.
+#[cycle(level)]
+fn fire_once<K: Keeper>(
+    store: &mut K,
+    context: &Context<'_>,
+    trigger: &Trigger,
+    transitions: &[Change],
+    deeper: u8,
+    budget: &mut u64,
+) -> Result<(), Refusal>
+    requires store { StoreFits context.now.schema (K.view store.old) }
+    requires fires { CanFire context.now.schema.tables trigger.now }
+    requires once { for_each_row trigger.now ≡ false }
+    requires transitions { AreTransitions context.now.schema.tables trigger.now transitions.now }
+    ensures answer { AnswersAt (λ _. standing (K.view store.new).base budget.new) (K.view store.new).base.count result
+        (firing_run (nested_level deeper context.now) (statement_firing trigger.now transitions.now) (standing (K.view store.old).base budget.old)) }
+    ensures kept { K.view store.new ≡ with_database (K.view store.old) (K.view store.new).base }
+    ensures looked { UnlessMemory result (LooksUp
+        (K.view store.old) (K.lookups store.old) (K.view store.new) (K.lookups store.new)) }
+    ensures store { OnOk result (StoreFits context.now.schema (K.view store.new)) }
+{
+    let frame = statement_frame(&*context, trigger, transitions);
+    match fire(store, &*context, trigger, &frame, deeper, budget) {
+        Ok(()) => Ok(()),
+        Err(refusal) => Err(refusal),
+    }
+}
+
+// A trigger, as often as it fires.
+#[cycle(level)]
+fn fire_trigger<K: Keeper>(
+    store: &mut K,
+    context: &Context<'_>,
+    statement: &DataStatement,
+    trigger: &Trigger,
+    transitions: &Transitions,
+    deeper: u8,
+    budget: &mut u64,
+) -> Result<(), Refusal>
+    requires store { StoreFits context.now.schema (K.view store.old) }
+    requires fires { CanFire context.now.schema.tables trigger.now }
+    requires parts { AreParts context.now.schema.tables transitions.now }
+    ensures answer { AnswersAt (λ _. standing (K.view store.new).base budget.new) (K.view store.new).base.count result
+        (firings_run (nested_level deeper context.now) (after_firings statement.now transitions.now trigger.now) (standing (K.view store.old).base budget.old)) }
+    ensures kept { K.view store.new ≡ with_database (K.view store.old) (K.view store.new).base }
+    ensures looked { UnlessMemory result (LooksUp
+        (K.view store.old) (K.lookups store.old) (K.view store.new) (K.lookups store.new)) }
+    ensures store { OnOk result (StoreFits context.now.schema (K.view store.new)) }
+{
+    match firings(statement, trigger, &*transitions) {
+        Fires::Never => Ok(()),
+        Fires::Once(changes) => {
+            are_transitions(&*context, trigger, &*transitions, changes);
+            match fire_once(store, &*context, trigger, changes, deeper, budget) {
+                Ok(()) => Ok(()),
+                Err(refusal) => Err(refusal),
+            }
+        }
+        Fires::EachRow(changes) => {
+            are_transitions(&*context, trigger, &*transitions, changes);
+            match fire_rows(store, &*context, trigger, changes, deeper, budget) {
+                Ok(()) => Ok(()),
+                Err(refusal) => Err(refusal),
+            }
+        }
+    }
+}
+
+// These triggers, by creation.
+#[cycle(level)]
+fn fire_all<K: Keeper>(
+    store: &mut K,
+    context: &Context<'_>,
+    statement: &DataStatement,
+    triggers: &[Trigger],
+    transitions: &Transitions,
+    deeper: u8,
+    budget: &mut u64,
+) -> Result<(), Refusal>
+    requires store { StoreFits context.now.schema (K.view store.old) }
+    requires short { BodiesWithinLimit triggers.now }
+    requires suit { list_all (trigger_suits context.now.schema.tables) triggers.now ≡ true }
+    requires parts { AreParts context.now.schema.tables transitions.now }
+    ensures answer { AnswersAt (λ _. standing (K.view store.new).base budget.new) (K.view store.new).base.count result
+        (firings_run (nested_level deeper context.now) (all_firings statement.now transitions.now triggers.now) (standing (K.view store.old).base budget.old)) }
+    ensures kept { K.view store.new ≡ with_database (K.view store.old) (K.view store.new).base }
+    ensures looked { UnlessMemory result (LooksUp
+        (K.view store.old) (K.lookups store.old) (K.view store.new) (K.lookups store.new)) }
+    ensures store { OnOk result (StoreFits context.now.schema (K.view store.new)) }
+{
+    let mut at = 0usize;
+    while at < triggers.len() {
+        let trigger = trigger_at(&*context, triggers, at);
+        match fire_trigger(
+            store,
+            &*context,
+            statement,
+            trigger,
+            &*transitions,
+            deeper,
+            budget,
+        ) {
+            Ok(()) => at += 1,
+            Err(refusal) => return Err(refusal),
+        }
+    }
+    Ok(())
+}
+
+// The check of the immediate constraints, and the AFTER triggers.
+#[cycle(level)]
+fn finish<K: Keeper>(
+    store: &mut K,
+    context: &Context<'_>,
+    statement: &DataStatement,
+    transitions: &Transitions,
+    deeper: u8,
+    budget: &mut u64,
+) -> Result<(), Refusal>
+    requires store { StoreFits context.now.schema (K.view store.old) }
+    requires parts { AreParts context.now.schema.tables transitions.now }
+    ensures answer { (net : Changes) → ByTableAndEvent transitions.now net.changes → AnswersAt (λ _. standing (K.view store.new).base budget.new) (K.view store.new).base.count result
+        (finished (nested_level deeper context.now) context.now statement.now net (standing (K.view store.old).base budget.old)) }
+    ensures kept { K.view store.new ≡ with_database (K.view store.old) (K.view store.new).base }
+    ensures looked { UnlessMemory result (LooksUp
+        (K.view store.old) (K.lookups store.old) (K.view store.new) (K.lookups store.new)) }
+    ensures store { OnOk result (StoreFits context.now.schema (K.view store.new)) }
+{
+    match check(&*store, &*context) {
+        Ok(()) => match fire_all(
+            store,
+            &*context,
+            statement,
+            context.catalogue().triggers(),
+            &*transitions,
+            deeper,
+            budget,
+        ) {
+            Ok(()) => Ok(()),
+            Err(refusal) => Err(refusal),
+        },
+        Err(refusal) => Err(refusal),
+    }
+}
+
+// The waves of a statement from what it proposes on, and what comes after them.
+#[cycle(level)]
+fn run_waves<K: Keeper>(
+    store: &mut K,
+    context: &Context<'_>,
+    statement: &DataStatement,
+    changes: Vec<Change>,
+    deeper: u8,
+    budget: &mut u64,
+) -> Result<u64, Refusal>
+    requires store { StoreFits context.now.schema (K.view store.old) }
+    requires fit { changes_fit context.now.schema.tables changes.items ≡ true }
+    requires proposed { Proposes context.now (K.view store.old).base changes.items }
+    ensures answer { AnswersAt (λ size. record { database = (K.view store.new).base; rest = budget.new; size = size }) (K.view store.new).base.count result
+        (waves_and_after (nested_level deeper context.now) context.now statement.now (K.view store.old).base budget.old (wave_of changes.items)) }
+    ensures kept { K.view store.new ≡ with_database (K.view store.old) (K.view store.new).base }
+    ensures looked { UnlessMemory result (LooksUp
+        (K.view store.old) (K.lookups store.old) (K.view store.new) (K.lookups store.new)) }
+    ensures store { OnOk result (StoreFits context.now.schema (K.view store.new)) }
+{
+    let size = changes.len() as u64;
+    match settle_waves(store, &*context, budget, changes) {
+        Ok(transitions) => {
+            match finish(store, &*context, statement, &transitions, deeper, budget) {
+                Ok(()) => Ok(size),
+                Err(refusal) => Err(refusal),
+            }
+        }
+        Err(refusal) => Err(refusal),
+    }
+}
+
+// A data statement, of a script or of a trigger's body. It takes one from the budget for itself.
+#[cycle(level)]
+fn run_level<K: Keeper>(
+    store: &mut K,
+    context: &Context<'_>,
+    statement: &DataStatement,
+    frame: &Frame<'_>,
+    deeper: u8,
+    budget: &mut u64,
+) -> Result<u64, Refusal>
+    requires store { StoreFits context.now.schema (K.view store.old) }
+    requires statement { StatementFits context.now.schema.tables frame.now statement.now }
+    ensures answer { AnswersAt (λ size. record { database = (K.view store.new).base; rest = budget.new; size = size }) (K.view store.new).base.count result
+        (level deeper context.now statement.now frame.now (K.view store.old).base budget.old) }
+    ensures kept { K.view store.new ≡ with_database (K.view store.old) (K.view store.new).base }
+    ensures looked { UnlessMemory result (LooksUp
+        (K.view store.old) (K.lookups store.old) (K.view store.new) (K.lookups store.new)) }
+    ensures store { OnOk result (StoreFits context.now.schema (K.view store.new)) }
+{
+    if *budget == 0 {
+        return Err(Refusal::of(Cause::TooManyChanges));
+    }
+    *budget -= 1;
+    match allowed(&*store, &*context, statement, &*frame) {
+        Ok(changes) => match run_waves(store, &*context, statement, changes, deeper, budget) {
+            Ok(size) => Ok(size),
+            Err(refusal) => Err(refusal),
+        },
+        Err(refusal) => Err(refusal),
+    }
+}
+
+/// INSERT, UPDATE or DELETE of a script, with all that follows from it, and how many rows it changed itself
+/// ("Insert statement", "Update statement: searched", "Delete statement: searched"). Where it is refused,
+/// the store is left with what it changed so far, so that the count of its changes is exact; the caller undoes
+/// it to a mark that it made before.
+pub fn change<K: Keeper>(
+    store: &mut K,
+    statement: &DataStatement,
+    catalogue: &Catalogue,
+    modes: &Modes,
+    limits: Limits,
+) -> Result<u64, Refusal>
+    requires store { StoreFits catalogue.now (K.view store.old) }
+    requires statement { data_suits catalogue.now.tables (plain_shape catalogue.now.tables) statement.now ≡ true }
+    ensures answer { AnswersAt (λ size. ((K.view store.new).base, size)) (K.view store.new).base.count result
+        (told (level (limits.depth - 1) (record { schema = catalogue.now; modes = modes.now.modes }) statement.now no_frame
+        (K.view store.old).base limits.changes)) }
+    ensures kept { K.view store.new ≡ with_database (K.view store.old) (K.view store.new).base }
+    ensures looked { UnlessMemory result (LooksUp
+        (K.view store.old) (K.lookups store.old) (K.view store.new) (K.lookups store.new)) }
+    ensures store { OnOk result (StoreFits catalogue.now (K.view store.new)) }
+{
+    let context = Context { catalogue, modes };
+    let frame = Frame::none();
+    let mut budget = u64::from(limits.changes());
+    match run_level(
+        store,
+        &context,
+        statement,
+        &frame,
+        limits.depth() - 1,
+        &mut budget,
+    ) {
+        Ok(size) => Ok(size),
+        Err(refusal) => Err(refusal),
+    }
+}

@@ -1,0 +1,134 @@
+//! What stands before and after the waves of a level.
+ghost use Rattle.std.specs.Prelude.{◌≡◌, true, IfOk, OnOk};
+ghost use Rattle.iv_expr.specs.Changes.{wave_of};
+ghost use Rattle.iv_expr.specs.Scopes.{scope_of};
+ghost use Rattle.iv_laws.specs.FittingWaves.{Chain};
+ghost use Rattle.iv_machine.specs.declared.database.Database.{Database};
+ghost use Rattle.iv_machine.specs.Levels.{immediate_check};
+ghost use Rattle.iv_machine.specs.Proposals.{event_of, holds, table_of};
+ghost use Rattle.iv_machine.specs.Waves.{net_wave};
+ghost use Rattle.iv_transitions.specs.ByTable.{ByTableAndEvent};
+ghost use Rattle.iv_row_laws.specs.RowFits.{StatementFits, changes_fit};
+ghost use Rattle.iv_waves.specs.Answers.{AnswersAt, UnlessMemory, with_database};
+ghost use Rattle.iv_waves.specs.Applying.{Proposes, StoreFits};
+ghost use Rattle.iv_waves.specs.Lookups.{LooksUp};
+ghost use Rattle.iv_exec.specs.Firing.{AreParts};
+ghost use Rattle.iv_exec.specs.Settled.{Settles};
+ghost use Rattle.iv_exec.specs.Steps.{allowed_wave};
+
+use iv_catalogue::{Cause, DataStatement, Refusal, Trigger};
+use iv_expr::{Change, Frame, Scope, TableId, Wave};
+use iv_machine::Which;
+use iv_proposals::proposed;
+use iv_store::Keeper;
+use iv_syntax::TriggerEvent;
+use iv_transitions::{Transitions, transitions, transitions_of};
+use iv_triggers::{Context, before_statement, holds};
+use iv_waves::settle;
+use std::alloc::{AllocError, Global};
+
+fn table_of(statement: &DataStatement) -> TableId
+    ensures { result ≡ table_of statement.now }
+{
+    match statement {
+        DataStatement::Insert { table, .. } => *table,
+        DataStatement::Update { table, .. } => *table,
+        DataStatement::Delete { table, .. } => *table,
+    }
+}
+
+fn event_of(statement: &DataStatement) -> TriggerEvent
+    ensures { result ≡ event_of statement.now }
+{
+    match statement {
+        DataStatement::Insert { .. } => TriggerEvent::Insert,
+        DataStatement::Update { .. } => TriggerEvent::Update,
+        DataStatement::Delete { .. } => TriggerEvent::Delete,
+    }
+}
+
+/// What a statement proposes, unless a BEFORE statement trigger refuses it.
+pub fn allowed<'x, K: Keeper>(
+    store: &'x K,
+    context: &Context<'_>,
+    statement: &DataStatement,
+    frame: &'x Frame<'x>,
+) -> Result<Vec<Change>, Refusal>
+    requires store { StoreFits context.now.schema (K.view store.now) }
+    requires statement { StatementFits context.now.schema.tables frame.now statement.now }
+    ensures answer { AnswersAt (λ changes. wave_of changes.items) (K.view store.now).base.count result
+        (allowed_wave context.now statement.now frame.now (K.view store.now).base) }
+    ensures fit { IfOk result (λ changes. changes_fit context.now.schema.tables changes.items ≡ true) }
+    ensures proposed { IfOk result (λ changes. Proposes context.now (K.view store.now).base changes.items) }
+{
+    match proposed(store, context, frame, statement) {
+        Ok(changes) => match before_statement(
+            context,
+            store,
+            table_of(statement),
+            event_of(statement),
+        ) {
+            Ok(()) => Ok(changes),
+            Err(refusal) => Err(refusal),
+        },
+        Err(cause) => Err(Refusal::of(cause)),
+    }
+}
+
+/// Refused with the first violation of an immediate constraint.
+pub fn check<K: Keeper>(store: &K, context: &Context<'_>) -> Result<(), Refusal>
+    requires { (K.view store.now).constraints ≡ context.now.schema.constraints }
+    ensures { AnswersAt (λ _. tt) (K.view store.now).base.count result
+        (immediate_check context.now (K.view store.now).base) }
+{
+    match store.first_fault(context.modes(), Which::Immediate) {
+        Some(fault) => Err(Refusal::of(Cause::Violation(fault))),
+        None => Ok(()),
+    }
+}
+
+// The net changes of the waves, by table and event.
+fn net_changes(alloc: Global, waves: &[Wave]) -> Result<Transitions, AllocError>
+    ensures { IfOk result (λ parts. (db last : Database) → Chain db waves.now last
+        → ByTableAndEvent parts (net_wave db.rows last.rows waves.now).changes) }
+{
+    let net = transitions(alloc, waves)?;
+    transitions_of(alloc, &net)
+}
+
+/// Applies the changes that a statement proposes and what follows from them, and answers their net changes by
+/// table and event.
+pub fn settle_waves<K: Keeper>(
+    store: &mut K,
+    context: &Context<'_>,
+    budget: &mut u64,
+    changes: Vec<Change>,
+) -> Result<Transitions, Refusal>
+    requires store { StoreFits context.now.schema (K.view store.old) }
+    requires fit { changes_fit context.now.schema.tables changes.items ≡ true }
+    requires proposed { Proposes context.now (K.view store.old).base changes.items }
+    ensures answer { Settles context.now (K.view store.old).base budget.old changes.items
+        (K.view store.new).base budget.new result }
+    ensures parts { IfOk result (λ parts. AreParts context.now.schema.tables parts) }
+    ensures kept { K.view store.new ≡ with_database (K.view store.old) (K.view store.new).base }
+    ensures looked { UnlessMemory result (LooksUp
+        (K.view store.old) (K.lookups store.old) (K.view store.new) (K.lookups store.new)) }
+    ensures store { OnOk result (StoreFits context.now.schema (K.view store.new)) }
+{
+    match settle(store, context, budget, changes) {
+        Ok(waves) => Ok(net_changes(store.allocator(), waves.as_slice())?),
+        Err(refusal) => Err(refusal),
+    }
+}
+
+/// Whether the WHEN of a trigger takes effect.
+pub fn takes_effect<'x, K: Keeper>(
+    store: &'x K,
+    trigger: &Trigger,
+    frame: &'x Frame<'x>,
+) -> Result<bool, Cause>
+    ensures { result ≡ holds (scope_of frame.now (K.view store.now).base.rows) trigger.now.when }
+{
+    let scope = Scope::new(store, frame);
+    holds(&trigger.when, &scope)
+}

@@ -1,0 +1,48 @@
+-- The command line of `sqlkeep` as clap's definitions read it, and what its matches mean.
+use Rattle.std.specs.Prelude.{ℕ, List, [], ◌∷◌, Option, Some, None, codes, pos}
+use Rattle.std.specs.Str.Parse.{digits_value, without_leading_plus}
+use Rattle.clap.specs.Words.{App, Row, Rule, Text, first_of, new_app, new_rule, one_of, with_rule}
+use Rattle.clap.specs.declared.builder.value_parser.ValueParser.TheVariants as parser
+use Rattle.iv_machine.specs.declared.limits.TheConstants.{MOST_CHANGES_IN_A_STATEMENT}
+use Rattle.iv_machine.specs.Bounds.{Bounds}
+use Rattle.iv_options.specs.declared.command.TheConstants.{USUAL_DEPTH}
+
+-- --depth N, from 1 to 32
+abbrev pub depth_rule : Rule
+depth_rule = record (new_rule (codes "depth")) {
+  long = Some (codes "depth");
+  value_names = 1;
+  parser = Some (parser.Signed (pos 1) (pos 32));
+}
+
+-- --changes N, from 1 to 65,536
+abbrev pub changes_rule : Rule
+changes_rule = record (new_rule (codes "changes")) {
+  long = Some (codes "changes");
+  value_names = 1;
+  parser = Some (parser.Signed (pos 1) (pos 65536));
+}
+
+-- FILE
+abbrev pub file_rule : Rule
+file_rule = record (new_rule (codes "file")) { value_names = 1 }
+
+-- sqlkeep [--depth N] [--changes N] [FILE]
+abbrev pub command_line : App
+command_line = with_rule (with_rule (with_rule (new_app (codes "sqlkeep")) depth_rule) changes_rule) file_rule
+
+-- the number that a text's digits write, or another one where there is no text
+abbrev pub number_or : ℕ → Option Text → ℕ
+number_or usual None = usual
+number_or usual (Some text) = digits_value 10 (without_leading_plus text)
+
+-- the limits that the matches give
+abbrev pub limits_of : List Row → Bounds
+limits_of rows = record {
+  depth = number_or USUAL_DEPTH (one_of (codes "depth") rows);
+  changes = number_or MOST_CHANGES_IN_A_STATEMENT (one_of (codes "changes") rows);
+}
+
+-- the file that they give
+abbrev pub file_of : List Row → Option Text
+file_of rows = first_of (codes "file") rows

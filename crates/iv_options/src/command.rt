@@ -1,0 +1,56 @@
+//! The command that `clap` reads words for.
+ghost use Rattle.std.specs.Prelude.{◌≡◌, false, IfOk};
+ghost use Rattle.clap.specs.Words.{app_of, rule_of};
+ghost use Rattle.iv_options.specs.CommandLine.{changes_rule, command_line, depth_rule, file_rule};
+
+use clap::{Arg, Command, value_parser};
+use iv_machine::{
+    FEWEST_CHANGES_IN_A_STATEMENT, GREATEST_DEPTH, LEAST_DEPTH, MOST_CHANGES_IN_A_STATEMENT,
+};
+use std::alloc::{AllocError, Global};
+
+/// How deep triggers may nest where `--depth` isn't given.
+pub const USUAL_DEPTH: u8 = 16;
+
+fn depth<'a>(alloc: Global) -> Arg<'a>
+    ensures rule { rule_of result ≡ depth_rule }
+    ensures local { result.global ≡ false }
+{
+    Arg::new(alloc, "depth")
+        .long("depth")
+        .value_name("N")
+        .value_parser(value_parser!(u8).range(LEAST_DEPTH as i64..=GREATEST_DEPTH as i64))
+        .help("How deep triggers may nest, 16 if not given")
+}
+
+fn changes<'a>(alloc: Global) -> Arg<'a>
+    ensures rule { rule_of result ≡ changes_rule }
+    ensures local { result.global ≡ false }
+{
+    let range = FEWEST_CHANGES_IN_A_STATEMENT as i64..=MOST_CHANGES_IN_A_STATEMENT as i64;
+    Arg::new(alloc, "changes")
+        .long("changes")
+        .value_name("N")
+        .value_parser(value_parser!(u32).range(range))
+        .help("How many row changes one statement may make, 65536 if not given")
+}
+
+fn file<'a>(alloc: Global) -> Arg<'a>
+    ensures rule { rule_of result ≡ file_rule }
+    ensures local { result.global ≡ false }
+{
+    Arg::new(alloc, "file")
+        .value_name("FILE")
+        .help("The script, standard input if not given")
+}
+
+/// `sqlkeep [--depth N] [--changes N] [FILE]`.
+pub fn command<'a>(alloc: Global) -> Result<Command<'a>, AllocError>
+    ensures { IfOk result (λ c. app_of c ≡ command_line) }
+{
+    Command::new(alloc, "sqlkeep")
+        .about("Runs a script of SQL statements in a new database and writes its transcript")
+        .arg(depth(alloc))?
+        .arg(changes(alloc))?
+        .arg(file(alloc))
+}

@@ -1,0 +1,12 @@
+//! The command line of `sqlkeep`: the limits of the session, and the file of the script.
+#![tactic(auto)]
+
+mod command;
+mod given;
+mod reading;
+#[cfg(test)]
+mod tests;
+
+pub use command::USUAL_DEPTH;
+pub use given::Options;
+pub use reading::options;

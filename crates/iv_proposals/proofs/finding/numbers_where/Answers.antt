@@ -1,0 +1,32 @@
+use Rattle.std.proofs.Common.{arith, ap, ◌∙◌, ℕ, List, []}
+use Rattle.iv_value.specs.declared.value.Value.{Value}
+use Rattle.iv_expr.specs.declared.row.StoredRow.{StoredRow}
+use Rattle.iv_expr.specs.Scopes.{table_rows}
+use Rattle.iv_expr.proofs.Scan.{rows_above, above_all, table_rises, scan_above, scan_small}
+use Rattle.iv_proposals.specs.Steps.{number_taken}
+use Rattle.iv_proposals.proofs.Along.{along, scanned_on, scanned_refused, scanned_all}
+use Rattle.iv_proposals.proofs.finding.numbers_where.Goals as goal
+
+pub loop-number-init : goal.loop-number-init
+loop-number-init g c =
+    ap (λ (f : List ℕ). along (number_taken c.args.scope.now c.args.filter.now) (rows_above 0 (table_rows c.args.scope.now.rows c.args.table)) f) c.new-found.ensures.items
+    ∙ ap (λ (x : List StoredRow). along (number_taken c.args.scope.now c.args.filter.now) x []) (above_all 0 0 _ (table_rises 0 c.args.table _ c.known.ensures) (omega arith))
+
+pub loop-number-smaller : goal.loop-number-smaller
+loop-number-smaller g c =
+    let p : ℕ × List Value = (c.in-Some.number, c.in-Some.row.now) in
+    let rises = table_rises 0 c.args.table _ c.known.ensures in
+    omega (arith, scan_above c.loop-number.after _ p c.in-Some.ensures, scan_small c.loop-number.after _ p rises c.in-Some.ensures)
+
+pub loop-number-preserved : goal.loop-number-preserved
+loop-number-preserved g c =
+    scanned_on (number_taken c.args.scope.now c.args.filter.now) _ c.loop-number.after (c.in-Some.number, c.in-Some.row.now) _ _ _
+    (table_rises 0 c.args.table _ c.known.ensures) c.in-Some.ensures c.in-Ok.ensures c.loop-number.invariant
+
+pub returns-in-Err : goal.returns-in-Err
+returns-in-Err g c =
+    scanned_refused (number_taken c.args.scope.now c.args.filter.now) _ c.loop-number.after (c.in-Some.number, c.in-Some.row.now) _ _ _
+    (table_rises 0 c.args.table _ c.known.ensures) c.in-Some.ensures c.loop-number.invariant c.in-Err.ensures
+
+pub returns : goal.returns
+returns g c = scanned_all (number_taken c.args.scope.now c.args.filter.now) _ c.loop-number.after _ _ c.in_default.ensures c.loop-number.invariant

@@ -1,0 +1,21 @@
+use Rattle.std.proofs.Common.{◌∙◌, List, Result, Ok, map, ap, sym}
+use Rattle.iv_value.specs.declared.value.Value.{Value}
+use Rattle.iv_expr.specs.declared.row.Change.{Change}
+use Rattle.iv_expr.specs.Evaluation.{and_then, value}
+use Rattle.iv_catalogue.specs.declared.cause.Cause.{Cause}
+use Rattle.iv_machine.specs.Proposals.{insertion, insertion_of}
+use Rattle.iv_proposals.specs.Placements.{row_made}
+use Rattle.iv_proposals.proofs.Placing.{inserted}
+use Rattle.iv_proposals.proofs.Steps.{after_err}
+use Rattle.iv_proposals.proofs.inserting.insertion_of_tuple.Goals as goal
+
+pub returns-in-Ok : goal.returns-in-Ok
+returns-in-Ok g c =
+    sym (inserted c.args.context.now c.args.table c.args.listed.now (map (value c.args.scope.now) c.args.tuple.now))
+    ∙ ap (λ (r : Result (List Value) Cause). and_then r (λ row. Ok (insertion c.args.table row))) c.in-Ok.ensures
+    ∙ ap (λ (x : Change). Ok x) (sym c.insertion.ensures)
+
+pub returns-in-Err : goal.returns-in-Err
+returns-in-Err g c =
+    after_err (insertion_of c.args.context.now c.args.table c.args.listed.now (map (value c.args.scope.now) c.args.tuple.now)) (row_made c.args.context.now c.args.table c.args.listed.now (map (value c.args.scope.now) c.args.tuple.now))
+    (λ row. Ok (insertion c.args.table row)) c.in-Err.cause (sym (inserted c.args.context.now c.args.table c.args.listed.now (map (value c.args.scope.now) c.args.tuple.now))) c.in-Err.ensures

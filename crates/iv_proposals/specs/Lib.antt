@@ -1,0 +1,3 @@
+pub mod Placements
+pub mod Selections
+pub mod Steps

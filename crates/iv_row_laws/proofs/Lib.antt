@@ -1,0 +1,15 @@
+pub mod FittingChanges
+pub mod FittingFrames
+pub mod FittingLevels
+pub mod FittingProposals
+pub mod FittingValues
+pub mod FollowingRows
+pub mod FreeLevels
+pub mod FreeResults
+pub mod FreeTriggers
+pub mod MadeChanges
+pub mod MoreMembers
+pub mod MoreRows
+pub mod NetRows
+pub mod SettledRows
+pub mod StayingTables

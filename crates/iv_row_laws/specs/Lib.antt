@@ -1,0 +1,4 @@
+pub mod RowFits
+pub mod Laws
+pub mod Starting
+pub mod Misfits

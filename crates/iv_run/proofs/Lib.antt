@@ -1,0 +1,3 @@
+pub mod Occasions
+pub mod Reached
+pub mod WorkedScripts

@@ -1,0 +1,9 @@
+//! What statements answer by their resolution, one after another: `step` and `run` of the definitions, and laws of
+//! the states that runs reach, as contracts of functions that do nothing.
+#![tactic(auto)]
+
+mod laws;
+#[cfg(test)]
+mod tests;
+
+pub use laws::{plans_keep_the_occasion, reached_states_are_sound, worked_scripts};

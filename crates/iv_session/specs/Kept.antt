@@ -1,0 +1,106 @@
+-- What a session is seen as, and what holds of its parts.
+use Rattle.std.specs.Prelude.{◌≡◌, ℕ, ◌+◌, Bool, true, false, List, [], ◌∷◌, ◌++◌, map, length, Option, Some, None, IfSome}
+use Rattle.std.specs.List.{list_all}
+use Rattle.iv_catalogue.specs.Catalogues.{Schema}
+use Rattle.iv_catalogue.specs.declared.catalogue.Table.{Table}
+use Rattle.iv_catalogue.specs.declared.constraint.Constraint.{Constraint}
+use Rattle.iv_machine.specs.declared.database.Database.{Database}
+use Rattle.iv_machine.specs.Bounds.{Bounds}
+use Rattle.iv_machine.specs.Machine.{Savepoint, State, Work}
+use Rattle.iv_modes.specs.ModeMaps.{ModeMap, initial_map}
+use Rattle.iv_store.specs.Stores.{StoreState, marked_database}
+use Rattle.iv_session.specs.declared.session.Saved.{Saved}
+use Rattle.iv_waves.specs.Applying.{StoreFits}
+use Rattle.iv_row_laws.specs.RowFits.{rows_fit}
+
+-- A session: the state of the machine; the row changes that the last call made and undid, and the keys that it looked up; and the keys
+-- that were looked up so far.
+pub record Seen : Type 0 where
+  pub state : State
+  pub work : Work
+  pub lookups : ℕ
+  pub looked : ℕ
+
+-- ---- the parts
+
+-- The parts of a session that its state is made of. The savepoints are those of the open transaction, the oldest first.
+pub record Held : Type 0 where
+  pub schema : Schema
+  pub limits : Bounds
+  pub store : StoreState
+  pub initial : ModeMap
+  pub changed : Option ModeMap
+  pub active : Bool
+  pub saves : List Saved
+
+-- the modes where SET CONSTRAINTS changed them, or the initial ones
+abbrev pub current : ModeMap → Option ModeMap → ModeMap
+current initial None = initial
+current initial (Some modes) = modes
+
+-- the transaction began at the first mark
+abbrev pub started : Bool → StoreState → Option Database
+started true s = Some (marked_database s 0)
+started false s = None
+
+-- the marks of the savepoints are those after the first
+abbrev pub later : List Database → List Database
+later [] = []
+later (db ∷ dbs) = dbs
+
+abbrev pub savepoint_at : ModeMap → Saved → Database → Savepoint
+savepoint_at initial s db = record { name = s.name; database = db; modes = (current initial s.modes).modes }
+
+-- each savepoint with the database of its mark, the newest first
+abbrev pub savepoints_of : ModeMap → List Saved → List Database → List Savepoint
+savepoints_of initial [] dbs = []
+savepoints_of initial (s ∷ saves) [] = []
+savepoints_of initial (s ∷ saves) (db ∷ dbs) = savepoints_of initial saves dbs ++ savepoint_at initial s db ∷ []
+
+abbrev pub state_of : Held → State
+state_of h = record {
+  schema = h.schema;
+  limits = h.limits;
+  database = h.store.base;
+  modes = (current h.initial h.changed).modes;
+  start = started h.active h.store;
+  savepoints = savepoints_of h.initial h.saves (later h.store.marks);
+}
+
+-- ---- what holds of them
+
+-- the rows of each marked database fit the tables
+abbrev pub all_fit : List Table → List Database → Bool
+all_fit tables dbs = list_all (λ db. rows_fit tables db.rows) dbs
+
+-- of each constraint it says whether its mode may be set
+abbrev pub AreModes : List Constraint → ModeMap → Type 0
+AreModes constraints m = m.deferrable ≡ map (λ c. c.deferrable) constraints
+
+abbrev pub AllModes : List Constraint → List Saved → Type 0
+AllModes constraints [] = Unit {0}
+AllModes constraints (s ∷ saves) = IfSome s.modes (AreModes constraints) × AllModes constraints saves
+
+-- Outside a transaction there is no mark and no savepoint, modes are initial, and no change is counted.
+pub record IsCalm (h : Held) : Type 0 where
+  pub marks : h.store.marks ≡ []
+  pub saves : h.saves ≡ []
+  pub modes : h.changed ≡ None
+  pub count : h.store.base.count ≡ 0
+
+-- Inside one there is a mark for its start and one for each savepoint.
+pub record IsOpen (h : Held) : Type 0 where
+  pub marks : length h.store.marks ≡ length h.saves + 1
+  pub modes : IfSome h.changed (AreModes h.schema.constraints)
+  pub saved : AllModes h.schema.constraints h.saves
+  pub fit : all_fit h.schema.tables h.store.marks ≡ true
+
+abbrev pub StandsAs : Bool → Held → Type 0
+StandsAs true h = IsOpen h
+StandsAs false h = IsCalm h
+
+-- What holds of every session.
+pub record Kept (h : Held) : Type 0 where
+  pub store : StoreFits h.schema h.store
+  pub initial : h.initial ≡ initial_map h.schema.constraints
+  pub stands : StandsAs h.active h

@@ -1,0 +1,24 @@
+-- Statements one after another, of which some may be refused memory.
+use Rattle.std.specs.Prelude.{◌≡◌, Bool, not, if◌then◌else◌, List, [], ◌∷◌, filter, length, Result}
+use Rattle.iv_syntax.specs.declared.statement.Statement.{Statement}
+use Rattle.iv_catalogue.specs.declared.cause.Refusal.{Refusal}
+use Rattle.iv_catalogue.specs.Refusals.{is_memory}
+use Rattle.iv_machine.specs.declared.answer.Answer.{Answer}
+use Rattle.iv_machine.specs.Machine.{State}
+use Rattle.iv_run.specs.Step.{run}
+
+-- the statements that were not refused memory, by their outcomes
+abbrev pub supplied_statements : List Statement → List (Result Answer Refusal) → List Statement
+supplied_statements [] outcomes = []
+supplied_statements (st ∷ sts) [] = []
+supplied_statements (st ∷ sts) (r ∷ outcomes) = if is_memory r then supplied_statements sts outcomes else st ∷ supplied_statements sts outcomes
+
+abbrev pub has_memory : Result Answer Refusal → Bool
+has_memory r = not (is_memory r)
+
+-- There is an outcome for each statement; those that were not refused memory have the answers of the machine's run, in its order, and
+-- it leads to the new state.
+pub record IsRunOf (old : State) (statements : List Statement) (outcomes : List (Result Answer Refusal)) (new : State) : Type 0 where
+  pub each : length outcomes ≡ length statements
+  pub answers : filter has_memory outcomes ≡ (run old (supplied_statements statements outcomes)).0
+  pub state : new ≡ (run old (supplied_statements statements outcomes)).1

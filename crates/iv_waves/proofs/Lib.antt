@@ -1,0 +1,6 @@
+pub mod Applied
+pub mod Entered
+pub mod Followed
+pub mod Looking
+pub mod Rows
+pub mod Rounds

@@ -1,0 +1,5 @@
+pub mod Answers
+pub mod Applying
+pub mod Lookups
+pub mod Standing
+pub mod Steps

@@ -1,0 +1,39 @@
+//! A wave is applied to a store change by change.
+ghost use Rattle.std.specs.Prelude.{◌≡◌, ◌+◌, ◌*◌, ◌≤◌, length, OnErr, OnOk};
+ghost use Rattle.iv_expr.specs.Changes.{wave_of};
+ghost use Rattle.iv_machine.specs.Databases.{database_after};
+ghost use Rattle.iv_store.specs.Stores.{most_lookups, store_after};
+ghost use Rattle.iv_waves.specs.Answers.{with_database};
+ghost use Rattle.iv_waves.specs.Applying.{Applicable, IsNext};
+
+use iv_expr::Change;
+use iv_store::Keeper;
+use std::alloc::AllocError;
+
+// Makes one change; its rows are shared.
+fn apply<K: Keeper>(store: &mut K, change: &Change) -> Result<(), AllocError>
+    requires { IsNext (K.view store.old) change.now }
+    ensures ok { OnOk result (K.view store.new ≡ store_after (K.view store.old) change.now) }
+    ensures err { OnErr result (K.view store.new ≡ K.view store.old) }
+    ensures looked { OnOk result (K.lookups store.new ≤
+        K.lookups store.old + most_lookups * length (K.view store.old).constraints) }
+{
+    let copy = change.clone()?;
+    store.change(copy)
+}
+
+// Makes the changes of a wave, one after another. Where memory is refused, some are made.
+pub fn apply_all<K: Keeper>(store: &mut K, changes: &[Change]) -> Result<(), AllocError>
+    requires { Applicable (K.view store.old).tables (K.view store.old).base changes.now }
+    ensures applied { OnOk result ((K.view store.new).base ≡
+        database_after (K.view store.old).base (wave_of changes.now)) }
+    ensures kept { K.view store.new ≡
+        with_database (K.view store.old) (K.view store.new).base }
+    ensures looked { OnOk result (K.lookups store.new ≤ K.lookups store.old
+        + most_lookups * length (K.view store.old).constraints * length changes.now) }
+{
+    for change in changes {
+        apply(store, change)?;
+    }
+    Ok(())
+}

@@ -1,0 +1,56 @@
+//! A wave as it is applied: with numbers for its new rows, and after its BEFORE row triggers.
+ghost use Rattle.std.specs.Prelude.{◌≡◌, length};
+ghost use Rattle.iv_expr.specs.Changes.{wave_of};
+ghost use Rattle.iv_machine.specs.Waves.{wave_as_applied};
+ghost use Rattle.iv_waves.specs.Answers.{AnswersAt};
+ghost use Rattle.iv_waves.specs.Standing.{Standing};
+
+use crate::numbering::number;
+use iv_catalogue::{Cause, Refusal};
+use iv_expr::{Change, Wave};
+use iv_machine::MOST_CHANGES_IN_A_TRANSACTION;
+use iv_store::Keeper;
+use iv_triggers::{Context, before_rows};
+
+// The budget, the changes of the transaction and the row numbers are tested in this order; then the BEFORE
+// row triggers run.
+fn prepare<K: Keeper>(
+    store: &K,
+    context: &Context<'_>,
+    budget: u64,
+    changes: &mut [Change],
+) -> Result<(), Refusal>
+    ensures length { length changes.exit.now ≡ length changes.entry.now }
+    ensures answer { AnswersAt (λ _. wave_of changes.exit.now) (K.view store.now).base.count result
+        (wave_as_applied context.now (K.view store.now).base budget (wave_of changes.entry.now)) }
+{
+    let size = changes.len() as u64;
+    if budget < size {
+        return Err(Refusal::of(Cause::TooManyChanges));
+    }
+    if MOST_CHANGES_IN_A_TRANSACTION - store.standing() < size {
+        return Err(Refusal::of(Cause::TransactionTooLarge));
+    }
+    if !number(store.next_row(), changes) {
+        return Err(Refusal::of(Cause::Limit));
+    }
+    before_rows(store.allocator(), context, store, changes)
+}
+
+// The wave that is applied.
+pub fn enter<K: Keeper>(
+    store: &K,
+    context: &Context<'_>,
+    budget: u64,
+    changes: Vec<Change>,
+) -> Result<Wave, Refusal>
+    requires { Standing context.now (K.view store.now) changes.items }
+    ensures answer { AnswersAt (λ wave. wave) (K.view store.now).base.count result
+        (wave_as_applied context.now (K.view store.now).base budget (wave_of changes.items)) }
+{
+    let mut changes = changes;
+    match prepare(store, context, budget, changes.as_mut_slice()) {
+        Ok(()) => Ok(Wave::from_vec(changes)),
+        Err(refusal) => Err(refusal),
+    }
+}

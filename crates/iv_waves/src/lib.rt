@@ -1,0 +1,9 @@
+//! The waves of a data statement: they are applied to a store one after another until nothing follows.
+#![tactic(auto)]
+
+mod applying;
+mod entering;
+mod numbering;
+mod settling;
+
+pub use settling::settle;

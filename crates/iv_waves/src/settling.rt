@@ -1,0 +1,121 @@
+//! Waves until nothing follows.
+ghost use Rattle.std.specs.Prelude.{◌≡◌, ◌+◌, ◌-◌, ◌*◌, ◌≤◌, ◌++◌, ◌∷◌, [], length, true, IfOk, OnOk};
+ghost use Rattle.iv_expr.specs.Changes.{wave_of};
+ghost use Rattle.iv_laws.specs.FittingWaves.{Chain};
+ghost use Rattle.iv_machine.specs.Databases.{database_after};
+ghost use Rattle.iv_machine.specs.Waves.{one_wave, settled_waves};
+ghost use Rattle.iv_row_laws.specs.RowFits.{changes_fit};
+ghost use Rattle.iv_waves.specs.Answers.{AnswersAt, UnlessMemory, with_database};
+ghost use Rattle.iv_waves.specs.Applying.{Applicable, StoreFits, Proposes};
+ghost use Rattle.iv_waves.specs.Standing.{Standing};
+ghost use Rattle.iv_waves.specs.Steps.{followed_by};
+ghost use Rattle.iv_waves.specs.Lookups.{LooksUp};
+
+use crate::applying::apply_all;
+use crate::entering::enter;
+use iv_actions::next_wave;
+use iv_catalogue::Refusal;
+use iv_expr::{Change, Wave};
+use iv_store::Keeper;
+use iv_triggers::Context;
+use std::alloc::AllocError;
+
+// A wave as it was applied, and the wave that follows.
+#[derive(Drop)]
+struct AppliedWave {
+    wave: Wave,
+    next: Wave,
+}
+
+// Applies a wave, and finds what follows it.
+fn follow<K: Keeper>(
+    store: &mut K,
+    context: &Context<'_>,
+    wave: Wave,
+) -> Result<AppliedWave, Refusal>
+    requires applicable { Applicable (K.view store.old).tables (K.view store.old).base wave.changes }
+    requires store { StoreFits context.now.schema (K.view store.old) }
+    ensures answer { AnswersAt (λ x. record { wave = x.wave; next = x.next }) (K.view store.new).base.count result
+        (followed_by context.now (K.view store.old).base wave) }
+    ensures applied { IfOk result (λ x. (K.view store.new).base ≡ database_after (K.view store.old).base x.wave) }
+    ensures kept { K.view store.new ≡ with_database (K.view store.old) (K.view store.new).base }
+    ensures looked { UnlessMemory result (LooksUp (K.view store.old) (K.lookups store.old) (K.view store.new) (K.lookups store.new)) }
+{
+    apply_all(store, wave.changes())?;
+    match next_wave(store, context.catalogue(), &wave) {
+        Ok(next) => Ok(AppliedWave { wave, next }),
+        Err(refusal) => Err(refusal),
+    }
+}
+
+// One wave: what is applied of it, and what follows.
+fn one_wave<K: Keeper>(
+    store: &mut K,
+    context: &Context<'_>,
+    budget: u64,
+    changes: Vec<Change>,
+) -> Result<AppliedWave, Refusal>
+    requires { Standing context.now (K.view store.old) changes.items }
+    ensures answer { AnswersAt (λ x. record { wave = x.wave; next = x.next }) (K.view store.new).base.count result
+        (one_wave context.now (K.view store.old).base budget (wave_of changes.items)) }
+    ensures applied { IfOk result (λ x. (K.view store.new).base ≡ database_after (K.view store.old).base x.wave) }
+    ensures kept { K.view store.new ≡ with_database (K.view store.old) (K.view store.new).base }
+    ensures looked { UnlessMemory result (LooksUp (K.view store.old) (K.lookups store.old) (K.view store.new) (K.lookups store.new)) }
+{
+    match enter(&*store, context, budget, changes) {
+        Ok(wave) => match follow(store, context, wave) {
+            Ok(applied) => Ok(applied),
+            Err(refusal) => Err(refusal),
+        },
+        Err(refusal) => Err(refusal),
+    }
+}
+
+fn add(waves: &mut Vec<Wave>, wave: Wave) -> Result<(), AllocError>
+    ensures { OnOk result (waves.new.items ≡ waves.old.items ++ wave ∷ []) }
+{
+    waves.push(wave)?;
+    Ok(())
+}
+
+/// Applies the changes that a statement proposes, and what follows from them by referential actions, wave
+/// after wave, and answers the waves as they were applied. The budget is what the statement may still
+/// change. Where it is refused, some waves may have been applied, and the store is to be undone.
+pub fn settle<K: Keeper>(
+    store: &mut K,
+    context: &Context<'_>,
+    budget: &mut u64,
+    changes: Vec<Change>,
+) -> Result<Vec<Wave>, Refusal>
+    requires store { StoreFits context.now.schema (K.view store.old) }
+    requires fit { changes_fit context.now.schema.tables changes.items ≡ true }
+    requires proposed { Proposes context.now (K.view store.old).base changes.items }
+    ensures answer { AnswersAt (λ waves. record {
+      last = (K.view store.new).base;
+      waves = waves.items;
+      rest = budget.new;
+    })
+        (K.view store.new).base.count result
+        (settled_waves context.now (K.view store.old).base budget.old (wave_of changes.items)) }
+    ensures kept { K.view store.new ≡ with_database (K.view store.old) (K.view store.new).base }
+    ensures store { OnOk result (StoreFits context.now.schema (K.view store.new)) }
+    ensures chain { IfOk result (λ waves. Chain (K.view store.old).base waves.items (K.view store.new).base) }
+    ensures looked { UnlessMemory result (LooksUp (K.view store.old) (K.lookups store.old) (K.view store.new) (K.lookups store.new)) }
+{
+    // It tells that the rows are numbered in rising order.
+    store.next_row();
+    let mut waves = Vec::new(store.allocator());
+    let mut changes = changes;
+    while !changes.is_empty() {
+        match one_wave(store, context, *budget, changes) {
+            Ok(applied) => {
+                let AppliedWave { wave, next } = applied;
+                *budget -= wave.changes().len() as u64;
+                add(&mut waves, wave)?;
+                changes = next.into_vec();
+            }
+            Err(refusal) => return Err(refusal),
+        }
+    }
+    Ok(waves)
+}

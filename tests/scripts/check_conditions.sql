@@ -1,0 +1,28 @@
+-- Every kind of condition in a CHECK.
+CREATE TABLE v (a INT, b INT, CHECK (a + 1 > 0), CHECK (v.a * 2 < b - 1 OR b IS NULL), CHECK (NOT (a = 5 AND b = 50)), CHECK ((a) <> 7), CHECK (-a > -100 AND +a < 100), CHECK (NOT a IS NULL OR b IS NOT NULL));
+INSERT INTO v VALUES (-1, 0);
+INSERT INTO v VALUES (0, 1);
+INSERT INTO v VALUES (0, 2);
+INSERT INTO v VALUES (5, 50);
+INSERT INTO v VALUES (5, 51);
+INSERT INTO v VALUES (7, NULL);
+INSERT INTO v VALUES (100, NULL);
+INSERT INTO v VALUES (99, NULL);
+INSERT INTO v VALUES (NULL, NULL);
+INSERT INTO v VALUES (NULL, 1);
+
+-- AND binds closer than OR, NOT closer than AND, and * closer than +
+SELECT COUNT(*) FROM v WHERE 1 = 1 OR 1 = 2 AND 1 = 2;
+SELECT COUNT(*) FROM v WHERE (1 = 1 OR 1 = 2) AND 1 = 2;
+SELECT COUNT(*) FROM v WHERE NOT 1 = 1 AND 1 = 2;
+SELECT COUNT(*) FROM v WHERE NOT (1 = 1 AND 1 = 2);
+SELECT 1 + 2 * 3 - 4 - 5, (1 + 2) * 3, -2 * -3, 10 - (4 - 5), - (2 + 3) FROM v WHERE a = 0;
+
+-- unknown takes no row; its NOT is unknown too
+SELECT a FROM v WHERE a > 0;
+SELECT a FROM v WHERE NOT a > 0;
+SELECT b FROM v WHERE a = NULL OR a <> NULL;
+SELECT b FROM v WHERE a IS NULL;
+SELECT a FROM v WHERE b IS NULL AND a IS NOT NULL;
+SELECT COUNT(*) FROM v WHERE a = NULL OR 1 = 1;
+ROLLBACK;

@@ -1,0 +1,15 @@
+-- Every form of INSERT.
+CREATE TABLE t (a INT DEFAULT 7, b VARCHAR(5) DEFAULT 'none', c INT);
+INSERT INTO t DEFAULT VALUES;
+INSERT INTO t VALUES (1, 'one', 1 + 1);
+INSERT INTO t VALUES (DEFAULT, DEFAULT, DEFAULT), (3, NULL, -3);
+INSERT INTO t (c, a) VALUES (4, 44), (5, DEFAULT);
+INSERT INTO t (b) SELECT b FROM t WHERE a = 1;
+SELECT * FROM t;
+
+-- a query sees the rows before the statement
+INSERT INTO t SELECT * FROM t WHERE b = 'one';
+INSERT INTO t (c, a) SELECT x.a, x.c * 10 FROM t AS x WHERE x.c > 3;
+INSERT INTO t SELECT a, b, c FROM t WHERE a = 1000;
+SELECT a, c FROM t WHERE c IS NOT NULL;
+ROLLBACK;

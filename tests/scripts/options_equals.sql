@@ -1,0 +1,1 @@
+CREATE TABLE t (a INT); INSERT INTO t VALUES (1), (2), (3);

@@ -1,0 +1,1 @@
+SELECT * FROM standard_input;

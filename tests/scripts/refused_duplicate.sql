@@ -1,0 +1,67 @@
+-- 2 Duplicate: a new name that is in use, or a name that comes twice where it may come once.
+CREATE TABLE t (a INT, b INT, CONSTRAINT one CHECK (a > 0));
+CREATE TRIGGER r AFTER DELETE ON t SIGNAL 'x';
+
+-- names in use; tables, constraints and triggers have a space of names each
+CREATE TABLE t (a INT);
+CREATE TABLE T (a INT);
+CREATE TABLE one (a INT);
+CREATE TABLE r (a INT);
+CREATE TABLE w (a INT CONSTRAINT one CHECK (a > 0));
+CREATE TABLE w (a INT CONSTRAINT r CHECK (a > 0));
+CREATE TRIGGER r AFTER INSERT ON t SIGNAL 'x';
+CREATE TRIGGER one AFTER DELETE ON t SIGNAL 'x';
+ALTER TABLE t ADD CONSTRAINT one CHECK (a > 1);
+ALTER TABLE t ADD CONSTRAINT two CHECK (a > 1);
+
+-- twice in one CREATE TABLE
+CREATE TABLE x (a INT, a INT);
+CREATE TABLE x (a INT, A VARCHAR(3));
+CREATE TABLE x (a INT CONSTRAINT c1 NOT NULL, CONSTRAINT c1 CHECK (a > 0));
+
+-- the second constraint of X without a name is called X_C2, whatever the first is called
+CREATE TABLE x (a INT CONSTRAINT x_c2 NOT NULL UNIQUE);
+CREATE TABLE x (a INT CONSTRAINT x_c1 NOT NULL UNIQUE);
+
+-- a generated name that is in use
+CREATE TABLE y (a INT CONSTRAINT z_c1 NOT NULL);
+CREATE TABLE z (a INT NOT NULL);
+CREATE TABLE z (a INT CONSTRAINT other NOT NULL UNIQUE);
+ALTER TABLE y ADD CONSTRAINT y_c3 CHECK (a > 0);
+ALTER TABLE y ADD CHECK (a > 0);
+ALTER TABLE y ADD CONSTRAINT third CHECK (a > 0);
+ALTER TABLE y ADD CHECK (a > 1);
+
+-- a column twice in a key or in a list of a foreign key
+CREATE TABLE v (a INT, b INT, UNIQUE (a, a));
+CREATE TABLE v (a INT, b INT, PRIMARY KEY (a, b, a));
+CREATE TABLE p (a INT, b INT, PRIMARY KEY (a, b));
+CREATE TABLE v (a INT, b INT, FOREIGN KEY (a, a) REFERENCES p);
+CREATE TABLE v (a INT, b INT, FOREIGN KEY (a, b) REFERENCES p (a, a));
+CREATE TABLE v (a INT, b INT, FOREIGN KEY (a, b) REFERENCES p (b, a));
+ALTER TABLE t ADD UNIQUE (b, b);
+ALTER TABLE t ADD PRIMARY KEY (b, b);
+ALTER TABLE t ADD FOREIGN KEY (a, a) REFERENCES p;
+ALTER TABLE t ADD FOREIGN KEY (a, b) REFERENCES p (b, b);
+
+-- REFERENCING, of whatever kind the two are
+CREATE TRIGGER s AFTER UPDATE ON t REFERENCING OLD AS x NEW AS x FOR EACH ROW SIGNAL 'x';
+CREATE TRIGGER s AFTER UPDATE ON t REFERENCING OLD AS x NEW TABLE AS x FOR EACH ROW SIGNAL 'x';
+CREATE TRIGGER s AFTER UPDATE ON t REFERENCING OLD AS x OLD AS x FOR EACH ROW SIGNAL 'x';
+CREATE TRIGGER s AFTER UPDATE ON t REFERENCING OLD AS o NEW AS n OLD TABLE AS olds NEW TABLE AS news FOR EACH ROW WHEN (1 = 2) SIGNAL 'x';
+
+-- lists of columns, in a body too
+CREATE TRIGGER q AFTER UPDATE ON t INSERT INTO t (a, a) VALUES (1, 1);
+CREATE TRIGGER q AFTER UPDATE ON t UPDATE t SET a = 1, a = 2;
+CREATE TRIGGER q BEFORE UPDATE ON t UPDATE t SET a = 1, a = 2;
+INSERT INTO t (a, a) VALUES (1, 1);
+INSERT INTO t (a, b, a) VALUES (1);
+INSERT INTO t (b, a) VALUES (2, 2);
+UPDATE t SET a = 1, a = 2;
+UPDATE t SET a = 1, a = 2 WHERE c = 1;
+UPDATE t SET a = 2, b = 2;
+ROLLBACK;
+
+-- a name is free again after DROP TRIGGER
+DROP TRIGGER r;
+CREATE TRIGGER r AFTER DELETE ON t SIGNAL 'x';

@@ -1,0 +1,39 @@
+-- 10 NumberOutOfRange: a result has more than 64 bits.
+CREATE TABLE t (a INT, b INT);
+CREATE TABLE c (a INT CHECK (a = 1 OR a + 9223372036854775807 > 0));
+CREATE TRIGGER r AFTER INSERT ON c REFERENCING NEW AS n FOR EACH ROW WHEN (n.a - 9223372036854775807 - 2 < 0) SIGNAL 'x';
+
+-- sums, differences, products, and unary minus, which is 0 minus its operand
+INSERT INTO t VALUES (9223372036854775807, 1);
+INSERT INTO t VALUES (9223372036854775807 + 1, 1);
+INSERT INTO t VALUES (9223372036854775807 + 0, 1);
+INSERT INTO t VALUES (-9223372036854775807 - 2, 1);
+INSERT INTO t VALUES (-9223372036854775807 - 1, 1);
+INSERT INTO t VALUES (-(-9223372036854775807 - 1), 1);
+INSERT INTO t VALUES (4611686018427387904 * 2, 1);
+INSERT INTO t VALUES (4611686018427387904 * -2, 1);
+
+-- a null on one side hides no fault on the other
+INSERT INTO t VALUES (NULL * (9223372036854775807 + 1), 1);
+INSERT INTO t VALUES (NULL * 9223372036854775807 + 1, 1);
+
+-- at any row that is looked at; both sides of AND and OR are taken
+UPDATE t SET b = a + 1;
+UPDATE t SET b = a + 1 WHERE a < 0;
+DELETE FROM t WHERE a + 1 > 0;
+DELETE FROM t WHERE a < 0 OR a + 1 > 0;
+DELETE FROM t WHERE a < 0 AND a + 1 > 0;
+SELECT a + 1 FROM t;
+SELECT COUNT(*) FROM t WHERE a + 1 > 0;
+SELECT COUNT(*) FROM t WHERE EXISTS (SELECT * FROM t AS z WHERE z.a + 1 > 0);
+INSERT INTO t SELECT a + 1, b FROM t;
+SELECT COUNT(*) FROM t;
+ROLLBACK;
+
+-- in a CHECK the whole condition is false then, whatever the other side of OR is
+INSERT INTO c VALUES (1);
+
+-- in a trigger its name is told
+INSERT INTO c VALUES (0);
+INSERT INTO c VALUES (NULL);
+ROLLBACK;
