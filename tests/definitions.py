@@ -5,8 +5,8 @@
 The changes are those of definitions.edits beside this file. Each takes a quarter of a minute; `out/` of the crates
 below iv_machine has to be there, as `rt all check` leaves it. The last line is `N passed, N failed`.
 
-The file definitions.digest has a digest of the changes, of the definitions and of the worked scripts, where all changes
-were noticed. While it is still the same they aren't tried again, except with --all or --only; where all are tried and
+The file definitions.digest has a digest of the changes, and of the definitions and the worked scripts without comments,
+where all changes were noticed. While it is still the same they aren't tried again, except with --all or --only; where all are tried and
 noticed it is written anew."""
 import argparse
 import hashlib
@@ -16,22 +16,14 @@ import shutil
 import subprocess
 import tempfile
 
+from edits import bare, read, write
+
 HERE = os.path.dirname(os.path.abspath(__file__))
 CRATES = os.path.join(HERE, '..', 'crates')
 BELOW = ['iv_value', 'iv_expr', 'iv_syntax', 'iv_catalogue']
 CHANGES = os.path.join(HERE, 'definitions.edits')
 DIGEST = os.path.join(HERE, 'definitions.digest')
 DIGESTED = ['iv_machine/specs', 'iv_machine/src', 'iv_worked/specs', 'iv_worked/proofs', 'iv_worked/src']
-
-
-def read(path):
-    with open(path, encoding='utf-8') as file:
-        return file.read()
-
-
-def write(path, text):
-    with open(path, 'w', encoding='utf-8') as file:
-        file.write(text)
 
 
 def changes():
@@ -58,7 +50,7 @@ def digest_of_sources():
             paths += [os.path.join(place, file) for file in files]
     digest = hashlib.sha256()
     for path in sorted(paths):
-        digest.update(os.path.relpath(path, HERE).encode() + b'\0' + read(path).encode() + b'\0')
+        digest.update(os.path.relpath(path, HERE).encode() + b'\0' + bare(path).encode() + b'\0')
     return digest.hexdigest()
 
 

@@ -10,8 +10,9 @@ one. A round is made on a copy of the crate, over the work that a check kept, an
 edited function as refused. The last line is `N passed, N failed`.
 
 The file tests/edits/DIGESTS has a digest for each crate whose edits were all refused: of the edits, of the crate and of
-what it depends on. Where it is still the same the edits aren't tried again, except with --all; where they are tried and
-all are refused it is written anew. A crate that is tried is proved first where its kept work is missing or old."""
+what it depends on, without comments and without the breaks of lines of code. Where it is still the same the edits aren't
+tried again, except with --all; where they are tried and all are refused it is written anew. A crate that is tried is proved first
+where its kept work is missing or old."""
 import argparse
 import hashlib
 import os
@@ -26,8 +27,10 @@ HERE = os.path.dirname(os.path.abspath(__file__))
 ROOT = os.path.dirname(HERE)
 sys.path.insert(0, os.path.join(ROOT, "tools"))
 import crates as repository
+import rooms
 
 FUNCTION = re.compile(r"^( *)(?:pub(?:\([a-z]+\))? )?(?:const )?fn (\w+)", re.M)
+COMMENTS = {".rt": "//", ".antt": "--"}
 IMPLEMENTS = re.compile(r"^impl\b(?:<[^{]*?>)? *(?:[\w:<>, ]+ for )?(\w+)", re.M)
 
 
@@ -95,6 +98,16 @@ def below(crate):
     return repository.below([crate], repository.crates())
 
 
+def bare(path):
+    """A file's text without the lines that hold a comment alone; of code also without the breaks of its lines.
+
+    No proof depends on these."""
+    suffix = os.path.splitext(path)[1]
+    mark = COMMENTS.get(suffix)
+    lines = [line for line in read(path).splitlines() if mark is None or not line.lstrip().startswith(mark)]
+    return " ".join(" ".join(lines).split()) if suffix == ".rt" else "\n".join(lines)
+
+
 def digest_of(crate):
     """A digest of a crate's edits, of the crate, and of the sources and definitions that it depends on."""
     folders = [os.path.join(HERE, "edits", crate), os.path.join(ROOT, "crates", crate, "proofs")]
@@ -105,7 +118,7 @@ def digest_of(crate):
             names.sort()
             for file in sorted(files):
                 path = os.path.join(place, file)
-                digest.update(os.path.relpath(path, ROOT).encode() + b"\0" + read(path).encode() + b"\0")
+                digest.update(os.path.relpath(path, ROOT).encode() + b"\0" + bare(path).encode() + b"\0")
     return digest.hexdigest()
 
 
@@ -123,13 +136,9 @@ def remember(crates):
 
 def copied(crate, room):
     """A copy of the crate and of those below it, with the work that checks kept."""
-    os.makedirs(os.path.join(room, "crates"))
-    names = below(crate)
-    lines = read(os.path.join(ROOT, "crates.txt")).splitlines()
-    write(os.path.join(room, "crates.txt"), "".join(f"{line}\n" for line in lines if line.split(":")[0] in names))
-    for name in names:
-        subprocess.run(["cp", "-a", os.path.join(ROOT, "crates", name), os.path.join(room, "crates", name)], check=True)
-    return os.path.join(room, "crates", crate)
+    copy = rooms.furnish(room, crate, below(crate))
+    shutil.copytree(os.path.join(ROOT, "crates", crate, "out"), os.path.join(copy, "out"))
+    return copy
 
 
 def make(crate, copy, edits):
@@ -199,7 +208,7 @@ def main():
     if not repository.prove(repository.below(rounds, repository.crates()), repository.crates(), words.jobs):
         print(f"{passed} passed, {failed + 1} failed")
         return 1
-    with tempfile.TemporaryDirectory(prefix="edits-") as room, ThreadPoolExecutor(words.jobs) as pool:
+    with tempfile.TemporaryDirectory(prefix="edits-", dir=rooms.place()) as room, ThreadPoolExecutor(words.jobs) as pool:
         begun = [(crate, pool.submit(all_tried, crate, rounds[crate], os.path.join(room, crate))) for crate in rounds]
         for crate, done in begun:
             said = done.result()

@@ -14,6 +14,9 @@ import sys
 import tempfile
 import time
 
+sys.path.insert(0, os.path.dirname(os.path.realpath(__file__)))
+import rooms
+
 ROOT = os.path.dirname(os.path.dirname(os.path.realpath(__file__)))
 PROGRAM = "sqlkeep"
 
@@ -65,30 +68,9 @@ def run(crate, words):
     return ran.returncode, ran.stdout, time.monotonic() - began
 
 
-def in_order(wanted, named):
-    """These crates, each after those below it."""
-    ordered = []
-    left = sorted(wanted)
-    while left:
-        ready = [crate for crate in left if not set(named[crate]) & set(left)]
-        ordered += ready
-        left = [crate for crate in left if crate not in ready]
-    return ordered
-
-
 def prove(wanted, named, jobs):
-    """Proves the crates one after the other, each after those below it, with so many jobs in a crate; whether all are proved.
-
-    A check locks the folders of its crate and of all below it, so two at a time would wait for each other."""
-    ordered = in_order(wanted, named)
-    for place, crate in enumerate(ordered, 1):
-        status, output, seconds = run(crate, ["check", "--jobs", str(jobs)])
-        if status != 0:
-            say(output)
-            say(f"{crate}: not proved")
-            return False
-        say(f"{crate}: proved, {seconds:.0f} s; {len(ordered) - place} to go")
-    return True
+    """Proves the crates, so many at a time, each after those below it; whether all are proved."""
+    return rooms.prove(wanted, named, below, jobs, say)
 
 
 def build():

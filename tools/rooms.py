@@ -1,0 +1,110 @@
+"""Proves crates side by side, each in a room of its own.
+
+A check locks the folders of its crate and of all below it, so two checks in one checkout wait for each other. A room
+is a folder with a copy of a crate and of those below it. The work kept for those below is shared by hard links; that of
+the crate itself moves into the room, and back when the check has ended."""
+import os
+import shutil
+import subprocess
+import tempfile
+import time
+from concurrent.futures import FIRST_COMPLETED, ThreadPoolExecutor, wait
+
+ROOT = os.path.dirname(os.path.dirname(os.path.realpath(__file__)))
+
+# Compiled modules: a check writes them anew for its own crate alone, so rooms share those of the crates below.
+SHARED = ".oantt"
+
+
+def place():
+    """The folder that rooms are made in: on the file system of the checkout, and no part of it."""
+    os.makedirs(os.path.join(ROOT, "out"), exist_ok=True)
+    return os.path.join(ROOT, "out")
+
+
+def folder(crate):
+    return os.path.join(ROOT, "crates", crate)
+
+
+def copy_or_link(source, target):
+    """Links a compiled module, and copies any other file."""
+    if source.endswith(SHARED):
+        os.link(source, target)
+        return target
+    return shutil.copy2(source, target)
+
+
+def furnish(room, crate, names):
+    """Lays out a room for a crate and the crates below it, and gives the crate's folder there, which has no kept work."""
+    os.makedirs(os.path.join(room, "crates"))
+    with open(os.path.join(ROOT, "crates.txt"), encoding="utf-8") as lines:
+        kept = [line for line in lines if line.split(":")[0] in names]
+    with open(os.path.join(room, "crates.txt"), "w", encoding="utf-8") as file:
+        file.writelines(kept)
+    shutil.copy2(os.path.join(ROOT, "HANDLES"), room)
+    for name in names:
+        leave = shutil.ignore_patterns("out") if name == crate else None
+        shutil.copytree(folder(name), os.path.join(room, "crates", name), ignore=leave, copy_function=copy_or_link)
+    return os.path.join(room, "crates", crate)
+
+
+def weights(wanted, named):
+    """For each crate the bytes of its files and of those of the heaviest chain of crates above it."""
+
+    def size(crate):
+        return sum(os.path.getsize(os.path.join(place, file)) for part in ("src", "specs", "proofs") for place, _, files in os.walk(os.path.join(folder(crate), part)) for file in files)
+
+    found = {}
+
+    def weight(crate):
+        if crate not in found:
+            above = [other for other in wanted if crate in named[other]]
+            found[crate] = size(crate) + max(map(weight, above), default=0)
+        return found[crate]
+
+    return {crate: weight(crate) for crate in wanted}
+
+
+def check(room, crate, names, jobs):
+    """Checks a crate in a room of its own, and gives the status, the output and the seconds that it took."""
+    began = time.monotonic()
+    there = furnish(room, crate, names)
+    here, kept = os.path.join(folder(crate), "out"), os.path.join(there, "out")
+    if os.path.exists(here):
+        shutil.move(here, kept)
+    try:
+        ran = subprocess.run(["rt", "check", "--jobs", str(jobs)], cwd=there, stdin=subprocess.DEVNULL, stdout=subprocess.PIPE, stderr=subprocess.STDOUT, text=True, errors="replace", check=False)
+    finally:
+        if os.path.exists(kept):
+            shutil.move(kept, here)
+        shutil.rmtree(room, ignore_errors=True)
+    return ran.returncode, ran.stdout, time.monotonic() - began
+
+
+def prove(wanted, named, below, jobs, say):
+    """Proves the crates, so many at a time, each after those below it and the heaviest chain first; whether all are proved."""
+    heavy = weights(wanted, named)
+    left, done, running = set(wanted), set(), {}
+    proved = True
+    with tempfile.TemporaryDirectory(prefix="rooms-", dir=place()) as rooms, ThreadPoolExecutor(jobs) as pool:
+        while left or running:
+            ready = [crate for crate in left if set(named[crate]) & set(wanted) <= done] if proved else []
+            ready.sort(key=lambda crate: -heavy[crate])
+            # Two jobs at least: a crate's own modules wait for one another.
+            each = max(2, jobs // max(1, len(ready) + len(running)))
+            for crate in ready[: jobs - len(running)]:
+                left.discard(crate)
+                running[pool.submit(check, os.path.join(rooms, crate), crate, below([crate], named), each)] = crate
+            if not running:
+                break
+            for ended in wait(running, return_when=FIRST_COMPLETED).done:
+                crate = running.pop(ended)
+                status, output, seconds = ended.result()
+                if status == 0:
+                    done.add(crate)
+                    say(f"{crate}: proved, {seconds:.0f} s; {len(left) + len(running)} to go")
+                else:
+                    proved = False
+                    say(output)
+                    say(f"{crate}: not proved")
+    return proved and not left
