@@ -11,8 +11,8 @@ edited function as refused. The last line is `N passed, N failed`.
 
 The file tests/edits/DIGESTS has a digest for each crate whose edits were all refused: of the edits, of the crate and of
 what it depends on, without comments and without the breaks of lines of code. Where it is still the same the edits aren't
-tried again, except with --all; where they are tried and all are refused it is written anew. A crate that is tried is proved first
-where its kept work is missing or old."""
+tried again, except with --all; where they are tried and all are refused it is written anew. A crate that is tried is
+proved first where its kept work is missing or old."""
 import argparse
 import hashlib
 import os
@@ -99,13 +99,17 @@ def below(crate):
 
 
 def bare(path):
-    """A file's text without the lines that hold a comment alone; of code also without the breaks of its lines.
+    """A file's text without the lines that hold a comment alone; of code also without the breaks of its lines, and without
+    the marks that the layout puts before the first case and after the last field of what it writes over several lines.
 
     No proof depends on these."""
     suffix = os.path.splitext(path)[1]
     mark = COMMENTS.get(suffix)
     lines = [line for line in read(path).splitlines() if mark is None or not line.lstrip().startswith(mark)]
-    return " ".join(" ".join(lines).split()) if suffix == ".rt" else "\n".join(lines)
+    if suffix != ".rt":
+        return "\n".join(lines)
+    text = " ".join(" ".join(lines).split())
+    return re.sub(r"(\brecord \{[^{}]*); \}", r"\1 }", text.replace("[ | ", "[ "))
 
 
 def digest_of(crate):
