@@ -99,7 +99,7 @@ test_false : (a b : Bool) → (b ≡ true → a ≡ true) → a ≡ false → b 
 test_false a true h e = absurd (true≢false (sym (h refl) ∙ e))
 test_false a false h e = refl
 
--- the change behind a loss
+-- the change that a loss comes from
 lost_change : (fk : ForeignKey) (o : Option Change) (loss : Loss) → loss_by fk o ≡ Some loss → (c : Change) × (o ≡ Some c) × (loss_of_new fk c.new ≡ loss)
 lost_change fk None loss e = absurd (some_none loss (sym e))
 lost_change fk (Some c) loss e = (c, refl, some_same _ loss e)

@@ -50,7 +50,7 @@ first_at fk key changes i c h is =
     ap (first_taking fk key i) (left_from changes i c h is)
     ∙ ap (λ b. if b then Some i else first_taking fk key (i + 1) (drop (i + 1) changes)) (loses_is fk key c)
 
--- a place, counted from this one, and the change that stands there
+-- a place, counted from this one, and the change there
 abbrev FoundAt : List Change → Option Change → ℕ → Option ℕ → Type 0
 FoundAt changes found i None = None ≡ found
 FoundAt changes found i (Some place) = (i ≤ place) × (slice_get changes (place - i) ≡ found)

@@ -5,7 +5,7 @@ use Rattle.iv_catalogue.specs.declared.cause.Refusal.{Refusal}
 use Rattle.iv_catalogue.specs.Refusals.{is_memory}
 use Rattle.iv_machine.specs.Context.{Failure}
 
--- a refusal as it is told, without the count of the changes that stood
+-- a refusal as it is answered, without the count of row changes
 abbrev pub told : Result Wave Failure → Result Wave Refusal
 told (Ok wave) = Ok wave
 told (Err failure) = Err (record { cause = failure.cause; trigger = failure.trigger })

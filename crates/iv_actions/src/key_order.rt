@@ -64,7 +64,7 @@ fn compare_texts<'a>(left: &'a str, right: &'a str) -> Ordering
     left.cmp(&right)
 }
 
-// How two values stand in the order of keys.
+// Compares two values in the order of keys.
 #[tactic(auto, using(crate::proofs::KeyOrders::then_equal))]
 fn compare_values(left: ValueRef<'_>, right: ValueRef<'_>) -> Ordering
     ensures { result ≡ value_cmp (value_of left.entry) (value_of right.entry) }
@@ -96,7 +96,7 @@ pub fn value_at(row: &[Value], column: u32) -> ValueRef<'_>
     }
 }
 
-// How two rows stand by their keys, each in its own columns.
+// Compares two rows by their keys, each in its own columns.
 fn compare_keys(columns: &[u32], row: &[Value], others: &[u32], other: &[Value]) -> Ordering
     ensures { result ≡ key_cmp (key_of columns.now row.now) (key_of others.now other.now) }
 {

@@ -237,7 +237,7 @@ fn answer_among<K: Kin>(
 }
 
 /// The wave that follows from a wave by referential actions, in a store that is as after the wave: the first row
-/// that refers to a key lost under RESTRICT is told first, then the first on which two foreign keys disagree.
+/// that refers to a key lost under RESTRICT is answered first, then the first on which two foreign keys disagree.
 pub fn next_wave<K: Kin>(store: &mut K, catalogue: &Catalogue, wave: &Wave) -> Result<Wave, Refusal>
     ensures followed { (before : Database) (context : Context)
         → context.schema ≡ catalogue.now

@@ -39,7 +39,7 @@ impl<'a> LentRow<'a> {
         }
     }
 
-    /// The table that it stands in.
+    /// The table that it is in.
     pub fn table(&self) -> TableId
         ensures { result ≡ self.now.table }
     {

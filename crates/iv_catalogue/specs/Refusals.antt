@@ -1,4 +1,4 @@
--- Refusals outside any trigger, and the one for want of memory.
+-- Refusals outside any trigger, and the refusal OutOfMemory.
 use Rattle.std.specs.Prelude.{Bool, true, false, None, Result, Ok, Err}
 use Rattle.iv_catalogue.specs.declared.cause.Cause.{Cause}
 use Rattle.iv_catalogue.specs.declared.cause.Cause.TheVariants.{OutOfMemory}
@@ -20,7 +20,7 @@ abbrev pub is_memory_cause : Cause → Bool
 is_memory_cause OutOfMemory = true
 is_memory_cause _ = false
 
--- the answer is a want of memory
+-- the answer is OutOfMemory
 abbrev pub is_memory : {A : Type 0} → Result A Refusal → Bool
 is_memory (Ok a) = false
 is_memory (Err r) = is_memory_cause r.cause

@@ -13,13 +13,13 @@ pub refused_then : {A B : Type 0} (r : Refusal) (f : Failure) (said : Result A F
     → MatchBool (is_memory_cause r.cause) (Unit {0}) (said ≡ Err f) → MatchBool (is_memory_cause r.cause) (Unit {0}) (and_then said g ≡ Err f)
 refused_then r f said g h = unless_memory (is_memory_cause r.cause) (said ≡ Err f) (and_then said g ≡ Err f) (λ e. ap (λ x. and_then x g) e) h
 
--- a cause, told over a database
+-- a cause over a database
 pub over_refused : {A B : Type 0} (db : Database) (cause : Cause) (said : Result A Cause) (g : A → Result B Failure) → said ≡ Err cause
     → MatchBool (is_memory_cause cause) (Unit {0}) (and_then (over db said) g ≡ Err (record { cause = cause; trigger = None; count = db.count }))
 over_refused db cause said g e =
     anyway (is_memory_cause cause) (and_then (over db said) g ≡ Err (record { cause = cause; trigger = None; count = db.count })) (ap (λ x. and_then (over db x) g) e)
 
--- ---- a refusal told with the trigger
+-- ---- a refusal that names the trigger
 
 pub inside_ok : {A : Type 0} (trigger : ℕ) (said : Result A Failure) (x : A) → said ≡ Ok x → inside_trigger trigger said ≡ Ok x
 inside_ok trigger said x e = ap (inside_trigger trigger) e

@@ -166,7 +166,7 @@ fn innermost(trigger: TriggerId, inner: Option<TriggerId>) -> Option<TriggerId>
     }
 }
 
-// A trigger at one firing. A refusal is told with it, unless it came inside another that it runs.
+// A trigger at one firing. A refusal names it, unless the refusal comes from another trigger that it fires.
 #[cycle(level)]
 fn fire<K: Keeper>(
     store: &mut K,

@@ -1,4 +1,4 @@
-//! What stands before and after the waves of a level.
+//! What comes before and after the waves of a level.
 ghost use Rattle.std.specs.Prelude.{◌≡◌, true, IfOk, OnOk};
 ghost use Rattle.iv_expr.specs.Changes.{wave_of};
 ghost use Rattle.iv_expr.specs.Scopes.{scope_of};

@@ -1,4 +1,4 @@
--- Waves of row changes, and when changes stand by rising row number.
+-- Waves of row changes, and when changes are by rising row number.
 use Rattle.std.specs.Prelude.{ℕ, ◌<◌, List, [], ◌∷◌}
 use Rattle.iv_expr.specs.declared.row.Change.{Change}
 

@@ -1,4 +1,4 @@
--- This file defines what borrowed results, outer ranges and the code's operators stand for.
+-- What borrowed results, outer ranges and the code's operators mean.
 use Rattle.std.specs.Prelude.{◌≡◌, ◌⊎◌, List, [], Option, Some, None, Result, Ok, Err, ℤ, ◌+ℤ◌, ◌-ℤ◌, ◌*ℤ◌}
 use Rattle.iv_value.specs.declared.value.Value.{Value}
 use Rattle.iv_value.specs.declared.value.Value.TheVariants.{Text}
@@ -14,7 +14,7 @@ abbrev pub result_of : {E : Type 0} → Result ValueRef E → Result Value E
 result_of (Ok v) = Ok (value_of v)
 result_of (Err e) = Err e
 
--- A result and its copy: the same, but that the copy of a text may fail for want of memory.
+-- A result and its copy: the same, but that the copy of a text fails where memory is refused.
 abbrev pub CopyOf : Result Value ExprFault → Result Value ExprFault → Type 0
 CopyOf (Ok (Text t)) copy = (copy ≡ Ok (Text t)) ⊎ (copy ≡ Err NoMemory)
 CopyOf result copy = copy ≡ result

@@ -1,5 +1,5 @@
 -- This file defines how the trees of expressions and conditions are written in definitions: as patterns and as terms,
--- without the shape of the box that a part stands in.
+-- without the shape of the box that a part is in.
 use Rattle.iv_expr.specs.declared.tree.Range.{Range}
 use Rattle.iv_expr.specs.declared.tree.Expr.{Expr, more_of-Expr, end_of-Expr}
 use Rattle.iv_expr.specs.declared.tree.Expr.TheVariants.{Plus', Minus', Times'}

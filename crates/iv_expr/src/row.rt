@@ -1,4 +1,4 @@
-//! Rows and the tables that they stand in.
+//! Rows and the tables that they are in.
 ghost use Rattle.std.specs.Prelude.{◌≡◌, IfOk};
 
 use iv_value::Value;

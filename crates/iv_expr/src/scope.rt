@@ -14,7 +14,7 @@ use std::marker::Model;
 pub trait Rows {
     ghost rows: { Self → List StoredRow };
 
-    /// Does nothing: the rows stand by rising number.
+    /// Does nothing: the rows are by rising number.
     fn known(&self)
         ensures { Rises 0 (rows self.now) };
 
@@ -148,7 +148,7 @@ impl<'a, R: Rows> Scope<'a, R> {
         }
     }
 
-    /// Does nothing: the rows stand by rising number.
+    /// Does nothing: the rows are by rising number.
     pub fn known(&self)
         ensures { Rises 0 self.now.rows }
     {

@@ -119,7 +119,7 @@ fn texts_are_lent_and_copied(rt: HostRuntime) -> Result<(), Fail> {
     Ok(())
 }
 
-/// Whether a column of the innermost range stands so to a number.
+/// Whether a column of the innermost range compares so with a number.
 fn column_to(alloc: Global, comparison: Comparison, value: i64) -> Result<Boxed<Cond>, AllocError> {
     let cond = Cond::Compare(
         comparison,

@@ -1,4 +1,4 @@
--- No level lowers the count of changes that stand, accepted or refused.
+-- No level lowers the count of row changes, accepted or refused.
 use Rattle.std.proofs.Common.{◌≡◌, ℕ, zero, suc, ◌+◌, ◌-◌, ◌≤◌, Bool, true, false, if◌then◌else◌, is_none, Some, List, [], ◌∷◌, Result, Ok, Err, subst, arith}
 use Rattle.std.specs.Bool.{nat_lt}
 use Rattle.iv_expr.specs.Changes.{Wave}
@@ -23,7 +23,7 @@ use Rattle.iv_machine.specs.Waves.{numbered_wave, is_beyond_last_row, wave_as_ap
 use Rattle.iv_machine.specs.Levels.{Firing, Finished, Standing, Runs, statement_run, body_run, firing_run, firings_run, firings, immediate_check, level_steps, nested_level, level}
 use Rattle.iv_laws.proofs.Settling.{nothing_settled, then_settled, then_next}
 
--- the changes that stand are at least so many: after an accepted step as it is counted, and after a refused one
+-- the row changes are at least so many: after an accepted step as it is counted, and after a refused one
 abbrev NoFewer : {A : Type 0} → ℕ → (A → ℕ) → Result A Failure → Type 0
 NoFewer low count (Ok a) = low ≤ count a
 NoFewer low count (Err f) = low ≤ f.count

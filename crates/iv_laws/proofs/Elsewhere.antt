@@ -24,7 +24,7 @@ none_passes p q None h = refl
 none_passes p q (Some r) h =
     elim (q r) as (λ b. passing p (if b then Some r else None) ≡ None) [ true ↦ ap (λ b. if b then Some r else None) (h r refl) | false ↦ refl ]
 
--- two first tests that agree where the last one passes may stand for one another
+-- two first tests that agree where the last one passes may replace one another
 same_passes : (p q other : StoredRow → Bool) (o : Option StoredRow) → ((r : StoredRow) → p r ≡ true → q r ≡ other r)
     → passing p (passing q o) ≡ passing p (passing other o)
 same_passes p q other None h = refl

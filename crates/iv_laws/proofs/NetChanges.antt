@@ -42,7 +42,7 @@ not_changed (c ∷ changes) n e =
       | false ↦ λ f. not_changed changes n f
     ] e
 
--- so one of the waves behind changes it
+-- so one of the waves after changes it
 changed_later : (wave : Wave) (waves : List Wave) (n : ℕ) → in_waves (wave ∷ waves) n ≡ true → find (λ c. c.row == n) wave.changes ≡ None → in_waves waves n ≡ true
 changed_later wave waves n e f = sym (ap (λ b. b || in_waves waves n) (not_changed wave.changes n f)) ∙ e
 

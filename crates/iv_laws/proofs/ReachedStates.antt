@@ -63,7 +63,7 @@ each_save_holds c (x ∷ xs) h = (h.0.immediate, each_save_holds c xs h.1)
 -- ---- states
 
 -- The database is firm under the modes, and so is each savepoint's; that at the start of the transaction, or that outside of one,
--- violates nothing; outside, modes are initial and there is no savepoint; no change stands at the start; and the triggers' bodies fit and their numbers
+-- violates nothing; outside, modes are initial and there is no savepoint; no change is counted at the start; and the triggers' bodies fit and their numbers
 -- rise.
 pub record Reachable (s : State) : Type 0 where
   pub now : Firm s.schema s.modes s.database

@@ -106,16 +106,16 @@ WavesTakeWhatTheyChange =
     → settled_waves context db budget wave ≡ Ok s
     → s.rest + sizes s.waves ≡ budget
 
--- ---- the count of changes that stand
+-- ---- the count of row changes
 
--- The changes that stand after the waves of a data statement are those before, and the waves' sizes.
+-- The count of row changes after the waves of a data statement is that before, and the waves' sizes.
 abbrev pub WavesCountTheirChanges : Type 0
 WavesCountTheirChanges =
     (context : Context) (db : Database) (budget : ℕ) (wave : Wave) (s : SettledWaves)
     → settled_waves context db budget wave ≡ Ok s
     → s.last.count ≡ db.count + sizes s.waves
 
--- The changes that stand after an accepted data statement are those before, and the sizes of all waves at all levels.
+-- The count of row changes after an accepted data statement is that before, and the sizes of all waves at all levels.
 abbrev pub LevelsCountTheirChanges : Type 0
 LevelsCountTheirChanges =
     (deeper : ℕ) (context : Context) (statement : DataStatement) (frame : Frame) (db : Database) (budget : ℕ) (done : Finished)
@@ -130,7 +130,7 @@ NestedLevelsCountTheirChanges =
     → nested_level depth context trigger statement frame db budget ≡ Ok done
     → done.database.count ≡ db.count + nested_total sizes depth context trigger statement frame db budget
 
--- Where a data statement is refused, no fewer changes stand than before it.
+-- Where a data statement is refused, the count of row changes is no lower than before it.
 abbrev pub RefusedLevelsKeepTheCount : Type 0
 RefusedLevelsKeepTheCount =
     (deeper : ℕ) (context : Context) (statement : DataStatement) (frame : Frame) (db : Database) (budget : ℕ) (failure : Failure)

@@ -18,8 +18,8 @@ pub fn budget_falls()
     ensures waves { WavesTakeWhatTheyChange }
 {}
 
-/// The changes that stand after a data statement are those before it, and the sizes of all waves at all
-/// levels; where it is refused, no fewer stand than before it.
+/// The count of row changes after a data statement is that before it, and the sizes of all waves at all
+/// levels; where it is refused, the count is no lower than before it.
 pub fn changes_are_counted()
     ensures waves { WavesCountTheirChanges }
     ensures level { LevelsCountTheirChanges }
@@ -61,8 +61,8 @@ pub fn net_changes_follow()
     ensures net { NetChangesFollowFromTheWaves }
 {}
 
-/// Which rows held a key before a wave, which keys it took away, and what follows it, are told by the rows
-/// after it and by the wave.
+/// Which rows held a key before a wave, which keys it took away, and what follows it, depend on the rows
+/// after it and on the wave.
 pub fn holders_before_a_wave()
     ensures holders { HoldersBeforeAWave }
     ensures rows { RowsBeforeAWave }

@@ -164,7 +164,7 @@ cut text start end h b c =
     let e : nat_le start end ≡ true = grind (arith, nat_tests) in
     rw (e, is_place text start b, is_place text end c)
 
--- what stands in a slice stands in the text
+-- what is in a slice is in the text
 in_slice : (text : List ℕ) (start end i : ℕ) → i < end - start → get_or (slice text start end) i 0 ≡ get_or text (start + i) 0
 in_slice text start end i h = get_or-take (end - start) (drop start text) i 0 h ∙ get_or-drop start text i 0
 

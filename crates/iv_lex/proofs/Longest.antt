@@ -530,7 +530,7 @@ doubled_twice [] h = refl
 doubled_twice (b ∷ []) h = doubled_more b (39 ∷ 39 ∷ []) (not_true (nat_eq b 39) h) refl
 doubled_twice (b ∷ c ∷ bs) h = doubled_by b c bs (nat_eq b 39) refl h (doubled_twice bs) (doubled_twice (c ∷ bs))
 
--- a quote that ends no text stands before another one
+-- a quote that ends no text is before another one
 second_by : (b : ℕ) (bs : List ℕ) (x : Bool) → nat_eq b 39 ≡ x → (if x then option_map (λ n. 2 + n) (closing bs) else Some 1) ≡ None → b ≡ 39
 second_by b bs true e h = is_quote b e
 second_by b bs false e h = absurd (cc)

@@ -10,7 +10,7 @@ use Rattle.iv_lex.specs.Words.{single_quotes}
 abbrev quotes : List ℕ
 quotes = 39 ∷ 39 ∷ []
 
--- where no two quotes stand nothing changes
+-- where there are no two quotes nothing changes
 one_more : (b c : ℕ) (bs : List ℕ) (x : Bool) → (nat_eq b 39 && nat_eq c 39) ≡ x → LacksTextAt quotes (b ∷ c ∷ bs) 0
     → single_quotes (b ∷ c ∷ bs) ≡ b ∷ single_quotes (c ∷ bs)
 one_more b c bs true e h =

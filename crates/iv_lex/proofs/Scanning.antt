@@ -28,7 +28,7 @@ no_more (suc n) at bs h =
     let f : nat_le (length bs) (gap false bs) ≡ true = yes_le _ _ h in
     from_step (suc n) at bs (omega arith) ∙ rw f
 
--- no token stands here
+-- there is no token here
 pub no_token : (n at : ℕ) (bs : List ℕ) → 0 < n → gap false bs < length bs → token_at (drop (gap false bs) bs) ≡ None
     → tokens_from n at bs ≡ no_tokens (Some (at + gap false bs))
 no_token n at bs h s t =
@@ -38,7 +38,7 @@ no_token n at bs h s t =
 token : Kind → ℕ → ℕ → Token
 token k start end = record { kind = k; start = start; end = end }
 
--- a token stands here
+-- there is a token here
 pub one_token : (n at : ℕ) (bs : List ℕ) (k : Kind) (len : ℕ) → 0 < n → gap false bs < length bs → token_at (drop (gap false bs) bs) ≡ Some (k, len)
     → tokens_from n at bs ≡ with_token (record { kind = k; start = at + gap false bs; end = at + gap false bs + len }) (tokens_from (n - 1) (at + gap false bs + len) (drop (gap false bs + len) bs))
 one_token n at bs k len h s t =

@@ -62,7 +62,7 @@ not_empty_taken : (bs : List ℕ) (n : ℕ) (k : Kind) → IsToken (take n bs) k
 not_empty_taken bs zero k t = absurd (not_empty k t)
 not_empty_taken bs (suc n) k t = omega arith
 
--- the token that is found stands in the text
+-- the token that is found is in the text
 token_found : (text : List ℕ) (at : ℕ) (p : Kind × ℕ) → at ≤ length text → token_at (drop at text) ≡ Some p
     → IsTokenOf text (record { kind = p.0; start = at; end = at + p.1 })
 token_found text at p h e =

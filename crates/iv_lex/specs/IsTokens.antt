@@ -32,7 +32,7 @@ pub data AfterGap : List ℕ → List ℕ → Type 0 where
   comment : (bs line more rest : List ℕ) → bs ≡ 45 ∷ 45 ∷ (line ++ more) → IsInLine line → EndsLine more
       → AfterGap more rest → AfterGap bs rest
 
--- only white space and comments stand between two places of the text, and neither begins at the
+-- only white space and comments are between two places of the text, and neither begins at the
 -- second
 pub record IsGap (text : List ℕ) (start end : ℕ) : Type 0 where
   pub rising : start ≤ end

@@ -39,7 +39,7 @@ abbrev pub gap_by : Option Bool → (Bool → ℕ) → ℕ
 gap_by None rest = 0
 gap_by (Some comment) rest = suc (rest comment)
 
--- how many bytes of white space and comments stand at the front, where a comment goes on there or not; a comment ends before LF
+-- how many bytes of white space and comments are at the front, where a comment goes on there or not; a comment ends before LF
 abbrev pub gap : Bool → List ℕ → ℕ
 gap comment [] = 0
 gap comment (b ∷ bs) = gap_by (gap_step comment b (slice_index bs 0)) (λ c. gap c bs)
@@ -67,7 +67,7 @@ closing (b ∷ c ∷ bs) =
     if nat_eq b 39 then (if nat_eq c 39 then option_map (λ n. 2 + n) (closing bs) else Some 1)
     else option_map (λ n. 1 + n) (closing (c ∷ bs))
 
--- what a quote that stands alone or no byte at all means for a text
+-- what a single quote or no byte at all means for a text
 abbrev pub text_end : List ℕ → Option ℕ
 text_end [] = None
 text_end (b ∷ bs) = Some 1

@@ -7,14 +7,14 @@ use crate::token::Token;
 use sqlite_items::Items;
 use std::alloc::{AllocError, Global};
 
-/// The tokens of a text, and the place where the first one stands that is none.
+/// The tokens of a text, and where the first one is that is no token.
 #[derive(Drop)]
 pub struct Lexed {
     pub tokens: Items<Token>,
     pub fault: Option<usize>,
 }
 
-/// The tokens of a text, each the longest that can stand at its place.
+/// The tokens of a text, each the longest at its place.
 pub fn tokens(alloc: Global, text: &str) -> Result<Lexed, AllocError>
     ensures { IfOk result (λ l. l ≡ tokens_of text.now) }
 {

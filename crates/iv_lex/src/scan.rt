@@ -79,7 +79,7 @@ fn gap_step(comment: bool, byte: u8, next: u8) -> Option<bool>
     }
 }
 
-/// How many bytes of white space and comments stand at the front.
+/// How many bytes of white space and comments are at the front.
 pub fn gap_length(bytes: &[u8]) -> usize
     ensures within { result ≤ length bytes.now }
     ensures gap { result ≡ gap false bytes.now }

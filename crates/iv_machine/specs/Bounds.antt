@@ -21,7 +21,7 @@ fewest_changes_in_a_statement = FEWEST_CHANGES_IN_A_STATEMENT
 abbrev pub most_changes_in_a_statement : ℕ
 most_changes_in_a_statement = MOST_CHANGES_IN_A_STATEMENT
 
--- How many row changes may stand in a transaction.
+-- How many row changes a transaction may have.
 abbrev pub most_changes_in_a_transaction : ℕ
 most_changes_in_a_transaction = MOST_CHANGES_IN_A_TRANSACTION
 

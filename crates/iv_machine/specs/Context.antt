@@ -41,12 +41,12 @@ abbrev pub while_running : {A : Type 0} → ℕ → Result A Cause → Result A 
 while_running trigger (Ok a) = Ok a
 while_running trigger (Err cause) = Err (record { cause = cause; trigger = Some trigger })
 
--- a refusal with the row changes that stand in this database
+-- a refusal with the row changes that this database has
 abbrev pub with_count : {A : Type 0} → Database → Result A Refusal → Result A Failure
 with_count db (Ok a) = Ok a
 with_count db (Err refusal) = Err (record { cause = refusal.cause; trigger = refusal.trigger; count = db.count })
 
--- a refusal that comes while this trigger runs is told with it, unless it came inside of another that it runs
+-- a refusal that comes while this trigger runs names it, unless it came inside of another that it runs
 abbrev pub inside_trigger : {A : Type 0} → ℕ → Result A Failure → Result A Failure
 inside_trigger trigger (Ok a) = Ok a
 inside_trigger trigger (Err failure) =

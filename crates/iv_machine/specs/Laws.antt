@@ -6,7 +6,7 @@ use Rattle.iv_machine.specs.Databases.{scan, is_chosen, initial_modes}
 use Rattle.iv_machine.specs.Machine.{State, Savepoint}
 use Rattle.iv_machine.specs.Invariants.{Rising}
 
--- Outside a transaction no constraint is violated, modes are initial, there is no savepoint, and no row change stands.
+-- Outside a transaction no constraint is violated, modes are initial, there is no savepoint, and no row change is counted.
 pub record IsQuiet (s : State) : Type 0 where
   pub unviolated : scan s.database.rows s.schema.constraints (is_chosen s.modes All) ≡ []
   pub initial : s.modes ≡ initial_modes s.schema.constraints

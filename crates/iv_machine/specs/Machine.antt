@@ -107,7 +107,7 @@ context_of s = record { schema = s.schema; modes = s.modes }
 abbrev pub with_transaction : State → State
 with_transaction s = record s { start = Some (start_database s) }
 
--- the row changes that stand in the one count and not in the other are those that the statement made
+-- the row changes that are in the one count and not in the other are those that the statement made
 abbrev pub level_outcome : State → Result Finished Failure → Outcome
 level_outcome s (Ok l) = record {
   answer = Ok (Changed l.size);
@@ -149,7 +149,7 @@ count_answer s table filter = and_then (rows_meant s table filter) (λ rows. Ok 
 
 -- ---- the ends of a transaction ("Commit statement", "Rollback statement")
 
--- The transaction is ended with this database: no change stands, the modes are initial, and there is no savepoint.
+-- The transaction is ended with this database: no change is counted, the modes are initial, and there is no savepoint.
 abbrev pub state_at_end : State → Database → State
 state_at_end s db = record s { database = record db { count = 0 }; modes = initial_modes s.schema.constraints; start = None; savepoints = [] }
 
@@ -231,7 +231,7 @@ first_made_immediate s modes = first (scan s.database.rows s.schema.constraints 
 abbrev pub modes_outcome : State → List ConstraintMode → Outcome
 modes_outcome s modes = refuse_first s Violation (first_made_immediate s modes) (accept (record s { modes = modes }) Done)
 
--- the first that isn't deferrable is told before any violation
+-- the first that isn't deferrable is answered before any violation
 abbrev pub set_constraints_outcome : State → List ℕ → ConstraintMode → Outcome
 set_constraints_outcome s ids m =
     elim (find (λ id. not (is_deferrable s.schema id)) ids) [

@@ -34,7 +34,7 @@ use Rattle.iv_machine.specs.Context.{Context, each}
 
 -- ---- values and conditions
 
--- why a statement is refused for a fault of evaluation; a resolved statement has no misfit, and a definition no want of memory
+-- why a statement is refused for a fault of evaluation; a resolved statement has no misfit, and a definition never runs out of memory
 abbrev pub cause_of : ExprFault → Cause
 cause_of OutOfRange = NumberOutOfRange
 cause_of Misfit = WrongShape

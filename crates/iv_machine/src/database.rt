@@ -3,7 +3,7 @@ use iv_expr::StoredRow;
 use sqlite_items::Items;
 
 /// The rows of all tables in rising number, each with its table; the number that the next new row takes,
-/// from 1; and how many row changes stand in the open transaction.
+/// from 1; and how many row changes the open transaction has.
 #[derive(Drop)]
 pub struct Database {
     pub rows: Items<StoredRow>,

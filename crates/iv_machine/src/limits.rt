@@ -16,7 +16,7 @@ pub const FEWEST_CHANGES_IN_A_STATEMENT: u32 = 1;
 /// The greatest number of row changes in a statement that a session may have.
 pub const MOST_CHANGES_IN_A_STATEMENT: u32 = 65_536;
 
-/// How many row changes may stand in a transaction.
+/// How many row changes a transaction may have.
 pub const MOST_CHANGES_IN_A_TRANSACTION: u64 = 1_048_576;
 
 /// The last number that a row may have.

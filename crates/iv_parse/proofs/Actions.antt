@@ -8,7 +8,7 @@ use Rattle.iv_parse_data.specs.DataReaders.{then_word}
 use Rattle.iv_parse.specs.TriggerReaders.{read_action, read_with_semicolon, read_ended_action}
 use Rattle.iv_parse_data.proofs.Loops.{Amid, preceded, amid_none, amid_end, amid_more}
 
--- what is read where END doesn't stand
+-- what is read where the next word isn't END
 ended : (ws : List Word) → None ≡ after kind.End ws → read_ended_action ws ≡ then_read (read_with_semicolon ws) (λ a rest. Some (Some a, rest))
 unfolding read_ended_action
 ended ws e = ap (λ o. if_some o (λ rest. Some (None, ws)) (then_read (read_with_semicolon ws) (λ a rest. Some (Some a, rest)))) (sym e)
@@ -58,7 +58,7 @@ pub actions_more : (items : List TriggerAction) (n : ℕ) (ws rest more : List W
     → None ≡ after kind.End ws → Some (a, rest) ≡ read_action ws → Some more ≡ after kind.Semicolon rest → Amid read_ended_action (items ++ a ∷ []) (n - 1) more all
 actions_more items n ws rest more a all amid l e h g = amid_more read_ended_action items n ws more a all amid l (one_action ws rest more a e h g)
 
--- END stands here
+-- the next word is END
 pub actions_end : (items : List TriggerAction) (n : ℕ) (ws rest : List Word) (all : Option (List TriggerAction × List Word)) → Amid read_ended_action items n ws all → Some rest ≡ after kind.End ws → Some (items, ws) ≡ all
 unfolding read_ended_action
 actions_end items n ws rest all amid e =

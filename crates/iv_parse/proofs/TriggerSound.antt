@@ -168,7 +168,7 @@ occasion_good ws =
     (λ left. done_good _ left (t, e) (ap (λ z. z ++ (back ++ plain kind.On ∷ [])) p ∙ ap (λ z. plain (time_kind t) ∷ (z ++ plain kind.On ∷ [])) q))
     (nothing_good _ more)))
 
--- what stands between the table and the body
+-- what is between the table and the body
 abbrev pub IsMiddle : List Word → List Referencing × Granularity × Option Condition → Type 0
 IsMiddle ws m =
     (items : List Word) × (each : List Word) × (when : List Word) × IsReferencing items m.0 × IsGranularity each m.1 × Maybe IsWhen when m.2 × (ws ≡ items ++ (each ++ when))

@@ -22,7 +22,7 @@ abbrev pub first_place : List Token → Option ℕ → Option ℕ
 first_place [] fault = fault
 first_place (t ∷ ts) fault = Some t.start
 
--- The script is these statements, and then tokens that begin with no further one; its fault stands where those begin, or else at
+-- The script is these statements, and then tokens that begin with no further one; its fault is where those begin, or else at
 -- the lexical fault.
 pub record IsScript (text : List ℕ) (statements : List Statement) (fault : Option ℕ) : Type 0 where
   pub run : List Token

@@ -111,7 +111,7 @@ read_event ws = if_some (after kind.Insert ws) (λ rest. Some (event.Insert, res
 unfoldable pub read_occasion : List Word → FoundPart (ActionTime × TriggerEvent)
 read_occasion ws = then_read (read_action_time ws) (λ t rest. then_read (read_event rest) (λ e more. then_word kind.On more (λ left. Some ((t, e), left))))
 
--- what stands between the table and the body
+-- what is between the table and the body
 unfoldable pub read_middle : List Word → FoundPart (List Referencing × Granularity × Option Condition)
 read_middle ws =
     then_read (read_referencing ws) (λ rs a. then_read (read_granularity a) (λ g b. then_read (read_when b) (λ w rest. Some ((rs, g, w), rest))))

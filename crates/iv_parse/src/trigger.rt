@@ -132,7 +132,7 @@ fn occasion(tokens: &[Token]) -> Option<((ActionTime, TriggerEvent), &[Token])>
     Some(((time, event), rest))
 }
 
-// What stands between the table and the body.
+// What is between the table and the body.
 #[tactic(auto, unfolding(crate::specs::TriggerReaders::read_middle))]
 fn middle<'a>(
     alloc: Global,

@@ -1,4 +1,4 @@
--- What is read stands at the front.
+-- What is read is at the front.
 use Rattle.std.proofs.Common.{◌≡◌, inl, inr, ℕ, zero, suc, Bool, true, false, Option, Some, None, unwrap_or, List, [], ◌∷◌, ◌++◌, length, refl, sym, ◌∙◌, ap, subst, append_assoc, append-nil}
 use Rattle.std.specs.Prelude.{if◌then◌else◌}
 use Rattle.iv_lex.specs.declared.kind.Kind.{Kind}
@@ -72,7 +72,7 @@ module _ {A : Type 0} where
   after_option Part k ws None f other e g h = h
   after_option Part k ws (Some rest) f other e g h = further Part (plain k ∷ []) ws rest (f rest) (after_is k ws rest e) (g rest)
 
-  -- where this word stands at the front, and where it doesn't
+  -- where this word is at the front, and where it isn't
   pub after_good : (Part : List Word → A → Type 0) (k : Kind) (ws : List Word) (f : List Word → Option (A × List Word)) (other : Option (A × List Word))
       → ((rest : List Word) → Good (λ back a. Part (plain k ∷ back) a) rest (f rest)) → Good Part ws other → Good Part ws (if_some (after k ws) f other)
   after_good Part k ws f other g h = after_option Part k ws (after k ws) f other refl g h
@@ -161,7 +161,7 @@ module _ {A : Type 0} where
   ahead_first Part j k ws None f other e g h = h
   ahead_first Part j k ws (Some rest) f other e g h = ahead_second Part j k ws rest (after k rest) f other (after_is j ws rest e) refl g h
 
-  -- where these two words stand at the front, and where they don't
+  -- where these two words are at the front, and where they aren't
   pub ahead_good : (Part : List Word → A → Type 0) (j k : Kind) (ws : List Word) (f : List Word → Option (A × List Word)) (other : Option (A × List Word))
       → ((more : List Word) → Good (λ back a. Part (plain j ∷ plain k ∷ back) a) more (f more)) → Good Part ws other → Good Part ws (if_some (after j ws) (λ rest. if_some (after k rest) f other) other)
   ahead_good Part j k ws f other g h = ahead_first Part j k ws (after j ws) f other refl g h

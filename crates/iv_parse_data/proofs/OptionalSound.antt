@@ -1,4 +1,4 @@
--- What is read of numbers, texts, signs and parts that may be left out stands at the front.
+-- What is read of numbers, texts, signs and parts that may be left out is at the front.
 use Rattle.std.proofs.Common.{◌≡◌, inl, inr, ℕ, zero, suc, Option, Some, None, List, [], ◌∷◌, ◌++◌, refl, ◌∙◌, ap, append-nil}
 use Rattle.iv_lex.specs.declared.kind.Kind.TheVariants as kind
 use Rattle.iv_lex.specs.Words.{Word, name, number, quoted, plain}
@@ -46,7 +46,7 @@ sign_good ws =
     (after_good IsSign kind.Minus ws _ None (λ rest. done_good _ rest sign.Minus refl) (nothing_good IsSign ws))
 
 module _ {A B : Type 0} where
-  -- where a part of another rule stands at the front, and where none does
+  -- where a part of another rule is at the front, and where none does
   pub found_good : (Part : List Word → A → Type 0) (Whole : List Word → B → Type 0) (ws : List Word) (o : Option (A × List Word)) (f : A × List Word → Option (B × List Word)) (other : Option (B × List Word))
       → Good Part ws o → ((a : A) (front rest : List Word) → Part front a → Good (λ back b. Whole (front ++ back) b) rest (f (a, rest))) → Good Whole ws other → Good Whole ws (if_some o f other)
   found_good Part Whole ws None f other g h n = n

@@ -14,7 +14,7 @@ pub trait Parse: Sized {
 
     ghost found: { List Word → Option (Self × List Word) };
 
-    /// The part at the front and the tokens after it; none where no such part stands there.
+    /// The part at the front and the tokens after it; none where there is no such part.
     fn parse<'a>(
         alloc: Global,
         text: &str,
@@ -37,7 +37,7 @@ impl Parse for Name {
     }
 }
 
-/// A part of the grammar that stands any number of times, one after the other.
+/// A part of the grammar that comes any number of times, one after the other.
 pub trait ParseSome: Sized {
     ghost use Rattle.std.specs.Prelude.{List, Option};
     ghost use Rattle.iv_lex.specs.Words.{Word};

@@ -63,7 +63,7 @@ pub expression_of_term : (e : Expression) (d : ℕ) (rest : List Word) → EndsT
 expression_of_term e d rest after t =
     (d, omega arith, ap (λ f. then_read f (more_terms d (read_term d) d)) (t.2 ∙ stop_factors d (read_factor d) t.0 e rest after))
 
--- where a tree is a primary and no sign stands before it
+-- where a tree is a primary and no sign is before it
 pub from_factor : (e : Expression) → (Formed primary e → (d : ℕ) → depth e ≤ d → (rest : List Word) → EndsPrimary rest → read_primary d (spelling e ++ rest) ≡ Some (e, rest))
     → ((d : ℕ) → depth e ≤ d → (rest : List Word) → EndsPrimary rest → read_factor d (spelling e ++ rest) ≡ Some (e, rest))
     → Complete e

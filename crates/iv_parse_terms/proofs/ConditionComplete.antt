@@ -53,7 +53,7 @@ lead_term d = lead_term_by d (lead_factor d)
 abbrev lead_expression : ℕ → List Word → FoundItem
 lead_expression d = lead_expression_by d (lead_term d)
 
--- an expression that stands first in a test is read as a value
+-- an expression that comes first in a test is read as a value
 pub record Lead (e : Expression) : Type 0 where
   pub factor_first : Formed factor e → (d : ℕ) → depth e ≤ d → (rest : List Word) → EndsPrimary rest → lead_factor d (spelling e ++ rest) ≡ Some (Value e, rest)
   pub term_first : Formed term e → (d : ℕ) → depth e ≤ d → (rest : List Word) → EndsPrimary rest
@@ -108,7 +108,7 @@ item_of_value e l f d h rest =
     sym (conjunction_step d (spelling e ++ close)) ∙ (ap (λ o. then_read o (more_by And d (read_negation d) d)) third ∙ value_stops And d (read_negation d) d e close) in
     sym (item_step d (spelling e ++ close)) ∙ (ap (λ o. then_read o (more_by Or d (read_conjunction d) d)) fourth ∙ value_stops Or d (read_conjunction d) d e close)
 
--- what stands in parentheses first in a test
+-- what is in parentheses at the beginning of a test
 pub lead_group : (d : ℕ) (ws : List Word) → read_lead (suc d) (plain kind.LeftParenthesis ∷ ws) ≡ then_read (read_item d ws) (close_item (suc d))
 unfolding read_lead read_item read_conjunction read_negation read_test lead_factor
 lead_group d ws = refl
@@ -256,7 +256,7 @@ tested_by comparison.LessEqual d a ws = refl
 tested_by comparison.Greater d a ws = refl
 tested_by comparison.GreaterEqual d a ws = refl
 
--- what is spelled after an expression stands after it
+-- what is spelled after an expression comes after it
 pub spelled_after : (a : Expression) (front tail rest : List Word) → front ≡ spelling a ++ tail → front ++ rest ≡ spelling a ++ (tail ++ rest)
 spelled_after a front tail rest h = ap (λ l. l ++ rest) h ∙ append_assoc (spelling a) tail rest
 
@@ -288,7 +288,7 @@ not_null_read a f front s d h rest ends =
     ap (read_test d) (spelled_after a front (plain kind.Is ∷ plain kind.Not ∷ plain kind.Null ∷ []) rest s)
     ∙ (test_of_value d a (spelling a ++ tail) tail (lead_whole a (lead a) f d (omega arith) tail ((refl, refl), refl, refl)) ∙ condition_fits_ok d (IsNotNull a) rest h)
 
--- a condition that stands first in a test is the test
+-- a condition that comes first in a test is the test
 pub test_of_truth : (d : ℕ) (c : Condition) (ws rest : List Word) → after_sign ws ≡ None → read_lead d ws ≡ Some (Truth c, rest) → read_test d ws ≡ Some (Truth c, rest)
 unfolding read_test
 test_of_truth d c ws rest s h =

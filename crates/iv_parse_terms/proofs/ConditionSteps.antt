@@ -42,7 +42,7 @@ pub connected_depth : (k : Connective) (a b : Condition) → condition_depth (co
 connected_depth And a b = refl
 connected_depth Or a b = refl
 
--- what stands beside a condition
+-- what is beside a condition
 pub joined_truth : (k : Connective) (d : ℕ) (a b : Condition) (j : Item) (ws rest : List Word) → Some (b, rest) ≡ truth_alone j ws
     → condition_fits d (connection k a b) rest ≡ connection_from k d (Truth a) j ws
 joined_truth k d a b (Truth c) ws rest h = ap (λ (p : Condition × List Word). condition_fits d (connection k a p.0) p.1) (some_same (b, rest) (c, ws) h)

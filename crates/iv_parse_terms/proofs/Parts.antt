@@ -28,7 +28,7 @@ front_by k (quoted t) ws rest true e h = absurd (false≢true e)
 front_by k (plain j) ws rest true e h = ap (λ i. plain i ∷ ws) (exact j k e) ∙ ap (λ l. plain k ∷ l) (some_same ws rest h)
 front_by k w ws rest false e h = absurd (none-some rest h)
 
--- the symbol stands at the front
+-- the symbol is at the front
 pub after_is : (k : Kind) (ws rest : List Word) → after k ws ≡ Some rest → ws ≡ plain k ∷ rest
 after_is k [] rest h = absurd (none-some rest h)
 after_is k (w ∷ ws) rest h = front_by k w ws rest (is_word k w) refl h

@@ -28,7 +28,7 @@ expression_complete words rest e i h a = ap (λ l. read_expression DEEPEST (l ++
 pub good_at : (words : List Word) (o : FoundExpression) → read_expression DEEPEST words ≡ o → Good expression DEEPEST words o
 good_at words o h = subst (λ (f : FoundExpression). Good expression DEEPEST words f) h (expression_sound DEEPEST words)
 
--- what is read stands at the front, is an expression of the grammar, and is no deeper than DEEPEST
+-- what is read is at the front, is an expression of the grammar, and is no deeper than DEEPEST
 pub expression_front : (words rest : List Word) (e : Expression) → read_expression DEEPEST words ≡ Some (e, rest)
     → (front : List Word) × IsExpression front e × (depth e ≤ DEEPEST) × (words ≡ front ++ rest)
 expression_front words rest e h =
@@ -48,7 +48,7 @@ truth_front words rest c (Some (Truth b, left)) g h =
     let r : ReadCondition condition DEEPEST words c rest = subst (λ (p : Condition × List Word). ReadCondition condition DEEPEST words p.0 p.1) (some_same (b, left) (c, rest) h) g in
     (r.front, record { formed = r.formed; spelled = r.spelled }, r.shallow, r.whole)
 
--- what is read stands at the front, is a condition of the grammar, and is no deeper than DEEPEST
+-- what is read is at the front, is a condition of the grammar, and is no deeper than DEEPEST
 pub condition_front : (words rest : List Word) (c : Condition) → read_condition DEEPEST words ≡ Some (c, rest)
     → (front : List Word) × IsCondition front c × (condition_depth c ≤ DEEPEST) × (words ≡ front ++ rest)
 condition_front words rest c h = truth_front words rest c (read_item DEEPEST words) (item_sound DEEPEST words) h
@@ -61,7 +61,7 @@ from_complete words rest r (Some c) i h a =
     ap (λ l. read_from DEEPEST (l ++ rest)) i.4
     ∙ from_where_read (read_item DEEPEST) r c i.0 i.1 i.2 rest (condition_whole c i.3.formed i.1 i.3.spelled DEEPEST h rest a.0)
 
--- what is read stands at the front, is a FROM of the grammar, and its condition is no deeper than DEEPEST
+-- what is read is at the front, is a FROM of the grammar, and its condition is no deeper than DEEPEST
 pub from_front : (words rest : List Word) (r : RangeName) (o : Option Condition) → read_from DEEPEST words ≡ Some ((r, o), rest)
     → (front : List Word) × IsFrom front r o × (where_depth o ≤ DEEPEST) × (words ≡ front ++ rest)
 from_front words rest r o h =

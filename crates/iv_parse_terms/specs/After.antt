@@ -1,4 +1,4 @@
--- What stands at the front of a list of words.
+-- What is at the front of a list of words.
 use Rattle.std.specs.Prelude.{ℕ, Bool, true, false, if◌then◌else◌, Option, Some, None, List, [], ◌∷◌}
 use Rattle.iv_lex.specs.declared.kind.Kind.{Kind}
 use Rattle.iv_lex.specs.declared.kind.Kind.TheVariants as kind
@@ -23,7 +23,7 @@ is_word k (number n) = false
 is_word k (quoted t) = false
 is_word k (plain j) = same j k
 
--- the words after this symbol or reserved word, where it stands at the front
+-- the words after this symbol or reserved word, where it is at the front
 abbrev pub after : Kind → List Word → Option (List Word)
 after k [] = None
 after k (w ∷ ws) = if is_word k w then Some ws else None

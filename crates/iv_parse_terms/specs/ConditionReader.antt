@@ -168,7 +168,7 @@ test_over limit leads = test_by limit (lead_expression_by limit (lead_term_by li
 abbrev pub item_over : ℕ → (List Word → FoundItem) → List Word → FoundItem
 item_over limit leads = chain_by Or limit (chain_by And limit (negation_by limit (test_over limit leads)))
 
--- what stands first in a test: a primary, EXISTS, or a condition in parentheses
+-- what comes first in a test: a primary, EXISTS, or a condition in parentheses
 unfoldable pub read_lead : ℕ → List Word → FoundItem
 read_lead zero ws = None
 read_lead (suc d) ws = lead_by (suc d) (item_over d (read_lead d)) ws

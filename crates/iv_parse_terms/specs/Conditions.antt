@@ -59,18 +59,18 @@ pub data ConditionRule : Type 0 where
   negation : ConditionRule
   test : ConditionRule
 
--- where OR may stand
+-- where OR may be
 abbrev pub TakesOr : ConditionRule → Type 0
 TakesOr condition = Unit {0}
 TakesOr _ = ⊥
 
--- where AND may stand
+-- where AND may be
 abbrev pub TakesAnd : ConditionRule → Type 0
 TakesAnd condition = Unit {0}
 TakesAnd conjunction = Unit {0}
 TakesAnd _ = ⊥
 
--- where NOT may stand
+-- where NOT may be
 abbrev pub TakesNot : ConditionRule → Type 0
 TakesNot test = ⊥
 TakesNot _ = Unit {0}

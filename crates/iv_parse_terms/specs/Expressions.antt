@@ -39,18 +39,18 @@ pub data Rule : Type 0 where
   factor : Rule
   primary : Rule
 
--- where an operation with a sign between two operands may stand
+-- where an operation with a sign between two operands may be
 abbrev pub TakesSum : Rule → Type 0
 TakesSum expression = Unit {0}
 TakesSum _ = ⊥
 
--- where a product may stand
+-- where a product may be
 abbrev pub TakesProduct : Rule → Type 0
 TakesProduct expression = Unit {0}
 TakesProduct term = Unit {0}
 TakesProduct _ = ⊥
 
--- where a sign before an operand may stand
+-- where a sign before an operand may be
 abbrev pub TakesSign : Rule → Type 0
 TakesSign primary = ⊥
 TakesSign _ = Unit {0}

@@ -11,7 +11,7 @@ use Rattle.iv_parse_terms.specs.ExpressionReader.{read_expression}
 use Rattle.iv_parse_terms.specs.Conditions.{IsCondition, IsFrom, EndsCondition, EndsFrom, condition_depth}
 use Rattle.iv_parse_terms.specs.ConditionReader.{read_condition, read_from}
 
--- what is read stands at the front, is an expression of the grammar, and is no deeper than DEEPEST
+-- what is read is at the front, is an expression of the grammar, and is no deeper than DEEPEST
 abbrev pub ExpressionsSound : Type 0
 ExpressionsSound =
     (words rest : List Word) (e : Expression) → read_expression DEEPEST words ≡ Some (e, rest)
@@ -27,7 +27,7 @@ ExpressionsComplete =
 abbrev pub OneExpression : Type 0
 OneExpression = (words : List Word) (a b : Expression) → IsExpression words a → IsExpression words b → a ≡ b
 
--- what is read stands at the front, is a condition of the grammar, and is no deeper than DEEPEST
+-- what is read is at the front, is a condition of the grammar, and is no deeper than DEEPEST
 abbrev pub ConditionsSound : Type 0
 ConditionsSound =
     (words rest : List Word) (c : Condition) → read_condition DEEPEST words ≡ Some (c, rest)
@@ -44,7 +44,7 @@ ConditionsComplete =
 abbrev pub OneCondition : Type 0
 OneCondition = (words : List Word) (a b : Condition) → IsCondition words a → IsCondition words b → a ≡ b
 
--- what is read stands at the front, is a FROM of the grammar, and its condition is no deeper than
+-- what is read is at the front, is a FROM of the grammar, and its condition is no deeper than
 -- DEEPEST
 abbrev pub FromSound : Type 0
 FromSound =

@@ -22,7 +22,7 @@ use iv_lex::{Kind, Token};
 use iv_syntax::{Condition, RangeName};
 use std::alloc::{AllocError, Global};
 
-// What stands first in a test.
+// What comes first in a test.
 #[cycle(condition)]
 fn lead<'a>(
     alloc: Global,
@@ -92,7 +92,7 @@ fn from_range<'a>(
     }
 }
 
-// The factor that stands first in a test, or a condition.
+// The factor that comes first in a test, or a condition.
 #[cycle(condition)]
 fn lead_factor<'a>(
     alloc: Global,

@@ -1,4 +1,4 @@
-//! What stands at the front of tokens.
+//! What is at the front of tokens.
 ghost use Rattle.std.specs.Prelude.{◌≡◌, ℕ, List, true, IfOk};
 ghost use Rattle.iv_lex.specs.Words.{words};
 ghost use Rattle.iv_parse_terms.specs.After.{after as words_after, after_name, is_plain, same};
@@ -17,7 +17,7 @@ fn is(token: &Token, kind: Kind) -> bool
     token.kind == kind
 }
 
-/// The tokens after this symbol or reserved word, where it stands at the front.
+/// The tokens after this symbol or reserved word, where it is at the front.
 pub fn after(kind: Kind, tokens: &[Token]) -> Option<&[Token]>
     requires { is_plain kind ≡ true }
     ensures { (text : List ℕ) → rest_words text result ≡ words_after kind (words text tokens.now) }

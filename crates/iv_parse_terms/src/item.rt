@@ -1,4 +1,4 @@
-//! What stands where a test may begin.
+//! What may be the beginning of a test.
 use iv_syntax::{Condition, Expression};
 
 /// A value, or a condition that is whole.

@@ -224,7 +224,7 @@ pub fn negate<'a>(
     }
 }
 
-/// The tokens after AND or OR, where it stands after a condition.
+/// The tokens after AND or OR, where it comes after a condition.
 pub fn connective_after<'a>(connective: Connective, found: &ItemPart<'a>) -> Option<&'a [Token]>
     ensures { (text : List ℕ) → rest_words text result ≡ after_truth connective found.now.item (words text found.now.rest.now) }
 {

@@ -47,7 +47,7 @@ sides_taken scope filter side changes = in_turn (λ c. side_taken scope filter (
 
 -- ---- what is made of each
 
--- what is made of one more is added, or its refusal told
+-- what is made of one more is added, or its refusal is the answer
 abbrev pub added : {A B : Type 0} → (A → Result B Cause) → A → List B → Result (List B) Cause
 added f x made = and_then (f x) (λ y. Ok (made ++ y ∷ []))
 

@@ -1,4 +1,4 @@
--- Statements that deserve two causes: the least is told. A caller of the library may build 9223372036854775808, which no text is.
+-- Statements that deserve two causes: the least is answered. A caller of the library may build 9223372036854775808, which no text is.
 use Rattle.std.specs.Prelude.{◌≡◌, false, [], ◌∷◌, codes, Some, None}
 use Rattle.iv_expr.specs.declared.tree.Comparison.TheVariants.{Equal}
 use Rattle.iv_expr.specs.declared.tree.Side.TheVariants.{Old}

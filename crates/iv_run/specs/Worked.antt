@@ -115,6 +115,6 @@ pub record WorkedScripts : Type 0 where
   pub two_checks : answers_to two_checks_one_deferred
       ≡ ok ∷ ok_rows 1 ∷ refused (Violation (fault 1 2)) ∷ refused (CommitRefused (fault 0 1))
       ∷ ok_rows 1 ∷ ok ∷ rows ((Null ∷ []) ∷ []) ∷ []
-  -- that a transaction is open is told before all else
+  -- that a transaction is open is answered before all else
   pub table_in_transaction : answers_to table_created_again
       ≡ ok ∷ ok_rows 1 ∷ refused InTransaction ∷ ok ∷ refused Duplicate ∷ []

@@ -4,7 +4,7 @@ ghost use Rattle.iv_run.specs.Worked.{WorkedScripts};
 
 /// In every state that a run of statements reaches from an empty one no immediate constraint is
 /// violated, so that no constraint is violated exactly where no deferred one is. Outside a transaction no
-/// constraint is violated, modes are initial, there is no savepoint, and no row change stands. No immediate
+/// constraint is violated, modes are initial, there is no savepoint, and no row change is counted. No immediate
 /// constraint is violated in a savepoint's database, under its own modes.
 pub fn reached_states_are_sound()
     ensures { ReachedStatesAreSound }

@@ -47,7 +47,7 @@ fn unique(alloc: Global, text: &str) -> Result<TableElement, AllocError> {
     }))
 }
 
-// A INTEGER, B VARCHAR(3), UNIQUE (B), A VARCHAR(5): a name comes twice, and a constraint stands between.
+// A INTEGER, B VARCHAR(3), UNIQUE (B), A VARCHAR(5): a name comes twice, and a constraint is between.
 fn elements(alloc: Global) -> Result<Items<TableElement>, AllocError> {
     let mut elements = Items::new(alloc);
     elements.push(column(alloc, "A", ColumnType::Integer)?)?;

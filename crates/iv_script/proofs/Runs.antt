@@ -31,7 +31,7 @@ pub record Did (old new : State) (st : Statement) (r : Result Answer Refusal) : 
 did_plain : (old new : State) (st : Statement) (r : Result Answer Refusal) → is_memory r ≡ false → (r ≡ (step old st).answer) × (new ≡ (step old st).state) → Did old new st r
 did_plain old new st r m e = record { memory = granted; counted = ap (λ b. if b then 1 else 0) m; answer_is = e.0; state_is = e.1 }
 
--- the refusal for want of memory, where a trigger may have run or not
+-- the refusal OutOfMemory, where a trigger may have run or not
 denied_is : (may : Bool) (t : Option ℕ)
     → (may ≡ false → ◌≡◌ {A = Result Answer Refusal} (Err (record { cause = cause.OutOfMemory; trigger = t })) (Err out_of_memory))
     → ◌≡◌ {A = Result Answer Refusal} (Err (record { cause = cause.OutOfMemory; trigger = t })) (Err (record { cause = cause.OutOfMemory; trigger = if may then t else None }))

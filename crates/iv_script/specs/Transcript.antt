@@ -43,7 +43,7 @@ pub data Memory : Type 0 where
   granted : Memory
   denied : Option ℕ → Memory
 
--- Cause 22, which leaves the state. A trigger is told only where one may have run.
+-- Cause 22, which leaves the state. It names a trigger only where one may have run.
 abbrev pub starved_outcome : State → Statement → Option ℕ → Outcome
 starved_outcome s st trigger = record {
   answer = Err (record { cause = OutOfMemory; trigger = if may_run_triggers s st then trigger else None });

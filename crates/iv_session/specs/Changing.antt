@@ -24,7 +24,7 @@ abbrev pub size_said : Result (Database × ℕ) Failure → Result ℕ Refusal
 size_said (Ok p) = Ok p.1
 size_said (Err f) = Err (record { cause = f.cause; trigger = f.trigger })
 
--- the row changes that stand in the one count and not in the other are those that the statement made
+-- the row changes that are in the one count and not in the other are those that the statement made
 abbrev pub work_said : Database → Result (Database × ℕ) Failure → Work
 work_said db (Ok p) = record { changes = p.0.count - db.count; undone = 0 }
 work_said db (Err f) = record { changes = f.count - db.count; undone = f.count - db.count }

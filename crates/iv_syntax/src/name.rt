@@ -20,7 +20,7 @@ impl Model for Name {
 }
 
 impl Name {
-    /// The name that is this text, which is taken as it stands.
+    /// The name that is this text, which is taken as it is.
     pub fn new(folded: Text) -> Name
         ensures { result ≡ folded }
     {

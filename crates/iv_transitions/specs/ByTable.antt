@@ -10,7 +10,7 @@ use Rattle.iv_machine.specs.Levels.{Firing, row_firing, statement_firing, firing
 use Rattle.iv_transitions.specs.declared.fire.Fires.{Fires}
 use Rattle.iv_transitions.specs.declared.fire.Fires.TheVariants as fires
 
--- a table's insertions, updates and deletions stand side by side
+-- a table's insertions, updates and deletions are side by side
 abbrev pub event_place : TriggerEvent → ℕ
 event_place event.Insert = 0
 event_place event.Update = 1

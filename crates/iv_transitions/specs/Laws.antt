@@ -7,7 +7,7 @@ use Rattle.iv_machine.specs.Context.{Context}
 use Rattle.iv_machine.specs.Levels.{firings}
 use Rattle.iv_transitions.specs.ByTable.{ByTableAndEvent, all_firings}
 
--- The firings on transitions that stand by table and event are the machine's on the net changes.
+-- The firings on transitions by table and event are the machine's on the net changes.
 abbrev pub FiringsAreTheMachines : Type 0
 FiringsAreTheMachines =
     (context : Context) (statement : DataStatement) (parts : List (List Change)) (net : Wave)

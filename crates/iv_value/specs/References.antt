@@ -1,4 +1,4 @@
--- This file defines the value that a borrowed value stands for, and what a copy of it answers.
+-- The value that a borrowed value is, and what a copy of it answers.
 use Rattle.std.specs.Prelude.{◌≡◌, Result, Ok, IfOk}
 use Rattle.std.specs.declared.alloc.AllocError.{AllocError}
 use Rattle.iv_value.specs.declared.value.Value.{Value}
@@ -12,7 +12,7 @@ value_of borrowed.Null = value.Null
 value_of (borrowed.Int z) = value.Int z
 value_of (borrowed.Text t) = value.Text t.now
 
--- A copy is the value; only that of a text can fail, for want of memory.
+-- A copy is the value; only that of a text can fail, where memory is refused.
 abbrev pub Copied : Value → Result Value AllocError → Type 0
 Copied (value.Text t) result = IfOk result (λ v. v ≡ value.Text t)
 Copied v result = result ≡ Ok v

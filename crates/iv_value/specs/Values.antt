@@ -15,7 +15,7 @@ abbrev pub is_null : Value → Bool
 is_null Null = true
 is_null _ = false
 
--- Two integers stand as their sizes, two texts as their lists of code points; nothing is said of a null or of two kinds
+-- Compares two integers by size, two texts by their code points; none for a null or for two kinds
 -- ("comparison predicate", without padding).
 abbrev pub order : Value → Value → Option Ordering
 order (Int a) (Int b) = Some (int_cmp a b)

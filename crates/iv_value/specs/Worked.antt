@@ -35,7 +35,7 @@ ArithmeticEdges =
     × (checked (pos 9223372036854775807 +ℤ pos 1) ≡ None)
     × (checked (negsuc 9223372036854775807 *ℤ negsuc 0) ≡ None)
 
--- U+FFFF stands below U+10000, though UTF-16 has it above; "b" stands above "aa", though it is shorter; nothing is said of
+-- U+FFFF is below U+10000, though UTF-16 has it above; "b" is above "aa", though it is shorter; there is no order of
 -- a null or of two kinds, and null is the same as null.
 abbrev pub OrderEdges : Type 0
 OrderEdges =

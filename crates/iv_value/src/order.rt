@@ -8,7 +8,7 @@ ghost use Rattle.iv_value.specs.Values.{order, is_null, is_same};
 use crate::value::{Value, ValueRef};
 use std::cmp::Ordering;
 
-/// How two values stand to each other; nothing where one is null or they are of two kinds
+/// Compares two values; `None` if either is null, or if they are of two kinds
 /// (ISO/IEC 9075-2:1999, "comparison predicate").
 pub fn compare(left: &Value, right: &Value) -> Option<Ordering>
     ensures { result ≡ order left.now right.now }

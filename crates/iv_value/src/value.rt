@@ -22,7 +22,7 @@ pub enum ValueRef<'a> {
     Text(&'a Text),
 }
 
-/// A truth value of the three-valued logic, in its order: `Unknown` stands between the others.
+/// A truth value of the three-valued logic, in its order: `Unknown` is between the others.
 #[derive(Clone, Copy, Debug, PartialEq, Eq)]
 pub enum Truth {
     False,

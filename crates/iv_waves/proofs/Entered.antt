@@ -66,7 +66,7 @@ too_far w db budget wave fits room e =
     ∙ ap (second_test w db wave) (not_below most_changes_in_a_transaction (db.count + size wave) room)
     ∙ ap (last_test w db wave) e
 
--- what is answered over rows is answered with the changes that stand
+-- what is answered over rows is answered with the count of row changes
 pub counted : {A : Type 0} (db : Database) (wave : Wave) (view : A → List Change) (r : Result A Refusal) (said : Result (List Change) Refusal)
     → AnswersRefusal view r said → AnswersAt (λ a. wave_of (view a)) db.count r (with_count db (and_then said (λ changes. Ok (record wave { changes = changes }))))
 counted db wave view (Ok a) said h = ap (λ s. with_count db (and_then s (λ changes. Ok (record wave { changes = changes })))) h

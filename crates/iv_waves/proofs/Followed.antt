@@ -24,13 +24,13 @@ use Rattle.iv_waves.specs.Steps.{followed_by}
 pub led : (tables : List Table) (db later : Database) (changes : List Change) → Applicable tables db changes → later ≡ database_after db (wave_of changes) → LedTo db changes later
 led tables db later changes h e = record { in_order = (parts_of 0 db.rows db.next h.numbered).order; rising = h.rising; current = h.current; leads = sym e }
 
--- ---- what is told of an answer
+-- ---- what is shown of an answer
 
 ok_told : (next : Wave) (said : Result Wave Failure) → ◌≡◌ {A = Result Wave Refusal} (Ok next) (told said) → said ≡ Ok next
 ok_told next (Ok wave) e = cc
 ok_told next (Err f) e = cc
 
--- a refusal that this comes to, with the changes that stand
+-- a refusal that this comes to, with the count of row changes
 err_told : (r : Refusal) (count : ℕ) (said : Result Wave Failure) → ((f : Failure) → said ≡ Err f → f.count ≡ count) → Err r ≡ told said
     → said ≡ Err (record { cause = r.cause; trigger = r.trigger; count = count })
 err_told r count (Ok wave) h e = cc
@@ -41,7 +41,7 @@ err_told r count (Err f) h e =
     err_same : (x y : Refusal) → ◌≡◌ {A = Result Wave Refusal} (Err x) (Err y) → x ≡ y
     err_same x y p = cc
 
--- ---- refusals for what follows are told with the later database
+-- ---- refusals for what follows name the later database
 
 err_count : (later : Database) (cause : Cause) (f : Failure) → fails {A = Wave} later cause ≡ Err f → f.count ≡ later.count
 err_count later cause f e = cc

@@ -6,7 +6,7 @@ use Rattle.iv_machine.specs.declared.database.Database.{Database}
 use Rattle.iv_machine.specs.Context.{Failure}
 use Rattle.iv_store.specs.Stores.{StoreState}
 
--- What is seen of the answer is the definition's; so is a refusal, with the row changes that stand in the store when it comes. Where
+-- What is seen of the answer is the definition's; so is a refusal, with the count of row changes in the store when it comes. Where
 -- memory was refused nothing is said.
 abbrev pub AnswersAt : {A B : Type 0} → (A → B) → ℕ → Result A Refusal → Result B Failure → Type 0
 AnswersAt view count (Ok a) said = said ≡ Ok (view a)

@@ -100,7 +100,7 @@ abbrev pub state_after : State → List Plan → State
 state_after s [] = s
 state_after s (p ∷ ps) = state_after (plan_outcome s p).state ps
 
--- the state after these plans, with so many changes standing in the transaction
+-- the state after these plans, with so many changes counted in the transaction
 abbrev pub standing : ℕ → List Plan → State
 standing count plans =
     let s : State = state_after (empty_state usual_limits) plans in

@@ -46,7 +46,7 @@ pub record WorkedLimits : Type 0 where
       ≡ idle ∷ idle ∷ work 1 1 ∷ idle ∷ []
   pub budget_of_four_for_four : answers_within 4 statements_of_no_row
       ≡ ok ∷ ok ∷ ok_rows 1 ∷ count_row 1 ∷ []
-  -- 1,048,576 changes may stand in a transaction, and COMMIT ends their count
+  -- a transaction may have 1,048,576 changes, and COMMIT ends their count
   pub last_change_of_a_transaction : answers_from (standing 1048575 small_numbers_in_transaction)
       (two_rows ∷ one_row ∷ one_row ∷ commit ∷ two_rows ∷ [])
       ≡ refused TransactionTooLarge ∷ ok_rows 1 ∷ refused TransactionTooLarge ∷ ok ∷ ok_rows 2 ∷ []

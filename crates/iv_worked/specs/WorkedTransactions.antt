@@ -56,7 +56,7 @@ pub record WorkedTransactions : Type 0 where
   pub rollback_to_gives_numbers_back : answers back_to_a_savepoint
       ≡ ok ∷ ok ∷ ok_rows 1 ∷ ok ∷ ok_rows 1 ∷ ok_rows 1 ∷ ok ∷ refused (Violation (fault 0 2))
       ∷ ok_rows 1 ∷ ok ∷ []
-  -- ROLLBACK TO undoes two changes; then one is refused, and two stand, which ROLLBACK undoes
+  -- ROLLBACK TO undoes two changes; then one is refused, and two are left, which ROLLBACK undoes
   pub rollback_to_gives_the_count_back : works back_to_a_savepoint
       ≡ idle ∷ idle ∷ work 1 0 ∷ idle ∷ work 1 0 ∷ work 1 0 ∷ work 0 2 ∷ work 1 1 ∷ work 1 0
       ∷ work 0 2 ∷ []
@@ -86,7 +86,7 @@ pub record WorkedTransactions : Type 0 where
       ∷ set_one 1 Immediate ∷ commit ∷ [])
       ≡ ok ∷ ok ∷ ok_rows 1 ∷ ok ∷ refused (Violation (fault 2 2)) ∷ refused (Violation (fault 1 1))
       ∷ refused (Violation (fault 1 1)) ∷ ok_rows 1 ∷ ok ∷ ok ∷ []
-  -- A refusal leaves all modes, and one that isn't deferrable is told before any violation.
+  -- A refusal leaves all modes, and one that isn't deferrable is answered before any violation.
   -- CREATE TABLE t (a INT CONSTRAINT pos CHECK (a > 0) INITIALLY DEFERRED, CONSTRAINT one UNIQUE
   -- (a)); INSERT INTO t VALUES (0); SET CONSTRAINTS pos, one IMMEDIATE; UPDATE t SET a = 0; UPDATE
   -- t SET a = 1; COMMIT;

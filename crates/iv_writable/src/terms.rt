@@ -28,7 +28,7 @@ fn has_written_parts(expression: &Expression) -> bool
     }
 }
 
-// The depth, as far as it is told apart from that of a deeper tree.
+// The depth, up to one more than the limit.
 #[tactic(auto, using(crate::proofs::Steps::depth_steps, crate::proofs::Steps::deeper))]
 fn depth(expression: &Expression) -> u32
     ensures { result ≡ min (depth expression.now) 4294967295 }

@@ -9,7 +9,7 @@ use Rattle.iv_waves.specs.Lookups.{LooksUp}
 use Rattle.iv_exec.specs.Steps.{standing}
 use Rattle.iv_exec.proofs.level.+level.Given as goal
 
--- A nested level is one less deep; the functions between two levels stand in the order of their calls.
+-- A nested level is one less deep; the functions between two levels are in the order of their calls.
 
 abbrev pub decreases-nested : goal.decreases-nested
 decreases-nested g l = 11 * l.deeper
