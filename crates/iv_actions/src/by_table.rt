@@ -28,13 +28,15 @@ impl<'a> Model for ByTable<'a> {
 
     ghost view = { λ x. x.all.items };
 
-    ghost invariant = { λ x. (table : ℕ) → at_places x.all.items (get_or x.places.items table []) ≡ on_table table x.all.items };
+    ghost invariant = { λ x. (table : ℕ)
+        → at_places x.all.items (get_or x.places.items table []) ≡ on_table table x.all.items };
 }
 
 // Adds empty lists until there is one of this table.
 fn widen(lists: &mut Vec<Items<usize>>, alloc: Global, table: usize) -> Result<(), AllocError>
     ensures wide { OnOk result (table < length lists.new.items) }
-    ensures same { OnOk result ((t : ℕ) → get_or lists.new.items t [] ≡ get_or lists.old.items t []) }
+    ensures same { OnOk result ((t : ℕ)
+        → get_or lists.new.items t [] ≡ get_or lists.old.items t []) }
 {
     while lists.len() <= table {
         lists.push(Items::new(alloc))?;
@@ -59,7 +61,8 @@ fn note_place(
     place: usize,
 ) -> Result<(), AllocError>
     ensures { OnOk result ((t : ℕ) → get_or lists.new.items t [] ≡
-        (if table == t then get_or lists.old.items t [] ++ place ∷ [] else get_or lists.old.items t [])) }
+        (if table == t then get_or lists.old.items t []
+        ++ place ∷ [] else get_or lists.old.items t [])) }
 {
     let table = table.place() as usize;
     widen(lists, alloc, table)?;

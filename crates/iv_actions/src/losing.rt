@@ -45,7 +45,8 @@ impl<'a> Model for Losing<'a> {
       changes = x.changes.now;
     } };
 
-    ghost invariant = { λ x. (key : List Cell) → get key_cmp x.firsts key ≡ first_taking x.key.now key 0 x.changes.now };
+    ghost invariant = { λ x. (key : List Cell)
+        → get key_cmp x.firsts key ≡ first_taking x.key.now key 0 x.changes.now };
 }
 
 // Whether a row is deleted or has another referenced key now.
@@ -158,8 +159,11 @@ fn note<'a>(
     place: usize,
 ) -> Result<(), AllocError>
     requires within { place < length changes.now }
-    requires noted { (k : List Cell) → get key_cmp firsts.old k ≡ first_taking key.now k (place + 1) (drop (place + 1) changes.now) }
-    ensures { OnOk result ((k : List Cell) → get key_cmp firsts.new k ≡ first_taking key.now k place (drop place changes.now)) }
+    requires noted { (k : List Cell)
+        → get key_cmp firsts.old k
+        ≡ first_taking key.now k (place + 1) (drop (place + 1) changes.now) }
+    ensures { OnOk result ((k : List Cell)
+        → get key_cmp firsts.new k ≡ first_taking key.now k place (drop place changes.now)) }
 {
     if let Some(taken) = key_taken(key, &changes[place]) {
         firsts.insert(taken, place)?;
@@ -173,7 +177,8 @@ fn firsts<'a>(
     key: &'a ForeignKey,
     changes: &'a [Change],
 ) -> Result<BTreeMap<OrderedKey<'a>, usize>, AllocError>
-    ensures { IfOk result (λ m. (k : List Cell) → get key_cmp m k ≡ first_taking key.entry.now k 0 changes.entry.now) }
+    ensures { IfOk result (λ m. (k : List Cell)
+        → get key_cmp m k ≡ first_taking key.entry.now k 0 changes.entry.now) }
 {
     let mut firsts = BTreeMap::new(alloc);
     let mut left = changes.len();

@@ -83,9 +83,21 @@ impl Model for Catalogue {
 
     ghost coded = { Prim.hlevel (codes, cond.the_row.coded, expr.the_row.coded) };
 
-    ghost view = { λ c. record { tables = c.tables; constraints = c.constraints; triggers = c.triggers; created = c.created } };
+    ghost view = { λ c. record {
+      tables = c.tables;
+      constraints = c.constraints;
+      triggers = c.triggers;
+      created = c.created;
+    } };
 
-    ghost invariant = { λ c. IsWithinLimits (record { tables = c.tables; constraints = c.constraints; triggers = c.triggers; created = c.created }) × ArePlaces c.tables c.constraints c.constraint_places.items };
+    ghost invariant = { λ c.
+        IsWithinLimits (record {
+          tables = c.tables;
+          constraints = c.constraints;
+          triggers = c.triggers;
+          created = c.created;
+        })
+        × ArePlaces c.tables c.constraints c.constraint_places.items };
 }
 
 // The places of a table's constraints among these, of which the first has this place.

@@ -86,6 +86,7 @@ pub fn are_transitions(
     changes: &[Change],
 )
     requires parts { AreParts context.now.schema.tables transitions.now }
-    requires changes { changes.now ≡ transitions_on transitions.now trigger.now.table trigger.now.event }
+    requires changes { changes.now
+        ≡ transitions_on transitions.now trigger.now.table trigger.now.event }
     ensures { AreTransitions context.now.schema.tables trigger.now changes.now }
 {}

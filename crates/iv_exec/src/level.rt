@@ -40,8 +40,11 @@ fn run_statement<K: Keeper>(
 ) -> Result<(), Refusal>
     requires store { StoreFits context.now.schema (K.view store.old) }
     requires statement { ActionFits context.now.schema.tables frame.now statement.now }
-    ensures answer { AnswersAt (λ _. standing (K.view store.new).base budget.new) (K.view store.new).base.count result
-        (statement_run (nested_level deeper context.now) (record { trigger = trigger.now; frame = frame.now }) place statement.now (standing (K.view store.old).base budget.old)) }
+    ensures answer { AnswersAt (λ _. standing (K.view store.new).base budget.new)
+        (K.view store.new).base.count result
+        (statement_run (nested_level deeper context.now)
+        (record { trigger = trigger.now; frame = frame.now }) place statement.now
+        (standing (K.view store.old).base budget.old)) }
     ensures kept { K.view store.new ≡ with_database (K.view store.old) (K.view store.new).base }
     ensures looked { UnlessMemory result (LooksUp
         (K.view store.old) (K.lookups store.old) (K.view store.new) (K.lookups store.new)) }
@@ -72,8 +75,11 @@ fn nested<K: Keeper>(
 ) -> Result<u64, Refusal>
     requires store { StoreFits context.now.schema (K.view store.old) }
     requires statement { StatementFits context.now.schema.tables frame.now statement.now }
-    ensures answer { AnswersAt (λ size. record { database = (K.view store.new).base; rest = budget.new; size = size }) (K.view store.new).base.count result
-        (nested_level deeper context.now trigger statement.now frame.now (K.view store.old).base budget.old) }
+    ensures answer { AnswersAt
+        (λ size. record { database = (K.view store.new).base; rest = budget.new; size = size })
+        (K.view store.new).base.count result
+        (nested_level deeper context.now trigger statement.now frame.now
+        (K.view store.old).base budget.old) }
     ensures kept { K.view store.new ≡ with_database (K.view store.old) (K.view store.new).base }
     ensures looked { UnlessMemory result (LooksUp
         (K.view store.old) (K.lookups store.old) (K.view store.new) (K.lookups store.new)) }
@@ -101,8 +107,11 @@ fn run_body<K: Keeper>(
     requires store { StoreFits context.now.schema (K.view store.old) }
     requires fires { CanFire context.now.schema.tables trigger.now }
     requires body { BodyFits context.now.schema.tables frame.now trigger.now.body }
-    ensures answer { AnswersAt (λ _. standing (K.view store.new).base budget.new) (K.view store.new).base.count result
-        (body_run (nested_level deeper context.now) (record { trigger = trigger.now; frame = frame.now }) (placed_statements trigger.now) (standing (K.view store.old).base budget.old)) }
+    ensures answer { AnswersAt (λ _. standing (K.view store.new).base budget.new)
+        (K.view store.new).base.count result
+        (body_run (nested_level deeper context.now)
+        (record { trigger = trigger.now; frame = frame.now }) (placed_statements trigger.now)
+        (standing (K.view store.old).base budget.old)) }
     ensures kept { K.view store.new ≡ with_database (K.view store.old) (K.view store.new).base }
     ensures looked { UnlessMemory result (LooksUp
         (K.view store.old) (K.lookups store.old) (K.view store.new) (K.lookups store.new)) }
@@ -139,8 +148,11 @@ fn run_where_true<K: Keeper>(
     requires store { StoreFits context.now.schema (K.view store.old) }
     requires fires { CanFire context.now.schema.tables trigger.now }
     requires body { BodyFits context.now.schema.tables frame.now trigger.now.body }
-    ensures answer { AnswersAt (λ _. standing (K.view store.new).base budget.new) (K.view store.new).base.count result
-        (body_run_where_true (nested_level deeper context.now) (record { trigger = trigger.now; frame = frame.now }) (standing (K.view store.old).base budget.old)) }
+    ensures answer { AnswersAt (λ _. standing (K.view store.new).base budget.new)
+        (K.view store.new).base.count result
+        (body_run_where_true (nested_level deeper context.now)
+        (record { trigger = trigger.now; frame = frame.now })
+        (standing (K.view store.old).base budget.old)) }
     ensures kept { K.view store.new ≡ with_database (K.view store.old) (K.view store.new).base }
     ensures looked { UnlessMemory result (LooksUp
         (K.view store.old) (K.lookups store.old) (K.view store.new) (K.lookups store.new)) }
@@ -179,8 +191,11 @@ fn fire<K: Keeper>(
     requires store { StoreFits context.now.schema (K.view store.old) }
     requires fires { CanFire context.now.schema.tables trigger.now }
     requires body { BodyFits context.now.schema.tables frame.now trigger.now.body }
-    ensures answer { AnswersAt (λ _. standing (K.view store.new).base budget.new) (K.view store.new).base.count result
-        (firing_run (nested_level deeper context.now) (record { trigger = trigger.now; frame = frame.now }) (standing (K.view store.old).base budget.old)) }
+    ensures answer { AnswersAt (λ _. standing (K.view store.new).base budget.new)
+        (K.view store.new).base.count result
+        (firing_run (nested_level deeper context.now)
+        (record { trigger = trigger.now; frame = frame.now })
+        (standing (K.view store.old).base budget.old)) }
     ensures kept { K.view store.new ≡ with_database (K.view store.old) (K.view store.new).base }
     ensures looked { UnlessMemory result (LooksUp
         (K.view store.old) (K.lookups store.old) (K.view store.new) (K.lookups store.new)) }
@@ -208,8 +223,11 @@ fn fire_rows<K: Keeper>(
     requires store { StoreFits context.now.schema (K.view store.old) }
     requires fires { CanFire context.now.schema.tables trigger.now }
     requires transitions { AreTransitions context.now.schema.tables trigger.now transitions.now }
-    ensures answer { AnswersAt (λ _. standing (K.view store.new).base budget.new) (K.view store.new).base.count result
-        (firings_run (nested_level deeper context.now) (map (row_firing trigger.now transitions.now) transitions.now) (standing (K.view store.old).base budget.old)) }
+    ensures answer { AnswersAt (λ _. standing (K.view store.new).base budget.new)
+        (K.view store.new).base.count result
+        (firings_run (nested_level deeper context.now)
+        (map (row_firing trigger.now transitions.now) transitions.now)
+        (standing (K.view store.old).base budget.old)) }
     ensures kept { K.view store.new ≡ with_database (K.view store.old) (K.view store.new).base }
     ensures looked { UnlessMemory result (LooksUp
         (K.view store.old) (K.lookups store.old) (K.view store.new) (K.lookups store.new)) }
@@ -240,8 +258,10 @@ fn fire_once<K: Keeper>(
     requires fires { CanFire context.now.schema.tables trigger.now }
     requires once { for_each_row trigger.now ≡ false }
     requires transitions { AreTransitions context.now.schema.tables trigger.now transitions.now }
-    ensures answer { AnswersAt (λ _. standing (K.view store.new).base budget.new) (K.view store.new).base.count result
-        (firing_run (nested_level deeper context.now) (statement_firing trigger.now transitions.now) (standing (K.view store.old).base budget.old)) }
+    ensures answer { AnswersAt (λ _. standing (K.view store.new).base budget.new)
+        (K.view store.new).base.count result
+        (firing_run (nested_level deeper context.now) (statement_firing trigger.now transitions.now)
+        (standing (K.view store.old).base budget.old)) }
     ensures kept { K.view store.new ≡ with_database (K.view store.old) (K.view store.new).base }
     ensures looked { UnlessMemory result (LooksUp
         (K.view store.old) (K.lookups store.old) (K.view store.new) (K.lookups store.new)) }
@@ -268,8 +288,11 @@ fn fire_trigger<K: Keeper>(
     requires store { StoreFits context.now.schema (K.view store.old) }
     requires fires { CanFire context.now.schema.tables trigger.now }
     requires parts { AreParts context.now.schema.tables transitions.now }
-    ensures answer { AnswersAt (λ _. standing (K.view store.new).base budget.new) (K.view store.new).base.count result
-        (firings_run (nested_level deeper context.now) (after_firings statement.now transitions.now trigger.now) (standing (K.view store.old).base budget.old)) }
+    ensures answer { AnswersAt (λ _. standing (K.view store.new).base budget.new)
+        (K.view store.new).base.count result
+        (firings_run (nested_level deeper context.now)
+        (after_firings statement.now transitions.now trigger.now)
+        (standing (K.view store.old).base budget.old)) }
     ensures kept { K.view store.new ≡ with_database (K.view store.old) (K.view store.new).base }
     ensures looked { UnlessMemory result (LooksUp
         (K.view store.old) (K.lookups store.old) (K.view store.new) (K.lookups store.new)) }
@@ -309,8 +332,11 @@ fn fire_all<K: Keeper>(
     requires short { BodiesWithinLimit triggers.now }
     requires suit { list_all (trigger_suits context.now.schema.tables) triggers.now ≡ true }
     requires parts { AreParts context.now.schema.tables transitions.now }
-    ensures answer { AnswersAt (λ _. standing (K.view store.new).base budget.new) (K.view store.new).base.count result
-        (firings_run (nested_level deeper context.now) (all_firings statement.now transitions.now triggers.now) (standing (K.view store.old).base budget.old)) }
+    ensures answer { AnswersAt (λ _. standing (K.view store.new).base budget.new)
+        (K.view store.new).base.count result
+        (firings_run (nested_level deeper context.now)
+        (all_firings statement.now transitions.now triggers.now)
+        (standing (K.view store.old).base budget.old)) }
     ensures kept { K.view store.new ≡ with_database (K.view store.old) (K.view store.new).base }
     ensures looked { UnlessMemory result (LooksUp
         (K.view store.old) (K.lookups store.old) (K.view store.new) (K.lookups store.new)) }
@@ -347,8 +373,11 @@ fn finish<K: Keeper>(
 ) -> Result<(), Refusal>
     requires store { StoreFits context.now.schema (K.view store.old) }
     requires parts { AreParts context.now.schema.tables transitions.now }
-    ensures answer { (net : Changes) → ByTableAndEvent transitions.now net.changes → AnswersAt (λ _. standing (K.view store.new).base budget.new) (K.view store.new).base.count result
-        (finished (nested_level deeper context.now) context.now statement.now net (standing (K.view store.old).base budget.old)) }
+    ensures answer { (net : Changes) → ByTableAndEvent transitions.now net.changes
+        → AnswersAt (λ _. standing (K.view store.new).base budget.new)
+        (K.view store.new).base.count result
+        (finished (nested_level deeper context.now) context.now statement.now net
+        (standing (K.view store.old).base budget.old)) }
     ensures kept { K.view store.new ≡ with_database (K.view store.old) (K.view store.new).base }
     ensures looked { UnlessMemory result (LooksUp
         (K.view store.old) (K.lookups store.old) (K.view store.new) (K.lookups store.new)) }
@@ -384,8 +413,11 @@ fn run_waves<K: Keeper>(
     requires store { StoreFits context.now.schema (K.view store.old) }
     requires fit { changes_fit context.now.schema.tables changes.items ≡ true }
     requires proposed { Proposes context.now (K.view store.old).base changes.items }
-    ensures answer { AnswersAt (λ size. record { database = (K.view store.new).base; rest = budget.new; size = size }) (K.view store.new).base.count result
-        (waves_and_after (nested_level deeper context.now) context.now statement.now (K.view store.old).base budget.old (wave_of changes.items)) }
+    ensures answer { AnswersAt
+        (λ size. record { database = (K.view store.new).base; rest = budget.new; size = size })
+        (K.view store.new).base.count result
+        (waves_and_after (nested_level deeper context.now) context.now statement.now
+        (K.view store.old).base budget.old (wave_of changes.items)) }
     ensures kept { K.view store.new ≡ with_database (K.view store.old) (K.view store.new).base }
     ensures looked { UnlessMemory result (LooksUp
         (K.view store.old) (K.lookups store.old) (K.view store.new) (K.lookups store.new)) }
@@ -415,7 +447,9 @@ fn run_level<K: Keeper>(
 ) -> Result<u64, Refusal>
     requires store { StoreFits context.now.schema (K.view store.old) }
     requires statement { StatementFits context.now.schema.tables frame.now statement.now }
-    ensures answer { AnswersAt (λ size. record { database = (K.view store.new).base; rest = budget.new; size = size }) (K.view store.new).base.count result
+    ensures answer { AnswersAt
+        (λ size. record { database = (K.view store.new).base; rest = budget.new; size = size })
+        (K.view store.new).base.count result
         (level deeper context.now statement.now frame.now (K.view store.old).base budget.old) }
     ensures kept { K.view store.new ≡ with_database (K.view store.old) (K.view store.new).base }
     ensures looked { UnlessMemory result (LooksUp
@@ -447,9 +481,12 @@ pub fn change<K: Keeper>(
     limits: Limits,
 ) -> Result<u64, Refusal>
     requires store { StoreFits catalogue.now (K.view store.old) }
-    requires statement { data_suits catalogue.now.tables (plain_shape catalogue.now.tables) statement.now ≡ true }
-    ensures answer { AnswersAt (λ size. ((K.view store.new).base, size)) (K.view store.new).base.count result
-        (told (level (limits.depth - 1) (record { schema = catalogue.now; modes = modes.now.modes }) statement.now no_frame
+    requires statement { data_suits catalogue.now.tables
+        (plain_shape catalogue.now.tables) statement.now ≡ true }
+    ensures answer { AnswersAt (λ size. ((K.view store.new).base, size))
+        (K.view store.new).base.count result
+        (told (level (limits.depth - 1)
+        (record { schema = catalogue.now; modes = modes.now.modes }) statement.now no_frame
         (K.view store.old).base limits.changes)) }
     ensures kept { K.view store.new ≡ with_database (K.view store.old) (K.view store.new).base }
     ensures looked { UnlessMemory result (LooksUp

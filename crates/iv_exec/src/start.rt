@@ -56,10 +56,13 @@ pub fn allowed<'x, K: Keeper>(
 ) -> Result<Vec<Change>, Refusal>
     requires store { StoreFits context.now.schema (K.view store.now) }
     requires statement { StatementFits context.now.schema.tables frame.now statement.now }
-    ensures answer { AnswersAt (λ changes. wave_of changes.items) (K.view store.now).base.count result
+    ensures answer { AnswersAt (λ changes. wave_of changes.items)
+        (K.view store.now).base.count result
         (allowed_wave context.now statement.now frame.now (K.view store.now).base) }
-    ensures fit { IfOk result (λ changes. changes_fit context.now.schema.tables changes.items ≡ true) }
-    ensures proposed { IfOk result (λ changes. Proposes context.now (K.view store.now).base changes.items) }
+    ensures fit { IfOk result (λ changes. changes_fit context.now.schema.tables changes.items
+        ≡ true) }
+    ensures proposed { IfOk result
+        (λ changes. Proposes context.now (K.view store.now).base changes.items) }
 {
     match proposed(store, context, frame, statement) {
         Ok(changes) => match before_statement(

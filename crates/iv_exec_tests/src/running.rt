@@ -24,7 +24,8 @@ fn run_change(
     text: &mut String,
 ) -> Result<bool, AllocError>
     requires ready { Ready catalogue.now store.old }
-    requires suits { data_suits catalogue.now.tables (plain_shape catalogue.now.tables) statement.now ≡ true }
+    requires suits { data_suits catalogue.now.tables
+        (plain_shape catalogue.now.tables) statement.now ≡ true }
     ensures { IfOk result (λ go. IsTrue go → Ready catalogue.now store.new) }
 {
     let modes = Modes::initial(store.allocator(), catalogue)?;
@@ -61,7 +62,8 @@ fn change_whole(
     text: &mut String,
 ) -> Result<bool, AllocError>
     requires ready { Ready catalogue.now store.old }
-    requires suits { data_suits catalogue.now.tables (plain_shape catalogue.now.tables) statement ≡ true }
+    requires suits { data_suits catalogue.now.tables (plain_shape catalogue.now.tables) statement
+        ≡ true }
     ensures { IfOk result (λ go. IsTrue go → Ready catalogue.now store.new) }
 {
     let go = run_change(store, catalogue, &statement, text);

@@ -24,7 +24,8 @@ pub fn operate<'a>(
     left: Result<ValueRef<'a>, ExprFault>,
     right: Result<ValueRef<'a>, ExprFault>,
 ) -> Result<ValueRef<'a>, ExprFault>
-    ensures { result_of result ≡ both (arithmetic (operation operator)) (result_of left.entry) (result_of right.entry) }
+    ensures { result_of result
+        ≡ both (arithmetic (operation operator)) (result_of left.entry) (result_of right.entry) }
 {
     match (left, right) {
         (Ok(left), Ok(right)) => calculate(operator, left, right),
@@ -38,7 +39,8 @@ fn calculate<'a>(
     left: ValueRef<'a>,
     right: ValueRef<'a>,
 ) -> Result<ValueRef<'a>, ExprFault>
-    ensures { result_of result ≡ arithmetic (operation operator) (value_of left.entry) (value_of right.entry) }
+    ensures { result_of result
+        ≡ arithmetic (operation operator) (value_of left.entry) (value_of right.entry) }
 {
     match (left, right) {
         (ValueRef::Int(left), ValueRef::Int(right)) => match apply(operator, left, right) {
@@ -68,7 +70,8 @@ pub fn compare_both(
     left: Result<ValueRef<'_>, ExprFault>,
     right: Result<ValueRef<'_>, ExprFault>,
 ) -> Result<Truth, ExprFault>
-    ensures { result ≡ both (comparison_of comparison) (result_of left.entry) (result_of right.entry) }
+    ensures { result ≡ both (comparison_of comparison) (result_of left.entry)
+        (result_of right.entry) }
 {
     match (left, right) {
         (Ok(left), Ok(right)) => compare_by(comparison, left, right),

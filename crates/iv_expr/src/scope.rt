@@ -20,7 +20,8 @@ pub trait Rows {
 
     /// The next row of a table above a number, with its number; nothing where there is no such table.
     fn scan(&self, table: TableId, after: u64) -> Option<(u64, &[Value])>
-        ensures { option_map (λ r. (r.0, r.1.now)) result ≡ option_map numbered (row_above after (table_rows (rows self.now) table)) };
+        ensures { option_map (λ r. (r.0, r.1.now)) result
+            ≡ option_map numbered (row_above after (table_rows (rows self.now) table)) };
 }
 
 /// What the body of a trigger sees: the row variables, and the changes of its transition tables.
@@ -37,7 +38,11 @@ impl<'a> Model for Frame<'a> {
 
     ghost Value = { Seen };
 
-    ghost view = { λ f. record { old = option_copied f.old; new = option_copied f.new; transition = f.transition.now } };
+    ghost view = { λ f. record {
+      old = option_copied f.old;
+      new = option_copied f.new;
+      transition = f.transition.now;
+    } };
 }
 
 impl<'a> Frame<'a> {
@@ -54,7 +59,11 @@ impl<'a> Frame<'a> {
 
     /// What is seen of one change of a transition.
     pub fn at(transition: &'a [Change], change: &'a Change) -> Frame<'a>
-        ensures { result ≡ record { old = change.entry.now.old; new = change.entry.now.new; transition = transition.entry.now } }
+        ensures { result ≡ record {
+          old = change.entry.now.old;
+          new = change.entry.now.new;
+          transition = transition.entry.now;
+        } }
     {
         let old = match &change.old {
             Some(row) => Some(row.values()),
@@ -133,7 +142,11 @@ impl<'a, R: Rows> Model for Scope<'a, R> {
 
     ghost Value = { Meaning };
 
-    ghost view = { λ s. record { ranges = outer (option_copied s.ranges); frame = s.frame.now; rows = R.rows s.rows.now } };
+    ghost view = { λ s. record {
+      ranges = outer (option_copied s.ranges);
+      frame = s.frame.now;
+      rows = R.rows s.rows.now;
+    } };
 }
 
 impl<'a, R: Rows> Scope<'a, R> {
@@ -157,7 +170,8 @@ impl<'a, R: Rows> Scope<'a, R> {
 
     /// The next row of a table above a number, with its number.
     pub fn scan(&self, table: TableId, after: u64) -> Option<(u64, &[Value])>
-        ensures { option_map (λ r. (r.0, r.1.now)) result ≡ option_map numbered (row_above after (table_rows self.now.rows table)) }
+        ensures { option_map (λ r. (r.0, r.1.now)) result
+            ≡ option_map numbered (row_above after (table_rows self.now.rows table)) }
     {
         self.rows.scan(table, after)
     }
@@ -200,7 +214,11 @@ impl<'a, R: Rows> Scope<'a, R> {
 
     /// The same scope over other ranges.
     pub fn over<'b>(&'b self, ranges: &'b Ranges<'b>) -> Scope<'b, R>
-        ensures { result ≡ record { ranges = ranges.entry.now; frame = self.entry.now.frame; rows = self.entry.now.rows } }
+        ensures { result ≡ record {
+          ranges = ranges.entry.now;
+          frame = self.entry.now.frame;
+          rows = self.entry.now.rows;
+        } }
     {
         Scope {
             rows: self.rows,

@@ -239,7 +239,11 @@ struct TwoRows<'a> {
 }
 
 impl<'a> Rows for TwoRows<'a> {
-    ghost rows = { λ s. record { table = 0; number = 1; values = s.first.now } ∷ record { table = 0; number = 3; values = s.second.now } ∷ [] };
+    ghost rows = { λ s. record { table = 0; number = 1; values = s.first.now } ∷ record {
+      table = 0;
+      number = 3;
+      values = s.second.now;
+    } ∷ [] };
 
     fn known(&self) {}
 

@@ -124,7 +124,9 @@ fn short_word(word: &[u8]) -> Option<Kind>
 
 // How many bytes at the front are a character of a text, at least, and the bytes after them.
 fn text_step(bytes: &[u8]) -> Option<(usize, &[u8])>
-    ensures step { MatchOption result (closing bytes.now ≡ text_end bytes.now) (λ p. closing bytes.now ≡ option_map (λ n. p.0 + n) (closing p.1.now)) }
+    ensures step { MatchOption result (closing bytes.now
+        ≡ text_end bytes.now) (λ p. closing bytes.now
+        ≡ option_map (λ n. p.0 + n) (closing p.1.now)) }
     ensures size { IfSome result (λ p. p.0 + length p.1.now ≡ length bytes.now) }
     ensures more { IfSome result (λ p. 0 < p.0) }
 {

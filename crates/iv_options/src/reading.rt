@@ -15,13 +15,16 @@ use std::convert::AsStr;
 use std::num::ParseIntError;
 
 fn depth_of(matches: &ArgMatches<'_>) -> Result<u8, ParseIntError>
-    ensures { IfOk result (λ n. n ≡ number_or USUAL_DEPTH (one_of (codes "depth") (rows_of (found_of matches.now)))) }
+    ensures { IfOk result (λ n. n
+        ≡ number_or USUAL_DEPTH (one_of (codes "depth") (rows_of (found_of matches.now)))) }
 {
     Ok(matches.try_get_one::<u8>("depth")?.unwrap_or(USUAL_DEPTH))
 }
 
 fn changes_of(matches: &ArgMatches<'_>) -> Result<u32, ParseIntError>
-    ensures { IfOk result (λ n. n ≡ number_or MOST_CHANGES_IN_A_STATEMENT (one_of (codes "changes") (rows_of (found_of matches.now)))) }
+    ensures { IfOk result (λ n. n
+        ≡ number_or MOST_CHANGES_IN_A_STATEMENT
+        (one_of (codes "changes") (rows_of (found_of matches.now)))) }
 {
     Ok(
         matches
@@ -41,8 +44,10 @@ fn limits_of(matches: &ArgMatches<'_>) -> Option<Limits>
 /// Reads the words of a command line, of which the first is the program's name. `--help` is an error whose text is the
 /// help.
 pub fn options<'a, S: AsStr>(alloc: Global, words: &'a [S]) -> Result<Options<'a>, Error>
-    ensures limits { IfOk result (λ o. o.limits ≡ limits_of (matches_of command_line (map S.text words.entry.now))) }
-    ensures file { IfOk result (λ o. option_map (λ s. s.now) o.file ≡ file_of (matches_of command_line (map S.text words.entry.now))) }
+    ensures limits { IfOk result (λ o. o.limits
+        ≡ limits_of (matches_of command_line (map S.text words.entry.now))) }
+    ensures file { IfOk result (λ o. option_map (λ s. s.now) o.file
+        ≡ file_of (matches_of command_line (map S.text words.entry.now))) }
 {
     let mut command = command(alloc)?;
     let matches = command.try_get_matches_from_mut(words)?;

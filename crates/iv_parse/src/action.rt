@@ -19,7 +19,8 @@ fn set_variable<'a>(
     text: &str,
     tokens: &'a [Token],
 ) -> Result<Option<(TriggerAction, &'a [Token])>, AllocError>
-    ensures { IfOk result (λ r. with_words text.now r ≡ read_set_variable (words text.now tokens.now)) }
+    ensures { IfOk result (λ r. with_words text.now r
+        ≡ read_set_variable (words text.now tokens.now)) }
 {
     let Some((variable, rest)) = name(alloc, text, tokens)? else {
         return Ok(None);
@@ -59,7 +60,8 @@ fn other_action<'a>(
     text: &str,
     tokens: &'a [Token],
 ) -> Result<Option<(TriggerAction, &'a [Token])>, AllocError>
-    ensures { IfOk result (λ r. with_words text.now r ≡ read_other_action (words text.now tokens.now)) }
+    ensures { IfOk result (λ r. with_words text.now r
+        ≡ read_other_action (words text.now tokens.now)) }
 {
     if let Some(rest) = after(Kind::Signal, tokens) {
         return signal(alloc, text, rest);
@@ -76,7 +78,8 @@ fn delete_action<'a>(
     text: &str,
     tokens: &'a [Token],
 ) -> Result<Option<(TriggerAction, &'a [Token])>, AllocError>
-    ensures { IfOk result (λ r. with_words text.now r ≡ read_delete_action (words text.now tokens.now)) }
+    ensures { IfOk result (λ r. with_words text.now r
+        ≡ read_delete_action (words text.now tokens.now)) }
 {
     let Some(rest) = after(Kind::Delete, tokens) else {
         return other_action(alloc, text, tokens);
@@ -93,7 +96,8 @@ fn update_action<'a>(
     text: &str,
     tokens: &'a [Token],
 ) -> Result<Option<(TriggerAction, &'a [Token])>, AllocError>
-    ensures { IfOk result (λ r. with_words text.now r ≡ read_update_action (words text.now tokens.now)) }
+    ensures { IfOk result (λ r. with_words text.now r
+        ≡ read_update_action (words text.now tokens.now)) }
 {
     let Some(rest) = after(Kind::Update, tokens) else {
         return delete_action(alloc, text, tokens);
@@ -127,7 +131,9 @@ fn actions<'a>(
     text: &str,
     tokens: &'a [Token],
 ) -> Result<Option<(Items<TriggerAction>, &'a [Token])>, AllocError>
-    ensures { IfOk result (λ r. with_words text.now r ≡ read_sequence read_ended_action (length (words text.now tokens.now)) (words text.now tokens.now)) }
+    ensures { IfOk result (λ r. with_words text.now r
+        ≡ read_sequence read_ended_action (length (words text.now tokens.now))
+        (words text.now tokens.now)) }
 {
     let mut items = Items::new(alloc);
     let mut rest = tokens;
@@ -153,7 +159,8 @@ fn some_actions<'a>(
     actions: Items<TriggerAction>,
     tokens: &'a [Token],
 ) -> Option<(Items<TriggerAction>, &'a [Token])>
-    ensures { (text : List ℕ) → with_words text result ≡ some_actions actions (words text tokens.now) }
+    ensures { (text : List ℕ)
+        → with_words text result ≡ some_actions actions (words text tokens.now) }
 {
     if actions.is_empty() {
         return None;

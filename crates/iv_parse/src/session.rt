@@ -20,7 +20,8 @@ fn start(tokens: &[Token]) -> Option<(Statement, &[Token])>
 
 #[tactic(auto, unfolding(crate::specs::Readers::read_commit))]
 fn commit(tokens: &[Token]) -> (Statement, &[Token])
-    ensures { (text : List ℕ) → with_words text (Some result) ≡ read_commit (words text tokens.now) }
+    ensures { (text : List ℕ)
+        → with_words text (Some result) ≡ read_commit (words text tokens.now) }
 {
     (Statement::Commit, skip(Kind::Work, tokens))
 }
@@ -64,7 +65,8 @@ fn savepoint<'a>(
     text: &str,
     tokens: &'a [Token],
 ) -> Result<Option<(Statement, &'a [Token])>, AllocError>
-    ensures { IfOk result (λ r. with_words text.now r ≡ read_savepoint (words text.now tokens.now)) }
+    ensures { IfOk result (λ r. with_words text.now r
+        ≡ read_savepoint (words text.now tokens.now)) }
 {
     match name(alloc, text, tokens)? {
         Some((name, rest)) => Ok(Some((Statement::Savepoint(name), rest))),
@@ -135,7 +137,8 @@ fn savepoint_statement<'a>(
     text: &str,
     tokens: &'a [Token],
 ) -> Result<Option<(Statement, &'a [Token])>, AllocError>
-    ensures { IfOk result (λ r. with_words text.now r ≡ read_savepoint_rule (words text.now tokens.now)) }
+    ensures { IfOk result (λ r. with_words text.now r
+        ≡ read_savepoint_rule (words text.now tokens.now)) }
 {
     if let Some(rest) = after(Kind::Savepoint, tokens) {
         return savepoint(alloc, text, rest);
@@ -156,7 +159,8 @@ pub fn session_statement<'a>(
     text: &str,
     tokens: &'a [Token],
 ) -> Result<Option<(Statement, &'a [Token])>, AllocError>
-    ensures { IfOk result (λ r. with_words text.now r ≡ read_session_rule (words text.now tokens.now)) }
+    ensures { IfOk result (λ r. with_words text.now r
+        ≡ read_session_rule (words text.now tokens.now)) }
 {
     if let Some(rest) = after(Kind::Commit, tokens) {
         return Ok(Some(commit(rest)));

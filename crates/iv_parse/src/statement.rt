@@ -35,7 +35,8 @@ fn insert_statement<'a>(
     text: &str,
     tokens: &'a [Token],
 ) -> Result<Option<(Statement, &'a [Token])>, AllocError>
-    ensures { IfOk result (λ r. with_words text.now r ≡ read_insert_rule (words text.now tokens.now)) }
+    ensures { IfOk result (λ r. with_words text.now r
+        ≡ read_insert_rule (words text.now tokens.now)) }
 {
     match insert(alloc, text, tokens)? {
         Some((insert, rest)) => Ok(Some((Statement::Insert(insert), rest))),
@@ -49,7 +50,8 @@ fn update_statement<'a>(
     text: &str,
     tokens: &'a [Token],
 ) -> Result<Option<(Statement, &'a [Token])>, AllocError>
-    ensures { IfOk result (λ r. with_words text.now r ≡ read_update_rule (words text.now tokens.now)) }
+    ensures { IfOk result (λ r. with_words text.now r
+        ≡ read_update_rule (words text.now tokens.now)) }
 {
     match update(alloc, text, tokens)? {
         Some((update, rest)) => Ok(Some((Statement::Update(update), rest))),
@@ -63,7 +65,8 @@ fn delete_statement<'a>(
     text: &str,
     tokens: &'a [Token],
 ) -> Result<Option<(Statement, &'a [Token])>, AllocError>
-    ensures { IfOk result (λ r. with_words text.now r ≡ read_delete_rule (words text.now tokens.now)) }
+    ensures { IfOk result (λ r. with_words text.now r
+        ≡ read_delete_rule (words text.now tokens.now)) }
 {
     match delete(alloc, text, tokens)? {
         Some((delete, rest)) => Ok(Some((Statement::Delete(delete), rest))),
@@ -77,7 +80,8 @@ fn select_statement<'a>(
     text: &str,
     tokens: &'a [Token],
 ) -> Result<Option<(Statement, &'a [Token])>, AllocError>
-    ensures { IfOk result (λ r. with_words text.now r ≡ read_select_rule (words text.now tokens.now)) }
+    ensures { IfOk result (λ r. with_words text.now r
+        ≡ read_select_rule (words text.now tokens.now)) }
 {
     match select(alloc, text, tokens)? {
         Some((select, rest)) => Ok(Some((Statement::Select(select), rest))),
@@ -111,7 +115,8 @@ fn definition<'a>(
     text: &str,
     tokens: &'a [Token],
 ) -> Result<Option<(Statement, &'a [Token])>, AllocError>
-    ensures { IfOk result (λ r. with_words text.now r ≡ read_definition_rule (words text.now tokens.now)) }
+    ensures { IfOk result (λ r. with_words text.now r
+        ≡ read_definition_rule (words text.now tokens.now)) }
 {
     if let Some(rest) = after(Kind::Create, tokens) {
         return create(alloc, text, rest);
@@ -156,7 +161,8 @@ pub fn statement<'a>(
     text: &str,
     tokens: &'a [Token],
 ) -> Result<Option<(Statement, &'a [Token])>, AllocError>
-    ensures { IfOk result (λ r. with_words text.now r ≡ read_statement (words text.now tokens.now)) }
+    ensures { IfOk result (λ r. with_words text.now r
+        ≡ read_statement (words text.now tokens.now)) }
 {
     let Some((statement, rest)) = rule(alloc, text, tokens)? else {
         return Ok(None);

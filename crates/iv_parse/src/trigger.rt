@@ -34,7 +34,8 @@ fn referencing<'a>(
     text: &str,
     tokens: &'a [Token],
 ) -> Result<Option<(Items<Referencing>, &'a [Token])>, AllocError>
-    ensures { IfOk result (λ r. with_words text.now r ≡ read_referencing (words text.now tokens.now)) }
+    ensures { IfOk result (λ r. with_words text.now r
+        ≡ read_referencing (words text.now tokens.now)) }
 {
     let Some(rest) = after(Kind::Referencing, tokens) else {
         return Ok(Some((Items::new(alloc), tokens)));
@@ -194,7 +195,8 @@ fn trigger_rest<'a>(
     table: Name,
     tokens: &'a [Token],
 ) -> Result<Option<(TriggerDefinition, &'a [Token])>, AllocError>
-    ensures { IfOk result (λ r. with_words text.now r ≡ read_trigger_rest name occasion table (words text.now tokens.now)) }
+    ensures { IfOk result (λ r. with_words text.now r
+        ≡ read_trigger_rest name occasion table (words text.now tokens.now)) }
 {
     let Some((found, rest)) = middle(alloc, text, tokens)? else {
         return Ok(None);

@@ -59,7 +59,8 @@ fn set_action(tokens: &[Token]) -> Option<(ReferentialAction, &[Token])>
 
 #[tactic(auto, unfolding(crate::specs::TableReaders::read_strict_action))]
 fn strict_action(tokens: &[Token]) -> Option<(ReferentialAction, &[Token])>
-    ensures { (text : List ℕ) → with_words text result ≡ read_strict_action (words text tokens.now) }
+    ensures { (text : List ℕ)
+        → with_words text result ≡ read_strict_action (words text tokens.now) }
 {
     if let Some(rest) = after(Kind::No, tokens) {
         return match after(Kind::Action, rest) {
@@ -75,7 +76,8 @@ fn strict_action(tokens: &[Token]) -> Option<(ReferentialAction, &[Token])>
 
 #[tactic(auto, unfolding(crate::specs::TableReaders::read_referential_action))]
 fn action(tokens: &[Token]) -> Option<(ReferentialAction, &[Token])>
-    ensures { (text : List ℕ) → with_words text result ≡ read_referential_action (words text tokens.now) }
+    ensures { (text : List ℕ)
+        → with_words text result ≡ read_referential_action (words text tokens.now) }
 {
     if let Some(rest) = after(Kind::Cascade, tokens) {
         return Some((ReferentialAction::Cascade, rest));
@@ -132,7 +134,8 @@ fn reference_columns<'a>(
     table: Name,
     tokens: &'a [Token],
 ) -> Result<Option<(References, &'a [Token])>, AllocError>
-    ensures { IfOk result (λ r. with_words text.now r ≡ read_reference_columns table (words text.now tokens.now)) }
+    ensures { IfOk result (λ r. with_words text.now r
+        ≡ read_reference_columns table (words text.now tokens.now)) }
 {
     let Some((columns, rest)) = column_list(alloc, text, tokens)? else {
         return Ok(None);
@@ -160,7 +163,8 @@ fn references<'a>(
     text: &str,
     tokens: &'a [Token],
 ) -> Result<Option<(References, &'a [Token])>, AllocError>
-    ensures { IfOk result (λ r. with_words text.now r ≡ read_references (words text.now tokens.now)) }
+    ensures { IfOk result (λ r. with_words text.now r
+        ≡ read_references (words text.now tokens.now)) }
 {
     match name(alloc, text, tokens)? {
         Some((table, rest)) => reference_columns(alloc, text, table, rest),
@@ -209,7 +213,8 @@ fn condition_rule<'a>(
     text: &str,
     tokens: &'a [Token],
 ) -> Result<Option<(Option<ColumnRule>, &'a [Token])>, AllocError>
-    ensures { IfOk result (λ r. with_words text.now r ≡ read_condition_rule (words text.now tokens.now)) }
+    ensures { IfOk result (λ r. with_words text.now r
+        ≡ read_condition_rule (words text.now tokens.now)) }
 {
     let Some(rest) = after(Kind::Check, tokens) else {
         return Ok(plain_rule(tokens));
@@ -227,7 +232,8 @@ fn column_rule<'a>(
     text: &str,
     tokens: &'a [Token],
 ) -> Result<Option<(Option<ColumnRule>, &'a [Token])>, AllocError>
-    ensures { IfOk result (λ r. with_words text.now r ≡ read_column_rule (words text.now tokens.now)) }
+    ensures { IfOk result (λ r. with_words text.now r
+        ≡ read_column_rule (words text.now tokens.now)) }
 {
     let Some(rest) = after(Kind::References, tokens) else {
         return condition_rule(alloc, text, tokens);
@@ -243,7 +249,8 @@ fn column_constraint_of<'a>(
     rule: Option<ColumnRule>,
     tokens: &'a [Token],
 ) -> Option<(Option<ColumnConstraint>, &'a [Token])>
-    ensures { (text : List ℕ) → with_words text result ≡ column_constraint_of name rule (words text tokens.now) }
+    ensures { (text : List ℕ)
+        → with_words text result ≡ column_constraint_of name rule (words text tokens.now) }
 {
     let Some(rule) = rule else {
         return match name {
@@ -295,7 +302,8 @@ fn primary_key<'a>(
     text: &str,
     tokens: &'a [Token],
 ) -> Result<Option<(TableRule, &'a [Token])>, AllocError>
-    ensures { IfOk result (λ r. with_words text.now r ≡ read_primary_key (words text.now tokens.now)) }
+    ensures { IfOk result (λ r. with_words text.now r
+        ≡ read_primary_key (words text.now tokens.now)) }
 {
     let Some(rest) = after(Kind::Key, tokens) else {
         return Ok(None);
@@ -312,7 +320,8 @@ fn foreign_key<'a>(
     text: &str,
     tokens: &'a [Token],
 ) -> Result<Option<(TableRule, &'a [Token])>, AllocError>
-    ensures { IfOk result (λ r. with_words text.now r ≡ read_foreign_key (words text.now tokens.now)) }
+    ensures { IfOk result (λ r. with_words text.now r
+        ≡ read_foreign_key (words text.now tokens.now)) }
 {
     let Some(rest) = after(Kind::Key, tokens) else {
         return Ok(None);
@@ -335,7 +344,8 @@ fn check_rule<'a>(
     text: &str,
     tokens: &'a [Token],
 ) -> Result<Option<(TableRule, &'a [Token])>, AllocError>
-    ensures { IfOk result (λ r. with_words text.now r ≡ read_check_rule (words text.now tokens.now)) }
+    ensures { IfOk result (λ r. with_words text.now r
+        ≡ read_check_rule (words text.now tokens.now)) }
 {
     let Some(rest) = after(Kind::Check, tokens) else {
         return Ok(None);
@@ -352,7 +362,8 @@ fn unique_rule<'a>(
     text: &str,
     tokens: &'a [Token],
 ) -> Result<Option<(TableRule, &'a [Token])>, AllocError>
-    ensures { IfOk result (λ r. with_words text.now r ≡ read_unique_rule (words text.now tokens.now)) }
+    ensures { IfOk result (λ r. with_words text.now r
+        ≡ read_unique_rule (words text.now tokens.now)) }
 {
     let Some(rest) = after(Kind::Unique, tokens) else {
         return check_rule(alloc, text, tokens);
@@ -369,7 +380,8 @@ fn table_rule<'a>(
     text: &str,
     tokens: &'a [Token],
 ) -> Result<Option<(TableRule, &'a [Token])>, AllocError>
-    ensures { IfOk result (λ r. with_words text.now r ≡ read_table_rule (words text.now tokens.now)) }
+    ensures { IfOk result (λ r. with_words text.now r
+        ≡ read_table_rule (words text.now tokens.now)) }
 {
     if let Some(rest) = after(Kind::Primary, tokens) {
         return primary_key(alloc, text, rest);
@@ -387,7 +399,8 @@ pub fn table_constraint<'a>(
     text: &str,
     tokens: &'a [Token],
 ) -> Result<Option<(TableConstraint, &'a [Token])>, AllocError>
-    ensures { IfOk result (λ r. with_words text.now r ≡ read_table_constraint (words text.now tokens.now)) }
+    ensures { IfOk result (λ r. with_words text.now r
+        ≡ read_table_constraint (words text.now tokens.now)) }
 {
     let Some((name, rest)) = constraint_name(alloc, text, tokens)? else {
         return Ok(None);

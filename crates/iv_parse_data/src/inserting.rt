@@ -65,7 +65,8 @@ pub fn column_list<'a>(
     text: &str,
     tokens: &'a [Token],
 ) -> Result<Option<(Option<Items<Name>>, &'a [Token])>, AllocError>
-    ensures { IfOk result (λ r. with_words text.now r ≡ read_column_list (words text.now tokens.now)) }
+    ensures { IfOk result (λ r. with_words text.now r
+        ≡ read_column_list (words text.now tokens.now)) }
 {
     let Some(rest) = after(Kind::LeftParenthesis, tokens) else {
         return Ok(Some((None, tokens)));
@@ -82,7 +83,8 @@ fn select_source<'a>(
     text: &str,
     tokens: &'a [Token],
 ) -> Result<Option<(InsertSource, &'a [Token])>, AllocError>
-    ensures { IfOk result (λ r. with_words text.now r ≡ read_select_source (words text.now tokens.now)) }
+    ensures { IfOk result (λ r. with_words text.now r
+        ≡ read_select_source (words text.now tokens.now)) }
 {
     let Some((list, rest)) = select_list(alloc, text, tokens)? else {
         return Ok(None);
@@ -123,7 +125,8 @@ fn insert_rows<'a>(
     table: Name,
     tokens: &'a [Token],
 ) -> Result<Option<(Insert, &'a [Token])>, AllocError>
-    ensures { IfOk result (λ r. with_words text.now r ≡ read_insert_rows table (words text.now tokens.now)) }
+    ensures { IfOk result (λ r. with_words text.now r
+        ≡ read_insert_rows table (words text.now tokens.now)) }
 {
     let Some((columns, rest)) = column_list(alloc, text, tokens)? else {
         return Ok(None);
@@ -148,7 +151,8 @@ fn insert_into<'a>(
     table: Name,
     tokens: &'a [Token],
 ) -> Result<Option<(Insert, &'a [Token])>, AllocError>
-    ensures { IfOk result (λ r. with_words text.now r ≡ read_insert_into table (words text.now tokens.now)) }
+    ensures { IfOk result (λ r. with_words text.now r
+        ≡ read_insert_into table (words text.now tokens.now)) }
 {
     let Some(rest) = after(Kind::Default, tokens) else {
         return insert_rows(alloc, text, table, tokens);

@@ -51,5 +51,6 @@ pub trait ParseSome: Sized {
         text: &str,
         tokens: &'a [Token],
     ) -> Result<Option<(Option<Self>, &'a [Token])>, AllocError>
-        ensures { IfOk result (λ r. with_words text.now r ≡ found_some (words text.now tokens.now)) };
+        ensures { IfOk result (λ r. with_words text.now r
+            ≡ found_some (words text.now tokens.now)) };
 }

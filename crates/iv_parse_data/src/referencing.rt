@@ -15,7 +15,8 @@ use std::alloc::{AllocError, Global};
 // [ ROW | TABLE ]
 #[tactic(auto, unfolding(crate::specs::ItemReaders::read_transition))]
 fn transition(tokens: &[Token]) -> (TransitionName, &[Token])
-    ensures { (text : List ℕ) → with_words text (Some result) ≡ read_transition (words text tokens.now) }
+    ensures { (text : List ℕ)
+        → with_words text (Some result) ≡ read_transition (words text tokens.now) }
 {
     match after(Kind::Table, tokens) {
         Some(rest) => (TransitionName::Table, rest),
@@ -31,7 +32,8 @@ fn item_of<'a>(
     side: Side,
     tokens: &'a [Token],
 ) -> Result<Option<(Option<Referencing>, &'a [Token])>, AllocError>
-    ensures { IfOk result (λ r. with_words text.now r ≡ read_referencing_item_of side (words text.now tokens.now)) }
+    ensures { IfOk result (λ r. with_words text.now r
+        ≡ read_referencing_item_of side (words text.now tokens.now)) }
 {
     let (what, rest) = transition(tokens);
     match name(alloc, text, skip(Kind::As, rest))? {

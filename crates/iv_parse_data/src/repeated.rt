@@ -17,7 +17,8 @@ pub fn series<'a, T: Parse + Drop>(
     text: &str,
     tokens: &'a [Token],
 ) -> Result<Option<(Items<T>, &'a [Token])>, AllocError>
-    ensures { IfOk result (λ r. with_words text.now r ≡ read_series T.found (words text.now tokens.now)) }
+    ensures { IfOk result (λ r. with_words text.now r
+        ≡ read_series T.found (words text.now tokens.now)) }
 {
     let Some((first, rest)) = T::parse(alloc, text, tokens)? else {
         return Ok(None);
@@ -46,7 +47,8 @@ pub fn closed_series<'a, T: Parse + Drop>(
     text: &str,
     tokens: &'a [Token],
 ) -> Result<Option<(Items<T>, &'a [Token])>, AllocError>
-    ensures { IfOk result (λ r. with_words text.now r ≡ read_closed (read_series T.found) (words text.now tokens.now)) }
+    ensures { IfOk result (λ r. with_words text.now r
+        ≡ read_closed (read_series T.found) (words text.now tokens.now)) }
 {
     let Some((items, rest)) = series::<T>(alloc, text, tokens)? else {
         return Ok(None);
@@ -63,7 +65,8 @@ pub fn enclosed_series<'a, T: Parse + Drop>(
     text: &str,
     tokens: &'a [Token],
 ) -> Result<Option<(Items<T>, &'a [Token])>, AllocError>
-    ensures { IfOk result (λ r. with_words text.now r ≡ read_enclosed (read_series T.found) (words text.now tokens.now)) }
+    ensures { IfOk result (λ r. with_words text.now r
+        ≡ read_enclosed (read_series T.found) (words text.now tokens.now)) }
 {
     match after(Kind::LeftParenthesis, tokens) {
         Some(rest) => closed_series::<T>(alloc, text, rest),
@@ -77,7 +80,9 @@ pub fn sequence<'a, T: ParseSome + Drop>(
     text: &str,
     tokens: &'a [Token],
 ) -> Result<Option<(Items<T>, &'a [Token])>, AllocError>
-    ensures { IfOk result (λ r. with_words text.now r ≡ read_sequence T.found_some (length (words text.now tokens.now)) (words text.now tokens.now)) }
+    ensures { IfOk result (λ r. with_words text.now r
+        ≡ read_sequence T.found_some (length (words text.now tokens.now))
+        (words text.now tokens.now)) }
 {
     let mut items = Items::new(alloc);
     let mut rest = tokens;

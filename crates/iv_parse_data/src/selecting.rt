@@ -21,7 +21,8 @@ pub fn from<'a>(
     text: &str,
     tokens: &'a [Token],
 ) -> Result<Option<((RangeName, Option<Condition>), &'a [Token])>, AllocError>
-    ensures { IfOk result (λ r. with_words text.now r ≡ read_shallow_from (words text.now tokens.now)) }
+    ensures { IfOk result (λ r. with_words text.now r
+        ≡ read_shallow_from (words text.now tokens.now)) }
 {
     read_from(alloc, text, tokens)
 }
@@ -32,7 +33,8 @@ fn condition<'a>(
     text: &str,
     tokens: &'a [Token],
 ) -> Result<Option<(Condition, &'a [Token])>, AllocError>
-    ensures { IfOk result (λ r. with_words text.now r ≡ read_shallow_condition (words text.now tokens.now)) }
+    ensures { IfOk result (λ r. with_words text.now r
+        ≡ read_shallow_condition (words text.now tokens.now)) }
 {
     read_condition(alloc, text, tokens)
 }
@@ -68,7 +70,8 @@ pub fn select_list<'a>(
     text: &str,
     tokens: &'a [Token],
 ) -> Result<Option<(SelectList, &'a [Token])>, AllocError>
-    ensures { IfOk result (λ r. with_words text.now r ≡ read_select_list (words text.now tokens.now)) }
+    ensures { IfOk result (λ r. with_words text.now r
+        ≡ read_select_list (words text.now tokens.now)) }
 {
     if let Some(rest) = after(Kind::Asterisk, tokens) {
         return Ok(Some((SelectList::Star, rest)));
@@ -127,7 +130,8 @@ fn assignments<'a>(
     table: Name,
     tokens: &'a [Token],
 ) -> Result<Option<(Update, &'a [Token])>, AllocError>
-    ensures { IfOk result (λ r. with_words text.now r ≡ read_assignments table (words text.now tokens.now)) }
+    ensures { IfOk result (λ r. with_words text.now r
+        ≡ read_assignments table (words text.now tokens.now)) }
 {
     let Some((assignments, rest)) = series::<Assignment>(alloc, text, tokens)? else {
         return Ok(None);

@@ -20,7 +20,8 @@ fn column_constraints<'a>(
     text: &str,
     tokens: &'a [Token],
 ) -> Result<Option<(Items<ColumnConstraint>, &'a [Token])>, AllocError>
-    ensures { IfOk result (λ r. with_words text.now r ≡ read_column_constraints (words text.now tokens.now)) }
+    ensures { IfOk result (λ r. with_words text.now r
+        ≡ read_column_constraints (words text.now tokens.now)) }
 {
     sequence::<ColumnConstraint>(alloc, text, tokens)
 }
@@ -33,7 +34,8 @@ fn column<'a>(
     name: Name,
     tokens: &'a [Token],
 ) -> Result<Option<(ColumnDefinition, &'a [Token])>, AllocError>
-    ensures { IfOk result (λ r. with_words text.now r ≡ read_column name (words text.now tokens.now)) }
+    ensures { IfOk result (λ r. with_words text.now r
+        ≡ read_column name (words text.now tokens.now)) }
 {
     let Some((kind, rest)) = column_type(tokens) else {
         return Ok(None);
@@ -60,7 +62,8 @@ fn column_element<'a>(
     name: Name,
     tokens: &'a [Token],
 ) -> Result<Option<(TableElement, &'a [Token])>, AllocError>
-    ensures { IfOk result (λ r. with_words text.now r ≡ read_column_element name (words text.now tokens.now)) }
+    ensures { IfOk result (λ r. with_words text.now r
+        ≡ read_column_element name (words text.now tokens.now)) }
 {
     match column(alloc, text, name, tokens)? {
         Some((column, rest)) => Ok(Some((TableElement::Column(column), rest))),
@@ -105,7 +108,8 @@ pub fn create_table<'a>(
     text: &str,
     tokens: &'a [Token],
 ) -> Result<Option<(Statement, &'a [Token])>, AllocError>
-    ensures { IfOk result (λ r. with_words text.now r ≡ read_create_table (words text.now tokens.now)) }
+    ensures { IfOk result (λ r. with_words text.now r
+        ≡ read_create_table (words text.now tokens.now)) }
 {
     let Some((name, rest)) = name(alloc, text, tokens)? else {
         return Ok(None);

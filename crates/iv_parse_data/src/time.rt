@@ -152,7 +152,8 @@ pub fn constraint_name<'a>(
     text: &str,
     tokens: &'a [Token],
 ) -> Result<Option<(Option<Name>, &'a [Token])>, AllocError>
-    ensures { IfOk result (λ r. with_words text.now r ≡ read_constraint_name (words text.now tokens.now)) }
+    ensures { IfOk result (λ r. with_words text.now r
+        ≡ read_constraint_name (words text.now tokens.now)) }
 {
     let Some(rest) = after(Kind::Constraint, tokens) else {
         return Ok(Some((None, tokens)));
@@ -207,7 +208,9 @@ fn initially(tokens: &[Token]) -> Option<(Option<ConstraintMode>, &[Token])>
 }
 
 fn time_parts(tokens: &[Token]) -> Option<((Option<bool>, Option<ConstraintMode>), &[Token])>
-    ensures { (text : List ℕ) → with_words text result ≡ read_either_order read_deferrable read_initially (words text tokens.now) }
+    ensures { (text : List ℕ)
+        → with_words text result
+        ≡ read_either_order read_deferrable read_initially (words text tokens.now) }
 {
     let (before, rest) = deferrable(tokens)?;
     let (mode, rest) = initially(rest)?;

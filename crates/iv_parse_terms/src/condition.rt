@@ -31,7 +31,8 @@ fn lead<'a>(
     tokens: &'a [Token],
 ) -> Result<Option<ItemPart<'a>>, AllocError>
     requires { limit ≤ DEEPEST }
-    ensures { IfOk result (λ r. item_found text.now r ≡ read_lead limit (words text.now tokens.now)) }
+    ensures { IfOk result (λ r. item_found text.now r
+        ≡ read_lead limit (words text.now tokens.now)) }
 {
     if limit == 0 {
         return Ok(None);
@@ -58,7 +59,8 @@ fn exists<'a>(
 ) -> Result<Option<ItemPart<'a>>, AllocError>
     requires low { limit ≤ DEEPEST }
     requires some { 0 < limit }
-    ensures { IfOk result (λ r. item_found text.now r ≡ exists_by limit (read_item (limit - 1)) (words text.now tokens.now)) }
+    ensures { IfOk result (λ r. item_found text.now r
+        ≡ exists_by limit (read_item (limit - 1)) (words text.now tokens.now)) }
 {
     let Some(rest) = select(tokens) else {
         return Ok(None);
@@ -101,7 +103,8 @@ fn lead_factor<'a>(
     tokens: &'a [Token],
 ) -> Result<Option<ItemPart<'a>>, AllocError>
     requires { limit ≤ DEEPEST }
-    ensures { IfOk result (λ r. item_found text.now r ≡ lead_factor_of limit (words text.now tokens.now)) }
+    ensures { IfOk result (λ r. item_found text.now r
+        ≡ lead_factor_of limit (words text.now tokens.now)) }
 {
     match sign(tokens) {
         Some(_) => Ok(value_item(factor(alloc, limit, &*text, tokens)?)),
@@ -117,7 +120,8 @@ fn test<'a>(
     tokens: &'a [Token],
 ) -> Result<Option<ItemPart<'a>>, AllocError>
     requires { limit ≤ DEEPEST }
-    ensures { IfOk result (λ r. item_found text.now r ≡ read_test limit (words text.now tokens.now)) }
+    ensures { IfOk result (λ r. item_found text.now r
+        ≡ read_test limit (words text.now tokens.now)) }
 {
     match lead_factor(alloc, limit, &*text, tokens)? {
         Some(found) => go_on(alloc, limit, &*text, found),
@@ -133,7 +137,8 @@ fn negation<'a>(
     tokens: &'a [Token],
 ) -> Result<Option<ItemPart<'a>>, AllocError>
     requires { limit ≤ DEEPEST }
-    ensures { IfOk result (λ r. item_found text.now r ≡ read_negation limit (words text.now tokens.now)) }
+    ensures { IfOk result (λ r. item_found text.now r
+        ≡ read_negation limit (words text.now tokens.now)) }
 {
     let Some(rest) = after(Kind::Not, tokens) else {
         return test(alloc, limit, &*text, tokens);
@@ -155,7 +160,9 @@ fn negations<'a>(
 ) -> Result<Option<ItemPart<'a>>, AllocError>
     requires low { limit ≤ DEEPEST }
     requires few { most ≤ DEEPEST }
-    ensures { IfOk result (λ r. item_found text.now r ≡ more_by And limit (read_negation limit) most left.entry.item (words text.now left.entry.rest.now)) }
+    ensures { IfOk result (λ r. item_found text.now r
+        ≡ more_by And limit (read_negation limit) most left.entry.item
+        (words text.now left.entry.rest.now)) }
 {
     let Some(rest) = connective_after(Connective::And, &left) else {
         return Ok(Some(left));
@@ -178,7 +185,8 @@ fn conjunction<'a>(
     tokens: &'a [Token],
 ) -> Result<Option<ItemPart<'a>>, AllocError>
     requires { limit ≤ DEEPEST }
-    ensures { IfOk result (λ r. item_found text.now r ≡ read_conjunction limit (words text.now tokens.now)) }
+    ensures { IfOk result (λ r. item_found text.now r
+        ≡ read_conjunction limit (words text.now tokens.now)) }
 {
     match negation(alloc, limit, &*text, tokens)? {
         Some(left) => negations(alloc, limit, limit, &*text, left),
@@ -197,7 +205,9 @@ fn conjunctions<'a>(
 ) -> Result<Option<ItemPart<'a>>, AllocError>
     requires low { limit ≤ DEEPEST }
     requires few { most ≤ DEEPEST }
-    ensures { IfOk result (λ r. item_found text.now r ≡ more_by Or limit (read_conjunction limit) most left.entry.item (words text.now left.entry.rest.now)) }
+    ensures { IfOk result (λ r. item_found text.now r
+        ≡ more_by Or limit (read_conjunction limit) most left.entry.item
+        (words text.now left.entry.rest.now)) }
 {
     let Some(rest) = connective_after(Connective::Or, &left) else {
         return Ok(Some(left));
@@ -221,7 +231,8 @@ fn item<'a>(
     tokens: &'a [Token],
 ) -> Result<Option<ItemPart<'a>>, AllocError>
     requires { limit ≤ DEEPEST }
-    ensures { IfOk result (λ r. item_found text.now r ≡ read_item limit (words text.now tokens.now)) }
+    ensures { IfOk result (λ r. item_found text.now r
+        ≡ read_item limit (words text.now tokens.now)) }
 {
     match conjunction(alloc, limit, &*text, tokens)? {
         Some(left) => conjunctions(alloc, limit, limit, &*text, left),

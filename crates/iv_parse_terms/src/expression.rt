@@ -21,7 +21,9 @@ pub fn make_group<'a>(
     inside: ExpressionPart<'a>,
     rest: &'a [Token],
 ) -> Result<Option<ExpressionPart<'a>>, AllocError>
-    ensures { (text : List ℕ) → IfOk result (λ r. expression_found text r ≡ fits limit (group inside.entry.tree) (words text rest.now)) }
+    ensures { (text : List ℕ)
+        → IfOk result (λ r. expression_found text r
+        ≡ fits limit (group inside.entry.tree) (words text rest.now)) }
 {
     if inside.depth >= limit {
         drop(inside);
@@ -46,7 +48,9 @@ fn make_signed<'a>(
     sign: Sign,
     operand: ExpressionPart<'a>,
 ) -> Result<Option<ExpressionPart<'a>>, AllocError>
-    ensures { (text : List ℕ) → IfOk result (λ r. expression_found text r ≡ fits limit (signed sign operand.entry.tree) (words text operand.entry.rest.now)) }
+    ensures { (text : List ℕ)
+        → IfOk result (λ r. expression_found text r
+        ≡ fits limit (signed sign operand.entry.tree) (words text operand.entry.rest.now)) }
 {
     if operand.depth >= limit {
         drop(operand);
@@ -67,7 +71,10 @@ fn make_product<'a>(
     left: ExpressionPart<'a>,
     right: ExpressionPart<'a>,
 ) -> Result<Option<ExpressionPart<'a>>, AllocError>
-    ensures { (text : List ℕ) → IfOk result (λ r. expression_found text r ≡ fits limit (product left.entry.tree right.entry.tree) (words text right.entry.rest.now)) }
+    ensures { (text : List ℕ)
+        → IfOk result (λ r. expression_found text r
+        ≡ fits limit (product left.entry.tree right.entry.tree)
+        (words text right.entry.rest.now)) }
 {
     let depth = left.depth.max(right.depth);
     if depth >= limit {
@@ -100,7 +107,10 @@ fn make_sum<'a>(
     left: ExpressionPart<'a>,
     right: ExpressionPart<'a>,
 ) -> Result<Option<ExpressionPart<'a>>, AllocError>
-    ensures { (text : List ℕ) → IfOk result (λ r. expression_found text r ≡ fits limit (sum sign left.entry.tree right.entry.tree) (words text right.entry.rest.now)) }
+    ensures { (text : List ℕ)
+        → IfOk result (λ r. expression_found text r
+        ≡ fits limit (sum sign left.entry.tree right.entry.tree)
+        (words text right.entry.rest.now)) }
 {
     let depth = left.depth.max(right.depth);
     if depth >= limit {
@@ -145,7 +155,8 @@ fn column<'a>(
     first: Name,
     tokens: &'a [Token],
 ) -> Result<Option<ExpressionPart<'a>>, AllocError>
-    ensures { IfOk result (λ r. expression_found text.now r ≡ column_from first (words text.now tokens.now)) }
+    ensures { IfOk result (λ r. expression_found text.now r
+        ≡ column_from first (words text.now tokens.now)) }
 {
     let Some(rest) = after(Kind::Period, tokens) else {
         let column = ColumnName {
@@ -172,7 +183,8 @@ pub fn simple<'a>(
     text: &str,
     tokens: &'a [Token],
 ) -> Result<Option<ExpressionPart<'a>>, AllocError>
-    ensures { IfOk result (λ r. expression_found text.now r ≡ simple_at (words text.now tokens.now)) }
+    ensures { IfOk result (λ r. expression_found text.now r
+        ≡ simple_at (words text.now tokens.now)) }
 {
     let [first, rest @ ..] = tokens else {
         return Ok(None);
@@ -218,7 +230,8 @@ pub fn primary<'a>(
     tokens: &'a [Token],
 ) -> Result<Option<ExpressionPart<'a>>, AllocError>
     requires { limit ≤ DEEPEST }
-    ensures { IfOk result (λ r. expression_found text.now r ≡ read_primary limit (words text.now tokens.now)) }
+    ensures { IfOk result (λ r. expression_found text.now r
+        ≡ read_primary limit (words text.now tokens.now)) }
 {
     if limit == 0 {
         return Ok(None);
@@ -241,7 +254,8 @@ pub fn factor<'a>(
     tokens: &'a [Token],
 ) -> Result<Option<ExpressionPart<'a>>, AllocError>
     requires { limit ≤ DEEPEST }
-    ensures { IfOk result (λ r. expression_found text.now r ≡ read_factor limit (words text.now tokens.now)) }
+    ensures { IfOk result (λ r. expression_found text.now r
+        ≡ read_factor limit (words text.now tokens.now)) }
 {
     match sign(tokens) {
         Some((sign, rest)) => match primary(alloc, limit, &*text, rest)? {
@@ -263,7 +277,9 @@ pub fn factors<'a>(
 ) -> Result<Option<ExpressionPart<'a>>, AllocError>
     requires low { limit ≤ DEEPEST }
     requires few { most ≤ DEEPEST }
-    ensures { IfOk result (λ r. expression_found text.now r ≡ more_factors limit (read_factor limit) most left.entry.tree (words text.now left.entry.rest.now)) }
+    ensures { IfOk result (λ r. expression_found text.now r
+        ≡ more_factors limit (read_factor limit) most left.entry.tree
+        (words text.now left.entry.rest.now)) }
 {
     let Some(rest) = after(Kind::Asterisk, left.rest) else {
         return Ok(Some(left));
@@ -293,7 +309,8 @@ pub fn term<'a>(
     tokens: &'a [Token],
 ) -> Result<Option<ExpressionPart<'a>>, AllocError>
     requires { limit ≤ DEEPEST }
-    ensures { IfOk result (λ r. expression_found text.now r ≡ read_term limit (words text.now tokens.now)) }
+    ensures { IfOk result (λ r. expression_found text.now r
+        ≡ read_term limit (words text.now tokens.now)) }
 {
     match factor(alloc, limit, &*text, tokens)? {
         Some(left) => factors(alloc, limit, limit, &*text, left),
@@ -312,7 +329,9 @@ pub fn terms<'a>(
 ) -> Result<Option<ExpressionPart<'a>>, AllocError>
     requires low { limit ≤ DEEPEST }
     requires few { most ≤ DEEPEST }
-    ensures { IfOk result (λ r. expression_found text.now r ≡ more_terms limit (read_term limit) most left.entry.tree (words text.now left.entry.rest.now)) }
+    ensures { IfOk result (λ r. expression_found text.now r
+        ≡ more_terms limit (read_term limit) most left.entry.tree
+        (words text.now left.entry.rest.now)) }
 {
     let Some((sign, rest)) = sign(left.rest) else {
         return Ok(Some(left));
@@ -342,7 +361,8 @@ pub fn expression<'a>(
     tokens: &'a [Token],
 ) -> Result<Option<ExpressionPart<'a>>, AllocError>
     requires { limit ≤ DEEPEST }
-    ensures { IfOk result (λ r. expression_found text.now r ≡ read limit (words text.now tokens.now)) }
+    ensures { IfOk result (λ r. expression_found text.now r
+        ≡ read limit (words text.now tokens.now)) }
 {
     match term(alloc, limit, &*text, tokens)? {
         Some(left) => terms(alloc, limit, limit, &*text, left),

@@ -56,7 +56,8 @@ pub fn range<'a>(
 
 /// The range without a WHERE.
 pub fn without_where(range: RangeName, rest: &[Token]) -> FromPart<'_>
-    ensures { (text : List ℕ) → from_found text (Some result) ≡ Some ((range, None), words text rest.now) }
+    ensures { (text : List ℕ)
+        → from_found text (Some result) ≡ Some ((range, None), words text rest.now) }
 {
     FromPart {
         range,
@@ -67,7 +68,9 @@ pub fn without_where(range: RangeName, rest: &[Token]) -> FromPart<'_>
 }
 
 fn where_truth<'a>(range: RangeName, found: ItemPart<'a>) -> Option<FromPart<'a>>
-    ensures { (text : List ℕ) → from_found text result ≡ with_condition range found.entry.item (words text found.entry.rest.now) }
+    ensures { (text : List ℕ)
+        → from_found text result
+        ≡ with_condition range found.entry.item (words text found.entry.rest.now) }
 {
     match truth(found) {
         Some(ConditionPart { tree, depth, rest }) => Some(FromPart {
@@ -85,7 +88,8 @@ pub fn with_where<'a>(
     range: RangeName,
     found: Result<Option<ItemPart<'a>>, AllocError>,
 ) -> Result<Option<FromPart<'a>>, AllocError>
-    ensures { (text : List ℕ) (item : FoundItem) → IfOk found.entry (λ o. item_found text o ≡ item) → IfOk result (λ r. from_found text r ≡ then_read item (with_condition range)) }
+    ensures { (text : List ℕ) (item : FoundItem) → IfOk found.entry (λ o. item_found text o ≡ item)
+        → IfOk result (λ r. from_found text r ≡ then_read item (with_condition range)) }
 {
     match found {
         Ok(Some(found)) => Ok(where_truth(range, found)),
@@ -100,7 +104,12 @@ pub fn close_exists<'a>(
     limit: u8,
     found: FromPart<'a>,
 ) -> Result<Option<ItemPart<'a>>, AllocError>
-    ensures { (text : List ℕ) → IfOk result (λ r. item_found text r ≡ closed_exists limit (found.entry.range, found.entry.condition) (words text found.entry.rest.now)) }
+    ensures { (text : List ℕ)
+        → IfOk result (λ r. item_found text r
+        ≡ closed_exists limit (
+          found.entry.range,
+          found.entry.condition,
+        ) (words text found.entry.rest.now)) }
 {
     let Some(rest) = after(Kind::RightParenthesis, found.rest) else {
         drop(found);

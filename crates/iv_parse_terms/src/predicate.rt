@@ -24,7 +24,8 @@ use std::alloc::{AllocError, Global};
 
 /// The value that was found, as an item.
 pub fn value_item(found: Option<ExpressionPart<'_>>) -> Option<ItemPart<'_>>
-    ensures { (text : List ℕ) → item_found text result ≡ as_item (expression_found text found.entry) }
+    ensures { (text : List ℕ)
+        → item_found text result ≡ as_item (expression_found text found.entry) }
 {
     match found {
         Some(ExpressionPart { tree, depth, rest }) => Some(ItemPart {
@@ -39,7 +40,8 @@ pub fn value_item(found: Option<ExpressionPart<'_>>) -> Option<ItemPart<'_>>
 /// The condition, where it is not too deep; `below` is the depth of its deepest part.
 pub fn fit(limit: u8, tree: Condition, below: u8, rest: &[Token]) -> Option<ItemPart<'_>>
     requires { condition_depth tree ≡ 1 + below }
-    ensures { (text : List ℕ) → item_found text result ≡ condition_fits limit tree (words text rest.now) }
+    ensures { (text : List ℕ)
+        → item_found text result ≡ condition_fits limit tree (words text rest.now) }
 {
     if below >= limit {
         drop(tree);
@@ -58,7 +60,9 @@ fn enclose<'a>(
     inside: ItemPart<'a>,
     rest: &'a [Token],
 ) -> Result<Option<ItemPart<'a>>, AllocError>
-    ensures { (text : List ℕ) → IfOk result (λ r. item_found text r ≡ enclosed_item limit inside.entry.item (words text rest.now)) }
+    ensures { (text : List ℕ)
+        → IfOk result (λ r. item_found text r
+        ≡ enclosed_item limit inside.entry.item (words text rest.now)) }
 {
     let ItemPart {
         item,
@@ -80,7 +84,9 @@ pub fn close_item<'a>(
     limit: u8,
     inside: ItemPart<'a>,
 ) -> Result<Option<ItemPart<'a>>, AllocError>
-    ensures { (text : List ℕ) → IfOk result (λ r. item_found text r ≡ closed_item limit inside.entry.item (words text inside.entry.rest.now)) }
+    ensures { (text : List ℕ)
+        → IfOk result (λ r. item_found text r
+        ≡ closed_item limit inside.entry.item (words text inside.entry.rest.now)) }
 {
     match after(Kind::RightParenthesis, inside.rest) {
         Some(rest) => enclose(alloc, limit, inside, rest),
@@ -90,7 +96,8 @@ pub fn close_item<'a>(
 
 // IS [NOT] NULL; the tokens are those after IS.
 fn test_null<'a>(limit: u8, value: ExpressionPart<'a>, tokens: &'a [Token]) -> Option<ItemPart<'a>>
-    ensures { (text : List ℕ) → item_found text result ≡ null_test limit value.entry.tree (words text tokens.now) }
+    ensures { (text : List ℕ)
+        → item_found text result ≡ null_test limit value.entry.tree (words text tokens.now) }
 {
     let ExpressionPart {
         tree,
@@ -172,7 +179,8 @@ fn test_value<'a>(
     value: ExpressionPart<'a>,
 ) -> Result<Option<ItemPart<'a>>, AllocError>
     requires { limit ≤ DEEPEST }
-    ensures { IfOk result (λ r. item_found text.now r ≡ value_test limit value.entry.tree (words text.now value.entry.rest.now)) }
+    ensures { IfOk result (λ r. item_found text.now r
+        ≡ value_test limit value.entry.tree (words text.now value.entry.rest.now)) }
 {
     match factors(alloc, limit, limit, text, value)? {
         Some(term) => match terms(alloc, limit, limit, text, term)? {
@@ -191,7 +199,8 @@ pub fn go_on<'a>(
     found: ItemPart<'a>,
 ) -> Result<Option<ItemPart<'a>>, AllocError>
     requires { limit ≤ DEEPEST }
-    ensures { IfOk result (λ r. item_found text.now r ≡ on_value (value_test limit) found.entry.item (words text.now found.entry.rest.now)) }
+    ensures { IfOk result (λ r. item_found text.now r
+        ≡ on_value (value_test limit) found.entry.item (words text.now found.entry.rest.now)) }
 {
     let ItemPart { item, depth, rest } = found;
     match item {
@@ -212,7 +221,9 @@ pub fn negate<'a>(
     limit: u8,
     found: ItemPart<'a>,
 ) -> Result<Option<ItemPart<'a>>, AllocError>
-    ensures { (text : List ℕ) → IfOk result (λ r. item_found text r ≡ negated_item limit found.entry.item (words text found.entry.rest.now)) }
+    ensures { (text : List ℕ)
+        → IfOk result (λ r. item_found text r
+        ≡ negated_item limit found.entry.item (words text found.entry.rest.now)) }
 {
     let ItemPart { item, depth, rest } = found;
     match item {
@@ -226,7 +237,9 @@ pub fn negate<'a>(
 
 /// The tokens after AND or OR, where it comes after a condition.
 pub fn connective_after<'a>(connective: Connective, found: &ItemPart<'a>) -> Option<&'a [Token]>
-    ensures { (text : List ℕ) → rest_words text result ≡ after_truth connective found.now.item (words text found.now.rest.now) }
+    ensures { (text : List ℕ)
+        → rest_words text result
+        ≡ after_truth connective found.now.item (words text found.now.rest.now) }
 {
     let rest = found.rest;
     match (&found.item, connective) {
@@ -238,7 +251,9 @@ pub fn connective_after<'a>(connective: Connective, found: &ItemPart<'a>) -> Opt
 
 /// The condition that was found, where it is no value.
 pub fn truth(found: ItemPart<'_>) -> Option<ConditionPart<'_>>
-    ensures { (text : List ℕ) → condition_found text result ≡ truth_alone found.entry.item (words text found.entry.rest.now) }
+    ensures { (text : List ℕ)
+        → condition_found text result
+        ≡ truth_alone found.entry.item (words text found.entry.rest.now) }
 {
     let ItemPart { item, depth, rest } = found;
     match item {
@@ -334,7 +349,8 @@ pub fn join_found<'a>(
     left: ItemPart<'a>,
     right: Result<Option<ItemPart<'a>>, AllocError>,
 ) -> Result<Option<ItemPart<'a>>, AllocError>
-    ensures { (text : List ℕ) (found : FoundItem) → IfOk right.entry (λ o. item_found text o ≡ found)
+    ensures { (text : List ℕ) (found : FoundItem)
+        → IfOk right.entry (λ o. item_found text o ≡ found)
         → IfOk result (λ r. item_found text r
         ≡ then_read found (connection_from connective limit left.entry.item)) }
 {

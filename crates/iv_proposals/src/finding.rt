@@ -99,7 +99,9 @@ pub fn count_where<R: Rows>(
     table: TableId,
     filter: &Cond,
 ) -> Result<Value, Cause>
-    ensures { result ≡ and_then (rows_counted scope.now filter.now (table_rows scope.now.rows table)) (λ n. Ok (variant.Int (pos n))) }
+    ensures { result ≡ and_then
+        (rows_counted scope.now filter.now (table_rows scope.now.rows table))
+        (λ n. Ok (variant.Int (pos n))) }
 {
     let mut found = 0;
     let mut after = 0;
@@ -119,7 +121,8 @@ pub fn count_where<R: Rows>(
 // Adds the row of a number, where it is there.
 fn push_row<K: Kin>(store: &K, number: u64, rows: &mut Vec<Row>) -> Result<(), Cause>
     ensures { AnswersCause (λ _. rows.new.items) result
-        (added_of_row (λ r. Ok r.values) (row_at (K.view store.now).base.rows number) rows.old.items) }
+        (added_of_row (λ r. Ok r.values)
+        (row_at (K.view store.now).base.rows number) rows.old.items) }
 {
     match store.row(number) {
         Some(row) => match row.values.clone() {

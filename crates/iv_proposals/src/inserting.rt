@@ -76,7 +76,8 @@ fn insert_tuples<R: Rows>(
     tuples: &[Items<Expr>],
 ) -> Result<Vec<Change>, Cause>
     ensures { AnswersCause (λ v. v.items) result
-        (all_added (λ t. insertion_of context.now table listed.now (map (value scope.now) t)) tuples.now) }
+        (all_added (λ t. insertion_of context.now table listed.now (map (value scope.now) t))
+        tuples.now) }
 {
     let mut changes = Vec::new(alloc);
     let mut at = 0usize;
@@ -176,7 +177,8 @@ fn insert_rows<R: Rows>(
     rows: &[Row],
 ) -> Result<Vec<Change>, Cause>
     ensures { AnswersCause (λ v. v.items) result
-        (all_added (λ r. insertion_of context.now table listed.now (outputs_of scope.now outputs.now r)) rows.now) }
+        (all_added (λ r. insertion_of context.now table listed.now
+        (outputs_of scope.now outputs.now r)) rows.now) }
 {
     let mut changes = Vec::new(alloc);
     let mut at = 0usize;

@@ -169,7 +169,8 @@ fn begin(
     table: TableId,
     listed: &InsertColumns,
 ) -> Result<Vec<Value>, Cause>
-    ensures { AnswersCause (λ v. v.items) result (Ok (row_begun context.now.schema table listed.now)) }
+    ensures { AnswersCause (λ v. v.items) result
+        (Ok (row_begun context.now.schema table listed.now)) }
 {
     match listed {
         InsertColumns::All => Ok(Vec::new(alloc)),

@@ -25,7 +25,8 @@ pub fn plan_of_insert(
     insert: &Insert,
     catalogue: &Catalogue,
 ) -> Result<Plan, AllocError>
-    ensures { IfOk result (λ p. p ≡ plan.Change (bound_insert (table_names catalogue.now) [] insert.now)) }
+    ensures { IfOk result (λ p. p
+        ≡ plan.Change (bound_insert (table_names catalogue.now) [] insert.now)) }
 {
     let names = table_names(catalogue);
     Ok(Plan::Change(bound_insert(insert, alloc, &names, &Ranges::Nothing)?))
@@ -37,7 +38,8 @@ pub fn plan_of_update(
     update: &Update,
     catalogue: &Catalogue,
 ) -> Result<Plan, AllocError>
-    ensures { IfOk result (λ p. p ≡ plan.Change (bound_update (table_names catalogue.now) [] update.now)) }
+    ensures { IfOk result (λ p. p
+        ≡ plan.Change (bound_update (table_names catalogue.now) [] update.now)) }
 {
     let names = table_names(catalogue);
     Ok(Plan::Change(bound_update(update, alloc, &names, &Ranges::Nothing)?))
@@ -49,7 +51,8 @@ pub fn plan_of_delete(
     delete: &Delete,
     catalogue: &Catalogue,
 ) -> Result<Plan, AllocError>
-    ensures { IfOk result (λ p. p ≡ plan.Change (bound_delete (table_names catalogue.now) [] delete.now)) }
+    ensures { IfOk result (λ p. p
+        ≡ plan.Change (bound_delete (table_names catalogue.now) [] delete.now)) }
 {
     let names = table_names(catalogue);
     Ok(Plan::Change(bound_delete(delete, alloc, &names, &Ranges::Nothing)?))
@@ -61,7 +64,8 @@ pub fn plan_of_select(
     select: &Select,
     catalogue: &Catalogue,
 ) -> Result<Plan, AllocError>
-    ensures { IfOk result (λ p. p ≡ plan.Query (bound_select (table_names catalogue.now) select.now)) }
+    ensures { IfOk result (λ p. p
+        ≡ plan.Query (bound_select (table_names catalogue.now) select.now)) }
 {
     let names = table_names(catalogue);
     Ok(Plan::Query(bound_select(select, alloc, &names, &Ranges::Nothing)?))
@@ -73,7 +77,8 @@ pub fn plan_of_trigger(
     trigger: &TriggerDefinition,
     catalogue: &Catalogue,
 ) -> Result<Plan, AllocError>
-    ensures { IfOk result (λ p. p ≡ plan.Schema (CreateTrigger (bound_trigger catalogue.now trigger.now))) }
+    ensures { IfOk result (λ p. p
+        ≡ plan.Schema (CreateTrigger (bound_trigger catalogue.now trigger.now))) }
 {
     let bound = bound_trigger(trigger, alloc, catalogue, catalogue.triggers_ever())?;
     Ok(Plan::Schema(SchemaPlan::CreateTrigger(bound)))
@@ -135,7 +140,9 @@ pub fn plan_of_constraints(
     mode: ConstraintMode,
     catalogue: &Catalogue,
 ) -> Result<Plan, AllocError>
-    ensures { IfOk result (λ p. p ≡ plan.Transaction (SetConstraints (bound_constraints catalogue.now constraints.now) mode)) }
+    ensures { IfOk result (λ p. p
+        ≡ plan.Transaction (SetConstraints
+        (bound_constraints catalogue.now constraints.now) mode)) }
 {
     let set = bound_constraints(alloc, constraints, catalogue)?;
     Ok(Plan::Transaction(TransactionPlan::SetConstraints(set, mode)))

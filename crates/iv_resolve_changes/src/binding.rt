@@ -56,7 +56,8 @@ fn bound_value<'a>(
     place: usize,
     ranges: &'a Ranges<'a>,
 ) -> Result<Expr, AllocError>
-    ensures { IfOk result (λ e. e ≡ bound_value columns.now (ranges_seen ranges.now) place value.now) }
+    ensures { IfOk result (λ e. e
+        ≡ bound_value columns.now (ranges_seen ranges.now) place value.now) }
 {
     match value {
         ValueOrDefault::Value(expression) => bound_expression(expression, alloc, &*ranges),
@@ -85,7 +86,8 @@ fn bound_tuple<'a>(
     names: &'a Option<Items<Name>>,
     ranges: &'a Ranges<'a>,
 ) -> Result<Items<Expr>, AllocError>
-    ensures { IfOk result (λ es. es ≡ bound_tuple columns.now names.now (ranges_seen ranges.now) tuple.now) }
+    ensures { IfOk result (λ es. es
+        ≡ bound_tuple columns.now names.now (ranges_seen ranges.now) tuple.now) }
 {
     let mut values = Items::new(alloc);
     let mut at = 0usize;
@@ -104,7 +106,8 @@ fn bound_tuples<'a>(
     names: &'a Option<Items<Name>>,
     ranges: &'a Ranges<'a>,
 ) -> Result<Items<Items<Expr>>, AllocError>
-    ensures { IfOk result (λ ts. ts ≡ map (bound_tuple columns.now names.now (ranges_seen ranges.now)) tuples.now) }
+    ensures { IfOk result (λ ts. ts
+        ≡ map (bound_tuple columns.now names.now (ranges_seen ranges.now)) tuples.now) }
 {
     let mut rows = Items::new(alloc);
     for tuple in tuples {
@@ -154,7 +157,8 @@ fn bound_source<'a>(
 ) -> Result<InsertRows, AllocError>
     requires { length names.now.tables.now ≤ MOST_TABLES }
     ensures { IfOk result (λ r.
-        r ≡ bound_source (names_seen names.now) (ranges_seen ranges.now) columns.now listed.now source.now) }
+        r ≡ bound_source (names_seen names.now)
+        (ranges_seen ranges.now) columns.now listed.now source.now) }
 {
     match source {
         InsertSource::Values(tuples) => {
@@ -207,7 +211,8 @@ fn bound_columns(
 }
 
 fn default_row(alloc: Global, table: TableId) -> Result<DataStatement, AllocError>
-    ensures { IfOk result (λ d. d ≡ data_statement.Insert table (listing.Listed []) (rows.Values ([] ∷ []))) }
+    ensures { IfOk result (λ d. d
+        ≡ data_statement.Insert table (listing.Listed []) (rows.Values ([] ∷ []))) }
 {
     let mut rows = Items::new(alloc);
     rows.push(Items::new(alloc))?;
@@ -226,7 +231,8 @@ pub fn bound_insert<'a>(
     ranges: &'a Ranges<'a>,
 ) -> Result<DataStatement, AllocError>
     requires { length names.now.tables.now ≤ MOST_TABLES }
-    ensures { IfOk result (λ d. d ≡ bound_insert (names_seen names.now) (ranges_seen ranges.now) insert.now) }
+    ensures { IfOk result (λ d. d
+        ≡ bound_insert (names_seen names.now) (ranges_seen ranges.now) insert.now) }
 {
     match insert {
         Insert::DefaultValues(table) => default_row(alloc, table_id(names, table.as_str())),
@@ -254,7 +260,8 @@ fn bound_assignment<'a>(
     columns: &'a [Column],
     ranges: &'a Ranges<'a>,
 ) -> Result<Setting, AllocError>
-    ensures { IfOk result (λ s. s ≡ bound_assignment columns.now (ranges_seen ranges.now) assignment.now) }
+    ensures { IfOk result (λ s. s
+        ≡ bound_assignment columns.now (ranges_seen ranges.now) assignment.now) }
 {
     let column = Columns::Stored(columns).place_of(assignment.column.as_str());
     let value = bound_value(&assignment.value, alloc, columns, column as usize, &*ranges)?;
@@ -267,7 +274,8 @@ fn bound_assignments<'a>(
     columns: &'a [Column],
     ranges: &'a Ranges<'a>,
 ) -> Result<Items<Setting>, AllocError>
-    ensures { IfOk result (λ ss. ss ≡ map (bound_assignment columns.now (ranges_seen ranges.now)) assignments.now) }
+    ensures { IfOk result (λ ss. ss
+        ≡ map (bound_assignment columns.now (ranges_seen ranges.now)) assignments.now) }
 {
     let mut settings = Items::new(alloc);
     for assignment in assignments {
@@ -284,7 +292,8 @@ pub fn bound_update<'a>(
     ranges: &'a Ranges<'a>,
 ) -> Result<DataStatement, AllocError>
     requires { length names.now.tables.now ≤ MOST_TABLES }
-    ensures { IfOk result (λ d. d ≡ bound_update (names_seen names.now) (ranges_seen ranges.now) update.now) }
+    ensures { IfOk result (λ d. d
+        ≡ bound_update (names_seen names.now) (ranges_seen ranges.now) update.now) }
 {
     let stored = stored_columns(names.tables, update.table.as_str());
     let columns = Columns::Stored(stored);
@@ -306,7 +315,8 @@ pub fn bound_delete<'a>(
     ranges: &'a Ranges<'a>,
 ) -> Result<DataStatement, AllocError>
     requires { length names.now.tables.now ≤ MOST_TABLES }
-    ensures { IfOk result (λ d. d ≡ bound_delete (names_seen names.now) (ranges_seen ranges.now) delete.now) }
+    ensures { IfOk result (λ d. d
+        ≡ bound_delete (names_seen names.now) (ranges_seen ranges.now) delete.now) }
 {
     let columns = Columns::Stored(stored_columns(names.tables, delete.table.as_str()));
     let inner = Ranges::Within(delete.table.as_str(), columns, Origin::Rows, &*ranges);

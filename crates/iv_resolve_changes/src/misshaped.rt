@@ -43,7 +43,8 @@ fn misshaped_tuple<'a>(
     targets: &'a Targets<'a>,
     ranges: &'a Ranges<'a>,
 ) -> bool
-    ensures { result ≡ misshaped_tuple (targets_seen targets.now) (ranges_seen ranges.now) tuple.now }
+    ensures { result ≡ misshaped_tuple (targets_seen targets.now)
+        (ranges_seen ranges.now) tuple.now }
 {
     tuple.len() != targets.len()
         || (tuple_clashes(&*targets, tuple, &*ranges) || misshaped_given(tuple, &*ranges))
@@ -54,7 +55,8 @@ fn misshaped_tuples<'a>(
     targets: &'a Targets<'a>,
     ranges: &'a Ranges<'a>,
 ) -> bool
-    ensures { result ≡ list_any (misshaped_tuple (targets_seen targets.now) (ranges_seen ranges.now)) tuples.now }
+    ensures { result ≡ list_any
+        (misshaped_tuple (targets_seen targets.now) (ranges_seen ranges.now)) tuples.now }
 {
     tuples.iter().any(|tuple| misshaped_tuple(tuple.as_slice(), &*targets, &*ranges))
 }
@@ -84,7 +86,8 @@ fn list_clashes<'a>(
     columns: &'a Columns<'a>,
     ranges: &'a Ranges<'a>,
 ) -> bool
-    ensures { result ≡ list_clashes (targets_seen targets.now) (columns_seen columns.now) (ranges_seen ranges.now) list.now }
+    ensures { result ≡ list_clashes (targets_seen targets.now) (columns_seen columns.now)
+        (ranges_seen ranges.now) list.now }
 {
     match list {
         SelectList::Star => {
@@ -104,7 +107,8 @@ fn misshaped_query<'a>(
     ranges: &'a Ranges<'a>,
 ) -> bool
     requires { length names.now.tables.now ≤ MOST_TABLES }
-    ensures { result ≡ misshaped_query (names_seen names.now) (ranges_seen ranges.now) list.now range.now filter.now }
+    ensures { result ≡ misshaped_query (names_seen names.now)
+        (ranges_seen ranges.now) list.now range.now filter.now }
 {
     let inner = inside(range, &*names, &*ranges);
     misshaped_list(list, &inner) || misshaped_filter(filter, &*names, &inner)
@@ -118,7 +122,8 @@ fn misshaped_source<'a>(
     ranges: &'a Ranges<'a>,
 ) -> bool
     requires { length names.now.tables.now ≤ MOST_TABLES }
-    ensures { result ≡ misshaped_source (names_seen names.now) (ranges_seen ranges.now) (targets_seen targets.now) source.now }
+    ensures { result ≡ misshaped_source (names_seen names.now) (ranges_seen ranges.now)
+        (targets_seen targets.now) source.now }
 {
     match source {
         InsertSource::Values(tuples) => { misshaped_tuples(tuples.as_slice(), &*targets, &*ranges) }
@@ -171,7 +176,8 @@ fn misshaped_assignment<'a>(
     columns: &'a Columns<'a>,
     ranges: &'a Ranges<'a>,
 ) -> bool
-    ensures { result ≡ misshaped_assignment (columns_seen columns.now) (ranges_seen ranges.now) assignment.now }
+    ensures { result ≡ misshaped_assignment (columns_seen columns.now)
+        (ranges_seen ranges.now) assignment.now }
 {
     let kind = columns.type_named(assignment.column.as_str());
     value_clashes(kind, &assignment.value, &*ranges) || misshaped_value(&assignment.value, &*ranges)
@@ -182,7 +188,8 @@ fn misshaped_assignments<'a>(
     columns: &'a Columns<'a>,
     ranges: &'a Ranges<'a>,
 ) -> bool
-    ensures { result ≡ list_any (misshaped_assignment (columns_seen columns.now) (ranges_seen ranges.now)) assignments.now }
+    ensures { result ≡ list_any
+        (misshaped_assignment (columns_seen columns.now) (ranges_seen ranges.now)) assignments.now }
 {
     assignments.iter().any(|assignment| misshaped_assignment(assignment, &*columns, &*ranges))
 }

@@ -16,7 +16,8 @@ fn some_comes_again(
     set: &mut NameSet,
     assignments: &[Assignment],
 ) -> Result<bool, AllocError>
-    ensures { IfOk result (λ found. found ≡ comes_again set.old (map (λ a. a.column) assignments.now)) }
+    ensures { IfOk result (λ found. found
+        ≡ comes_again set.old (map (λ a. a.column) assignments.now)) }
 {
     for assignment in assignments {
         if comes_again(alloc, set, assignment.column.as_str())? {

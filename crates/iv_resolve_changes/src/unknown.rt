@@ -41,7 +41,8 @@ fn unknown_tuple<'a>(tuple: &'a [ValueOrDefault], ranges: &'a Ranges<'a>) -> boo
 }
 
 fn unknown_tuples<'a>(tuples: &'a [Items<ValueOrDefault>], ranges: &'a Ranges<'a>) -> bool
-    ensures { result ≡ list_any (λ tuple. list_any (unknown_value (ranges_seen ranges.now)) tuple) tuples.now }
+    ensures { result ≡ list_any
+        (λ tuple. list_any (unknown_value (ranges_seen ranges.now)) tuple) tuples.now }
 {
     tuples
         .iter()
@@ -73,7 +74,8 @@ fn unknown_query<'a>(
     ranges: &'a Ranges<'a>,
 ) -> bool
     requires { length names.now.tables.now ≤ MOST_TABLES }
-    ensures { result ≡ unknown_query (names_seen names.now) (ranges_seen ranges.now) list.now range.now filter.now }
+    ensures { result ≡ unknown_query (names_seen names.now)
+        (ranges_seen ranges.now) list.now range.now filter.now }
 {
     let inner = inside(range, &*names, &*ranges);
     !is_source(&*names, range.table.as_str())
@@ -120,7 +122,8 @@ fn unknown_assignment<'a>(
     columns: &'a Columns<'a>,
     ranges: &'a Ranges<'a>,
 ) -> bool
-    ensures { result ≡ unknown_assignment (columns_seen columns.now) (ranges_seen ranges.now) assignment.now }
+    ensures { result ≡ unknown_assignment (columns_seen columns.now)
+        (ranges_seen ranges.now) assignment.now }
 {
     !columns.has(assignment.column.as_str()) || unknown_value(&assignment.value, &*ranges)
 }
@@ -130,7 +133,8 @@ fn unknown_assignments<'a>(
     columns: &'a Columns<'a>,
     ranges: &'a Ranges<'a>,
 ) -> bool
-    ensures { result ≡ list_any (unknown_assignment (columns_seen columns.now) (ranges_seen ranges.now)) assignments.now }
+    ensures { result ≡ list_any
+        (unknown_assignment (columns_seen columns.now) (ranges_seen ranges.now)) assignments.now }
 {
     assignments.iter().any(|assignment| unknown_assignment(assignment, &*columns, &*ranges))
 }

@@ -63,7 +63,10 @@ fn has_forbidden_item(trigger: &TriggerDefinition, items: &[Referencing]) -> boo
 }
 
 fn is_item(item: &Referencing, side: Side, row: bool) -> bool
-    ensures { result ≡ (is_side side item.now.side && elim row [ true ↦ names_row item.now | false ↦ not (names_row item.now) ]) }
+    ensures { result ≡ (is_side side item.now.side && elim row [
+      | true ↦ names_row item.now
+      | false ↦ not (names_row item.now)
+    ]) }
 {
     is_side(side, item.side)
         && match item.what {
@@ -122,7 +125,9 @@ fn is_old(origin: Origin) -> bool
 
 #[tactic(auto, unfolding(iv_resolution::specs::Triggers::sets_old))]
 fn sets_old<'a>(action: &'a TriggerAction, names: &'a Names<'a>) -> bool
-    ensures { result ≡ sets_old (row_variables (columns_seen names.now.subject) (items_seen names.now.referencing)) action.now }
+    ensures { result ≡ sets_old
+        (row_variables (columns_seen names.now.subject) (items_seen names.now.referencing))
+        action.now }
 {
     match action {
         TriggerAction::Set(variable, _, _) => match variable_named(names, variable.as_str()) {
@@ -137,7 +142,9 @@ fn sets_old<'a>(action: &'a TriggerAction, names: &'a Names<'a>) -> bool
 }
 
 fn some_sets_old<'a>(body: &'a [TriggerAction], names: &'a Names<'a>) -> bool
-    ensures { result ≡ list_any (sets_old (row_variables (columns_seen names.now.subject) (items_seen names.now.referencing))) body.now }
+    ensures { result ≡ list_any
+        (sets_old (row_variables (columns_seen names.now.subject)
+        (items_seen names.now.referencing))) body.now }
 {
     body.iter().any(|action| sets_old(action, &*names))
 }

@@ -20,7 +20,8 @@ fn bound_action<'a>(
     ranges: &'a Ranges<'a>,
 ) -> Result<BodyStatement, AllocError>
     requires { length names.now.tables.now ≤ MOST_TABLES }
-    ensures { IfOk result (λ s. s ≡ bound_action (names_seen names.now) (ranges_seen ranges.now) action.now) }
+    ensures { IfOk result (λ s. s
+        ≡ bound_action (names_seen names.now) (ranges_seen ranges.now) action.now) }
 {
     match action {
         TriggerAction::Insert(insert) => {
@@ -47,7 +48,8 @@ fn bound_body<'a>(
     ranges: &'a Ranges<'a>,
 ) -> Result<Items<BodyStatement>, AllocError>
     requires { length names.now.tables.now ≤ MOST_TABLES }
-    ensures { IfOk result (λ ss. ss ≡ map (bound_action (names_seen names.now) (ranges_seen ranges.now)) body.now) }
+    ensures { IfOk result (λ ss. ss
+        ≡ map (bound_action (names_seen names.now) (ranges_seen ranges.now)) body.now) }
 {
     let mut statements = Items::new(alloc);
     for action in body {

@@ -37,7 +37,8 @@ fn misshaped_body<'a>(
     ranges: &'a Ranges<'a>,
 ) -> bool
     requires { length names.now.tables.now ≤ MOST_TABLES }
-    ensures { result ≡ list_any (misshaped_action (names_seen names.now) (ranges_seen ranges.now)) body.now }
+    ensures { result ≡ list_any
+        (misshaped_action (names_seen names.now) (ranges_seen ranges.now)) body.now }
 {
     body.iter()
         .any(|action| misshaped_action(action, &*names, &*ranges))

@@ -16,7 +16,8 @@ use std::alloc::Global;
 #[tactic(auto, unfolding(iv_resolution::specs::Triggers::unknown_set))]
 fn unknown_set(names: &Names<'_>, variable: &str, column: &str) -> bool
     ensures { result ≡ unknown_set (names_seen names.now)
-        (row_variables (columns_seen names.now.subject) (items_seen names.now.referencing)) variable.now column.now }
+        (row_variables (columns_seen names.now.subject) (items_seen names.now.referencing))
+        variable.now column.now }
 {
     variable_named(names, variable).is_none() || !names.subject.has(column)
 }
@@ -28,7 +29,8 @@ fn unknown_action<'a>(
     ranges: &'a Ranges<'a>,
 ) -> bool
     requires tables { length names.now.tables.now ≤ MOST_TABLES }
-    requires variables { ranges_seen ranges.now ≡ row_variables (columns_seen names.now.subject) (items_seen names.now.referencing) }
+    requires variables { ranges_seen ranges.now
+        ≡ row_variables (columns_seen names.now.subject) (items_seen names.now.referencing) }
     ensures { result ≡ unknown_action (names_seen names.now) (ranges_seen ranges.now) action.now }
 {
     match action {
@@ -45,8 +47,10 @@ fn unknown_action<'a>(
 
 fn unknown_body<'a>(body: &'a [TriggerAction], names: &'a Names<'a>, ranges: &'a Ranges<'a>) -> bool
     requires tables { length names.now.tables.now ≤ MOST_TABLES }
-    requires variables { ranges_seen ranges.now ≡ row_variables (columns_seen names.now.subject) (items_seen names.now.referencing) }
-    ensures { result ≡ list_any (unknown_action (names_seen names.now) (ranges_seen ranges.now)) body.now }
+    requires variables { ranges_seen ranges.now
+        ≡ row_variables (columns_seen names.now.subject) (items_seen names.now.referencing) }
+    ensures { result ≡ list_any
+        (unknown_action (names_seen names.now) (ranges_seen ranges.now)) body.now }
 {
     body.iter()
         .any(|action| unknown_action(action, &*names, &*ranges))

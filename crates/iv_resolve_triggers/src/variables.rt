@@ -45,7 +45,8 @@ pub fn trigger_names<'a>(trigger: &'a TriggerDefinition, catalogue: &'a Catalogu
 
 /// The row variables of a trigger as ranges.
 pub fn variables<'a>(names: &Names<'a>) -> Ranges<'a>
-    ensures { ranges_seen result ≡ row_variables (columns_seen names.now.subject) (items_seen names.now.referencing) }
+    ensures { ranges_seen result
+        ≡ row_variables (columns_seen names.now.subject) (items_seen names.now.referencing) }
 {
     Ranges::Variables(names.referencing, names.subject)
 }
@@ -53,7 +54,9 @@ pub fn variables<'a>(names: &Names<'a>) -> Ranges<'a>
 /// The row variable of that name.
 #[tactic(auto, using(crate::proofs::Named::named_first))]
 pub fn variable_named(names: &Names<'_>, name: &str) -> Option<Origin>
-    ensures { result ≡ variable_named (row_variables (columns_seen names.now.subject) (items_seen names.now.referencing)) name.now }
+    ensures { result ≡ variable_named
+        (row_variables (columns_seen names.now.subject) (items_seen names.now.referencing))
+        name.now }
 {
     match names.referencing.side(TransitionName::Row, name) {
         Some(side) => Some(Origin::Variable(side)),

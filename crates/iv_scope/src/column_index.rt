@@ -73,7 +73,8 @@ impl Model for ColumnIndex {
 
     ghost view = { λ x. x.columns.items };
 
-    ghost invariant = { λ x. (name : List ℕ) → get_by_text x.firsts name ≡ first_from 0 x.columns.items name };
+    ghost invariant = { λ x. (name : List ℕ)
+        → get_by_text x.firsts name ≡ first_from 0 x.columns.items name };
 }
 
 // The columns that the elements define.
@@ -97,7 +98,8 @@ fn note(
     column: FirstColumn,
 ) -> Result<(), AllocError>
     ensures { OnOk result ((other : List ℕ) → get_by_text firsts.new other
-        ≡ option_or (get_by_text firsts.old other) (if bytes_eq other name.now then Some column else None)) }
+        ≡ option_or (get_by_text firsts.old other)
+        (if bytes_eq other name.now then Some column else None)) }
 {
     if firsts.contains_key(name) {
         return Ok(());
@@ -112,7 +114,8 @@ fn firsts_of(
     alloc: Global,
     columns: &[NamedColumn],
 ) -> Result<BTreeMap<String, FirstColumn>, AllocError>
-    ensures { IfOk result (λ m. (name : List ℕ) → get_by_text m name ≡ first_from 0 columns.now name) }
+    ensures { IfOk result (λ m. (name : List ℕ)
+        → get_by_text m name ≡ first_from 0 columns.now name) }
 {
     let mut firsts = BTreeMap::new(alloc);
     let mut place = 0usize;

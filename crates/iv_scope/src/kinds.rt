@@ -152,7 +152,8 @@ pub fn misshaped_condition<'a>(
     ranges: &'a Ranges<'a>,
 ) -> bool
     requires { length names.now.tables.now ≤ MOST_TABLES }
-    ensures { result ≡ misshaped_condition (names_seen names.now) (ranges_seen ranges.now) condition.now }
+    ensures { result ≡ misshaped_condition (names_seen names.now)
+        (ranges_seen ranges.now) condition.now }
 {
     match condition {
         Condition::Compare(_, a, b) => {

@@ -38,7 +38,8 @@ impl NameSet {
     /// Adds a name, and says whether it is new.
     pub fn add(&mut self, alloc: Global, name: &str) -> Result<bool, AllocError>
         ensures new { IfOk result (λ added. added ≡ not (is_among self.old name.now)) }
-        ensures names { IfOk result (λ added. self.new ≡ (if added then self.old ++ name.now ∷ [] else self.old)) }
+        ensures names { IfOk result (λ added. self.new
+            ≡ (if added then self.old ++ name.now ∷ [] else self.old)) }
     {
         if self.places.contains_key(name) {
             return Ok(false);

@@ -145,7 +145,8 @@ pub fn source_range(names: &Names<'_>, name: &str) -> Range
 #[tactic(auto, unfolding(iv_resolution::specs::Scopes::range_of))]
 pub fn inside<'a>(range: &'a RangeName, names: &'a Names<'a>, outer: &'a Ranges<'a>) -> Ranges<'a>
     requires { length names.now.tables.now ≤ MOST_TABLES }
-    ensures { ranges_seen result ≡ range_of (names_seen names.entry.now) range.entry.now ∷ ranges_seen outer.entry.now }
+    ensures { ranges_seen result
+        ≡ range_of (names_seen names.entry.now) range.entry.now ∷ ranges_seen outer.entry.now }
 {
     let columns = source_columns(names, range.table.as_str());
     match &range.alias {

@@ -39,7 +39,11 @@ fn count_outward(origin: Origin, outward: u32) -> u32
 
 fn found_in(columns: &Columns<'_>, origin: Origin, outward: u32, name: &str) -> Option<Found>
     ensures { option_map found_seen result
-        ≡ found_in (record { name = []; columns = columns_seen columns.now; origin = origin }) outward name.now }
+        ≡ found_in (record {
+          name = [];
+          columns = columns_seen columns.now;
+          origin = origin;
+        }) outward name.now }
 {
     match columns.type_named(name) {
         Some(kind) => Some(Found {
@@ -62,7 +66,8 @@ fn variable_column(
     outward: u32,
 ) -> Option<Found>
     ensures { option_map found_seen result
-        ≡ qualified range.now name.now outward (row_variables (columns_seen columns.now) (items_seen items.now)) }
+        ≡ qualified range.now name.now outward
+        (row_variables (columns_seen columns.now) (items_seen items.now)) }
 {
     match items.side(TransitionName::Row, range) {
         Some(side) => found_in(columns, Origin::Variable(side), outward, name),
@@ -92,7 +97,8 @@ fn unqualified<'a>(ranges: &'a Ranges<'a>, name: &str, outward: u32) -> Option<F
 
 // The column of the innermost range or row variable of that name.
 fn qualified<'a>(ranges: &'a Ranges<'a>, range: &str, name: &str, outward: u32) -> Option<Found>
-    ensures { option_map found_seen result ≡ qualified range.now name.now outward (ranges_seen ranges.now) }
+    ensures { option_map found_seen result
+        ≡ qualified range.now name.now outward (ranges_seen ranges.now) }
 {
     match ranges {
         Ranges::Nothing => None,

@@ -30,7 +30,8 @@ impl Model for ReferencingIndex {
 
     ghost view = { λ x. x.items.items };
 
-    ghost invariant = { λ x. ((name : List ℕ) → get_by_text x.variables name ≡ first_side Row x.items.items name)
+    ghost invariant = { λ x. ((name : List ℕ)
+        → get_by_text x.variables name ≡ first_side Row x.items.items name)
         × ((name : List ℕ) → get_by_text x.tables name ≡ first_side Table x.items.items name) };
 }
 
@@ -66,7 +67,8 @@ fn note(
     side: Side,
 ) -> Result<(), AllocError>
     ensures { OnOk result ((other : List ℕ) → get_by_text sides.new other
-        ≡ option_or (get_by_text sides.old other) (if bytes_eq other name.now then Some side else None)) }
+        ≡ option_or (get_by_text sides.old other)
+        (if bytes_eq other name.now then Some side else None)) }
 {
     if sides.contains_key(name) {
         return Ok(());
@@ -82,7 +84,8 @@ fn sides_of(
     items: &[Referencing],
     what: TransitionName,
 ) -> Result<BTreeMap<String, Side>, AllocError>
-    ensures { IfOk result (λ m. (name : List ℕ) → get_by_text m name ≡ first_side what items.now name) }
+    ensures { IfOk result (λ m. (name : List ℕ)
+        → get_by_text m name ≡ first_side what items.now name) }
 {
     let mut sides = BTreeMap::new(alloc);
     for item in items {

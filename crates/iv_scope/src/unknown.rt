@@ -36,7 +36,8 @@ pub fn unknown_condition<'a>(
     ranges: &'a Ranges<'a>,
 ) -> bool
     requires { length names.now.tables.now ≤ MOST_TABLES }
-    ensures { result ≡ unknown_condition (names_seen names.now) (ranges_seen ranges.now) condition.now }
+    ensures { result ≡ unknown_condition (names_seen names.now)
+        (ranges_seen ranges.now) condition.now }
 {
     match condition {
         Condition::Compare(_, a, b) => {

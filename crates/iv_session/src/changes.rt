@@ -36,9 +36,12 @@ fn run_change<K: Keeper>(
     begins: bool,
 ) -> Result<u64, Refusal>
     requires store { StoreFits catalogue.now (K.view store.old) }
-    requires statement { data_suits catalogue.now.tables (plain_shape catalogue.now.tables) statement.now ≡ true }
-    ensures changes { Changes begins (K.view store.old) (said_of catalogue.now modes.now.modes limits statement.now (K.view store.old).base)
-        result (K.view store.new) (record { changes = work.new.changes; undone = work.new.undone }) }
+    requires statement { data_suits catalogue.now.tables
+        (plain_shape catalogue.now.tables) statement.now ≡ true }
+    ensures changes { Changes begins (K.view store.old)
+        (said_of catalogue.now modes.now.modes limits statement.now (K.view store.old).base)
+        result (K.view store.new)
+        (record { changes = work.new.changes; undone = work.new.undone }) }
     ensures store { StoreFits catalogue.now (K.view store.new) }
 {
     let before = store.standing();
@@ -66,7 +69,8 @@ fn run_change<K: Keeper>(
 fn outside_triggers(refusal: Refusal, untriggered: bool) -> Refusal
     ensures other { is_memory_cause refusal.cause ≡ false → result ≡ refusal }
     ensures memory { is_memory_cause refusal.cause ≡ true → is_memory_cause result.cause ≡ true }
-    ensures outside { untriggered ≡ true → is_memory_cause refusal.cause ≡ true → result ≡ out_of_memory }
+    ensures outside { untriggered ≡ true → is_memory_cause refusal.cause ≡ true
+        → result ≡ out_of_memory }
 {
     match refusal.cause {
         Cause::OutOfMemory => {
@@ -83,8 +87,10 @@ fn outside_triggers(refusal: Refusal, untriggered: bool) -> Refusal
 impl<K: Keeper + Drop> Session<K> {
     // INSERT, UPDATE and DELETE.
     pub(crate) fn change(&mut self, statement: &DataStatement) -> Outcome
-        requires { data_suits self.old.state.schema.tables (plain_shape self.old.state.schema.tables) statement.now ≡ true }
-        ensures { Follows self.old.state (change_outcome self.old.state statement.now) result self.new }
+        requires { data_suits self.old.state.schema.tables
+            (plain_shape self.old.state.schema.tables) statement.now ≡ true }
+        ensures { Follows self.old.state
+            (change_outcome self.old.state statement.now) result self.new }
     {
         let begins = !self.active;
         match run_change(

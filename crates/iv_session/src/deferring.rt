@@ -72,7 +72,8 @@ impl<K: Keeper + Drop> Session<K> {
     // Sets the modes of these constraints.
     fn set_modes(&mut self, ids: &[ConstraintId], mode: ConstraintMode) -> Outcome
         requires { is_open self.old.state ≡ true }
-        ensures { Performs self.old.state (set_constraints_outcome self.old.state ids.now mode) result self.new }
+        ensures { Performs self.old.state
+            (set_constraints_outcome self.old.state ids.now mode) result self.new }
     {
         self.work = Work::none();
         let mut modes = self.modes().copy()?;
@@ -94,7 +95,8 @@ impl<K: Keeper + Drop> Session<K> {
     pub(crate) fn set_constraints(&mut self, set: &ConstraintSet, mode: ConstraintMode) -> Outcome
         requires { is_open self.old.state ≡ true }
         ensures { Performs self.old.state
-            (set_constraints_outcome self.old.state (constraints_meant self.old.state.schema set.now) mode) result self.new }
+            (set_constraints_outcome self.old.state
+            (constraints_meant self.old.state.schema set.now) mode) result self.new }
     {
         match set {
             ConstraintSet::All => {

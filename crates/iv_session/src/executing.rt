@@ -25,8 +25,10 @@ impl<K: Keeper + Drop> Session<K> {
 
     // ROLLBACK TO SAVEPOINT, refused outside a transaction.
     fn back_to_or_refuse(&mut self, name: &str) -> Outcome
-        ensures { Performs self.old.state (outcome_unless self.old.state (transaction_cause (is_open self.old.state) inside)
-            (rollback_to_outcome self.old.state (savepoint_named name.now self.old.state.savepoints))) result self.new }
+        ensures { Performs self.old.state
+            (outcome_unless self.old.state (transaction_cause (is_open self.old.state) inside)
+            (rollback_to_outcome self.old.state
+            (savepoint_named name.now self.old.state.savepoints))) result self.new }
     {
         if self.in_transaction() {
             self.back_to(name)
@@ -39,8 +41,10 @@ impl<K: Keeper + Drop> Session<K> {
     /// refused and the state is as before.
     pub fn execute(&mut self, statement: &Statement) -> Outcome
         ensures step { Executes self.old.state statement.now result self.new.state }
-        ensures sure { takes_no_memory self.old.state statement.now ≡ true → is_memory result ≡ false }
-        ensures work { MatchBool (is_memory result) (Unit {0}) (self.new.work ≡ (step self.old.state statement.now).work) }
+        ensures sure { takes_no_memory self.old.state statement.now ≡ true
+            → is_memory result ≡ false }
+        ensures work { MatchBool (is_memory result) (Unit {0}) (self.new.work
+            ≡ (step self.old.state statement.now).work) }
         ensures lookups { self.new.lookups ≡ self.new.looked - self.old.looked }
     {
         let looked = self.looked();
@@ -69,8 +73,10 @@ impl<K: Keeper + Drop> Session<K> {
     /// those of the machine, or memory was refused and the state is as before.
     pub fn rollback_to(&mut self, name: &str) -> Outcome
         ensures lookups { self.new.lookups ≡ self.new.looked - self.old.looked }
-        ensures performs { Performs self.old.state (outcome_unless self.old.state (transaction_cause (is_open self.old.state) inside)
-            (rollback_to_outcome self.old.state (savepoint_named name.now self.old.state.savepoints))) result self.new }
+        ensures performs { Performs self.old.state
+            (outcome_unless self.old.state (transaction_cause (is_open self.old.state) inside)
+            (rollback_to_outcome self.old.state
+            (savepoint_named name.now self.old.state.savepoints))) result self.new }
     {
         let looked = self.looked();
         let answer = self.back_to_or_refuse(name);

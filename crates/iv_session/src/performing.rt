@@ -30,7 +30,8 @@ impl<K: Keeper + Drop> Session<K> {
 
     // ROLLBACK.
     pub(crate) fn give_up(&mut self) -> Outcome
-        ensures performs { Performs self.old.state (rollback_outcome self.old.state) result self.new }
+        ensures performs { Performs self.old.state
+            (rollback_outcome self.old.state) result self.new }
         ensures sure { is_memory result ≡ false }
     {
         self.rollback();
@@ -39,8 +40,10 @@ impl<K: Keeper + Drop> Session<K> {
 
     // A statement of transaction management.
     pub(crate) fn transact(&mut self, plan: &TransactionPlan) -> Outcome
-        requires { transaction_cause (is_open self.old.state) (transaction_occasion plan.now) ≡ None }
-        ensures { Performs self.old.state (transaction_outcome self.old.state plan.now) result self.new }
+        requires { transaction_cause (is_open self.old.state) (transaction_occasion plan.now)
+            ≡ None }
+        ensures { Performs self.old.state
+            (transaction_outcome self.old.state plan.now) result self.new }
     {
         match plan {
             TransactionPlan::Start => self.start(),
@@ -71,7 +74,8 @@ impl<K: Keeper + Drop> Session<K> {
 
     // A data statement that is handed over.
     fn change_whole(&mut self, statement: DataStatement) -> Outcome
-        requires { data_suits self.old.state.schema.tables (plain_shape self.old.state.schema.tables) statement ≡ true }
+        requires { data_suits self.old.state.schema.tables
+            (plain_shape self.old.state.schema.tables) statement ≡ true }
         ensures { Follows self.old.state (change_outcome self.old.state statement) result self.new }
     {
         let answer = self.change(&statement);
@@ -91,7 +95,8 @@ impl<K: Keeper + Drop> Session<K> {
     // A statement of transaction management that is handed over.
     fn transact_whole(&mut self, plan: TransactionPlan) -> Outcome
         requires { transaction_cause (is_open self.old.state) (transaction_occasion plan) ≡ None }
-        ensures { Performs self.old.state (transaction_outcome self.old.state plan) result self.new }
+        ensures { Performs self.old.state
+            (transaction_outcome self.old.state plan) result self.new }
     {
         let answer = self.transact(&plan);
         drop(plan);
@@ -115,7 +120,8 @@ impl<K: Keeper + Drop> Session<K> {
     fn resolve_and_perform(&mut self, statement: &Statement) -> Outcome
         requires { transaction_cause (is_open self.old.state) (occasion_of statement.now) ≡ None }
         ensures { Runs self.old.state statement.now
-            (resolution_outcome self.old.state (resolution self.old.state.schema statement.now)) result self.new }
+            (resolution_outcome self.old.state (resolution self.old.state.schema statement.now))
+            result self.new }
     {
         self.work = Work::none();
         match resolve(self.store.allocator(), &self.catalogue, statement) {
@@ -155,8 +161,10 @@ impl<K: Keeper + Drop> Session<K> {
 
     // What a statement does, but for the count of look-ups.
     pub(crate) fn run(&mut self, statement: &Statement) -> Outcome
-        ensures runs { Runs self.old.state statement.now (step self.old.state statement.now) result self.new }
-        ensures sure { takes_no_memory self.old.state statement.now ≡ true → is_memory result ≡ false }
+        ensures runs { Runs self.old.state statement.now
+            (step self.old.state statement.now) result self.new }
+        ensures sure { takes_no_memory self.old.state statement.now ≡ true
+            → is_memory result ≡ false }
     {
         match self.transaction_cause(statement) {
             Some(cause) => return self.refuse_now(cause),

@@ -65,7 +65,8 @@ fn take_out<K: Keeper>(store: &mut K, saves: &mut Vec<Saved>, place: usize)
 // Takes the savepoints of a name out, with their marks.
 fn take_named<K: Keeper>(store: &mut K, saves: &mut Vec<Saved>, name: &str)
     requires { length saves.old.items < length (K.view store.old).marks }
-    ensures without { IsWithout name.now saves.old.items (K.view store.old) saves.new.items (K.view store.new) }
+    ensures without { IsWithout name.now saves.old.items (K.view store.old) saves.new.items
+        (K.view store.new) }
     ensures fewer { length saves.new.items ≤ length saves.old.items }
     ensures capacity { vec_capacity saves.new ≡ vec_capacity saves.old }
     ensures unlooked { K.lookups store.new ≡ K.lookups store.old }
@@ -80,7 +81,8 @@ fn take_from<K: Keeper>(store: &mut K, saves: &mut Vec<Saved>, place: usize)
     requires there { place ≤ length saves.old.items }
     requires room { length (K.view store.old).marks ≡ length saves.old.items + 1 }
     ensures saves { saves.new.items ≡ take place saves.old.items }
-    ensures store { K.view store.new ≡ with_marks (K.view store.old) (take (place + 1) (K.view store.old).marks) }
+    ensures store { K.view store.new
+        ≡ with_marks (K.view store.old) (take (place + 1) (K.view store.old).marks) }
     ensures unlooked { K.lookups store.new ≡ K.lookups store.old }
 {
     let mut left = saves.len();
@@ -100,7 +102,8 @@ impl<K: Keeper + Drop> Session<K> {
     // START TRANSACTION, and what a data statement begins.
     pub(crate) fn start(&mut self) -> Outcome
         requires { is_open self.old.state ≡ false }
-        ensures { Performs self.old.state (accept (with_transaction self.old.state) Done) result self.new }
+        ensures { Performs self.old.state
+            (accept (with_transaction self.old.state) Done) result self.new }
     {
         let _ = self.store.mark()?;
         self.active = true;
@@ -111,7 +114,8 @@ impl<K: Keeper + Drop> Session<K> {
     // SAVEPOINT.
     pub(crate) fn savepoint(&mut self, name: &Name) -> Outcome
         requires { is_open self.old.state ≡ true }
-        ensures { Performs self.old.state (accept (state_with_savepoint self.old.state name.now) Done) result self.new }
+        ensures { Performs self.old.state
+            (accept (state_with_savepoint self.old.state name.now) Done) result self.new }
     {
         let own = name.clone()?;
         let modes = copied(&self.changed)?;
@@ -130,7 +134,8 @@ impl<K: Keeper + Drop> Session<K> {
     pub(crate) fn release(&mut self, name: &Name) -> Outcome
         requires { is_open self.old.state ≡ true }
         ensures { Performs self.old.state
-            (release_outcome self.old.state (savepoint_named name.now self.old.state.savepoints)) result self.new }
+            (release_outcome self.old.state (savepoint_named name.now self.old.state.savepoints))
+            result self.new }
     {
         self.work = Work::none();
         match last_named(self.saves.as_slice(), name.as_str()) {
@@ -146,7 +151,8 @@ impl<K: Keeper + Drop> Session<K> {
     pub(crate) fn back_to(&mut self, name: &str) -> Outcome
         requires { is_open self.old.state ≡ true }
         ensures { Performs self.old.state
-            (rollback_to_outcome self.old.state (savepoint_named name.now self.old.state.savepoints)) result self.new }
+            (rollback_to_outcome self.old.state
+            (savepoint_named name.now self.old.state.savepoints)) result self.new }
     {
         self.work = Work::none();
         let place = match last_named(self.saves.as_slice(), name) {

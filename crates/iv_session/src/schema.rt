@@ -29,9 +29,11 @@ fn copy_table<K: Keeper>(
     requires unmarked { (K.view store.old).marks ≡ [] }
     requires own { AllOn (length (K.view store.old).tables) constraints.now }
     requires keys { has_keys (K.view store.old) constraints.now ≡ true }
-    requires few { length (K.view store.old).constraints + length constraints.now ≤ MOST_TABLES * MOST_CONSTRAINTS }
+    requires few { length
+        (K.view store.old).constraints + length constraints.now ≤ MOST_TABLES * MOST_CONSTRAINTS }
     ensures modes { IfOk result (λ modes. modes ≡ initial_map catalogue.now.constraints) }
-    ensures ok { OnOk result (K.view store.new ≡ store_with_table (K.view store.old) table.now constraints.now) }
+    ensures ok { OnOk result (K.view store.new
+        ≡ store_with_table (K.view store.old) table.now constraints.now) }
     ensures err { OnErr result (K.view store.new ≡ K.view store.old) }
 {
     let modes = Modes::initial(store.allocator(), catalogue)?;
@@ -53,7 +55,8 @@ fn add_table<K: Keeper>(
     requires fits { TableFits catalogue.old table constraints }
     ensures modes { IfOk result (λ modes. modes ≡ initial_map catalogue.new.constraints) }
     ensures catalogue { OnOk result (catalogue.new ≡ with_table catalogue.old table constraints) }
-    ensures store { OnOk result (K.view store.new ≡ store_with_table (K.view store.old) table constraints) }
+    ensures store { OnOk result (K.view store.new
+        ≡ store_with_table (K.view store.old) table constraints) }
     ensures same { OnErr result (catalogue.new ≡ catalogue.old) }
     ensures kept { OnErr result (K.view store.new ≡ K.view store.old) }
 {
@@ -82,7 +85,8 @@ fn copy_constraint<K: Keeper>(
     requires few { length (K.view store.old).constraints < MOST_TABLES * MOST_CONSTRAINTS }
     ensures answer { AnswersAdding (first_violating_row (K.view store.old) constraint.now) result }
     ensures modes { IfOk result (λ modes. modes ≡ initial_map catalogue.now.constraints) }
-    ensures ok { OnOk result (K.view store.new ≡ store_with_constraint (K.view store.old) constraint.now) }
+    ensures ok { OnOk result (K.view store.new
+        ≡ store_with_constraint (K.view store.old) constraint.now) }
     ensures err { OnErr result (K.view store.new ≡ K.view store.old) }
 {
     let modes = Modes::initial(store.allocator(), catalogue)?;
@@ -103,7 +107,8 @@ fn add_constraint<K: Keeper>(
     ensures answer { AnswersAdding (first_violating_row (K.view store.old) constraint) result }
     ensures modes { IfOk result (λ modes. modes ≡ initial_map catalogue.new.constraints) }
     ensures catalogue { OnOk result (catalogue.new ≡ with_constraint catalogue.old constraint) }
-    ensures store { OnOk result (K.view store.new ≡ store_with_constraint (K.view store.old) constraint) }
+    ensures store { OnOk result (K.view store.new
+        ≡ store_with_constraint (K.view store.old) constraint) }
     ensures same { OnErr result (catalogue.new ≡ catalogue.old) }
     ensures kept { OnErr result (K.view store.new ≡ K.view store.old) }
 {
@@ -134,7 +139,8 @@ impl<K: Keeper + Drop> Session<K> {
     pub(crate) fn create_table(&mut self, table: Table, constraints: Constraints) -> Outcome
         requires { SchemaFits self.old.state (CreateTable table constraints) }
         ensures { Performs self.old.state
-            (accept (with_schema self.old.state (with_table self.old.state.schema table constraints)) Done) result self.new }
+            (accept (with_schema self.old.state
+            (with_table self.old.state.schema table constraints)) Done) result self.new }
     {
         self.work = Work::none();
         match add_table(&mut self.store, &mut self.catalogue, table, constraints) {
@@ -149,7 +155,8 @@ impl<K: Keeper + Drop> Session<K> {
     // ALTER TABLE ADD.
     pub(crate) fn add_constraint(&mut self, constraint: Constraint) -> Outcome
         requires { SchemaFits self.old.state (AddConstraint constraint) }
-        ensures { Performs self.old.state (add_constraint_outcome self.old.state constraint) result self.new }
+        ensures { Performs self.old.state
+            (add_constraint_outcome self.old.state constraint) result self.new }
     {
         self.work = Work::none();
         match add_constraint(&mut self.store, &mut self.catalogue, constraint) {
@@ -165,7 +172,8 @@ impl<K: Keeper + Drop> Session<K> {
     pub(crate) fn create_trigger(&mut self, trigger: Trigger) -> Outcome
         requires { SchemaFits self.old.state (CreateTrigger trigger) }
         ensures { Performs self.old.state
-            (accept (with_schema self.old.state (with_trigger self.old.state.schema trigger)) Done) result self.new }
+            (accept (with_schema self.old.state (with_trigger self.old.state.schema trigger)) Done)
+            result self.new }
     {
         self.work = Work::none();
         match self.catalogue.add_trigger(trigger) {
@@ -177,7 +185,8 @@ impl<K: Keeper + Drop> Session<K> {
     // DROP TRIGGER.
     pub(crate) fn drop_trigger(&mut self, id: TriggerId)
         requires { SchemaFits self.old.state (DropTrigger id) }
-        ensures state { self.new.state ≡ with_schema self.old.state (without_trigger self.old.state.schema id) }
+        ensures state { self.new.state
+            ≡ with_schema self.old.state (without_trigger self.old.state.schema id) }
         ensures work { self.new.work ≡ record { changes = 0; undone = 0 } }
     {
         self.work = Work::none();

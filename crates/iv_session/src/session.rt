@@ -74,19 +74,37 @@ impl<K: Keeper + Drop> Model for Session<K> {
     ghost coded = { Prim.hlevel (codes, cond.the_row.coded, expr.the_row.coded) };
 
     ghost view = { λ s. record {
-      state = state_of (record { schema = s.catalogue; limits = s.limits; store = K.view s.store; initial = s.initial; changed = s.changed; active = s.active; saves = s.saves.items });
+      state = state_of (record {
+        schema = s.catalogue;
+        limits = s.limits;
+        store = K.view s.store;
+        initial = s.initial;
+        changed = s.changed;
+        active = s.active;
+        saves = s.saves.items;
+      });
       work = record { changes = s.work.changes; undone = s.work.undone };
       lookups = s.work.lookups;
       looked = K.lookups s.store;
     } };
 
-    ghost invariant = { λ s. Kept (record { schema = s.catalogue; limits = s.limits; store = K.view s.store; initial = s.initial; changed = s.changed; active = s.active; saves = s.saves.items }) };
+    ghost invariant = { λ s.
+        Kept (record {
+          schema = s.catalogue;
+          limits = s.limits;
+          store = K.view s.store;
+          initial = s.initial;
+          changed = s.changed;
+          active = s.active;
+          saves = s.saves.items;
+        }) };
 }
 
 impl<K: Keeper + Drop> Session<K> {
     /// A session over no table, with these limits.
     pub fn new(alloc: Global, limits: Limits) -> Result<Self, AllocError>
-        ensures { IfOk result (λ s. s ≡ record { state = empty_state limits; work = no_work; lookups = 0; looked = 0 }) }
+        ensures { IfOk result (λ s. s
+            ≡ record { state = empty_state limits; work = no_work; lookups = 0; looked = 0 }) }
     {
         let catalogue = Catalogue::new(alloc);
         let initial = match Modes::initial(alloc, &catalogue) {

@@ -16,7 +16,8 @@ impl<K: Keeper + Drop> Session<K> {
     // The modes of the constraints.
     pub(crate) fn modes(&self) -> &Modes
         ensures modes { result.now.modes ≡ self.now.state.modes }
-        ensures settable { result.now.deferrable ≡ map (λ c. c.deferrable) self.now.state.schema.constraints }
+        ensures settable { result.now.deferrable
+            ≡ map (λ c. c.deferrable) self.now.state.schema.constraints }
     {
         match &self.changed {
             Some(modes) => modes,
@@ -27,7 +28,8 @@ impl<K: Keeper + Drop> Session<K> {
     /// The violations of deferred constraints, by the constraint's creation, then by row.
     pub fn pending(&self) -> Result<Vec<Fault>, AllocError>
         ensures { IfOk result (λ faults. faults.items ≡
-            scan self.now.state.database.rows self.now.state.schema.constraints (is_chosen self.now.state.modes Deferred)) }
+            scan self.now.state.database.rows self.now.state.schema.constraints
+            (is_chosen self.now.state.modes Deferred)) }
     {
         self.store.list_faults(self.modes(), Which::Deferred)
     }
@@ -36,7 +38,8 @@ impl<K: Keeper + Drop> Session<K> {
     /// there. It takes no memory.
     pub fn pending_count(&self) -> u64
         ensures { result ≡ min (length (scan self.now.state.database.rows
-            self.now.state.schema.constraints (is_chosen self.now.state.modes Deferred))) (2 ^ 64 - 1) }
+            self.now.state.schema.constraints (is_chosen self.now.state.modes Deferred)))
+            (2 ^ 64 - 1) }
     {
         self.store.count_faults(self.modes(), Which::Deferred)
     }
@@ -50,7 +53,8 @@ impl<K: Keeper + Drop> Session<K> {
 
     // Why COMMIT is refused.
     fn commit_fault(&self) -> Option<Fault>
-        ensures { result ≡ (if is_open self.now.state then first_violation self.now.state else None) }
+        ensures { result
+            ≡ (if is_open self.now.state then first_violation self.now.state else None) }
     {
         if self.in_transaction() {
             self.first_violation()
@@ -121,7 +125,8 @@ impl<K: Keeper + Drop> Session<K> {
     // Ends the transaction with the database as it is.
     fn settle(&mut self)
         ensures state { self.new.state ≡
-            (if is_open self.old.state then state_at_end self.old.state self.old.state.database else self.old.state) }
+            (if is_open self.old.state then state_at_end self.old.state self.old.state.database else
+            self.old.state) }
         ensures work { self.new.work ≡ no_work }
         ensures lookups { self.new.lookups ≡ self.new.looked - self.old.looked }
     {
@@ -143,9 +148,11 @@ impl<K: Keeper + Drop> Session<K> {
         ensures lookups { self.new.lookups ≡ self.new.looked - self.old.looked }
         // Inside a transaction it is accepted exactly where the scan of all constraints is empty.
         ensures accepted { OnOk result (is_open self.old.state ≡ true →
-            scan self.old.state.database.rows self.old.state.schema.constraints (is_chosen self.old.state.modes All) ≡ []) }
+            scan self.old.state.database.rows self.old.state.schema.constraints
+            (is_chosen self.old.state.modes All) ≡ []) }
         ensures refused { OnErr result
-            (scan self.old.state.database.rows self.old.state.schema.constraints (is_chosen self.old.state.modes All) ≢ []) }
+            (scan self.old.state.database.rows self.old.state.schema.constraints
+            (is_chosen self.old.state.modes All) ≢ []) }
     {
         match self.commit_fault() {
             None => {

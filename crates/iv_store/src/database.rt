@@ -30,7 +30,8 @@ impl Model for PlainDatabase {
 
     ghost view = { λ d. record { rows = d.rows.items; next = d.next; count = d.count } };
 
-    ghost invariant = { λ d. InBounds (record { rows = d.rows.items; next = d.next; count = d.count }) };
+    ghost invariant = { λ d.
+        InBounds (record { rows = d.rows.items; next = d.next; count = d.count }) };
 }
 
 // The rows again, which share their values.

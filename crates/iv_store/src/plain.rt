@@ -41,7 +41,12 @@ impl Model for PlainStore {
 
     ghost coded = { Prim.hlevel (codes, cond.the_row.coded) };
 
-    ghost view = { λ s. record { tables = s.tables.items; constraints = s.constraints.items; base = s.database; marks = s.marks.items } };
+    ghost view = { λ s. record {
+      tables = s.tables.items;
+      constraints = s.constraints.items;
+      base = s.database;
+      marks = s.marks.items;
+    } };
 
     ghost invariant = { λ s. length s.constraints.items ≤ MOST_TABLES * MOST_CONSTRAINTS };
 }

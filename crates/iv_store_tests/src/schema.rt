@@ -159,7 +159,8 @@ fn add(store: &mut PlainStore, table: &Table, constraint: Constraint) -> Result<
 fn add_p(store: &mut PlainStore, alloc: Global) -> Result<(), AllocError>
     requires { store.old ≡ empty_store }
     ensures tables { OnOk result (length store.new.tables ≡ 1) }
-    ensures keys { OnOk result (map (λ c. c.rule) store.new.constraints ≡ rule.PrimaryKey (0 ∷ []) ∷ []) }
+    ensures keys { OnOk result (map (λ c. c.rule) store.new.constraints
+        ≡ rule.PrimaryKey (0 ∷ []) ∷ []) }
     ensures of_p { OnOk result (map (λ c. c.table) store.new.constraints ≡ 0 ∷ []) }
     ensures marks { OnOk result (store.new.marks ≡ []) }
 {

@@ -14,8 +14,10 @@ pub struct Placed<'a> {
 
 /// The table of that name, with its place.
 pub fn table_at<'a>(catalogue: &'a Catalogue, name: &str) -> Option<Placed<'a>>
-    ensures place { option_map (λ a. a.place) result ≡ table_place catalogue.entry.now.tables name.now }
-    ensures table { IfSome result (λ a. slice_get catalogue.entry.now.tables a.place ≡ Some a.table.now) }
+    ensures place { option_map (λ a. a.place) result
+        ≡ table_place catalogue.entry.now.tables name.now }
+    ensures table { IfSome result (λ a. slice_get catalogue.entry.now.tables a.place
+        ≡ Some a.table.now) }
 {
     let tables = catalogue.tables();
     let place = table_place(tables, name)?;

@@ -83,7 +83,8 @@ fn some_column_comes_again(
     set: &mut NameSet,
     elements: &[TableElement],
 ) -> Result<bool, AllocError>
-    ensures { IfOk result (λ found. found ≡ comes_again set.old (map (λ c. c.name) (written_columns elements.now))) }
+    ensures { IfOk result (λ found. found
+        ≡ comes_again set.old (map (λ c. c.name) (written_columns elements.now))) }
 {
     for element in elements {
         if let TableElement::Column(column) = element {
@@ -97,7 +98,8 @@ fn some_column_comes_again(
 
 #[tactic(auto, using(iv_scope::proofs::Sets::again_first))]
 fn repeats_column(alloc: Global, elements: &[TableElement]) -> Result<bool, AllocError>
-    ensures { IfOk result (λ found. found ≡ comes_twice (map (λ c. c.name) (written_columns elements.now))) }
+    ensures { IfOk result (λ found. found
+        ≡ comes_twice (map (λ c. c.name) (written_columns elements.now))) }
 {
     let mut set = NameSet::new(alloc);
     some_column_comes_again(alloc, &mut set, elements)
@@ -144,7 +146,8 @@ fn columns_come_twice(alloc: Global, elements: &[TableElement]) -> bool
 // ---- the names of the constraints
 
 fn generated_among(constraints: &[Constraint], table: &str, place: u128) -> bool
-    ensures { result ≡ list_any (λ k. bytes_eq (generated_name table.now place) k.name) constraints.now }
+    ensures { result ≡ list_any
+        (λ k. bytes_eq (generated_name table.now place) k.name) constraints.now }
 {
     constraints.iter().any(|constraint| is_named(table, place, &None, constraint.name.as_str()))
 }
@@ -165,7 +168,8 @@ fn is_used(
     place: u128,
     given: &Option<Name>,
 ) -> bool
-    ensures { result ≡ has_constraint catalogue.now (unwrap_or given.now (generated_name table.now place)) }
+    ensures { result ≡ has_constraint catalogue.now
+        (unwrap_or given.now (generated_name table.now place)) }
 {
     match given {
         Some(name) => has_constraint(catalogue, name.as_str()),
@@ -179,7 +183,8 @@ fn some_name_is_used(
     table: &str,
     elements: &[TableElement],
 ) -> bool
-    ensures { result ≡ list_any (has_constraint catalogue.now) (constraint_names table.now 1 (written_constraints elements.now)) }
+    ensures { result ≡ list_any (has_constraint catalogue.now)
+        (constraint_names table.now 1 (written_constraints elements.now)) }
 {
     let count = count_constraints(elements);
     let mut left = Left::Outside(elements);
@@ -202,7 +207,8 @@ fn constraint_comes_again(
     given: &Option<Name>,
 ) -> Result<bool, AllocError>
     ensures { IfOk result (λ found. (names : List (List ℕ))
-        → comes_again set.old (unwrap_or given.now (generated_name table.now place) ∷ names) ≡ (found || comes_again set.new names)) }
+        → comes_again set.old (unwrap_or given.now (generated_name table.now place) ∷ names)
+        ≡ (found || comes_again set.new names)) }
 {
     match given {
         Some(name) => comes_again(alloc, set, name.as_str()),
@@ -220,7 +226,8 @@ fn some_constraint_comes_again(
     table: &str,
     elements: &[TableElement],
 ) -> Result<bool, AllocError>
-    ensures { IfOk result (λ found. found ≡ comes_again set.old (constraint_names table.now 1 (written_constraints elements.now))) }
+    ensures { IfOk result (λ found. found
+        ≡ comes_again set.old (constraint_names table.now 1 (written_constraints elements.now))) }
 {
     let count = count_constraints(elements);
     let mut left = Left::Outside(elements);
@@ -241,7 +248,8 @@ fn repeats_constraint(
     table: &str,
     elements: &[TableElement],
 ) -> Result<bool, AllocError>
-    ensures { IfOk result (λ found. found ≡ comes_twice (constraint_names table.now 1 (written_constraints elements.now))) }
+    ensures { IfOk result (λ found. found
+        ≡ comes_twice (constraint_names table.now 1 (written_constraints elements.now))) }
 {
     let mut set = NameSet::new(alloc);
     some_constraint_comes_again(alloc, &mut set, table, elements)
@@ -250,7 +258,8 @@ fn repeats_constraint(
 // Whether one of the constraints that are left, the first of which has the place after this one, has its name.
 fn comes_later(table: &str, place: u128, given: &Option<Name>, left: &Left<'_>) -> bool
     requires { place + length (left_seen left.now) < 2 ^ 128 }
-    ensures { result ≡ is_among (constraint_names table.now (place + 1) (left_seen left.now)) (unwrap_or given.now (generated_name table.now place)) }
+    ensures { result ≡ is_among (constraint_names table.now (place + 1) (left_seen left.now))
+        (unwrap_or given.now (generated_name table.now place)) }
 {
     let mut rest = *left;
     let mut other = place;
@@ -266,7 +275,8 @@ fn comes_later(table: &str, place: u128, given: &Option<Name>, left: &Left<'_>) 
 
 #[tactic(auto, unfolding(iv_resolution::specs::Constraints::comes_twice))]
 fn repeats_constraint_in_place(table: &str, elements: &[TableElement]) -> bool
-    ensures { result ≡ comes_twice (constraint_names table.now 1 (written_constraints elements.now)) }
+    ensures { result ≡ comes_twice
+        (constraint_names table.now 1 (written_constraints elements.now)) }
 {
     let count = count_constraints(elements);
     let mut left = Left::Outside(elements);
@@ -282,7 +292,8 @@ fn repeats_constraint_in_place(table: &str, elements: &[TableElement]) -> bool
 }
 
 fn constraints_come_twice(alloc: Global, table: &str, elements: &[TableElement]) -> bool
-    ensures { result ≡ comes_twice (constraint_names table.now 1 (written_constraints elements.now)) }
+    ensures { result ≡ comes_twice
+        (constraint_names table.now 1 (written_constraints elements.now)) }
 {
     match repeats_constraint(alloc, table, elements) {
         Ok(found) => found,
@@ -316,7 +327,8 @@ fn next_is_used(
     given: &Option<Name>,
 ) -> bool
     ensures { result ≡ has_constraint catalogue.now
-        (unwrap_or given.now (generated_name table.now.name (length (constraints_of catalogue.now place) + 1))) }
+        (unwrap_or given.now
+        (generated_name table.now.name (length (constraints_of catalogue.now place) + 1))) }
 {
     let next = count_stored(catalogue, place) as u128 + 1;
     is_used(alloc, catalogue, table.name.as_str(), next, given)
@@ -329,7 +341,8 @@ fn added_name_is_used(
     catalogue: &Catalogue,
 ) -> bool
     ensures { result ≡ of_altered catalogue.now table.now
-        (λ own. has_constraint catalogue.now (added_name catalogue.now own (table_constraint constraint.now))) }
+        (λ own. has_constraint catalogue.now
+        (added_name catalogue.now own (table_constraint constraint.now))) }
 {
     let tables = catalogue.tables();
     match table_place(tables, table) {
@@ -349,7 +362,8 @@ pub fn duplicate_addition(
     catalogue: &Catalogue,
 ) -> bool
     ensures { result ≡ (of_altered catalogue.now table.now
-        (λ own. has_constraint catalogue.now (added_name catalogue.now own (table_constraint constraint.now)))
+        (λ own. has_constraint catalogue.now
+        (added_name catalogue.now own (table_constraint constraint.now)))
         || duplicate_rule (table_constraint constraint.now).rule) }
 {
     added_name_is_used(alloc, table, constraint, catalogue)

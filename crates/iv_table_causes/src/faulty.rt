@@ -34,7 +34,8 @@ fn faulty_own<'a>(
     names: &'a Option<Items<Name>>,
 ) -> bool
     requires { Knows keys.now (own_seen catalogue.now own.now).keys }
-    ensures { result ≡ faulty_reference (own_seen catalogue.now own.now).columns columns.now (reference_seen catalogue.now own.now) names.now }
+    ensures { result ≡ faulty_reference (own_seen catalogue.now own.now).columns columns.now
+        (reference_seen catalogue.now own.now) names.now }
 {
     let others = own_columns(own, catalogue);
     faulty_reference(&others, columns, own, catalogue, keys, names)
@@ -47,7 +48,8 @@ fn faulty_stored<'a>(
     columns: &[Name],
     references: &'a References,
 ) -> bool
-    ensures { result ≡ faulty_rule catalogue.now (own_seen catalogue.now own.now) (foreign_key columns.now references.now) }
+    ensures { result ≡ faulty_rule catalogue.now (own_seen catalogue.now own.now)
+        (foreign_key columns.now references.now) }
 {
     match referenced(own, catalogue, references.table.as_str()) {
         Some(table) => {
@@ -73,7 +75,8 @@ fn faulty_foreign_key<'a>(
     references: &'a References,
 ) -> bool
     requires { Knows keys.now (own_seen catalogue.now own.now).keys }
-    ensures { result ≡ faulty_rule catalogue.now (own_seen catalogue.now own.now) (foreign_key columns.now references.now) }
+    ensures { result ≡ faulty_rule catalogue.now (own_seen catalogue.now own.now)
+        (foreign_key columns.now references.now) }
 {
     if references.table.as_str() == own_name(own, catalogue) {
         faulty_own(own, catalogue, keys, columns, &references.columns)
@@ -89,7 +92,8 @@ fn faulty_rule<'a>(
     rule: &WrittenRule<'a>,
 ) -> bool
     requires { Knows keys.now (own_seen catalogue.now own.now).keys }
-    ensures { result ≡ faulty_rule catalogue.now (own_seen catalogue.now own.now) (rule_seen rule.now) }
+    ensures { result ≡ faulty_rule catalogue.now (own_seen catalogue.now own.now)
+        (rule_seen rule.now) }
 {
     match rule {
         WrittenRule::NotNull(_) => false,
@@ -110,7 +114,8 @@ fn faulty_constraint<'a>(
     constraint: &WrittenConstraint<'a>,
 ) -> bool
     requires { Knows keys.now (own_seen catalogue.now own.now).keys }
-    ensures { result ≡ faulty_constraint catalogue.now (own_seen catalogue.now own.now) (constraint_seen constraint.now) }
+    ensures { result ≡ faulty_constraint catalogue.now (own_seen catalogue.now own.now)
+        (constraint_seen constraint.now) }
 {
     is_contradictory(constraint.time) || faulty_rule(own, catalogue, keys, &constraint.rule)
 }
@@ -122,7 +127,8 @@ fn some_is_faulty<'a>(
     elements: &'a [TableElement],
 ) -> bool
     requires { Knows keys.now (own_seen catalogue.now own.now).keys }
-    ensures { result ≡ list_any (faulty_constraint catalogue.now (own_seen catalogue.now own.now)) (written_constraints elements.now) }
+    ensures { result ≡ list_any (faulty_constraint catalogue.now (own_seen catalogue.now own.now))
+        (written_constraints elements.now) }
 {
     let mut left = Left::Outside(elements);
     while let Some((constraint, rest)) = left.first() {
@@ -142,8 +148,10 @@ fn some_is_faulty_among<'a>(
     sets: &KeySets,
     elements: &'a [TableElement],
 ) -> bool
-    requires { Finds sets.now (λ names. list_any (is_reliable names) (own_seen catalogue.now own.now).keys) }
-    ensures { result ≡ list_any (faulty_constraint catalogue.now (own_seen catalogue.now own.now)) (written_constraints elements.now) }
+    requires { Finds sets.now
+        (λ names. list_any (is_reliable names) (own_seen catalogue.now own.now).keys) }
+    ensures { result ≡ list_any (faulty_constraint catalogue.now (own_seen catalogue.now own.now))
+        (written_constraints elements.now) }
 {
     let keys = OwnKeys::Found(alloc, primary_key(own, catalogue), sets);
     some_is_faulty(own, catalogue, &keys, elements)
@@ -157,8 +165,10 @@ fn some_is_faulty_of<'a>(
     catalogue: &'a Catalogue,
     elements: &'a [TableElement],
 ) -> bool
-    requires { (own_seen catalogue.now own.now).keys ≡ written_keys (own_seen catalogue.now own.now).columns (written_constraints elements.now) }
-    ensures { result ≡ list_any (faulty_constraint catalogue.now (own_seen catalogue.now own.now)) (written_constraints elements.now) }
+    requires { (own_seen catalogue.now own.now).keys
+        ≡ written_keys (own_seen catalogue.now own.now).columns (written_constraints elements.now) }
+    ensures { result ≡ list_any (faulty_constraint catalogue.now (own_seen catalogue.now own.now))
+        (written_constraints elements.now) }
 {
     match reliable_sets(alloc, elements) {
         Ok(sets) => some_is_faulty_among(alloc, own, catalogue, &sets, elements),
@@ -173,7 +183,9 @@ fn some_constraint_is_faulty(
     name: &str,
     elements: &[TableElement],
 ) -> bool
-    ensures { result ≡ list_any (faulty_constraint catalogue.now (created_table catalogue.now name.now elements.now)) (written_constraints elements.now) }
+    ensures { result ≡ list_any
+        (faulty_constraint catalogue.now (created_table catalogue.now name.now elements.now))
+        (written_constraints elements.now) }
 {
     match ColumnIndex::new(alloc, elements) {
         Ok(index) => {
@@ -207,7 +219,8 @@ fn faulty_added<'a>(
     catalogue: &'a Catalogue,
     constraint: &WrittenConstraint<'a>,
 ) -> bool
-    ensures { result ≡ faulty_addition catalogue.now (own_seen catalogue.now own.now) (constraint_seen constraint.now) }
+    ensures { result ≡ faulty_addition catalogue.now (own_seen catalogue.now own.now)
+        (constraint_seen constraint.now) }
 {
     (is_primary_rule(&constraint.rule) && primary_key(own, catalogue).is_some())
         || faulty_constraint(own, catalogue, &OwnKeys::Searched, constraint)
@@ -215,7 +228,8 @@ fn faulty_added<'a>(
 
 /// Whether the constraint of an ALTER TABLE is at fault, or a second primary key; false where its table isn't there.
 pub fn faulty_addition(catalogue: &Catalogue, name: &str, constraint: &TableConstraint) -> bool
-    ensures { result ≡ of_altered catalogue.now name.now (λ own. faulty_addition catalogue.now own (table_constraint constraint.now)) }
+    ensures { result ≡ of_altered catalogue.now name.now
+        (λ own. faulty_addition catalogue.now own (table_constraint constraint.now)) }
 {
     match table_at(catalogue, name) {
         Some(table) => {

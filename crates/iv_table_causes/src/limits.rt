@@ -41,7 +41,8 @@ fn type_beyond_limits(kind: ColumnType) -> bool
 }
 
 fn column_has_long_key(column: &Name, constraints: &[ColumnConstraint]) -> bool
-    ensures { result ≡ list_any (λ k. long_key k.rule) (map (column_constraint column.now) constraints.now) }
+    ensures { result ≡ list_any (λ k. long_key k.rule)
+        (map (column_constraint column.now) constraints.now) }
 {
     for constraint in constraints {
         if long_key(&column_constraint(column, constraint).rule) {

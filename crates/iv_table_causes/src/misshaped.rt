@@ -22,7 +22,8 @@ fn misshaped_check<'a>(
     condition: &'a Condition,
 ) -> bool
     requires { ranges_seen outside.now ≡ [] }
-    ensures { result ≡ misshaped_condition (names_of_own catalogue.now own.now) (check_ranges (own_seen catalogue.now own.now)) condition.now }
+    ensures { result ≡ misshaped_condition (names_of_own catalogue.now own.now)
+        (check_ranges (own_seen catalogue.now own.now)) condition.now }
 {
     let names = own_names(own, catalogue);
     let ranges = own_range(own, catalogue, outside);
@@ -37,7 +38,8 @@ pub fn misshaped_rule<'a>(
     rule: &'a WrittenRule<'a>,
 ) -> bool
     requires { ranges_seen outside.now ≡ [] }
-    ensures { result ≡ misshaped_rule (names_of_own catalogue.now own.now) (own_seen catalogue.now own.now) (rule_seen rule.now) }
+    ensures { result ≡ misshaped_rule (names_of_own catalogue.now own.now)
+        (own_seen catalogue.now own.now) (rule_seen rule.now) }
 {
     match rule {
         WrittenRule::NotNull(_) => false,
@@ -62,7 +64,9 @@ pub fn misshaped_table(
 
 /// Whether an integer meets a text in the constraint of an ALTER TABLE; false where its table isn't there.
 pub fn misshaped_addition(catalogue: &Catalogue, name: &str, constraint: &TableConstraint) -> bool
-    ensures { result ≡ of_altered catalogue.now name.now (λ own. misshaped_rule (table_names catalogue.now) own (table_constraint constraint.now).rule) }
+    ensures { result ≡ of_altered catalogue.now name.now
+        (λ own. misshaped_rule (table_names catalogue.now) own
+        (table_constraint constraint.now).rule) }
 {
     let outside = Ranges::Nothing;
     match table_at(catalogue, name) {

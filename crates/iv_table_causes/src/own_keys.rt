@@ -25,7 +25,8 @@ pub fn known_primary<'a>(
     keys: &OwnKeys<'a, '_>,
 ) -> Option<TableKey<'a>>
     requires { Knows keys.now (own_seen catalogue.now own.now).keys }
-    ensures { option_map key_seen result ≡ primary_key_of (own_seen catalogue.entry.now own.now).keys }
+    ensures { option_map key_seen result
+        ≡ primary_key_of (own_seen catalogue.entry.now own.now).keys }
 {
     match keys {
         OwnKeys::Searched => primary_key(own, catalogue),

@@ -28,7 +28,9 @@ fn is_primary_for_itself(rule: &TableRule) -> bool
 
 // How many of a column's constraints are primary keys, 2 for more.
 fn primary_of_column(column: &Name, constraints: &[ColumnConstraint]) -> usize
-    ensures { result ≡ min 2 (length (filter (λ k. is_primary_rule k.rule) (map (column_constraint column.now) constraints.now))) }
+    ensures { result ≡ min 2
+        (length (filter (λ k. is_primary_rule k.rule)
+        (map (column_constraint column.now) constraints.now))) }
 {
     let mut count = 0usize;
     for constraint in constraints {
@@ -40,7 +42,8 @@ fn primary_of_column(column: &Name, constraints: &[ColumnConstraint]) -> usize
 }
 
 fn primary_of_element(element: &TableElement) -> usize
-    ensures { result ≡ min 2 (length (filter (λ k. is_primary_rule k.rule) (element_constraints element.now))) }
+    ensures { result ≡ min 2
+        (length (filter (λ k. is_primary_rule k.rule) (element_constraints element.now))) }
 {
     match element {
         TableElement::Column(column) => {

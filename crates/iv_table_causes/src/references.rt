@@ -46,7 +46,8 @@ fn some_pair_differs(
     others: &Columns<'_>,
     referenced: &KeyColumns<'_>,
 ) -> bool
-    ensures { result ≡ some_pair_differs (columns_seen columns.now) (columns_seen others.now) (zip referencing.now (key_names referenced.now)) }
+    ensures { result ≡ some_pair_differs (columns_seen columns.now) (columns_seen others.now)
+        (zip referencing.now (key_names referenced.now)) }
 {
     for at in 0..referencing.len() {
         match referenced.name(at) {
@@ -69,7 +70,8 @@ fn pairs_differ(
     others: &Columns<'_>,
     referenced: &KeyColumns<'_>,
 ) -> bool
-    ensures { result ≡ pairs_differ (columns_seen columns.now) referencing.now (columns_seen others.now) (key_names referenced.now) }
+    ensures { result ≡ pairs_differ (columns_seen columns.now) referencing.now
+        (columns_seen others.now) (key_names referenced.now) }
 {
     referencing.len() != referenced.len()
         || some_pair_differs(columns, referencing, others, referenced)
@@ -85,7 +87,8 @@ fn faulty_list<'a>(
     names: &'a [Name],
 ) -> bool
     requires { Knows keys.now (own_seen catalogue.now table.now).keys }
-    ensures { result ≡ faulty_reference (columns_seen columns.now) referencing.now (reference_seen catalogue.now table.now) (Some names.now) }
+    ensures { result ≡ faulty_reference (columns_seen columns.now) referencing.now
+        (reference_seen catalogue.now table.now) (Some names.now) }
 {
     let others = own_columns(table, catalogue);
     let referenced = KeyColumns::Named(others, names);
@@ -102,7 +105,8 @@ fn faulty_primary<'a>(
     keys: &OwnKeys<'a, '_>,
 ) -> bool
     requires { Knows keys.now (own_seen catalogue.now table.now).keys }
-    ensures { result ≡ faulty_reference (columns_seen columns.now) referencing.now (reference_seen catalogue.now table.now) None }
+    ensures { result ≡ faulty_reference (columns_seen columns.now) referencing.now
+        (reference_seen catalogue.now table.now) None }
 {
     match known_primary(table, catalogue, keys) {
         Some(key) => {
@@ -124,7 +128,8 @@ pub fn faulty_reference<'a>(
     names: &'a Option<Items<Name>>,
 ) -> bool
     requires { Knows keys.now (own_seen catalogue.now table.now).keys }
-    ensures { result ≡ faulty_reference (columns_seen columns.now) referencing.now (reference_seen catalogue.now table.now) names.now }
+    ensures { result ≡ faulty_reference (columns_seen columns.now) referencing.now
+        (reference_seen catalogue.now table.now) names.now }
 {
     match names {
         Some(names) => {

@@ -46,7 +46,8 @@ fn asked_of_one<'a>(
     constraint: &'a ColumnConstraint,
 ) -> bool
     requires { ranges_seen outside.now ≡ [] }
-    ensures { result ≡ asked question catalogue.now own.now (column_constraint column.now constraint.now) }
+    ensures { result ≡ asked question catalogue.now own.now
+        (column_constraint column.now constraint.now) }
 {
     let written = column_constraint(column, constraint);
     asked(question, own, catalogue, outside, &written)
@@ -76,7 +77,8 @@ fn asked_of_column<'a>(
     constraints: &'a [ColumnConstraint],
 ) -> bool
     requires { ranges_seen outside.now ≡ [] }
-    ensures { result ≡ list_any (asked question catalogue.now own.now) (map (column_constraint column.now) constraints.now) }
+    ensures { result ≡ list_any (asked question catalogue.now own.now)
+        (map (column_constraint column.now) constraints.now) }
 {
     for constraint in constraints {
         if asked_of_one(question, own, catalogue, outside, column, constraint) {
@@ -94,7 +96,8 @@ fn asked_of_element<'a>(
     element: &'a TableElement,
 ) -> bool
     requires { ranges_seen outside.now ≡ [] }
-    ensures { result ≡ list_any (asked question catalogue.now own.now) (element_constraints element.now) }
+    ensures { result ≡ list_any (asked question catalogue.now own.now)
+        (element_constraints element.now) }
 {
     match element {
         TableElement::Column(column) => {
@@ -115,7 +118,8 @@ fn asked_of_elements<'a>(
     elements: &'a [TableElement],
 ) -> bool
     requires { ranges_seen outside.now ≡ [] }
-    ensures { result ≡ list_any (asked question catalogue.now own.now) (written_constraints elements.now) }
+    ensures { result ≡ list_any (asked question catalogue.now own.now)
+        (written_constraints elements.now) }
 {
     for element in elements {
         if asked_of_element(question, own, catalogue, outside, element) {
@@ -134,7 +138,8 @@ pub fn asked_of_table(
     name: &str,
     elements: &[TableElement],
 ) -> bool
-    ensures { result ≡ list_any (asked_of_new question catalogue.now name.now elements.now) (written_constraints elements.now) }
+    ensures { result ≡ list_any (asked_of_new question catalogue.now name.now elements.now)
+        (written_constraints elements.now) }
 {
     let outside = Ranges::Nothing;
     match ColumnIndex::new(alloc, elements) {

@@ -25,7 +25,8 @@ fn unknown_check<'a>(
     condition: &'a Condition,
 ) -> bool
     requires { ranges_seen outside.now ≡ [] }
-    ensures { result ≡ unknown_condition (names_of_own catalogue.now own.now) (check_ranges (own_seen catalogue.now own.now)) condition.now }
+    ensures { result ≡ unknown_condition (names_of_own catalogue.now own.now)
+        (check_ranges (own_seen catalogue.now own.now)) condition.now }
 {
     let names = own_names(own, catalogue);
     let ranges = own_range(own, catalogue, outside);
@@ -37,7 +38,8 @@ fn unknown_reference(
     catalogue: &Catalogue,
     names: &Option<Items<Name>>,
 ) -> bool
-    ensures { result ≡ unknown_reference (option_map (reference_seen catalogue.now) table.now) names.now }
+    ensures { result ≡ unknown_reference
+        (option_map (reference_seen catalogue.now) table.now) names.now }
 {
     match table {
         Some(table) => match names {
@@ -54,7 +56,8 @@ fn unknown_foreign_key<'a>(
     columns: &[Name],
     references: &References,
 ) -> bool
-    ensures { result ≡ unknown_rule catalogue.now (names_of_own catalogue.now own.now) (own_seen catalogue.now own.now) (foreign_key columns.now references.now) }
+    ensures { result ≡ unknown_rule catalogue.now (names_of_own catalogue.now own.now)
+        (own_seen catalogue.now own.now) (foreign_key columns.now references.now) }
 {
     unknown_names(&own_columns(own, catalogue), columns)
         || unknown_reference(
@@ -72,7 +75,8 @@ pub fn unknown_rule<'a>(
     rule: &'a WrittenRule<'a>,
 ) -> bool
     requires { ranges_seen outside.now ≡ [] }
-    ensures { result ≡ unknown_rule catalogue.now (names_of_own catalogue.now own.now) (own_seen catalogue.now own.now) (rule_seen rule.now) }
+    ensures { result ≡ unknown_rule catalogue.now (names_of_own catalogue.now own.now)
+        (own_seen catalogue.now own.now) (rule_seen rule.now) }
 {
     match rule {
         WrittenRule::NotNull(column) => !own_columns(own, catalogue).has(column.as_str()),
@@ -100,7 +104,9 @@ pub fn unknown_table(
 /// Whether the table of an ALTER TABLE isn't there, or a name in its constraint names nothing.
 pub fn unknown_addition(catalogue: &Catalogue, name: &str, constraint: &TableConstraint) -> bool
     ensures { result ≡ (not (is_there catalogue.now name.now)
-        || of_altered catalogue.now name.now (λ own. unknown_rule catalogue.now (table_names catalogue.now) own (table_constraint constraint.now).rule)) }
+        || of_altered catalogue.now name.now
+        (λ own. unknown_rule catalogue.now (table_names catalogue.now) own
+        (table_constraint constraint.now).rule)) }
 {
     let outside = Ranges::Nothing;
     match table_at(catalogue, name) {

@@ -72,7 +72,8 @@ pub fn is_named(table: &str, place: u128, given: &Option<Name>, name: &str) -> b
 
 // Whether a constraint has the name that is generated for another place.
 fn is_generated_for(table: &str, left: u128, given: &Option<Name>, right: u128) -> bool
-    ensures { result ≡ bytes_eq (unwrap_or given.now (generated_name table.now left)) (generated_name table.now right) }
+    ensures { result ≡ bytes_eq (unwrap_or given.now (generated_name table.now left))
+        (generated_name table.now right) }
 {
     match given {
         Some(name) => is_generated(name.as_str(), table, right),
@@ -88,7 +89,8 @@ pub fn are_same(
     right: u128,
     right_given: &Option<Name>,
 ) -> bool
-    ensures { result ≡ bytes_eq (unwrap_or left_given.now (generated_name table.now left)) (unwrap_or right_given.now (generated_name table.now right)) }
+    ensures { result ≡ bytes_eq (unwrap_or left_given.now (generated_name table.now left))
+        (unwrap_or right_given.now (generated_name table.now right)) }
 {
     match right_given {
         Some(name) => is_named(table, left, left_given, name.as_str()),

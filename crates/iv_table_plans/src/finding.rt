@@ -36,7 +36,8 @@ fn key_of_one<'a>(
     sought: &Sought<'_>,
 ) -> Option<TableKey<'a>>
     ensures { option_map key_seen result
-        ≡ find (is_sought sought.now) (written_keys (columns_seen columns.now) (constraint_seen constraint.now ∷ [])) }
+        ≡ find (is_sought sought.now)
+        (written_keys (columns_seen columns.now) (constraint_seen constraint.now ∷ [])) }
 {
     if_sought(written_key(*columns, constraint), sought)
 }
@@ -48,7 +49,9 @@ fn key_of_column<'a>(
     sought: &Sought<'_>,
 ) -> Option<TableKey<'a>>
     ensures { option_map key_seen result
-        ≡ find (is_sought sought.now) (written_keys (columns_seen columns.now) (map (column_constraint column.entry.now) constraints.entry.now)) }
+        ≡ find (is_sought sought.now)
+        (written_keys (columns_seen columns.now)
+        (map (column_constraint column.entry.now) constraints.entry.now)) }
 {
     for constraint in constraints {
         let written = column_constraint(column, constraint);
@@ -65,7 +68,8 @@ fn key_of_element<'a>(
     sought: &Sought<'_>,
 ) -> Option<TableKey<'a>>
     ensures { option_map key_seen result
-        ≡ find (is_sought sought.now) (written_keys (columns_seen columns.now) (element_constraints element.entry.now)) }
+        ≡ find (is_sought sought.now)
+        (written_keys (columns_seen columns.now) (element_constraints element.entry.now)) }
 {
     match element {
         TableElement::Column(column) => {
@@ -83,7 +87,8 @@ fn key_of_elements<'a>(
     sought: &Sought<'_>,
 ) -> Option<TableKey<'a>>
     ensures { option_map key_seen result
-        ≡ find (is_sought sought.now) (written_keys (columns_seen columns.now) (written_constraints elements.entry.now)) }
+        ≡ find (is_sought sought.now)
+        (written_keys (columns_seen columns.now) (written_constraints elements.entry.now)) }
 {
     for element in elements {
         if let Some(key) = key_of_element(columns, element, sought) {
@@ -101,7 +106,9 @@ fn key_of_place<'a>(
     sought: &Sought<'_>,
 ) -> Option<TableKey<'a>>
     ensures { option_map key_seen result
-        ≡ find (is_sought sought.now) (filter_map (key_at (named_columns columns.entry.now) catalogue.entry.now.constraints) (place ∷ [])) }
+        ≡ find (is_sought sought.now)
+        (filter_map (key_at (named_columns columns.entry.now) catalogue.entry.now.constraints)
+        (place ∷ [])) }
 {
     match catalogue.constraint(place) {
         Some(constraint) => if_sought(stored_key(columns, constraint), sought),
@@ -116,7 +123,9 @@ fn key_of_places<'a>(
     sought: &Sought<'_>,
 ) -> Option<TableKey<'a>>
     ensures { option_map key_seen result
-        ≡ find (is_sought sought.now) (filter_map (key_at (named_columns columns.entry.now) catalogue.entry.now.constraints) places.entry.now) }
+        ≡ find (is_sought sought.now)
+        (filter_map (key_at (named_columns columns.entry.now) catalogue.entry.now.constraints)
+        places.entry.now) }
 {
     for place in places {
         if let Some(key) = key_of_place(columns, catalogue, *place, sought) {
@@ -132,7 +141,8 @@ fn sought_key<'a>(
     catalogue: &'a Catalogue,
     sought: &Sought<'_>,
 ) -> Option<TableKey<'a>>
-    ensures { option_map key_seen result ≡ find (is_sought sought.now) (own_seen catalogue.entry.now own.now).keys }
+    ensures { option_map key_seen result
+        ≡ find (is_sought sought.now) (own_seen catalogue.entry.now own.now).keys }
 {
     match own {
         Own::Created(_, elements) => {
@@ -150,7 +160,8 @@ fn sought_key<'a>(
 
 /// The primary key of a table.
 pub fn primary_key<'a>(own: &Own<'a>, catalogue: &'a Catalogue) -> Option<TableKey<'a>>
-    ensures { option_map key_seen result ≡ primary_key_of (own_seen catalogue.entry.now own.now).keys }
+    ensures { option_map key_seen result
+        ≡ primary_key_of (own_seen catalogue.entry.now own.now).keys }
 {
     sought_key(own, catalogue, &Sought::Primary)
 }

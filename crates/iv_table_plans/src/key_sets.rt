@@ -20,7 +20,9 @@ use std::collections::BTreeSet;
 pub type KeySets = BTreeSet<BTreeSet<String>>;
 
 fn add_name(alloc: Global, set: &mut BTreeSet<String>, name: &str) -> Result<(), AllocError>
-    ensures text { OnOk result ((other : List ℕ) → contains_text set.new other ≡ (contains_text set.old other || bytes_eq other name.now)) }
+    ensures text { OnOk result ((other : List ℕ)
+        → contains_text set.new other
+        ≡ (contains_text set.old other || bytes_eq other name.now)) }
     ensures ordered { OnOk result (IsOrdered string_cmp set.new) }
 {
     let owned = String::from_str(alloc, name)?;
@@ -48,7 +50,8 @@ fn add_set(alloc: Global, sets: &mut KeySets, names: &[Name]) -> Result<(), Allo
 
 // The columns of a key that is NOT DEFERRABLE.
 fn reliable_columns<'a>(constraint: &WrittenConstraint<'a>) -> Option<&'a [Name]>
-    ensures { (columns : List NamedColumn) (names : List (List ℕ)) → some_reliable columns (constraint_seen constraint.now ∷ []) names
+    ensures { (columns : List NamedColumn) (names : List (List ℕ))
+        → some_reliable columns (constraint_seen constraint.now ∷ []) names
         ≡ elim result [ Some key ↦ same_set names key.now | None ↦ false ] }
 {
     if is_deferrable(constraint.time) {
@@ -68,7 +71,8 @@ fn add_key(
     sets: &mut KeySets,
     constraint: &WrittenConstraint<'_>,
 ) -> Result<(), AllocError>
-    ensures { OnOk result ((columns : List NamedColumn) → Gains sets.old sets.new (some_reliable columns (constraint_seen constraint.now ∷ []))) }
+    ensures { OnOk result ((columns : List NamedColumn)
+        → Gains sets.old sets.new (some_reliable columns (constraint_seen constraint.now ∷ []))) }
 {
     match reliable_columns(constraint) {
         Some(names) => add_set(alloc, sets, names),
@@ -77,7 +81,8 @@ fn add_key(
 }
 
 fn add_keys(alloc: Global, sets: &mut KeySets, elements: &[TableElement]) -> Result<(), AllocError>
-    ensures { OnOk result ((columns : List NamedColumn) → Gains sets.old sets.new (some_reliable columns (written_constraints elements.now))) }
+    ensures { OnOk result ((columns : List NamedColumn)
+        → Gains sets.old sets.new (some_reliable columns (written_constraints elements.now))) }
 {
     let mut left = Left::Outside(elements);
     while let Some((constraint, rest)) = left.first() {
@@ -89,7 +94,8 @@ fn add_keys(alloc: Global, sets: &mut KeySets, elements: &[TableElement]) -> Res
 
 /// The sets of columns of the keys that are NOT DEFERRABLE.
 pub fn reliable_sets(alloc: Global, elements: &[TableElement]) -> Result<KeySets, AllocError>
-    ensures { IfOk result (λ sets. (columns : List NamedColumn) → Finds sets (some_reliable columns (written_constraints elements.now))) }
+    ensures { IfOk result (λ sets. (columns : List NamedColumn)
+        → Finds sets (some_reliable columns (written_constraints elements.now))) }
 {
     let mut sets = BTreeSet::new(alloc);
     add_keys(alloc, &mut sets, elements)?;
@@ -98,7 +104,8 @@ pub fn reliable_sets(alloc: Global, elements: &[TableElement]) -> Result<KeySets
 
 /// Whether a set of columns is among them. It takes memory for the names, and time near to their length.
 pub fn has_set(alloc: Global, sets: &KeySets, names: &[Name]) -> Result<bool, AllocError>
-    ensures { IfOk result (λ found. (p : List (List ℕ) → Bool) → Finds sets.now p → found ≡ p names.now) }
+    ensures { IfOk result (λ found. (p : List (List ℕ) → Bool) → Finds sets.now p
+        → found ≡ p names.now) }
 {
     let set = set_of(alloc, names)?;
     Ok(sets.contains(&set))

@@ -70,7 +70,8 @@ fn all_named_among(names: &[Name], others: &[Name]) -> bool
 }
 
 fn all_placed_among(names: &[Name], columns: &[Column], places: &[u32]) -> bool
-    ensures { result ≡ list_all (is_among names.now) (map (name_at (named_columns columns.now)) places.now) }
+    ensures { result ≡ list_all (is_among names.now)
+        (map (name_at (named_columns columns.now)) places.now) }
 {
     for place in places {
         if !is_among(names, name_at(columns, *place)) {
@@ -156,7 +157,8 @@ pub fn written_key<'a>(
     constraint: &WrittenConstraint<'a>,
 ) -> Option<TableKey<'a>>
     ensures { option_map key_seen result
-        ≡ key_of_written (columns_seen columns.entry) constraint.now.time (constraint_seen constraint.now).rule }
+        ≡ key_of_written (columns_seen columns.entry) constraint.now.time
+        (constraint_seen constraint.now).rule }
 {
     let deferrable = is_deferrable(constraint.time);
     match constraint.rule {
@@ -179,7 +181,8 @@ pub fn written_key<'a>(
 /// The key that a constraint of a table with these columns is.
 pub fn stored_key<'a>(columns: &'a [Column], constraint: &'a Constraint) -> Option<TableKey<'a>>
     ensures { option_map key_seen result
-        ≡ key_of_rule (named_columns columns.entry.now) constraint.entry.now.deferrable constraint.entry.now.rule }
+        ≡ key_of_rule (named_columns columns.entry.now) constraint.entry.now.deferrable
+        constraint.entry.now.rule }
 {
     let deferrable = constraint.deferrable;
     match &constraint.rule {

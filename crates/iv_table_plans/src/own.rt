@@ -82,7 +82,8 @@ pub fn own_range<'a>(own: &Own<'a>, catalogue: &'a Catalogue, outside: &'a Range
 }
 
 fn stored_table<'a>(catalogue: &'a Catalogue, name: &str) -> Option<Own<'a>>
-    ensures { option_map (reference_seen catalogue.entry.now) result ≡ stored_reference catalogue.entry.now name.now }
+    ensures { option_map (reference_seen catalogue.entry.now) result
+        ≡ stored_reference catalogue.entry.now name.now }
 {
     let tables = catalogue.tables();
     match table_place(tables, name) {

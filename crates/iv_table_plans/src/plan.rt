@@ -109,7 +109,10 @@ fn action(written: Option<ReferentialAction>) -> ReferentialAction
 }
 
 fn referenced_id(table: &Option<Own<'_>>, catalogue: &Catalogue) -> TableId
-    ensures { result ≡ elim (option_map (reference_seen catalogue.now) table.now) [ Some r ↦ r.table | None ↦ 0 ] }
+    ensures { result ≡ elim (option_map (reference_seen catalogue.now) table.now) [
+      | Some r ↦ r.table
+      | None ↦ 0
+    ] }
 {
     match table {
         Some(own) => own_id(own, catalogue),
@@ -124,7 +127,8 @@ fn referenced_places(
     names: &Option<Items<Name>>,
 ) -> Result<Items<u32>, AllocError>
     ensures { IfOk result (λ ps. ps
-        ≡ elim (option_map (reference_seen catalogue.now) table.now) [ Some r ↦ key_places r names.now | None ↦ [] ]) }
+        ≡ elim (option_map (reference_seen catalogue.now) table.now)
+        [ Some r ↦ key_places r names.now | None ↦ [] ]) }
 {
     match table {
         Some(own) => key_places(alloc, own, catalogue, names),
@@ -139,7 +143,8 @@ fn bound_reference(
     names: &[Name],
     references: &References,
 ) -> Result<ForeignKey, AllocError>
-    ensures { IfOk result (λ f. rule.ForeignKey f ≡ bound_rule catalogue.now (names_of_own catalogue.now own.now)
+    ensures { IfOk result (λ f. rule.ForeignKey f
+        ≡ bound_rule catalogue.now (names_of_own catalogue.now own.now)
         (own_seen catalogue.now own.now) (foreign_key names.now references.now)) }
 {
     let table = referenced(own, catalogue, references.table.as_str());
@@ -161,7 +166,9 @@ fn bound_check<'a>(
     catalogue: &'a Catalogue,
     condition: &'a Condition,
 ) -> Result<Cond, AllocError>
-    ensures { IfOk result (λ c. c ≡ bound_condition (names_of_own catalogue.now own.now) (check_ranges (own_seen catalogue.now own.now)) condition.now) }
+    ensures { IfOk result (λ c. c
+        ≡ bound_condition (names_of_own catalogue.now own.now)
+        (check_ranges (own_seen catalogue.now own.now)) condition.now) }
 {
     let outside = Ranges::Nothing;
     let names = own_names(own, catalogue);
@@ -175,7 +182,8 @@ fn own_places(
     catalogue: &Catalogue,
     names: &[Name],
 ) -> Result<Items<u32>, AllocError>
-    ensures { IfOk result (λ ps. ps ≡ places_of (own_seen catalogue.now own.now).columns names.now) }
+    ensures { IfOk result (λ ps. ps
+        ≡ places_of (own_seen catalogue.now own.now).columns names.now) }
 {
     places_of(alloc, &own_columns(own, catalogue), names)
 }
@@ -186,7 +194,9 @@ fn bound_rule<'a>(
     catalogue: &'a Catalogue,
     rule: &'a WrittenRule<'a>,
 ) -> Result<Rule, AllocError>
-    ensures { IfOk result (λ r. r ≡ bound_rule catalogue.now (names_of_own catalogue.now own.now) (own_seen catalogue.now own.now) (rule_seen rule.now)) }
+    ensures { IfOk result (λ r. r
+        ≡ bound_rule catalogue.now (names_of_own catalogue.now own.now)
+        (own_seen catalogue.now own.now) (rule_seen rule.now)) }
 {
     match rule {
         WrittenRule::NotNull(column) => {
@@ -216,7 +226,9 @@ fn bound_constraint<'a>(
     name: Name,
     constraint: &'a WrittenConstraint<'a>,
 ) -> Result<Constraint, AllocError>
-    ensures { IfOk result (λ k. k ≡ bound_constraint catalogue.now (names_of_own catalogue.now own.now) (own_seen catalogue.now own.now) name (constraint_seen constraint.now)) }
+    ensures { IfOk result (λ k. k
+        ≡ bound_constraint catalogue.now (names_of_own catalogue.now own.now)
+        (own_seen catalogue.now own.now) name (constraint_seen constraint.now)) }
 {
     let rule = bound_rule(alloc, &*own, catalogue, &constraint.rule)?;
     Ok(Constraint {
@@ -235,7 +247,9 @@ fn bound_constraints<'a>(
     table: &'a str,
     elements: &'a [TableElement],
 ) -> Result<Vec<Constraint>, AllocError>
-    ensures { IfOk result (λ ks. ks.items ≡ map (bound_place catalogue.now (created_table catalogue.now table.now elements.now)) (enumerate_from 1 (written_constraints elements.now))) }
+    ensures { IfOk result (λ ks. ks.items
+        ≡ map (bound_place catalogue.now (created_table catalogue.now table.now elements.now))
+        (enumerate_from 1 (written_constraints elements.now))) }
 {
     let own = Own::Created(table, elements);
     let mut constraints = Vec::new(alloc);
@@ -277,7 +291,9 @@ fn bound_addition<'a>(
     table: &'a Table,
     constraint: &'a WrittenConstraint<'a>,
 ) -> Result<Plan, AllocError>
-    ensures { IfOk result (λ p. p ≡ bound_addition catalogue.now (altered_at catalogue.now place table.now) (constraint_seen constraint.now)) }
+    ensures { IfOk result (λ p. p
+        ≡ bound_addition catalogue.now (altered_at catalogue.now place table.now)
+        (constraint_seen constraint.now)) }
 {
     let own = Own::Stored(place, table);
     let next = count_stored(catalogue, place) as u128 + 1;
@@ -293,7 +309,8 @@ pub fn bound_alteration(
     table: TableId,
     constraint: &TableConstraint,
 ) -> Result<Plan, AllocError>
-    ensures { IfOk result (λ p. p ≡ bound_alteration catalogue.now table (table_constraint constraint.now)) }
+    ensures { IfOk result (λ p. p
+        ≡ bound_alteration catalogue.now table (table_constraint constraint.now)) }
 {
     match catalogue.table(table) {
         Some(found) => {

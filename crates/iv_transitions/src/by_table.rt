@@ -62,7 +62,9 @@ fn push_to(part: &mut Items<Change>, change: Change) -> Result<(), AllocError>
 fn add(parts: &mut [Items<Change>], change: Change) -> Result<(), AllocError>
     requires { 3 * change.table + 2 < length parts.old }
     ensures length { length parts.new ≡ length parts.old }
-    ensures added { OnOk result (parts.new ≡ slice_set parts.old (place_of change.table (event_of_change change)) (transitions_on parts.old change.table (event_of_change change) ++ change ∷ [])) }
+    ensures added { OnOk result (parts.new
+        ≡ slice_set parts.old (place_of change.table (event_of_change change))
+        (transitions_on parts.old change.table (event_of_change change) ++ change ∷ [])) }
 {
     let at = 3 * change.table.place() as usize + event_place(event_of_change(&change));
     push_to(&mut parts[at], change)

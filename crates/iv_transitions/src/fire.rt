@@ -53,7 +53,8 @@ pub fn firings<'a>(
     trigger: &Trigger,
     transitions: &'a Transitions,
 ) -> Fires<'a>
-    ensures fires { expanded trigger.now result ≡ after_firings statement.now transitions.entry.now trigger.now }
+    ensures fires { expanded trigger.now result
+        ≡ after_firings statement.now transitions.entry.now trigger.now }
     ensures lent { FiresOn trigger.now transitions.entry.now result }
 {
     if is_before(trigger) {

@@ -14,7 +14,8 @@ use std::alloc::{AllocError, Global};
 #[tactic(auto, using(iv_expr::proofs::Changes::last_row_push))]
 fn push_kept(net: &mut Wave, change: Change) -> Result<(), AllocError>
     requires { last_row net.old.changes < change.row }
-    ensures changes { OnOk result (net.new.changes ≡ net.old.changes ++ cons_option (kept change) []) }
+    ensures changes { OnOk result (net.new.changes
+        ≡ net.old.changes ++ cons_option (kept change) []) }
     ensures last { OnOk result (last_row net.new.changes ≤ change.row) }
 {
     if change.old.is_none() && change.new.is_none() {
@@ -36,7 +37,8 @@ fn copy_of(row: &Option<Row>) -> Result<Option<Row>, AllocError>
 // Adds what an older and a newer change of one row come to.
 fn push_joined(net: &mut Wave, older: &Change, newer: &Change) -> Result<(), AllocError>
     requires { last_row net.old.changes < older.now.row }
-    ensures changes { OnOk result (net.new.changes ≡ net.old.changes ++ cons_option (joined older.now newer.now) []) }
+    ensures changes { OnOk result (net.new.changes
+        ≡ net.old.changes ++ cons_option (joined older.now newer.now) []) }
     ensures last { OnOk result (last_row net.new.changes ≤ older.now.row) }
 {
     let old = copy_of(&older.old)?;
@@ -138,7 +140,8 @@ fn push_rest(
 /// list of waves is halved and the halves merged, so the time is the number of changes times the logarithm
 /// of the number of waves. The rows are shared.
 pub fn transitions(alloc: Global, waves: &[Wave]) -> Result<Wave, AllocError>
-    ensures { IfOk result (λ net. (db last : Database) → Chain db waves.now last → net ≡ net_wave db.rows last.rows waves.now) }
+    ensures { IfOk result (λ net. (db last : Database) → Chain db waves.now last
+        → net ≡ net_wave db.rows last.rows waves.now) }
 {
     match waves {
         [] => Ok(Wave::new(alloc)),

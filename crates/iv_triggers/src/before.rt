@@ -65,7 +65,8 @@ fn value_of_set<'x, R: Rows>(
     setting: &Setting,
     change: &'x Change,
 ) -> Result<Value, Cause>
-    ensures { AnswersCause (λ v. v) result (stored_value context.now change.now.table setting.now.column
+    ensures { AnswersCause (λ v. v) result
+        (stored_value context.now change.now.table setting.now.column
         (value (scope_of (change_frame change.now) (R.rows rows.now)) setting.now.value)) }
 {
     let frame = Frame::at(&[], change);
@@ -110,7 +111,8 @@ fn run_statement<R: Rows>(
     change: &mut Change,
 ) -> Result<(), Cause>
     ensures { AnswersCause (λ _. change.exit.now) result
-        (change_after_statement context.now (R.rows rows.now) trigger.now place statement.now change.entry.now) }
+        (change_after_statement context.now
+        (R.rows rows.now) trigger.now place statement.now change.entry.now) }
 {
     match statement {
         BodyStatement::Set(setting) => set(alloc, context, rows, setting, change),
@@ -129,7 +131,8 @@ fn run_body<R: Rows>(
 ) -> Result<(), Cause>
     requires { length trigger.now.body ≤ MOST_BODY_STATEMENTS }
     ensures { AnswersCause (λ _. change.exit.now) result
-        (in_turn (λ s. change_after_statement context.now (R.rows rows.now) trigger.now s.0 s.1) (placed_statements trigger.now) change.entry.now) }
+        (in_turn (λ s. change_after_statement context.now (R.rows rows.now) trigger.now s.0 s.1)
+        (placed_statements trigger.now) change.entry.now) }
 {
     let body = trigger.body.as_slice();
     let mut at = 0usize;
@@ -148,7 +151,8 @@ fn run_body<R: Rows>(
 
 // Whether the WHEN of a trigger takes effect at a change.
 fn fires<'x, R: Rows>(rows: &'x R, trigger: &Trigger, change: &'x Change) -> Result<bool, Cause>
-    ensures { result ≡ holds (scope_of (change_frame change.now) (R.rows rows.now)) trigger.now.when }
+    ensures { result ≡ holds
+        (scope_of (change_frame change.now) (R.rows rows.now)) trigger.now.when }
 {
     let frame = Frame::at(&[], change);
     let scope = Scope::new(rows, &frame);
@@ -236,7 +240,8 @@ fn run_all<R: Rows>(
     requires { BodiesWithinLimit triggers.now }
     ensures length { length changes.exit.now ≡ length changes.entry.now }
     ensures answer { AnswersRefusal (λ _. changes.exit.now) result
-        (changes_after_triggers context.now (R.rows rows.now) (filter is_before_row triggers.now) changes.entry.now) }
+        (changes_after_triggers context.now (R.rows rows.now)
+        (filter is_before_row triggers.now) changes.entry.now) }
 {
     match triggers {
         [] => Ok(()),
@@ -263,7 +268,8 @@ pub fn before_rows<R: Rows>(
 ) -> Result<(), Refusal>
     ensures length { length changes.exit.now ≡ length changes.entry.now }
     ensures answer { AnswersRefusal (λ _. changes.exit.now) result
-        (changes_after_triggers context.now (R.rows rows.now) (filter is_before_row context.now.schema.triggers) changes.entry.now) }
+        (changes_after_triggers context.now (R.rows rows.now)
+        (filter is_before_row context.now.schema.triggers) changes.entry.now) }
 {
     run_all(
         alloc,
@@ -321,7 +327,8 @@ fn run_for_statement<R: Rows>(rows: &R, trigger: &Trigger) -> Result<(), Cause>
 
 fn run_named<R: Rows>(rows: &R, trigger: &Trigger) -> Result<(), Refusal>
     requires { length trigger.now.body ≤ MOST_BODY_STATEMENTS }
-    ensures { result ≡ while_running trigger.now.id (before_statement_run (R.rows rows.now) trigger.now) }
+    ensures { result ≡ while_running trigger.now.id
+        (before_statement_run (R.rows rows.now) trigger.now) }
 {
     match run_for_statement(rows, trigger) {
         Ok(()) => Ok(()),
@@ -346,7 +353,8 @@ fn run_statement_triggers<R: Rows>(
     event: TriggerEvent,
 ) -> Result<(), Refusal>
     requires { BodiesWithinLimit triggers.now }
-    ensures { result ≡ in_turn (λ t _. while_running t.id (before_statement_run (R.rows rows.now) t))
+    ensures { result ≡ in_turn
+        (λ t _. while_running t.id (before_statement_run (R.rows rows.now) t))
         (filter (λ t. is_before_statement t && is_on table event t) triggers.now) tt }
 {
     match triggers {

@@ -33,13 +33,18 @@ fn follow<K: Keeper>(
     context: &Context<'_>,
     wave: Wave,
 ) -> Result<AppliedWave, Refusal>
-    requires applicable { Applicable (K.view store.old).tables (K.view store.old).base wave.changes }
+    requires applicable { Applicable (K.view store.old).tables
+        (K.view store.old).base wave.changes }
     requires store { StoreFits context.now.schema (K.view store.old) }
-    ensures answer { AnswersAt (λ x. record { wave = x.wave; next = x.next }) (K.view store.new).base.count result
+    ensures answer { AnswersAt (λ x. record { wave = x.wave; next = x.next })
+        (K.view store.new).base.count result
         (followed_by context.now (K.view store.old).base wave) }
-    ensures applied { IfOk result (λ x. (K.view store.new).base ≡ database_after (K.view store.old).base x.wave) }
+    ensures applied { IfOk result (λ x. (K.view store.new).base
+        ≡ database_after (K.view store.old).base x.wave) }
     ensures kept { K.view store.new ≡ with_database (K.view store.old) (K.view store.new).base }
-    ensures looked { UnlessMemory result (LooksUp (K.view store.old) (K.lookups store.old) (K.view store.new) (K.lookups store.new)) }
+    ensures looked { UnlessMemory result
+        (LooksUp (K.view store.old) (K.lookups store.old)
+        (K.view store.new) (K.lookups store.new)) }
 {
     apply_all(store, wave.changes())?;
     match next_wave(store, context.catalogue(), &wave) {
@@ -56,11 +61,15 @@ fn one_wave<K: Keeper>(
     changes: Vec<Change>,
 ) -> Result<AppliedWave, Refusal>
     requires { Standing context.now (K.view store.old) changes.items }
-    ensures answer { AnswersAt (λ x. record { wave = x.wave; next = x.next }) (K.view store.new).base.count result
+    ensures answer { AnswersAt (λ x. record { wave = x.wave; next = x.next })
+        (K.view store.new).base.count result
         (one_wave context.now (K.view store.old).base budget (wave_of changes.items)) }
-    ensures applied { IfOk result (λ x. (K.view store.new).base ≡ database_after (K.view store.old).base x.wave) }
+    ensures applied { IfOk result (λ x. (K.view store.new).base
+        ≡ database_after (K.view store.old).base x.wave) }
     ensures kept { K.view store.new ≡ with_database (K.view store.old) (K.view store.new).base }
-    ensures looked { UnlessMemory result (LooksUp (K.view store.old) (K.lookups store.old) (K.view store.new) (K.lookups store.new)) }
+    ensures looked { UnlessMemory result
+        (LooksUp (K.view store.old) (K.lookups store.old)
+        (K.view store.new) (K.lookups store.new)) }
 {
     match enter(&*store, context, budget, changes) {
         Ok(wave) => match follow(store, context, wave) {
@@ -99,8 +108,11 @@ pub fn settle<K: Keeper>(
         (settled_waves context.now (K.view store.old).base budget.old (wave_of changes.items)) }
     ensures kept { K.view store.new ≡ with_database (K.view store.old) (K.view store.new).base }
     ensures store { OnOk result (StoreFits context.now.schema (K.view store.new)) }
-    ensures chain { IfOk result (λ waves. Chain (K.view store.old).base waves.items (K.view store.new).base) }
-    ensures looked { UnlessMemory result (LooksUp (K.view store.old) (K.lookups store.old) (K.view store.new) (K.lookups store.new)) }
+    ensures chain { IfOk result
+        (λ waves. Chain (K.view store.old).base waves.items (K.view store.new).base) }
+    ensures looked { UnlessMemory result
+        (LooksUp (K.view store.old) (K.lookups store.old)
+        (K.view store.new) (K.lookups store.new)) }
 {
     // It tells that the rows are numbered in rising order.
     store.next_row();

@@ -32,7 +32,8 @@ fn is_definition(column: &ColumnDefinition) -> bool
 }
 
 fn is_reference(references: &References) -> bool
-    ensures { result ≡ (is_name references.now.table && is_name_list_or_none references.now.columns) }
+    ensures { result
+        ≡ (is_name references.now.table && is_name_list_or_none references.now.columns) }
 {
     is_name(references.table.as_str()) && is_name_list_or_none(&references.columns)
 }
@@ -78,7 +79,8 @@ fn is_column_constraint(column: &Name, constraint: &ColumnConstraint) -> bool
 }
 
 fn are_column_constraints(column: &Name, constraints: &[ColumnConstraint]) -> bool
-    ensures { result ≡ list_all is_written_constraint (map (column_constraint column.now) constraints.now) }
+    ensures { result ≡ list_all is_written_constraint
+        (map (column_constraint column.now) constraints.now) }
 {
     for constraint in constraints {
         if !is_column_constraint(column, constraint) {
