@@ -104,12 +104,9 @@ pub fn close_exists<'a>(
     limit: u8,
     found: FromPart<'a>,
 ) -> Result<Option<ItemPart<'a>>, AllocError>
-    ensures { (text : List ℕ)
-        → IfOk result (λ r. item_found text r
-        ≡ closed_exists limit (
-          found.entry.range,
-          found.entry.condition,
-        ) (words text found.entry.rest.now)) }
+    ensures { (text : List ℕ) → IfOk result (λ r. item_found text r
+        ≡ closed_exists limit (found.entry.range, found.entry.condition)
+        (words text found.entry.rest.now)) }
 {
     let Some(rest) = after(Kind::RightParenthesis, found.rest) else {
         drop(found);
