@@ -12,7 +12,7 @@ use Rattle.iv_machine.specs.Levels.{Finished, level}
 use Rattle.iv_machine.specs.Machine.{State, change_outcome, level_outcome}
 use Rattle.iv_store.specs.Stores.{StoreState, store_with_mark, store_before_mark}
 use Rattle.iv_session.specs.Changing.{Changes, outcome_said, said_of, size_said, store_said, work_said}
-use Rattle.iv_session.specs.Kept.{Held, Seen, current, state_of}
+use Rattle.iv_session.specs.Kept.{Parts, Seen, current, state_of}
 use Rattle.iv_session.specs.Performing.{Follows}
 use Rattle.iv_waves.specs.Answers.{AnswersAt, with_database}
 use Rattle.iv_exec.specs.Steps.{told}
@@ -79,10 +79,10 @@ pub none_is : (n : ℕ) → nat_lt 0 n ≡ false → (n == 0) ≡ true
 none_is n h = grind (arith, nat_tests)
 
 -- the parts with another store
-abbrev pub stored : Held → StoreState → Held
+abbrev pub stored : Parts → StoreState → Parts
 stored h t = record { schema = h.schema; limits = h.limits; store = t; initial = h.initial; changed = h.changed; active = h.active; saves = h.saves }
 
-pub change_refused : (h : Held) (d : DataStatement) (begins untriggered : Bool) (r told_on : Refusal) (t : StoreState) (x : Seen)
+pub change_refused : (h : Parts) (d : DataStatement) (begins untriggered : Bool) (r told_on : Refusal) (t : StoreState) (x : Seen)
     → Changes begins h.store (said_of h.schema (current h.initial h.changed).modes h.limits d h.store.base) (Err r) t x.work
     → (is_memory_cause r.cause ≡ false → told_on ≡ r) → (is_memory_cause r.cause ≡ true → is_memory_cause told_on.cause ≡ true)
     → (untriggered ≡ true → is_memory_cause r.cause ≡ true → told_on ≡ out_of_memory) → (nat_lt 0 (length h.schema.triggers) ≡ false → untriggered ≡ true)

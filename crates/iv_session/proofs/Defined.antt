@@ -20,7 +20,7 @@ use Rattle.iv_resolution.specs.Resolution.{resolution}
 use Rattle.iv_store.specs.Stores.{AnswersAdding, StoreState, first_violating_row, fits_table, store_with_constraint, store_with_table}
 use Rattle.iv_store.proofs.Adding.{added_violation}
 use Rattle.iv_fitting.specs.ConstraintShapes.{SchemaSuits}
-use Rattle.iv_session.specs.Kept.{Held, IsCalm, Kept, Seen, StandsAs, current, later, savepoints_of, started, state_of}
+use Rattle.iv_session.specs.Kept.{Parts, IsCalm, Kept, Seen, StandsAs, current, later, savepoints_of, started, state_of}
 use Rattle.iv_session.specs.Performing.{Did, Performs, PerformsPlan, Runs}
 use Rattle.iv_row_laws.specs.RowFits.{row_fits, rows_fit}
 use Rattle.iv_session.specs.Fits.{adding_refusal}
@@ -52,10 +52,10 @@ rows_more tables more (r ∷ rows) h =
 -- ---- CREATE TABLE
 
 -- the parts with another schema
-abbrev pub defined : Held → Schema → StoreState → ModeMap → Held
+abbrev pub defined : Parts → Schema → StoreState → ModeMap → Parts
 defined h c t m = record { schema = c; limits = h.limits; store = t; initial = m; changed = h.changed; active = h.active; saves = h.saves }
 
-pub created_kept : (h : Held) (table : Table) (ks : List Constraint) (c : Schema) (t : StoreState) (m : ModeMap) → h.active ≡ false
+pub created_kept : (h : Parts) (table : Table) (ks : List Constraint) (c : Schema) (t : StoreState) (m : ModeMap) → h.active ≡ false
     → c ≡ with_table h.schema table ks → t ≡ store_with_table h.store table ks → m ≡ initial_map c.constraints
     → SchemaSuits (with_table h.schema table ks) → Kept h → Kept (defined h c t m)
 created_kept h table ks c t m a e f g suits k =
@@ -85,13 +85,13 @@ of_first : (s : State) (k : Constraint) (o : Option Fault)
 of_first s k None = refl
 of_first s k (Some f) = refl
 
-pub add_is : (h : Held) (k : Constraint) → Kept h → add_constraint_outcome (state_of h) k ≡ by_row (state_of h) k (first_violating_row h.store k)
+pub add_is : (h : Parts) (k : Constraint) → Kept h → add_constraint_outcome (state_of h) k ≡ by_row (state_of h) k (first_violating_row h.store k)
 add_is h k kept =
     of_first (state_of h) k (first (scan h.store.base.rows (with_constraint h.schema k).constraints (λ id. id == length h.schema.constraints)))
     ∙ ap (λ (l : List Constraint). by_row (state_of h) k (option_map (λ (f : Fault). f.row) (first (scan h.store.base.rows (l ++ k ∷ []) (λ id. id == length l))))) (sym kept.store.constraints)
     ∙ ap (by_row (state_of h) k) (added_violation h.store k)
 
-pub added_state : (h : Held) (k : Constraint) (c : Schema) (t : StoreState) (m : ModeMap) → h.active ≡ false → Kept h
+pub added_state : (h : Parts) (k : Constraint) (c : Schema) (t : StoreState) (m : ModeMap) → h.active ≡ false → Kept h
     → c ≡ with_constraint h.schema k → t ≡ store_with_constraint h.store k → m ≡ initial_map c.constraints
     → state_of (defined h c t m) ≡ with_schema (state_of h) (with_constraint h.schema k)
 added_state h k c t m a kept e f g =
@@ -103,7 +103,7 @@ added_state h k c t m a kept e f g =
     ap (λ o. (current m o).modes) calm.modes ∙ ap (λ (x : ModeMap). x.modes) g ∙ ap (λ (x : Schema). initial_modes x.constraints) e in
     λ i. record { schema = e i; limits = h.limits; database = (f i).base; modes = modes i; start = start i; savepoints = saves i }
 
-pub added_refused : (h : Held) (k : Constraint) (f : AddFault) (x : Seen) → AnswersAdding {A = ModeMap} (first_violating_row h.store k) (Err f) → Kept h
+pub added_refused : (h : Parts) (k : Constraint) (f : AddFault) (x : Seen) → AnswersAdding {A = ModeMap} (first_violating_row h.store k) (Err f) → Kept h
     → x.state ≡ state_of h → x.work ≡ no_work → Performs (state_of h) (add_constraint_outcome (state_of h) k) (Err (adding_refusal f)) x
 added_refused h k (fault.Row n) x a kept e w =
     refuse_performs (state_of h) (add_constraint_outcome (state_of h) k) (AddRefused n) (Err (adding_refusal (fault.Row n))) x

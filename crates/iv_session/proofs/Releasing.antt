@@ -10,7 +10,7 @@ use Rattle.iv_modes.specs.ModeMaps.{ModeMap}
 use Rattle.iv_store.specs.Stores.{StoreState, marked_database, store_at_mark}
 use Rattle.iv_session.specs.declared.session.Saved.{Saved}
 use Rattle.iv_row_laws.specs.RowFits.{rows_fit}
-use Rattle.iv_session.specs.Kept.{Held, Kept, IsOpen, StandsAs, AllModes, AreModes, all_fit, current, later, savepoint_at, savepoints_of, started, state_of}
+use Rattle.iv_session.specs.Kept.{Parts, Kept, IsOpen, StandsAs, AllModes, AreModes, all_fit, current, later, savepoint_at, savepoints_of, started, state_of}
 use Rattle.iv_session.specs.Saving.{last_named, with_marks}
 use Rattle.iv_session.proofs.Saves.{two, parts_of, saves_more, first_or, later_length}
 use Rattle.iv_session.proofs.TakenOut.{last_in, last_named_is, none_first, At, here, there, at_of}
@@ -67,12 +67,12 @@ named_some name initial (x ∷ ss) (d ∷ dbs) p s db e h =
           (ap (named_with name (savepoint_at initial x d)) (more n o))
 
 -- of a session with an open transaction
-pub found : (h : Held) (name : List ℕ) (p : ℕ) (s : Saved) (db : Database) → IsOpen h → last_named name h.saves ≡ Some p
+pub found : (h : Parts) (name : List ℕ) (p : ℕ) (s : Saved) (db : Database) → IsOpen h → last_named name h.saves ≡ Some p
     → savepoint_named name (state_of h).savepoints ≡ some_named (named_at h.initial h.saves (later h.store.marks) p s db)
 found h name p s db o l =
     named_some name h.initial h.saves (later h.store.marks) p s db (sym (later_length h.store.marks (length h.saves) o.marks)) (sym (last_named_is name h.saves) ∙ l)
 
-pub not_found : (h : Held) (name : List ℕ) → last_named name h.saves ≡ None → savepoint_named name (state_of h).savepoints ≡ None
+pub not_found : (h : Parts) (name : List ℕ) → last_named name h.saves ≡ None → savepoint_named name (state_of h).savepoints ≡ None
 not_found h name l = named_none name h.initial h.saves (later h.store.marks) (sym (last_named_is name h.saves) ∙ l)
 
 -- ---- the first marks and savepoints
@@ -143,7 +143,7 @@ marked_at dbs p base db w =
 -- ---- RELEASE SAVEPOINT
 
 -- the parts after it
-abbrev pub released : Held → StoreState → List Saved → Held
+abbrev pub released : Parts → StoreState → List Saved → Parts
 released h t saves = record {
   schema = h.schema;
   limits = h.limits;
@@ -154,7 +154,7 @@ released h t saves = record {
   saves = saves;
 }
 
-pub released_state : (h : Held) (p : ℕ) (s : Saved) (db : Database) (saves : List Saved) (t : StoreState)
+pub released_state : (h : Parts) (p : ℕ) (s : Saved) (db : Database) (saves : List Saved) (t : StoreState)
     → saves ≡ take p h.saves → t ≡ with_marks h.store (take (p + 1) h.store.marks)
     → state_of (released h t saves) ≡ record (state_of h) { savepoints = (named_at h.initial h.saves (later h.store.marks) p s db).older }
 released_state h p s db saves t e f =
@@ -173,7 +173,7 @@ released_state h p s db saves t e f =
       savepoints = same i;
     }
 
-pub released_kept : (h : Held) (p : ℕ) (saves : List Saved) (t : StoreState) → h.active ≡ true → IsOpen h → p < length h.saves
+pub released_kept : (h : Parts) (p : ℕ) (saves : List Saved) (t : StoreState) → h.active ≡ true → IsOpen h → p < length h.saves
     → saves ≡ take p h.saves → t ≡ with_marks h.store (take (p + 1) h.store.marks) → Kept h → Kept (released h t saves)
 released_kept h p saves t a o w e f k =
     let marks : length (take (p + 1) h.store.marks) ≡ p + 1 = length-take-le (p + 1) h.store.marks (omega (arith, o.marks, w)) in
@@ -193,7 +193,7 @@ released_kept h p saves t a o w e f k =
 -- ---- ROLLBACK TO SAVEPOINT
 
 -- the parts after it
-abbrev pub backed : Held → StoreState → List Saved → Option ModeMap → Held
+abbrev pub backed : Parts → StoreState → List Saved → Option ModeMap → Parts
 backed h t saves changed = record {
   schema = h.schema;
   limits = h.limits;
@@ -208,13 +208,13 @@ backed h t saves changed = record {
 abbrev pub back_at : State → NamedSavepoint → State
 back_at s x = record s { database = x.savepoint.database; modes = x.savepoint.modes; savepoints = x.savepoint ∷ x.older }
 
-pub backed_base : (h : Held) (p : ℕ) (db : Database) (t : StoreState) → IsOpen h → p < length h.saves → t ≡ store_at_mark h.store (p + 1)
+pub backed_base : (h : Parts) (p : ℕ) (db : Database) (t : StoreState) → IsOpen h → p < length h.saves → t ≡ store_at_mark h.store (p + 1)
     → t.base ≡ get_or (later h.store.marks) p db
 backed_base h p db t o w f =
     ap (λ (x : StoreState). x.base) f
     ∙ marked_at h.store.marks p h.store.base db (omega (arith, w, later_length h.store.marks (length h.saves) o.marks))
 
-pub backed_state : (h : Held) (p : ℕ) (s : Saved) (db : Database) (saves : List Saved) (t : StoreState) (changed : Option ModeMap) → IsOpen h → p < length h.saves
+pub backed_state : (h : Parts) (p : ℕ) (s : Saved) (db : Database) (saves : List Saved) (t : StoreState) (changed : Option ModeMap) → IsOpen h → p < length h.saves
     → saves ≡ take (p + 1) h.saves → t ≡ store_at_mark h.store (p + 1) → changed ≡ (get_or h.saves p s).modes
     → state_of (backed h t saves changed) ≡ back_at (state_of h) (named_at h.initial h.saves (later h.store.marks) p s db)
 backed_state h p s db saves t changed o w e f m =
@@ -244,7 +244,7 @@ backed_state h p s db saves t changed o w e f m =
       savepoints = same i;
     }
 
-pub backed_kept : (h : Held) (p : ℕ) (s : Saved) (saves : List Saved) (t : StoreState) (changed : Option ModeMap) → h.active ≡ true → IsOpen h → p < length h.saves
+pub backed_kept : (h : Parts) (p : ℕ) (s : Saved) (saves : List Saved) (t : StoreState) (changed : Option ModeMap) → h.active ≡ true → IsOpen h → p < length h.saves
     → saves ≡ take (p + 1) h.saves → t ≡ store_at_mark h.store (p + 1) → changed ≡ (get_or h.saves p s).modes → Kept h → Kept (backed h t saves changed)
 backed_kept h p s saves t changed a o w e f m k =
     let marks : length (take (p + 1 + 1) h.store.marks) ≡ p + 1 + 1 = length-take-le (p + 1 + 1) h.store.marks (omega (arith, o.marks, w)) in

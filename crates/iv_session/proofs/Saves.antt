@@ -9,7 +9,7 @@ use Rattle.iv_modes.specs.ModeMaps.{ModeMap}
 use Rattle.iv_store.specs.Stores.{StoreState, marked_database, store_with_mark}
 use Rattle.iv_session.specs.declared.session.Saved.{Saved}
 use Rattle.iv_row_laws.specs.RowFits.{rows_fit}
-use Rattle.iv_session.specs.Kept.{Held, Kept, IsOpen, StandsAs, AllModes, AreModes, all_fit, current, later, savepoint_at, savepoints_of, started, state_of}
+use Rattle.iv_session.specs.Kept.{Parts, Kept, IsOpen, StandsAs, AllModes, AreModes, all_fit, current, later, savepoint_at, savepoints_of, started, state_of}
 use Rattle.iv_session.specs.Saving.{saves_without, marks_without, IsWithout}
 
 -- ---- lists
@@ -140,7 +140,7 @@ open_is false s h = cc
 -- ---- SAVEPOINT
 
 -- the parts after SAVEPOINT
-abbrev pub saved : Held → StoreState → List Saved → Held
+abbrev pub saved : Parts → StoreState → List Saved → Parts
 saved h t saves = record {
   schema = h.schema;
   limits = h.limits;
@@ -152,15 +152,15 @@ saved h t saves = record {
 }
 
 -- the later marks after it
-abbrev LaterMarks : Held → List ℕ → StoreState → Type 0
+abbrev LaterMarks : Parts → List ℕ → StoreState → Type 0
 LaterMarks h name t = later t.marks ≡ marks_without name h.saves (later h.store.marks) ++ h.store.base ∷ []
 
-later_marks : (h : Held) (name : List ℕ) (others : List Saved) (t : StoreState) → IsOpen h → IsWithout name h.saves (store_with_mark h.store) others t → LaterMarks h name t
+later_marks : (h : Parts) (name : List ℕ) (others : List Saved) (t : StoreState) → IsOpen h → IsWithout name h.saves (store_with_mark h.store) others t → LaterMarks h name t
 later_marks h name others t o w =
     w.marks ∙ ap (marks_without name h.saves) (later_more h.store.marks h.store.base (omega (arith, o.marks)))
     ∙ marks_more name h.saves (later h.store.marks) h.store.base (sym (later_length h.store.marks (length h.saves) o.marks))
 
-pub saved_state : (h : Held) (name : List ℕ) (s : Saved) (others saves : List Saved) (t : StoreState) → h.active ≡ true → IsOpen h → s.name ≡ name → s.modes ≡ h.changed
+pub saved_state : (h : Parts) (name : List ℕ) (s : Saved) (others saves : List Saved) (t : StoreState) → h.active ≡ true → IsOpen h → s.name ≡ name → s.modes ≡ h.changed
     → IsWithout name h.saves (store_with_mark h.store) others t → saves ≡ others ++ s ∷ []
     → state_of (saved h t saves) ≡ state_with_savepoint (state_of h) name
 saved_state h name s others saves t a o n m w e =
@@ -182,7 +182,7 @@ saved_state h name s others saves t a o n m w e =
       savepoints = saves_are i;
     }
 
-pub saved_kept : (h : Held) (name : List ℕ) (s : Saved) (others saves : List Saved) (t : StoreState) → h.active ≡ true → IsOpen h → s.modes ≡ h.changed
+pub saved_kept : (h : Parts) (name : List ℕ) (s : Saved) (others saves : List Saved) (t : StoreState) → h.active ≡ true → IsOpen h → s.modes ≡ h.changed
     → IsWithout name h.saves (store_with_mark h.store) others t → saves ≡ others ++ s ∷ [] → Kept h → Kept (saved h t saves)
 saved_kept h name s others saves t a o m w e k =
     let same : length h.saves ≡ length (later h.store.marks) = sym (later_length h.store.marks (length h.saves) o.marks) in

@@ -10,6 +10,7 @@ use Rattle.iv_machine.specs.Machine.{Savepoint, State, Work}
 use Rattle.iv_modes.specs.ModeMaps.{ModeMap, initial_map}
 use Rattle.iv_store.specs.Stores.{StoreState, marked_database}
 use Rattle.iv_session.specs.declared.session.Saved.{Saved}
+use Rattle.iv_session.specs.declared.session.Session.TheInside.{Inside}
 use Rattle.iv_waves.specs.Applying.{StoreFits}
 use Rattle.iv_row_laws.specs.RowFits.{rows_fit}
 
@@ -24,7 +25,7 @@ pub record Seen : Type 0 where
 -- ---- the parts
 
 -- The parts of a session that its state is made of. The savepoints are those of the open transaction, the oldest first.
-pub record Held : Type 0 where
+pub record Parts : Type 0 where
   pub schema : Schema
   pub limits : Bounds
   pub store : StoreState
@@ -57,7 +58,7 @@ savepoints_of initial [] dbs = []
 savepoints_of initial (s ∷ saves) [] = []
 savepoints_of initial (s ∷ saves) (db ∷ dbs) = savepoints_of initial saves dbs ++ savepoint_at initial s db ∷ []
 
-abbrev pub state_of : Held → State
+abbrev pub state_of : Parts → State
 state_of h = record {
   schema = h.schema;
   limits = h.limits;
@@ -65,6 +66,27 @@ state_of h = record {
   modes = (current h.initial h.changed).modes;
   start = started h.active h.store;
   savepoints = savepoints_of h.initial h.saves (later h.store.marks);
+}
+
+-- the parts of a session, by what its store is seen as
+abbrev pub parts : {K : Type 0} → (K → StoreState) → Inside K → Parts
+parts view s = record {
+  schema = s.catalogue;
+  limits = s.limits;
+  store = view s.store;
+  initial = s.initial;
+  changed = s.changed;
+  active = s.active;
+  saves = s.saves.items;
+}
+
+-- what a session is seen as, by what its store is seen as and the keys that were looked up in it
+abbrev pub seen : {K : Type 0} → (K → StoreState) → (K → ℕ) → Inside K → Seen
+seen view lookups s = record {
+  state = state_of (parts view s);
+  work = record { changes = s.work.changes; undone = s.work.undone };
+  lookups = s.work.lookups;
+  looked = lookups s.store;
 }
 
 -- ---- what holds of them
@@ -82,25 +104,25 @@ AllModes constraints [] = Unit {0}
 AllModes constraints (s ∷ saves) = IfSome s.modes (AreModes constraints) × AllModes constraints saves
 
 -- Outside a transaction there is no mark and no savepoint, modes are initial, and no change is counted.
-pub record IsCalm (h : Held) : Type 0 where
+pub record IsCalm (h : Parts) : Type 0 where
   pub marks : h.store.marks ≡ []
   pub saves : h.saves ≡ []
   pub modes : h.changed ≡ None
   pub count : h.store.base.count ≡ 0
 
 -- Inside one there is a mark for its start and one for each savepoint.
-pub record IsOpen (h : Held) : Type 0 where
+pub record IsOpen (h : Parts) : Type 0 where
   pub marks : length h.store.marks ≡ length h.saves + 1
   pub modes : IfSome h.changed (AreModes h.schema.constraints)
   pub saved : AllModes h.schema.constraints h.saves
   pub fit : all_fit h.schema.tables h.store.marks ≡ true
 
-abbrev pub StandsAs : Bool → Held → Type 0
+abbrev pub StandsAs : Bool → Parts → Type 0
 StandsAs true h = IsOpen h
 StandsAs false h = IsCalm h
 
 -- What holds of every session.
-pub record Kept (h : Held) : Type 0 where
+pub record Kept (h : Parts) : Type 0 where
   pub store : StoreFits h.schema h.store
   pub initial : h.initial ≡ initial_map h.schema.constraints
   pub stands : StandsAs h.active h

@@ -64,7 +64,7 @@ pub struct Session<K: Keeper + Drop> {
 }
 
 impl<K: Keeper + Drop> Model for Session<K> {
-    ghost use Rattle.iv_session.specs.Kept.{Seen, state_of, Kept};
+    ghost use Rattle.iv_session.specs.Kept.{Seen, Kept, parts, seen};
     ghost use Rattle.iv_expr.specs.contracts.tree.Cond as cond;
     ghost use Rattle.iv_expr.specs.contracts.tree.Expr as expr;
     ghost use Rattle.std.specs.Coded.{codes};
@@ -73,31 +73,9 @@ impl<K: Keeper + Drop> Model for Session<K> {
 
     ghost coded = { Prim.hlevel (codes, cond.the_row.coded, expr.the_row.coded) };
 
-    ghost view = { λ s. record {
-      state = state_of (record {
-        schema = s.catalogue;
-        limits = s.limits;
-        store = K.view s.store;
-        initial = s.initial;
-        changed = s.changed;
-        active = s.active;
-        saves = s.saves.items;
-      });
-      work = record { changes = s.work.changes; undone = s.work.undone };
-      lookups = s.work.lookups;
-      looked = K.lookups s.store;
-    } };
+    ghost view = { λ s. seen K.view K.lookups s };
 
-    ghost invariant = { λ s.
-        Kept (record {
-          schema = s.catalogue;
-          limits = s.limits;
-          store = K.view s.store;
-          initial = s.initial;
-          changed = s.changed;
-          active = s.active;
-          saves = s.saves.items;
-        }) };
+    ghost invariant = { λ s. Kept (parts K.view s) };
 }
 
 impl<K: Keeper + Drop> Session<K> {

@@ -4,7 +4,7 @@ use Rattle.iv_catalogue.specs.declared.cause.Refusal.{Refusal}
 use Rattle.iv_machine.specs.declared.answer.Answer.TheVariants.{Done}
 use Rattle.iv_machine.specs.Machine.{State, is_open, no_work, add_constraint_outcome, with_schema}
 use Rattle.iv_store.specs.Stores.{first_violating_row}
-use Rattle.iv_session.specs.Kept.{Held, Seen, state_of}
+use Rattle.iv_session.specs.Kept.{Parts, parts, Seen, state_of}
 use Rattle.iv_session.specs.Performing.{Performs}
 use Rattle.iv_session.proofs.Defined.{defined, added_refused, shut_is, add_is, added_state, by_row}
 use Rattle.iv_session.proofs.Performed.{accept_performs}
@@ -12,15 +12,7 @@ use Rattle.iv_session.proofs.session.Session.add_constraint.Goals as goal
 
 pub returns-in-Ok : goal.returns-in-Ok
 returns-in-Ok g c =
-    let h : Held = record {
-      schema = c.self.inside.catalogue;
-      limits = c.self.inside.limits;
-      store = g.K.Kin.view c.self.inside.store;
-      initial = c.self.inside.initial;
-      changed = c.self.inside.changed;
-      active = c.self.inside.active;
-      saves = c.self.inside.saves.items;
-    } in
+    let h : Parts = parts g.K.Kin.view c.self.inside in
     let v : state_of h ≡ c.args.self.now.state = ap (λ x. x.state) c.self.view_is in
     let x : Seen = record { state = state_of h; work = record { changes = c.none-self-inside.result.changes; undone = c.none-self-inside.result.undone }; lookups = c.none-self-inside.result.lookups; looked = g.K.Kin.lookups c.self.inside.store } in
     let w : x.work ≡ no_work = ap (λ w. record { changes = w.changes; undone = w.undone }) c.none-self-inside.ensures in
@@ -37,15 +29,7 @@ returns-in-Ok g c =
 
 pub returns-in-Err : goal.returns-in-Err
 returns-in-Err g c =
-    let h : Held = record {
-      schema = c.self.inside.catalogue;
-      limits = c.self.inside.limits;
-      store = g.K.Kin.view c.self.inside.store;
-      initial = c.self.inside.initial;
-      changed = c.self.inside.changed;
-      active = c.self.inside.active;
-      saves = c.self.inside.saves.items;
-    } in
+    let h : Parts = parts g.K.Kin.view c.self.inside in
     let v : state_of h ≡ c.args.self.now.state = ap (λ x. x.state) c.self.view_is in
     let x : Seen = record { state = state_of h; work = record { changes = c.none-self-inside.result.changes; undone = c.none-self-inside.result.undone }; lookups = c.none-self-inside.result.lookups; looked = g.K.Kin.lookups c.self.inside.store } in
     let w : x.work ≡ no_work = ap (λ w. record { changes = w.changes; undone = w.undone }) c.none-self-inside.ensures in

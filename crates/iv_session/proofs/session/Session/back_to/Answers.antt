@@ -4,7 +4,7 @@ use Rattle.iv_machine.specs.Databases.{no_rows}
 use Rattle.iv_machine.specs.Machine.{is_open}
 use Rattle.iv_store.specs.Stores.{store_at_mark}
 use Rattle.iv_session.specs.declared.session.Saved.{Saved}
-use Rattle.iv_session.specs.Kept.{Held, StandsAs, IsOpen}
+use Rattle.iv_session.specs.Kept.{Parts, parts, StandsAs, IsOpen}
 use Rattle.iv_session.specs.Saving.{last_named}
 use Rattle.iv_session.proofs.Saves.{open_is}
 use Rattle.iv_session.proofs.Releasing.{found, not_found, backed_base, backed_state, backed_kept}
@@ -12,15 +12,7 @@ use Rattle.iv_session.proofs.session.Session.back_to.Goals as goal
 
 pub invariant_of-self-2 : goal.invariant_of-self-2
 invariant_of-self-2 g c =
-    let h : Held = record {
-      schema = c.self.inside.catalogue;
-      limits = c.self.inside.limits;
-      store = g.K.Kin.view c.self.inside.store;
-      initial = c.self.inside.initial;
-      changed = c.self.inside.changed;
-      active = c.self.inside.active;
-      saves = c.self.inside.saves.items;
-    } in
+    let h : Parts = parts g.K.Kin.view c.self.inside in
     let a : h.active ≡ true = open_is h.active h.store (ap (λ x. is_open x.state) c.self.view_is ∙ c.requires) in
     let o : IsOpen h = subst (λ b. StandsAs b h) a c.self.invariant.stands in
     let w : c.in-Some.place < length h.saves = rw (← c.as_slice.ensures.value) c.in-Some.ensures.within in
@@ -30,15 +22,7 @@ invariant_of-self-2 g c =
 
 pub returns : goal.returns
 returns g c =
-    let h : Held = record {
-      schema = c.self.inside.catalogue;
-      limits = c.self.inside.limits;
-      store = g.K.Kin.view c.self.inside.store;
-      initial = c.self.inside.initial;
-      changed = c.self.inside.changed;
-      active = c.self.inside.active;
-      saves = c.self.inside.saves.items;
-    } in
+    let h : Parts = parts g.K.Kin.view c.self.inside in
     let a : h.active ≡ true = open_is h.active h.store (ap (λ x. is_open x.state) c.self.view_is ∙ c.requires) in
     let o : IsOpen h = subst (λ b. StandsAs b h) a c.self.invariant.stands in
     let w : c.in-Some.place < length h.saves = rw (← c.as_slice.ensures.value) c.in-Some.ensures.within in
@@ -58,15 +42,7 @@ returns g c =
 
 pub returns-in-None : goal.returns-in-None
 returns-in-None g c =
-    let h : Held = record {
-      schema = c.self.inside.catalogue;
-      limits = c.self.inside.limits;
-      store = g.K.Kin.view c.self.inside.store;
-      initial = c.self.inside.initial;
-      changed = c.self.inside.changed;
-      active = c.self.inside.active;
-      saves = c.self.inside.saves.items;
-    } in
+    let h : Parts = parts g.K.Kin.view c.self.inside in
     let at : last_named c.args.name.now h.saves ≡ None =
     ap (λ l. last_named c.args.name.now l) (sym c.as_slice.ensures.value)
     ∙ sym c.last_named.ensures.place ∙ c.in-None.is in

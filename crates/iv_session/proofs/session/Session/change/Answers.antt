@@ -1,20 +1,12 @@
 use Rattle.std.proofs.Common.{◌∙◌, ap, refl, not, Err, length, ◌==◌}
 use Rattle.iv_session.specs.Changing.{Changes, said_of}
-use Rattle.iv_session.specs.Kept.{Held, current, state_of}
+use Rattle.iv_session.specs.Kept.{Parts, parts, current, state_of}
 use Rattle.iv_session.proofs.Changed.{change_refused, stored, none_is}
 use Rattle.iv_session.proofs.session.Session.change.Goals as goal
 
 pub returns-in-Err : goal.returns-in-Err
 returns-in-Err g c =
-    let h : Held = record {
-      schema = c.self.inside.catalogue;
-      limits = c.self.inside.limits;
-      store = g.K.Kin.view c.self.inside.store;
-      initial = c.self.inside.initial;
-      changed = c.self.inside.changed;
-      active = c.self.inside.active;
-      saves = c.self.inside.saves.items;
-    } in
+    let h : Parts = parts g.K.Kin.view c.self.inside in
     let changes : Changes (not h.active) h.store (said_of h.schema (current h.initial h.changed).modes h.limits c.args.statement.now h.store.base) (Err c.in-Err.refusal)
     (g.K.Kin.view c.run_change.new.store) (record { changes = c.run_change.new.work.changes; undone = c.run_change.new.work.undone }) =
     rw (← c.modes_now.ensures) c.in-Err.ensures.changes in

@@ -2,21 +2,13 @@ use Rattle.std.proofs.Common.{◌≡◌, ◌∙◌, ap, sym, subst, false}
 use Rattle.iv_catalogue.specs.Catalogues.{with_table}
 use Rattle.iv_machine.specs.Machine.{State, is_open}
 use Rattle.iv_fitting.specs.ConstraintShapes.{SchemaSuits}
-use Rattle.iv_session.specs.Kept.{Held, state_of}
+use Rattle.iv_session.specs.Kept.{Parts, parts, state_of}
 use Rattle.iv_session.proofs.Defined.{shut_is, created_kept}
 use Rattle.iv_session.proofs.session.Session.create_table.Goals as goal
 
 pub invariant_of-self : goal.invariant_of-self
 invariant_of-self g c =
-    let h : Held = record {
-      schema = c.self.inside.catalogue;
-      limits = c.self.inside.limits;
-      store = g.K.Kin.view c.self.inside.store;
-      initial = c.self.inside.initial;
-      changed = c.self.inside.changed;
-      active = c.self.inside.active;
-      saves = c.self.inside.saves.items;
-    } in
+    let h : Parts = parts g.K.Kin.view c.self.inside in
     let v : state_of h ≡ c.args.self.now.state = ap (λ x. x.state) c.self.view_is in
     let a : h.active ≡ false = shut_is h.active h.store (ap is_open v ∙ c.requires.outside) in
     created_kept h c.args.table c.args.constraints c.add_table.new.catalogue (g.K.Kin.view c.add_table.new.store) c.in-Ok.modes a

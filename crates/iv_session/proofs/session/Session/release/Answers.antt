@@ -2,7 +2,7 @@ use Rattle.std.proofs.Common.{◌≡◌, ◌∙◌, ap, sym, subst, refl, true, 
 use Rattle.iv_machine.specs.Databases.{no_rows}
 use Rattle.iv_machine.specs.Machine.{is_open}
 use Rattle.iv_session.specs.declared.session.Saved.{Saved}
-use Rattle.iv_session.specs.Kept.{Held, StandsAs, IsOpen}
+use Rattle.iv_session.specs.Kept.{Parts, parts, StandsAs, IsOpen}
 use Rattle.iv_session.specs.Saving.{last_named}
 use Rattle.iv_session.proofs.Saves.{open_is}
 use Rattle.iv_session.proofs.Releasing.{found, not_found, released_state, released_kept}
@@ -10,30 +10,14 @@ use Rattle.iv_session.proofs.session.Session.release.Goals as goal
 
 pub invariant_of-self : goal.invariant_of-self
 invariant_of-self g c =
-    let h : Held = record {
-      schema = c.self.inside.catalogue;
-      limits = c.self.inside.limits;
-      store = g.K.Kin.view c.self.inside.store;
-      initial = c.self.inside.initial;
-      changed = c.self.inside.changed;
-      active = c.self.inside.active;
-      saves = c.self.inside.saves.items;
-    } in
+    let h : Parts = parts g.K.Kin.view c.self.inside in
     let a : h.active ≡ true = open_is h.active h.store (ap (λ x. is_open x.state) c.self.view_is ∙ c.requires) in
     released_kept h c.in-Some.place c.take_from.new.saves.items (g.K.Kin.view c.take_from.new.store) a (subst (λ b. StandsAs b h) a c.self.invariant.stands)
     (rw (← c.as_slice.ensures.value) c.in-Some.ensures.within) c.take_from.ensures.saves c.take_from.ensures.store c.self.invariant
 
 pub returns-in-Some : goal.returns-in-Some
 returns-in-Some g c =
-    let h : Held = record {
-      schema = c.self.inside.catalogue;
-      limits = c.self.inside.limits;
-      store = g.K.Kin.view c.self.inside.store;
-      initial = c.self.inside.initial;
-      changed = c.self.inside.changed;
-      active = c.self.inside.active;
-      saves = c.self.inside.saves.items;
-    } in
+    let h : Parts = parts g.K.Kin.view c.self.inside in
     let a : h.active ≡ true = open_is h.active h.store (ap (λ x. is_open x.state) c.self.view_is ∙ c.requires) in
     let o : IsOpen h = subst (λ b. StandsAs b h) a c.self.invariant.stands in
     let s : Saved = record { name = c.args.name.now; modes = None } in
@@ -49,15 +33,7 @@ returns-in-Some g c =
 
 pub returns-in-None : goal.returns-in-None
 returns-in-None g c =
-    let h : Held = record {
-      schema = c.self.inside.catalogue;
-      limits = c.self.inside.limits;
-      store = g.K.Kin.view c.self.inside.store;
-      initial = c.self.inside.initial;
-      changed = c.self.inside.changed;
-      active = c.self.inside.active;
-      saves = c.self.inside.saves.items;
-    } in
+    let h : Parts = parts g.K.Kin.view c.self.inside in
     let at : last_named c.args.name.now h.saves ≡ None =
     ap (λ l. last_named c.args.name.now l) (sym c.as_slice.ensures.value) ∙ ap (λ n. last_named n c.as_slice.result.now) (sym c.as_str.ensures)
     ∙ sym c.last_named.ensures.place ∙ c.in-None.is in

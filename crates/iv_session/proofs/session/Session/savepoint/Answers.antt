@@ -2,22 +2,14 @@ use Rattle.std.proofs.Common.{◌≡◌, ◌∙◌, ap, subst, refl, true}
 use Rattle.iv_machine.specs.Machine.{is_open, state_with_savepoint}
 use Rattle.iv_store.specs.Stores.{store_with_mark}
 use Rattle.iv_session.specs.declared.session.Saved.{Saved}
-use Rattle.iv_session.specs.Kept.{Held, StandsAs, state_of}
+use Rattle.iv_session.specs.Kept.{Parts, parts, StandsAs, state_of}
 use Rattle.iv_session.specs.Saving.{IsWithout}
 use Rattle.iv_session.proofs.Saves.{open_is, saved, saved_state, saved_kept}
 use Rattle.iv_session.proofs.session.Session.savepoint.Goals as goal
 
 pub invariant_of-self-2 : goal.invariant_of-self-2
 invariant_of-self-2 g c =
-    let h : Held = record {
-      schema = c.self.inside.catalogue;
-      limits = c.self.inside.limits;
-      store = g.K.Kin.view c.self.inside.store;
-      initial = c.self.inside.initial;
-      changed = c.self.inside.changed;
-      active = c.self.inside.active;
-      saves = c.self.inside.saves.items;
-    } in
+    let h : Parts = parts g.K.Kin.view c.self.inside in
     let s : Saved = record { name = c.in_ok-own.own; modes = c.in_ok-modes.modes } in
     let a : h.active ≡ true = open_is h.active h.store (ap (λ x. is_open x.state) c.self.view_is ∙ c.requires) in
     let w : IsWithout c.args.name.now h.saves (store_with_mark h.store) c.take_named.new.saves.items (g.K.Kin.view c.take_named.new.store) =
@@ -27,15 +19,7 @@ invariant_of-self-2 g c =
 
 pub returns : goal.returns
 returns g c =
-    let h : Held = record {
-      schema = c.self.inside.catalogue;
-      limits = c.self.inside.limits;
-      store = g.K.Kin.view c.self.inside.store;
-      initial = c.self.inside.initial;
-      changed = c.self.inside.changed;
-      active = c.self.inside.active;
-      saves = c.self.inside.saves.items;
-    } in
+    let h : Parts = parts g.K.Kin.view c.self.inside in
     let s : Saved = record { name = c.in_ok-own.own; modes = c.in_ok-modes.modes } in
     let a : h.active ≡ true = open_is h.active h.store (ap (λ x. is_open x.state) c.self.view_is ∙ c.requires) in
     let w : IsWithout c.args.name.now h.saves (store_with_mark h.store) c.take_named.new.saves.items (g.K.Kin.view c.take_named.new.store) =

@@ -6,22 +6,14 @@ use Rattle.iv_machine.specs.declared.database.Which.TheVariants.{Deferred}
 use Rattle.iv_machine.specs.Databases.{is_chosen, is_deferred, scan}
 use Rattle.iv_machine.specs.Machine.{State, accept, no_work, refuse_first, set_constraints_outcome}
 use Rattle.iv_modes.specs.ModeMaps.{ModeMap}
-use Rattle.iv_session.specs.Kept.{Held, Seen, state_of}
+use Rattle.iv_session.specs.Kept.{Parts, parts, Seen, state_of}
 use Rattle.iv_session.proofs.Deferred.{set_refused, set_seen}
 use Rattle.iv_session.proofs.Performed.{accept_performs, refuse_performs}
 use Rattle.iv_session.proofs.session.Session.set_modes.Goals as goal
 
 pub returns-in-Err : goal.returns-in-Err
 returns-in-Err g c =
-    let h : Held = record {
-      schema = c.self.inside.catalogue;
-      limits = c.self.inside.limits;
-      store = g.K.Kin.view c.self.inside.store;
-      initial = c.self.inside.initial;
-      changed = c.self.inside.changed;
-      active = c.self.inside.active;
-      saves = c.self.inside.saves.items;
-    } in
+    let h : Parts = parts g.K.Kin.view c.self.inside in
     let s : State = c.args.self.now.state in
     let v : state_of h ≡ s = ap (λ x. x.state) c.self.view_is in
     let x : Seen = record { state = state_of h; work = record { changes = c.none-self-inside.result.changes; undone = c.none-self-inside.result.undone }; lookups = c.none-self-inside.result.lookups; looked = g.K.Kin.lookups c.self.inside.store } in
@@ -33,15 +25,7 @@ returns-in-Err g c =
 
 pub returns-in-Some : goal.returns-in-Some
 returns-in-Some g c =
-    let h : Held = record {
-      schema = c.self.inside.catalogue;
-      limits = c.self.inside.limits;
-      store = g.K.Kin.view c.self.inside.store;
-      initial = c.self.inside.initial;
-      changed = c.self.inside.changed;
-      active = c.self.inside.active;
-      saves = c.self.inside.saves.items;
-    } in
+    let h : Parts = parts g.K.Kin.view c.self.inside in
     let s : State = c.args.self.now.state in
     let v : state_of h ≡ s = ap (λ x. x.state) c.self.view_is in
     let x : Seen = record { state = state_of h; work = record { changes = c.none-self-inside.result.changes; undone = c.none-self-inside.result.undone }; lookups = c.none-self-inside.result.lookups; looked = g.K.Kin.lookups c.self.inside.store } in
@@ -58,15 +42,7 @@ returns-in-Some g c =
 
 pub returns-in-None : goal.returns-in-None
 returns-in-None g c =
-    let h : Held = record {
-      schema = c.self.inside.catalogue;
-      limits = c.self.inside.limits;
-      store = g.K.Kin.view c.self.inside.store;
-      initial = c.self.inside.initial;
-      changed = c.self.inside.changed;
-      active = c.self.inside.active;
-      saves = c.self.inside.saves.items;
-    } in
+    let h : Parts = parts g.K.Kin.view c.self.inside in
     let s : State = c.args.self.now.state in
     let v : state_of h ≡ s = ap (λ x. x.state) c.self.view_is in
     let x : Seen = record { state = state_of h; work = record { changes = c.none-self-inside.result.changes; undone = c.none-self-inside.result.undone }; lookups = c.none-self-inside.result.lookups; looked = g.K.Kin.lookups c.self.inside.store } in
