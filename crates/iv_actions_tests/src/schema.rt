@@ -38,7 +38,7 @@ fn column(alloc: Global, called: &str) -> Result<Column, AllocError> {
     })
 }
 
-/// The table T (A INTEGER, B INTEGER).
+// The table T (A INTEGER, B INTEGER).
 fn table(alloc: Global) -> Result<Table, AllocError>
     ensures { IfOk result (λ t. t.name ≡ codes "T") }
 {
@@ -63,7 +63,7 @@ fn constraint(alloc: Global, called: &str, rule: Rule) -> Result<Constraint, All
     })
 }
 
-/// PRIMARY KEY (A).
+// PRIMARY KEY (A).
 fn primary_key(alloc: Global) -> Result<Constraint, AllocError>
     ensures name { IfOk result (λ c. c.name ≡ codes "K") }
     ensures table { IfOk result (λ c. c.table ≡ 0) }
@@ -73,7 +73,7 @@ fn primary_key(alloc: Global) -> Result<Constraint, AllocError>
     constraint(alloc, "K", rule)
 }
 
-/// FOREIGN KEY (B) REFERENCES T (A).
+// FOREIGN KEY (B) REFERENCES T (A).
 fn reference(alloc: Global, called: &str, actions: Actions) -> Result<Constraint, AllocError>
     ensures name { IfOk result (λ c. c.name ≡ called.now) }
     ensures table { IfOk result (λ c. c.table ≡ 0) }
@@ -97,7 +97,7 @@ fn reference(alloc: Global, called: &str, actions: Actions) -> Result<Constraint
     constraint(alloc, called, rule)
 }
 
-/// Adds T with these constraints to an empty catalogue.
+// Adds T with these constraints to an empty catalogue.
 fn add_table(
     catalogue: &mut Catalogue,
     alloc: Global,
@@ -119,7 +119,7 @@ fn add_table(
     catalogue.add_table(table, constraints)
 }
 
-/// Adds the catalogue's first table, with all constraints, to an empty store.
+// Adds the catalogue's first table, with all constraints, to an empty store.
 fn add_to_store(store: &mut PlainStore, catalogue: &Catalogue) -> Result<(), AllocError>
     requires empty { store.old ≡ empty_store }
     requires own { AllOn 0 catalogue.now.constraints }
@@ -163,7 +163,7 @@ fn fits(columns: &[Column], values: &[Value]) -> bool
     }
 }
 
-/// Whether a row of this number may be changed in T.
+// Whether a row of this number may be changed in T.
 fn may_change(store: &PlainStore, number: u64) -> bool
     ensures added { IsTrue result → 0 < length store.now.tables }
     ensures own { IsTrue result →
@@ -182,7 +182,7 @@ fn may_change(store: &PlainStore, number: u64) -> bool
         && store.standing() < MOST_CHANGES_IN_A_TRANSACTION
 }
 
-/// Whether these values fit T.
+// Whether these values fit T.
 fn new_fits(store: &PlainStore, new: &Option<Row>) -> bool
     ensures { IsTrue result →
         IfSome new.now (λ values. fits_table store.now.tables 0 values ≡ true) }

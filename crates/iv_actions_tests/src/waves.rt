@@ -10,7 +10,7 @@ use std::alloc::{AllocError, Global};
 use std::process::Abort;
 use std::test::Fail;
 
-/// What a change leaves of a row: its B, or that it is gone.
+// What a change leaves of a row: its B, or that it is gone.
 fn left(alloc: Global, change: &Change) -> Result<String, AllocError> {
     match &change.new {
         None => format!(in alloc; " {} gone", change.row),
@@ -42,7 +42,7 @@ fn refused(alloc: Global, refusal: &Refusal) -> Result<String, AllocError> {
     }
 }
 
-/// Makes a change of the row 1, as a wave.
+// Makes a change of the row 1, as a wave.
 fn first_wave(store: &mut PlainStore, alloc: Global, new: Option<Row>) -> Result<Wave, AllocError> {
     let mut wave = Wave::new(alloc);
     let copy = match &new {
@@ -59,7 +59,7 @@ fn first_wave(store: &mut PlainStore, alloc: Global, new: Option<Row>) -> Result
     Ok(wave)
 }
 
-/// Makes the changes of a wave.
+// Makes the changes of a wave.
 fn apply(store: &mut PlainStore, wave: &Wave) -> Result<(), AllocError> {
     for change in wave.changes() {
         let new = match &change.new {
@@ -71,7 +71,7 @@ fn apply(store: &mut PlainStore, wave: &Wave) -> Result<(), AllocError> {
     Ok(())
 }
 
-/// What follows a wave, wave by wave, to the third.
+// What follows a wave, wave by wave, to the third.
 fn follow(
     store: &mut PlainStore,
     catalogue: &Catalogue,
@@ -99,7 +99,7 @@ fn follow(
     Ok(text)
 }
 
-/// Rows 1 to 4 of T: 2 and 4 refer to 1, and 3 to 2.
+// Rows 1 to 4 of T: 2 and 4 refer to 1, and 3 to 2.
 fn add_rows(store: &mut PlainStore, alloc: Global) -> Result<(), AllocError> {
     make(store, 1, row(alloc, 1, Value::Null)?)?;
     make(store, 2, row(alloc, 2, Value::Int(1))?)?;
@@ -119,7 +119,7 @@ fn follow_change(
     follow(store, catalogue, alloc, first)
 }
 
-/// What follows where row 1 becomes this one.
+// What follows where row 1 becomes this one.
 fn following(
     alloc: Global,
     first: Actions,
@@ -144,7 +144,7 @@ fn actions(on_delete: ReferentialAction, on_update: ReferentialAction) -> Action
     }
 }
 
-/// What follows where row 1 is deleted.
+// What follows where row 1 is deleted.
 fn deletion(alloc: Global, action: ReferentialAction) -> Result<String, AllocError> {
     let other = actions(ReferentialAction::NoAction, ReferentialAction::Restrict);
     following(
@@ -170,7 +170,7 @@ fn a_deletion_is_followed_along_a_chain_of_rows(rt: HostRuntime) -> Result<(), F
     Ok(())
 }
 
-/// What follows where row 1 gets the key 5.
+// What follows where row 1 gets the key 5.
 fn update(
     alloc: Global,
     first: ReferentialAction,
@@ -214,7 +214,7 @@ fn an_update_is_followed_by_both_foreign_keys(rt: HostRuntime) -> Result<(), Fai
     Ok(())
 }
 
-/// Adds the change of a row of T to this one.
+// Adds the change of a row of T to this one.
 fn push(
     wave: &mut Wave,
     store: &PlainStore,
@@ -233,7 +233,7 @@ fn push(
     Ok(())
 }
 
-/// Makes a wave of the rows 1 and 2, which become these.
+// Makes a wave of the rows 1 and 2, which become these.
 fn wave_of_both(
     store: &mut PlainStore,
     alloc: Global,
@@ -247,7 +247,7 @@ fn wave_of_both(
     Ok(wave)
 }
 
-/// Rows 1 to 4 of T: 3 refers to 1 and 4 to 2, and 2 has this B.
+// Rows 1 to 4 of T: 3 refers to 1 and 4 to 2, and 2 has this B.
 fn add_pairs(store: &mut PlainStore, alloc: Global, second: Value) -> Result<(), AllocError> {
     make(store, 1, row(alloc, 1, Value::Null)?)?;
     make(store, 2, row(alloc, 2, second)?)?;
@@ -256,7 +256,7 @@ fn add_pairs(store: &mut PlainStore, alloc: Global, second: Value) -> Result<(),
     Ok(())
 }
 
-/// What follows where the rows 1 and 2 swap their keys.
+// What follows where the rows 1 and 2 swap their keys.
 fn follow_swap(
     store: &mut PlainStore,
     catalogue: &Catalogue,
@@ -269,7 +269,7 @@ fn follow_swap(
     follow(store, catalogue, alloc, wave)
 }
 
-/// What follows where the rows 1 and 2 are deleted, and 2 refers to 1.
+// What follows where the rows 1 and 2 are deleted, and 2 refers to 1.
 fn follow_deletions(
     store: &mut PlainStore,
     catalogue: &Catalogue,
@@ -280,7 +280,7 @@ fn follow_deletions(
     follow(store, catalogue, alloc, wave)
 }
 
-/// What follows a wave of two rows, where the first foreign key has this action.
+// What follows a wave of two rows, where the first foreign key has this action.
 fn following_both(
     alloc: Global,
     action: ReferentialAction,

@@ -25,7 +25,7 @@ fn places_are_kept(rt: HostRuntime) {
     }
 }
 
-/// NOT NULL of the first column of the table at this place.
+// NOT NULL of the first column of the table at this place.
 fn not_null_of(alloc: Global, text: &str, table: u32) -> Result<Constraint, AllocError>
     ensures named { IfOk result (λ constraint. constraint.name ≡ text.now) }
     ensures own { IfOk result (λ constraint. constraint.table ≡ table) }
@@ -39,7 +39,7 @@ fn not_null_of(alloc: Global, text: &str, table: u32) -> Result<Constraint, Allo
     })
 }
 
-/// NOT NULL of the first column of the first table.
+// NOT NULL of the first column of the first table.
 fn not_null(alloc: Global) -> Result<Constraint, AllocError>
     ensures named { IfOk result (λ constraint. constraint.name ≡ codes "T_C1") }
     ensures own { IfOk result (λ constraint. constraint.table ≡ 0) }
@@ -47,7 +47,7 @@ fn not_null(alloc: Global) -> Result<Constraint, AllocError>
     not_null_of(alloc, "T_C1", 0)
 }
 
-/// A table with a column A.
+// A table with a column A.
 fn table_of(alloc: Global, text: &str) -> Result<Table, AllocError> {
     let mut columns = Items::new(alloc);
     columns.push(Column {
@@ -61,12 +61,12 @@ fn table_of(alloc: Global, text: &str) -> Result<Table, AllocError> {
     })
 }
 
-/// The table T with a column A.
+// The table T with a column A.
 fn table(alloc: Global) -> Result<Table, AllocError> {
     table_of(alloc, "T")
 }
 
-/// A catalogue of T, with NOT NULL.
+// A catalogue of T, with NOT NULL.
 fn catalogue(alloc: Global) -> Result<Catalogue, AllocError> {
     let constraints = Constraints::from_vec(vec![in alloc; not_null(alloc)?]?);
     let table = table(alloc)?;
@@ -100,7 +100,7 @@ fn a_table_is_added_with_its_constraints(rt: HostRuntime) -> Result<(), Fail> {
     Ok(())
 }
 
-/// A catalogue of T without constraints.
+// A catalogue of T without constraints.
 fn bare_catalogue(alloc: Global) -> Result<Catalogue, AllocError>
     ensures { IfOk result (λ c. (length c.tables ≡ 1) × (c.constraints ≡ [])) }
 {
@@ -115,7 +115,7 @@ fn bare_catalogue(alloc: Global) -> Result<Catalogue, AllocError>
     }
 }
 
-/// A catalogue to which T was added and from which it was taken.
+// A catalogue to which T was added and from which it was taken.
 fn taken_table(alloc: Global) -> Result<Catalogue, AllocError> {
     let table = table(alloc)?;
     let mut catalogue = Catalogue::new(alloc);
@@ -144,7 +144,7 @@ fn a_table_is_taken(rt: HostRuntime) -> Result<(), Fail> {
     Ok(())
 }
 
-/// A catalogue of T, to which NOT NULL was added.
+// A catalogue of T, to which NOT NULL was added.
 fn added_constraint(alloc: Global) -> Result<Catalogue, AllocError>
     ensures { IfOk result (λ c. length c.constraints ≡ 1) }
 {
@@ -159,7 +159,7 @@ fn added_constraint(alloc: Global) -> Result<Catalogue, AllocError>
     }
 }
 
-/// The same, from which it was taken.
+// The same, from which it was taken.
 fn taken_constraint(alloc: Global) -> Result<Catalogue, AllocError> {
     let mut catalogue = added_constraint(alloc)?;
     catalogue.take_constraint();
@@ -199,7 +199,7 @@ fn a_constraint_is_taken(rt: HostRuntime) -> Result<(), Fail> {
     Ok(())
 }
 
-/// A trigger R before each INSERT into the first table, with an empty body.
+// A trigger R before each INSERT into the first table, with an empty body.
 fn trigger(alloc: Global) -> Result<Trigger, AllocError>
     ensures { IfOk result (λ trigger. trigger.body ≡ []) }
 {
@@ -215,7 +215,7 @@ fn trigger(alloc: Global) -> Result<Trigger, AllocError>
     })
 }
 
-/// A catalogue of the trigger R.
+// A catalogue of the trigger R.
 fn added_trigger(alloc: Global) -> Result<Catalogue, AllocError> {
     let trigger = trigger(alloc)?;
     let mut catalogue = Catalogue::new(alloc);

@@ -3,7 +3,7 @@ use crate::running::told;
 use std::alloc::{AllocError, Global};
 use std::test::Fail;
 
-/// Scripts, and what their data statements and queries answer.
+// Scripts, and what their data statements and queries answer.
 const SCRIPTS: [(&str, &str); 9] = [
     // Row 3 of C loses its reference to A in the wave in which row 2 of B goes, and goes itself in the next.
     // On the whole it was deleted.
@@ -52,7 +52,7 @@ const SCRIPTS: [(&str, &str); 9] = [
     ),
 ];
 
-/// The scripts that answer otherwise, with their answers.
+// The scripts that answer otherwise, with their answers.
 fn otherwise(alloc: Global, scripts: &[(&str, &str)]) -> Result<String, AllocError> {
     let mut wrong = String::new(alloc);
     for (written, expected) in scripts {

@@ -5,7 +5,7 @@ use iv_value::Value;
 use std::alloc::{AllocError, Global};
 use std::test::Fail;
 
-/// A change of a row of a table, by its value before and after.
+// A change of a row of a table, by its value before and after.
 #[derive(Clone, Copy)]
 struct Step(u32, u64, i64, Option<i64>);
 
@@ -38,8 +38,8 @@ fn wave(alloc: Global, steps: &[Step]) -> Result<Wave, AllocError> {
     Ok(wave)
 }
 
-/// The row of the first table goes; then that of the second, while that of the third loses its reference; then
-/// that one goes too.
+// The row of the first table goes; then that of the second, while that of the third loses its reference; then
+// that one goes too.
 fn waves(alloc: Global) -> Result<Vec<Wave>, AllocError> {
     let mut waves = Vec::new(alloc);
     waves.push(wave(alloc, &[Step(0, 1, 10, None)])?)?;
@@ -58,7 +58,7 @@ fn first(row: &Option<Row>) -> i64 {
     }
 }
 
-/// Table, row number, value before and after of each change; 0 is no row.
+// Table, row number, value before and after of each change; 0 is no row.
 fn shown(alloc: Global, changes: &[Change]) -> Result<String, AllocError> {
     let mut text = String::new(alloc);
     for change in changes {

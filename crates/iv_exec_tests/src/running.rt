@@ -16,7 +16,7 @@ use iv_store::{Keeper, Kin, PlainStore};
 use iv_syntax::Statement;
 use std::alloc::{AllocError, Global};
 
-/// INSERT, UPDATE and DELETE, with sixteen levels.
+// INSERT, UPDATE and DELETE, with sixteen levels.
 fn run_change(
     store: &mut PlainStore,
     catalogue: &Catalogue,
@@ -54,7 +54,7 @@ fn run_query(store: &PlainStore, query: &QueryPlan, text: &mut String) -> Result
     }
 }
 
-/// A data statement that is handed over.
+// A data statement that is handed over.
 fn change_whole(
     store: &mut PlainStore,
     catalogue: &Catalogue,
@@ -71,7 +71,7 @@ fn change_whole(
     go
 }
 
-/// A query that is handed over.
+// A query that is handed over.
 fn query_whole(
     store: &PlainStore,
     query: QueryPlan,

@@ -15,7 +15,7 @@ use iv_catalogue::{
 use iv_store::{Keeper, PlainStore};
 use std::alloc::AllocError;
 
-/// Adds a table with its constraints to a catalogue and its store.
+// Adds a table with its constraints to a catalogue and its store.
 fn add_table(
     store: &mut PlainStore,
     catalogue: &mut Catalogue,
@@ -38,7 +38,7 @@ fn add_table(
     )
 }
 
-/// Adds a table that fits.
+// Adds a table that fits.
 #[tactic(auto, using(crate::proofs::Added::table_added))]
 fn create_table(
     store: &mut PlainStore,
@@ -59,7 +59,7 @@ fn is_in_use(triggers: &[Trigger], name: &str) -> bool
     triggers.iter().any(|trigger| name == trigger.name.as_str())
 }
 
-/// Whether a trigger can be added.
+// Whether a trigger can be added.
 fn can_be_added(catalogue: &Catalogue, trigger: &Trigger) -> bool
     ensures room { IsTrue result → length catalogue.now.triggers < MOST_TRIGGERS }
     ensures ever { IsTrue result → catalogue.now.created < MOST_TRIGGERS_EVER }
@@ -72,7 +72,7 @@ fn can_be_added(catalogue: &Catalogue, trigger: &Trigger) -> bool
         && !is_in_use(catalogue.triggers(), trigger.name.as_str())
 }
 
-/// Adds a trigger, where there is room.
+// Adds a trigger, where there is room.
 #[tactic(auto, using(crate::proofs::Added::trigger_added))]
 fn create_trigger(
     store: &mut PlainStore,

@@ -30,7 +30,7 @@ enum Step {
     AfterUpdate,
 }
 
-/// What the BEFORE statement triggers of a DELETE on the first table answer.
+// What the BEFORE statement triggers of a DELETE on the first table answer.
 fn before_delete(
     store: &PlainStore,
     context: &Context<'_>,
@@ -54,7 +54,7 @@ fn insertion_of_null(alloc: Global) -> Result<Vec<Change>, AllocError> {
     Ok(vec![in alloc; change]?)
 }
 
-/// The first value of the new row of the first change.
+// The first value of the new row of the first change.
 fn first_new(changes: &[Change]) -> i64 {
     match changes {
         [change, ..] => match &change.new {
@@ -68,7 +68,7 @@ fn first_new(changes: &[Change]) -> i64 {
     }
 }
 
-/// What the BEFORE row triggers make of NULL that is inserted into the first table.
+// What the BEFORE row triggers make of NULL that is inserted into the first table.
 fn before_insert(
     store: &PlainStore,
     context: &Context<'_>,
@@ -109,7 +109,7 @@ fn show_firings(
     Ok(())
 }
 
-/// How triggers fire after a data statement that changed nothing.
+// How triggers fire after a data statement that changed nothing.
 fn fired_by(
     catalogue: &Catalogue,
     alloc: Global,
@@ -168,7 +168,7 @@ fn take(
     }
 }
 
-/// What a step answers after a script.
+// What a step answers after a script.
 fn after(alloc: Global, written: &str, step: Step) -> Result<String, AllocError> {
     let mut text = String::new(alloc);
     let mut store = PlainStore::new(alloc);

@@ -53,7 +53,7 @@ fn truth_in<R: Rows>(cond: &Cond, scope: &Scope<'_, R>) -> Result<Truth, ExprFau
     }
 }
 
-/// Whether a condition is true at a row of a table.
+// Whether a condition is true at a row of a table.
 #[cycle(truth_in)]
 fn exists_in_table<R: Rows>(
     table: TableId,
@@ -77,7 +77,7 @@ fn exists_in_table<R: Rows>(
     Ok(Truth::of(found))
 }
 
-/// Whether a condition is true at a row of a transition table.
+// Whether a condition is true at a row of a transition table.
 #[cycle(truth_in)]
 fn exists_in_transition<R: Rows>(
     side: Side,

@@ -106,14 +106,14 @@ impl<'a> Model for Ranges<'a> {
 }
 
 impl<'a> Ranges<'a> {
-    /// A range at this row, inside of others.
+    // A range at this row, inside of others.
     fn new(row: &'a [Value], up: Option<&'a Ranges<'a>>) -> Ranges<'a>
         ensures { result ≡ row.entry.now ∷ outer (option_copied up.entry) }
     {
         Ranges { row, up }
     }
 
-    /// The current row of a range, counted outward from the innermost, which is 0.
+    // The current row of a range, counted outward from the innermost, which is 0.
     fn at(&self, depth: u32) -> Option<&[Value]>
         ensures { option_copied result ≡ slice_get self.now depth }
     {

@@ -36,7 +36,7 @@ fn times(alloc: Global, left: i64, right: i64) -> Result<Boxed<Expr>, AllocError
     Boxed::new(alloc, Expr::Times(left, right))
 }
 
-/// The next number after the first column of the innermost range.
+// The next number after the first column of the innermost range.
 fn next(alloc: Global) -> Result<Expr, AllocError> {
     let column = Boxed::new(alloc, Expr::Column(0, 0))?;
     let one = number(alloc, 1)?;
@@ -63,7 +63,7 @@ fn exists(alloc: Global, range: Range, operand: Boxed<Cond>) -> Result<Boxed<Con
     Boxed::new(alloc, Cond::Exists(range, operand))
 }
 
-/// The value of an expression outside of all ranges.
+// The value of an expression outside of all ranges.
 fn evaluated(expr: &Expr) -> Result<Value, ExprFault> {
     let tables = NoTables {};
     let frame = Frame::none();
@@ -119,7 +119,7 @@ fn texts_are_lent_and_copied(rt: HostRuntime) -> Result<(), Fail> {
     Ok(())
 }
 
-/// Whether a column of the innermost range compares so with a number.
+// Whether a column of the innermost range compares so with a number.
 fn column_to(alloc: Global, comparison: Comparison, value: i64) -> Result<Boxed<Cond>, AllocError> {
     let cond = Cond::Compare(
         comparison,
@@ -161,7 +161,7 @@ fn checks_take_a_fault_for_false(rt: HostRuntime) -> Result<(), Fail> {
     Ok(())
 }
 
-/// Whether 1 is NULL's equal, which is unknown.
+// Whether 1 is NULL's equal, which is unknown.
 fn unknown(alloc: Global) -> Result<Boxed<Cond>, AllocError> {
     let cond = Cond::Compare(
         Comparison::Equal,
@@ -171,14 +171,14 @@ fn unknown(alloc: Global) -> Result<Boxed<Cond>, AllocError> {
     Boxed::new(alloc, cond)
 }
 
-/// Whether a sum beyond 64 bits is null, which is a fault.
+// Whether a sum beyond 64 bits is null, which is a fault.
 fn faulty(alloc: Global) -> Result<Boxed<Cond>, AllocError> {
     let greatest = number(alloc, i64::MAX)?;
     let one = number(alloc, 1)?;
     Boxed::new(alloc, Cond::IsNull(Expr::Plus(greatest, one)))
 }
 
-/// A condition that is false, unknown or true, or that is a fault, by its place in that order.
+// A condition that is false, unknown or true, or that is a fault, by its place in that order.
 fn nth(alloc: Global, place: usize) -> Result<Boxed<Cond>, AllocError> {
     match place {
         0 => not(alloc, always(alloc)?),
@@ -188,21 +188,21 @@ fn nth(alloc: Global, place: usize) -> Result<Boxed<Cond>, AllocError> {
     }
 }
 
-/// The conditions of two places, joined by AND.
+// The conditions of two places, joined by AND.
 fn both(alloc: Global, left: usize, right: usize) -> Result<Boxed<Cond>, AllocError> {
     let left = nth(alloc, left)?;
     let right = nth(alloc, right)?;
     and(alloc, left, right)
 }
 
-/// The conditions of two places, joined by OR.
+// The conditions of two places, joined by OR.
 fn either(alloc: Global, left: usize, right: usize) -> Result<Boxed<Cond>, AllocError> {
     let left = nth(alloc, left)?;
     let right = nth(alloc, right)?;
     or(alloc, left, right)
 }
 
-/// Which place gives what this condition gives: 3 for a fault.
+// Which place gives what this condition gives: 3 for a fault.
 fn place_of(cond: &Cond) -> usize {
     let tables = NoTables {};
     let frame = Frame::none();
@@ -231,7 +231,7 @@ fn both_sides_are_evaluated(rt: HostRuntime) -> Result<(), Fail> {
     Ok(())
 }
 
-/// Table 0 with two rows, 1 and 3; there are no other tables.
+// Table 0 with two rows, 1 and 3; there are no other tables.
 #[derive(Drop)]
 struct TwoRows<'a> {
     first: &'a [Value],
@@ -260,7 +260,7 @@ impl<'a> Rows for TwoRows<'a> {
     }
 }
 
-/// The truth of a condition over the two rows (1) and (9223372036854775807).
+// The truth of a condition over the two rows (1) and (9223372036854775807).
 fn judged(cond: &Cond) -> Result<Truth, ExprFault> {
     let tables = TwoRows {
         first: &[Value::Int(1)],
@@ -370,7 +370,7 @@ fn transitions_are_the_sides_of_a_wave(rt: HostRuntime) -> Result<(), Fail> {
     Ok(())
 }
 
-/// A condition of depth 64: 63 times one operator, chosen by a number.
+// A condition of depth 64: 63 times one operator, chosen by a number.
 fn deep(alloc: Global, operator: u8) -> Result<Boxed<Cond>, AllocError> {
     let mut cond = always(alloc)?;
     for _ in 1..64 {
@@ -384,7 +384,7 @@ fn deep(alloc: Global, operator: u8) -> Result<Boxed<Cond>, AllocError> {
     Ok(cond)
 }
 
-/// An expression of depth 64: 63 times one operator, chosen by a number.
+// An expression of depth 64: 63 times one operator, chosen by a number.
 fn deep_expr(alloc: Global, operator: u8) -> Result<Boxed<Expr>, AllocError> {
     let mut expr = number(alloc, 1)?;
     for _ in 1..64 {

@@ -10,7 +10,7 @@ use std::marker::Model;
 #[derive(Drop)]
 pub struct Wave {
     changes: Vec<Change>,
-    /// The greatest row number, or 0.
+    // The greatest row number, or 0.
     last: u64,
 }
 

@@ -46,7 +46,7 @@ fn one() -> Value {
     Value::Int(1)
 }
 
-/// Rows 1 to 3 of table 0 and 4 to 7 of table 1, of two columns each.
+// Rows 1 to 3 of table 0 and 4 to 7 of table 1, of two columns each.
 fn rows(alloc: Global) -> Result<Vec<StoredRow>, AllocError> {
     let mut rows = Vec::new(alloc);
     rows.push(stored(alloc, 0, 1, one(), one())?)?;
@@ -63,7 +63,7 @@ fn both_columns(alloc: Global) -> Result<Items<u32>, AllocError> {
     Items::from_slice(alloc, &[0, 1])
 }
 
-/// The two columns refer to those of table 0.
+// The two columns refer to those of table 0.
 fn reference(alloc: Global, matching: MatchType) -> Result<Rule, AllocError> {
     Ok(Rule::ForeignKey(ForeignKey {
         columns: both_columns(alloc)?,
@@ -75,7 +75,7 @@ fn reference(alloc: Global, matching: MatchType) -> Result<Rule, AllocError> {
     }))
 }
 
-/// The rules of the six constraints: of table 0, and from the fifth of table 1.
+// The rules of the six constraints: of table 0, and from the fifth of table 1.
 fn rule(alloc: Global, place: u32) -> Result<Rule, AllocError> {
     match place {
         0 => Ok(Rule::NotNull(1)),
@@ -101,7 +101,7 @@ fn constraint(alloc: Global, place: u32) -> Result<Constraint, AllocError> {
     })
 }
 
-/// The rows that violate each of the six constraints, in their order.
+// The rows that violate each of the six constraints, in their order.
 const VIOLATING: [&[u64]; 6] = [&[2], &[1, 3], &[1, 3], &[1, 2, 3], &[6], &[5, 6]];
 
 #[test]
@@ -119,7 +119,7 @@ fn rows_satisfy_what_they_should(rt: HostRuntime) -> Result<(), Fail> {
     Ok(())
 }
 
-/// The faults as text: constraint and row of each.
+// The faults as text: constraint and row of each.
 fn told(alloc: Global, faults: &[Fault]) -> Result<String, AllocError> {
     let mut text = String::new(alloc);
     for fault in faults {
@@ -193,7 +193,7 @@ fn numbers(alloc: Global, number: i64) -> Result<Row, AllocError> {
     Row::new(vec![in alloc; Value::Int(number), Value::Null]?)
 }
 
-/// Table, number and first value of each row.
+// Table, number and first value of each row.
 fn shown(alloc: Global, rows: &[StoredRow]) -> Result<String, AllocError> {
     let mut text = String::new(alloc);
     for row in rows {

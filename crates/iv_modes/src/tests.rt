@@ -26,7 +26,7 @@ fn table(alloc: Global, called: &str) -> Result<Table, AllocError>
     })
 }
 
-/// CONSTRAINT P_C1 PRIMARY KEY (K) of the first table.
+// CONSTRAINT P_C1 PRIMARY KEY (K) of the first table.
 fn primary_key(alloc: Global) -> Result<Constraint, AllocError>
     ensures name { IfOk result (λ k. k.name ≡ codes "P_C1") }
     ensures own { IfOk result (λ k. k.table ≡ 0) }
@@ -40,7 +40,7 @@ fn primary_key(alloc: Global) -> Result<Constraint, AllocError>
     })
 }
 
-/// CONSTRAINT FK FOREIGN KEY (X) REFERENCES P INITIALLY DEFERRED of the second table.
+// CONSTRAINT FK FOREIGN KEY (X) REFERENCES P INITIALLY DEFERRED of the second table.
 fn foreign_key(alloc: Global) -> Result<Constraint, AllocError>
     ensures name { IfOk result (λ k. k.name ≡ codes "FK") }
     ensures own { IfOk result (λ k. k.table ≡ 1) }
@@ -61,7 +61,7 @@ fn foreign_key(alloc: Global) -> Result<Constraint, AllocError>
     })
 }
 
-/// Adds a table with one constraint of it.
+// Adds a table with one constraint of it.
 fn add(
     catalogue: &mut Catalogue,
     alloc: Global,
@@ -78,7 +78,7 @@ fn add(
     catalogue.add_table(table, constraints)
 }
 
-/// Adds the tables P and C with these constraints.
+// Adds the tables P and C with these constraints.
 fn fill(catalogue: &mut Catalogue, alloc: Global) -> Result<(), AllocError>
     requires { catalogue.old ≡ empty_schema }
 {
@@ -90,7 +90,7 @@ fn fill(catalogue: &mut Catalogue, alloc: Global) -> Result<(), AllocError>
     add(catalogue, alloc, c, reference)
 }
 
-/// The modes of these constraints as they are initially.
+// The modes of these constraints as they are initially.
 fn initial(alloc: Global) -> Result<Modes, AllocError> {
     let mut catalogue = Catalogue::new(alloc);
     let filled = fill(&mut catalogue, alloc);

@@ -12,7 +12,7 @@ use std::alloc::{AllocError, Global};
 use std::process::Abort;
 use std::test::Fail;
 
-/// How many changes a statement proposes.
+// How many changes a statement proposes.
 fn count_of(
     store: &PlainStore,
     catalogue: &Catalogue,

@@ -71,7 +71,7 @@ fn tuples_are_inserted(rt: HostRuntime) -> Result<(), Fail> {
     done
 }
 
-/// The deletion of a row (2, 'old').
+// The deletion of a row (2, 'old').
 fn deleted(alloc: Global) -> Result<Change, AllocError> {
     Ok(Change {
         table: TableId::new(0),

@@ -9,7 +9,7 @@ use std::alloc::{AllocError, Global};
 use std::process::Abort;
 use std::test::Fail;
 
-/// The rows of a query, or that there is a cause.
+// The rows of a query, or that there is a cause.
 fn given(store: &PlainStore, alloc: Global, query: &QueryPlan) -> Result<String, AllocError> {
     match select(store, query) {
         Ok(rows) => show_rows(alloc, rows.as_slice()),

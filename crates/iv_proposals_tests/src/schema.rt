@@ -19,7 +19,7 @@ fn name(alloc: Global, text: &str) -> Result<Name, AllocError> {
     Ok(Name::new(Text::new(alloc, text)?))
 }
 
-/// T (A INTEGER DEFAULT 7, B VARCHAR(3) DEFAULT 'abc').
+// T (A INTEGER DEFAULT 7, B VARCHAR(3) DEFAULT 'abc').
 fn table(alloc: Global) -> Result<Table, AllocError> {
     let a = Column {
         name: name(alloc, "A")?,
@@ -64,7 +64,7 @@ fn fits(columns: &[Column], values: &[Value]) -> bool
     }
 }
 
-/// Whether a row of this number may be changed in T.
+// Whether a row of this number may be changed in T.
 fn may_change(store: &PlainStore, number: u64) -> bool
     ensures added { IsTrue result → 0 < length store.now.tables }
     ensures own { IsTrue result →
@@ -83,7 +83,7 @@ fn may_change(store: &PlainStore, number: u64) -> bool
         && store.standing() < MOST_CHANGES_IN_A_TRANSACTION
 }
 
-/// Whether these values fit T.
+// Whether these values fit T.
 fn new_fits(store: &PlainStore, new: &Option<Row>) -> bool
     ensures { IsTrue result →
         IfSome new.now (λ values. fits_table store.now.tables 0 values ≡ true) }

@@ -31,7 +31,7 @@ fn show_side(text: &mut String, alloc: Global, row: &Option<Row>) -> Result<(), 
     }
 }
 
-/// Number, old and new row of each change.
+// Number, old and new row of each change.
 fn show_changes(alloc: Global, changes: &[Change]) -> Result<String, AllocError> {
     let mut text = String::new(alloc);
     for change in changes {

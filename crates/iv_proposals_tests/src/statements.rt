@@ -5,7 +5,7 @@ use iv_value::{Value, text};
 use sqlite_items::{Boxed, Items};
 use std::alloc::{AllocError, Global};
 
-/// A = 1, A < 3 or the like.
+// A = 1, A < 3 or the like.
 fn compared(comparison: Comparison, number: i64) -> Cond {
     Cond::Compare(
         comparison,
@@ -14,7 +14,7 @@ fn compared(comparison: Comparison, number: i64) -> Cond {
     )
 }
 
-/// A + number.
+// A + number.
 fn plus(alloc: Global, number: i64) -> Result<Expr, AllocError> {
     Ok(Expr::Plus(
         Boxed::new(alloc, Expr::Column(0, 0))?,

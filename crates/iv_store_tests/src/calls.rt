@@ -12,7 +12,7 @@ use std::process::Abort;
 use std::slice::from_ref;
 use std::test::Fail;
 
-/// Number, table and first value of each row.
+// Number, table and first value of each row.
 fn rows(alloc: Global, store: &PlainStore) -> Result<String, AllocError> {
     let mut rows = String::new(alloc);
     for number in 1..store.next_row() {
@@ -28,7 +28,7 @@ fn rows(alloc: Global, store: &PlainStore) -> Result<String, AllocError> {
     Ok(rows)
 }
 
-/// The next row number, the count of changes, how many marks there are, and the rows.
+// The next row number, the count of changes, how many marks there are, and the rows.
 fn shown(alloc: Global, store: &PlainStore) -> Result<String, AllocError> {
     let next = store.next_row();
     let count = store.standing();
@@ -36,12 +36,12 @@ fn shown(alloc: Global, store: &PlainStore) -> Result<String, AllocError> {
     format!(in alloc; "{next} {count} {}{rows}", store.marks())
 }
 
-/// A step of a test.
+// A step of a test.
 #[derive(Clone, Copy)]
 enum Step {
-    /// A row of a table gets this value.
+    // A row of a table gets this value.
     Make(u32, u64, i64),
-    /// A row of a table goes.
+    // A row of a table goes.
     Remove(u32, u64),
     Mark,
     UndoTo(usize),
@@ -50,7 +50,7 @@ enum Step {
     Settle,
 }
 
-/// Carries a step out; one at a mark where there is that mark. Whether it was possible.
+// Carries a step out; one at a mark where there is that mark. Whether it was possible.
 fn carry_out(alloc: Global, store: &mut PlainStore, step: Step) -> Result<bool, AllocError> {
     match step {
         Step::Make(table, number, value) => {
@@ -70,7 +70,7 @@ fn carry_out(alloc: Global, store: &mut PlainStore, step: Step) -> Result<bool, 
     Ok(true)
 }
 
-/// Carries steps out on the tables P and C; what is there after each.
+// Carries steps out on the tables P and C; what is there after each.
 fn follow(rt: &impl Abort, alloc: Global, steps: &[(Step, &str)]) -> Result<(), Fail> {
     let mut store = p_and_c(alloc, "FK", MatchType::Simple)?;
     let followed = follow_on(rt, alloc, &mut store, steps);
@@ -145,7 +145,7 @@ fn marks_are_forgotten_and_settled(rt: HostRuntime) -> Result<(), Fail> {
     follow(&rt, rt.alloc(), &steps)
 }
 
-/// The number of the next row of a table above a number, or 0.
+// The number of the next row of a table above a number, or 0.
 fn scanned(store: &PlainStore, table: u32, after: u64) -> u64 {
     match store.scan(TableId::new(table), after) {
         Some((number, _)) => number,
@@ -206,7 +206,7 @@ fn a_constraint_is_added_unless_a_row_violates_it(rt: HostRuntime) -> Result<(),
     done
 }
 
-/// How many rows hold a key of one value by the constraint of this number, and the first of them.
+// How many rows hold a key of one value by the constraint of this number, and the first of them.
 fn children(store: &mut PlainStore, id: u32, key: Value) -> Result<(usize, u64), AllocError> {
     let found = store.children(ConstraintId::new(id), &Key::new(&[0], from_ref(&key)))?;
     let first = match found.as_slice().first() {
@@ -244,7 +244,7 @@ fn children_hold_the_key_under_both_match_types(rt: HostRuntime) -> Result<(), F
     Ok(())
 }
 
-/// The violations by three calls: the first, how many, and all; each as constraint and row.
+// The violations by three calls: the first, how many, and all; each as constraint and row.
 fn faults(
     alloc: Global,
     store: &PlainStore,

@@ -35,7 +35,7 @@ fn column(alloc: Global, called: &str, kind: Kind) -> Result<Column, AllocError>
     })
 }
 
-/// A table of these columns.
+// A table of these columns.
 fn table(alloc: Global, called: &str, columns: Vec<Column>) -> Result<Table, AllocError>
     ensures { IfOk result (λ t. t.name ≡ called.now) }
 {
@@ -45,7 +45,7 @@ fn table(alloc: Global, called: &str, columns: Vec<Column>) -> Result<Table, All
     })
 }
 
-/// A table with one column, an INTEGER.
+// A table with one column, an INTEGER.
 fn integers(alloc: Global, called: &str) -> Result<Table, AllocError>
     ensures { IfOk result (λ t. t.name ≡ called.now) }
 {
@@ -73,7 +73,7 @@ fn constraint(
     })
 }
 
-/// CHECK (A > least) of the first table.
+// CHECK (A > least) of the first table.
 fn above(alloc: Global, called: &str, least: i64) -> Result<Constraint, AllocError>
     ensures { IfOk result (λ c. foreign_key c.rule ≡ None) }
 {
@@ -91,7 +91,7 @@ fn above(alloc: Global, called: &str, least: i64) -> Result<Constraint, AllocErr
     )
 }
 
-/// PRIMARY KEY of the first table, on its first column.
+// PRIMARY KEY of the first table, on its first column.
 fn primary_key(alloc: Global) -> Result<Constraint, AllocError>
     ensures name { IfOk result (λ c. c.name ≡ codes "P_C1") }
     ensures table { IfOk result (λ c. c.table ≡ 0) }
@@ -101,7 +101,7 @@ fn primary_key(alloc: Global) -> Result<Constraint, AllocError>
     constraint(alloc, "P_C1", 0, rule, ConstraintMode::Immediate)
 }
 
-/// FOREIGN KEY of the second table, from its first column to that of the first table.
+// FOREIGN KEY of the second table, from its first column to that of the first table.
 fn references_p(alloc: Global, called: &str, matching: MatchType) -> Result<Constraint, AllocError>
     ensures name { IfOk result (λ c. c.name ≡ called.now) }
     ensures table { IfOk result (λ c. c.table ≡ 1) }
@@ -139,7 +139,7 @@ fn fits(columns: &[Column], values: &[Value]) -> bool
     }
 }
 
-/// Adds a table with this constraint.
+// Adds a table with this constraint.
 fn add(store: &mut PlainStore, table: &Table, constraint: Constraint) -> Result<(), AllocError>
     requires unmarked { store.old.marks ≡ [] }
     requires own { constraint.table ≡ length store.old.tables }
@@ -155,7 +155,7 @@ fn add(store: &mut PlainStore, table: &Table, constraint: Constraint) -> Result<
     added
 }
 
-/// Adds the table P (A INTEGER PRIMARY KEY) to an empty store.
+// Adds the table P (A INTEGER PRIMARY KEY) to an empty store.
 fn add_p(store: &mut PlainStore, alloc: Global) -> Result<(), AllocError>
     requires { store.old ≡ empty_store }
     ensures tables { OnOk result (length store.new.tables ≡ 1) }
@@ -167,7 +167,7 @@ fn add_p(store: &mut PlainStore, alloc: Global) -> Result<(), AllocError>
     let table = integers(alloc, "P")?;
     add(store, &table, primary_key(alloc)?)
 }
-/// Adds the table C (A INTEGER REFERENCES P INITIALLY DEFERRED) after P.
+// Adds the table C (A INTEGER REFERENCES P INITIALLY DEFERRED) after P.
 fn add_c(
     store: &mut PlainStore,
     alloc: Global,
@@ -195,7 +195,7 @@ pub fn p_and_c(alloc: Global, called: &str, matching: MatchType) -> Result<Plain
     Ok(store)
 }
 
-/// Whether a row of this number may be changed in a table.
+// Whether a row of this number may be changed in a table.
 fn may_change(store: &PlainStore, table: TableId, number: u64) -> bool
     ensures added { IsTrue result → table < length store.now.tables }
     ensures own { IsTrue result →
@@ -214,7 +214,7 @@ fn may_change(store: &PlainStore, table: TableId, number: u64) -> bool
         && store.standing() < MOST_CHANGES_IN_A_TRANSACTION
 }
 
-/// Whether these values fit the table.
+// Whether these values fit the table.
 fn new_fits(store: &PlainStore, table: TableId, new: &Option<Row>) -> bool
     ensures { IsTrue result →
         IfSome new.now (λ values. fits_table store.now.tables table values ≡ true) }
@@ -228,7 +228,7 @@ fn new_fits(store: &PlainStore, table: TableId, new: &Option<Row>) -> bool
     }
 }
 
-/// What the row of a number holds.
+// What the row of a number holds.
 fn held(store: &PlainStore, number: u64) -> Result<Option<Row>, AllocError>
     ensures { IfOk result (λ old. values_at store.now.base.rows number ≡ old) }
 {
@@ -289,7 +289,7 @@ pub fn add_above(
     added
 }
 
-/// Adds a table of one column to a catalogue, with one constraint of it.
+// Adds a table of one column to a catalogue, with one constraint of it.
 fn add_to(
     catalogue: &mut Catalogue,
     table: Table,

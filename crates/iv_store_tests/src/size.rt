@@ -7,7 +7,7 @@ use std::alloc::{AllocError, Global};
 use std::process::Abort;
 use std::test::Fail;
 
-/// Adds the rows 1 to 65,536 with their numbers as values.
+// Adds the rows 1 to 65,536 with their numbers as values.
 fn fill(store: &mut PlainStore, alloc: Global) -> Result<bool, AllocError> {
     let mut made = true;
     let mut value = 0i64;
@@ -20,7 +20,7 @@ fn fill(store: &mut PlainStore, alloc: Global) -> Result<bool, AllocError> {
     Ok(made)
 }
 
-/// Whether the row of a number holds it.
+// Whether the row of a number holds it.
 fn holds_its_number(store: &PlainStore, number: u64) -> bool {
     match store.row(number) {
         Some(row) => match row.values.values().first() {
@@ -31,7 +31,7 @@ fn holds_its_number(store: &PlainStore, number: u64) -> bool {
     }
 }
 
-/// How many rows hold their numbers.
+// How many rows hold their numbers.
 fn count_right(store: &PlainStore) -> u64 {
     let mut right = 0u64;
     for number in 1..65_537 {

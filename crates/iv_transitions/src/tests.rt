@@ -7,7 +7,7 @@ use iv_value::Value;
 use std::alloc::{AllocError, Global};
 use std::test::Fail;
 
-/// A row of one number, or no row.
+// A row of one number, or no row.
 fn row(alloc: Global, value: Option<i64>) -> Result<Option<Row>, AllocError> {
     let Some(value) = value else {
         return Ok(None);
@@ -17,7 +17,7 @@ fn row(alloc: Global, value: Option<i64>) -> Result<Option<Row>, AllocError> {
     Ok(Some(Row::new(values)?))
 }
 
-/// A change of a row of a table, by its value before and after.
+// A change of a row of a table, by its value before and after.
 #[derive(Clone, Copy)]
 struct Step(u32, u64, Option<i64>, Option<i64>);
 
@@ -52,7 +52,7 @@ fn first(row: &Option<Row>) -> i64 {
     }
 }
 
-/// Table, row number, value before and after of each change; 0 is no row.
+// Table, row number, value before and after of each change; 0 is no row.
 fn shown(alloc: Global, changes: &[Change]) -> Result<String, AllocError> {
     let mut text = String::new(alloc);
     for change in changes {
@@ -64,8 +64,8 @@ fn shown(alloc: Global, changes: &[Change]) -> Result<String, AllocError> {
     Ok(text)
 }
 
-/// Row 1 is updated twice and row 2 once; row 3 is updated and deleted; row 7 is inserted and deleted; row 8 is
-/// inserted and updated; row 5 of another table is deleted.
+// Row 1 is updated twice and row 2 once; row 3 is updated and deleted; row 7 is inserted and deleted; row 8 is
+// inserted and updated; row 5 of another table is deleted.
 fn waves(alloc: Global) -> Result<Vec<Wave>, AllocError> {
     let mut waves = Vec::new(alloc);
     waves.push(wave(
@@ -117,7 +117,7 @@ fn net_changes_by_table_and_event(rt: HostRuntime) -> Result<(), Fail> {
     Ok(())
 }
 
-/// So many waves, each of which inserts one row.
+// So many waves, each of which inserts one row.
 fn insertions(alloc: Global, count: u64) -> Result<Vec<Wave>, AllocError> {
     let mut waves = Vec::new(alloc);
     for number in 0..count {

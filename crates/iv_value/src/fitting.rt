@@ -28,7 +28,7 @@ fn fit_text(text: &str, most: u16) -> Fit
     }
 }
 
-/// The count of a text's characters.
+// The count of a text's characters.
 fn length_of(text: &str) -> usize
     ensures { result ≡ length (chars text.now) }
 {
