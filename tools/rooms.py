@@ -2,18 +2,23 @@
 
 A check locks the folders of its crate and of all below it, so two checks in one checkout wait for each other. A room
 is a folder with a copy of a crate and of those below it. The work kept for those below is shared by hard links; that of
-the crate itself moves into the room, and back when the check has ended."""
+the crate itself moves into the room, and back when the check has ended. The libraries of the crates below that the
+check had to build go to the checkout too, so that each is built once."""
 import os
 import shutil
 import subprocess
 import tempfile
+import threading
 import time
 from concurrent.futures import FIRST_COMPLETED, ThreadPoolExecutor, wait
 
 ROOT = os.path.dirname(os.path.dirname(os.path.realpath(__file__)))
 
-# Compiled modules: a check writes them anew for its own crate alone, so rooms share those of the crates below.
-SHARED = ".oantt"
+# What a check makes anew for its own crate alone, so that rooms share that of the crates below: compiled modules, and
+# the files of libraries.
+MODULE, LIBRARY = ".oantt", os.path.join("out", "rlib")
+
+HANDING_OVER = threading.Lock()
 
 
 def place():
@@ -27,8 +32,8 @@ def folder(crate):
 
 
 def copy_or_link(source, target):
-    """Links a compiled module, and copies any other file."""
-    if source.endswith(SHARED):
+    """Links a compiled module or a library, and copies any other file."""
+    if source.endswith(MODULE) or os.sep + LIBRARY + os.sep in source:
         os.link(source, target)
         return target
     return shutil.copy2(source, target)
@@ -46,6 +51,25 @@ def furnish(room, crate, names):
         leave = shutil.ignore_patterns("out") if name == crate else None
         shutil.copytree(folder(name), os.path.join(room, "crates", name), ignore=leave, copy_function=copy_or_link)
     return os.path.join(room, "crates", crate)
+
+
+def stamp(crate):
+    """What the library in a crate's folder was built from; none where there is no library."""
+    path = os.path.join(crate, LIBRARY, "stamp")
+    if not os.path.exists(path):
+        return None
+    with open(path, encoding="utf-8") as file:
+        return file.read()
+
+
+def hand_over(room, names):
+    """Moves the libraries that were built in a room to the checkout, where it has none of the same sources."""
+    with HANDING_OVER:
+        for name in names:
+            there, here = os.path.join(room, "crates", name), folder(name)
+            if stamp(there) not in (None, stamp(here)):
+                shutil.rmtree(os.path.join(here, LIBRARY), ignore_errors=True)
+                shutil.move(os.path.join(there, LIBRARY), os.path.join(here, LIBRARY))
 
 
 def weights(wanted, named):
@@ -68,7 +92,8 @@ def weights(wanted, named):
 def check(room, crate, names, jobs):
     """Checks a crate in a room of its own, and gives the status, the output and the seconds that it took."""
     began = time.monotonic()
-    there = furnish(room, crate, names)
+    with HANDING_OVER:
+        there = furnish(room, crate, names)
     here, kept = os.path.join(folder(crate), "out"), os.path.join(there, "out")
     if os.path.exists(here):
         shutil.move(here, kept)
@@ -77,6 +102,7 @@ def check(room, crate, names, jobs):
     finally:
         if os.path.exists(kept):
             shutil.move(kept, here)
+        hand_over(room, names - {crate})
         shutil.rmtree(room, ignore_errors=True)
     return ran.returncode, ran.stdout, time.monotonic() - began
 
