@@ -1,6 +1,8 @@
--- The places of each table's constraints, as a catalogue keeps them beside the list of constraints.
+-- What a catalogue is seen as, and what holds of its parts: the places of each table's constraints, which it keeps beside the list of
+-- constraints.
 use Rattle.std.specs.Prelude.{◌≡◌, ℕ, ◌+◌, ◌≤◌, List, [], ◌∷◌, length}
-use Rattle.iv_catalogue.specs.Catalogues.{places_from}
+use Rattle.iv_catalogue.specs.Catalogues.{Schema, IsWithinLimits, places_from}
+use Rattle.iv_catalogue.specs.declared.catalogue.Catalogue.TheInside.{Inside}
 use Rattle.iv_catalogue.specs.declared.catalogue.Table.{Table}
 use Rattle.iv_catalogue.specs.declared.constraint.Constraint.{Constraint}
 use Rattle.iv_catalogue.specs.declared.limits.TheConstants.{MOST_CONSTRAINTS}
@@ -25,3 +27,11 @@ pub record ArePlaces (tables : List Table) (constraints : List Constraint) (list
   pub places : lists ≡ places_by_table 0 tables constraints
   pub all : count_places lists ≡ length constraints
   pub few : EachWithinLimit lists
+
+-- the schema that a catalogue keeps
+abbrev pub schema_of : Inside → Schema
+schema_of c = record { tables = c.tables; constraints = c.constraints; triggers = c.triggers; created = c.created }
+
+-- What holds of a catalogue.
+abbrev pub Kept : Inside → Type 0
+Kept c = IsWithinLimits (schema_of c) × ArePlaces c.tables c.constraints c.constraint_places.items

@@ -73,8 +73,8 @@ pub struct Catalogue {
 }
 
 impl Model for Catalogue {
-    ghost use Rattle.iv_catalogue.specs.Catalogues.{Schema, IsWithinLimits};
-    ghost use Rattle.iv_catalogue.specs.ConstraintPlaces.{ArePlaces};
+    ghost use Rattle.iv_catalogue.specs.Catalogues.{Schema};
+    ghost use Rattle.iv_catalogue.specs.ConstraintPlaces.{Kept, schema_of};
     ghost use Rattle.iv_expr.specs.contracts.tree.Cond as cond;
     ghost use Rattle.iv_expr.specs.contracts.tree.Expr as expr;
     ghost use Rattle.std.specs.Coded.{codes};
@@ -83,21 +83,9 @@ impl Model for Catalogue {
 
     ghost coded = { Prim.hlevel (codes, cond.the_row.coded, expr.the_row.coded) };
 
-    ghost view = { λ c. record {
-      tables = c.tables;
-      constraints = c.constraints;
-      triggers = c.triggers;
-      created = c.created;
-    } };
+    ghost view = { λ c. schema_of c };
 
-    ghost invariant = { λ c.
-        IsWithinLimits (record {
-          tables = c.tables;
-          constraints = c.constraints;
-          triggers = c.triggers;
-          created = c.created;
-        })
-        × ArePlaces c.tables c.constraints c.constraint_places.items };
+    ghost invariant = { λ c. Kept c };
 }
 
 // The places of a table's constraints among these, of which the first has this place.

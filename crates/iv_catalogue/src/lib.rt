@@ -21,7 +21,7 @@ pub use limits::{
     MOST_COLUMNS, MOST_CONSTRAINTS, MOST_KEY_COLUMNS, MOST_TABLES, MOST_TRIGGERS,
     MOST_TRIGGERS_EVER,
 };
-pub use number::{ConstraintId, TriggerId};
+pub use number::{ConstraintId, OfConstraint, OfTrigger, TriggerId};
 pub use plan::{
     BodyStatement, ConstraintSet, DataStatement, InsertColumns, InsertRows, Outputs, Plan,
     QueryPlan, SchemaPlan, Setting, TransactionPlan, Trigger,

@@ -3,6 +3,7 @@
 
 mod condition;
 mod expression;
+mod number;
 mod operators;
 mod row;
 mod scope;
@@ -14,7 +15,8 @@ mod worked;
 
 pub use condition::{check_truth, truth, truth_at_row};
 pub use expression::{eval, eval_ref};
-pub use row::{Change, Row, StoredRow, TableId};
+pub use number::{Id, OfTable, TableId};
+pub use row::{Change, Row, StoredRow};
 pub use scope::{Frame, Ranges, Rows, Scope};
 pub use tree::{Comparison, Cond, Expr, ExprFault, Range, Side};
 pub use wave::Wave;

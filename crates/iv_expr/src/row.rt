@@ -1,42 +1,11 @@
 //! Rows and the tables that they are in.
 ghost use Rattle.std.specs.Prelude.{◌≡◌, IfOk};
 
+use crate::number::TableId;
 use iv_value::Value;
 use std::alloc::AllocError;
 use std::marker::Model;
 use std::rc::RcSlice;
-
-/// A table, by its place in the order of creation, from 0. Contracts see it as that number.
-#[derive(Clone, Copy, Debug, PartialEq, Eq)]
-pub struct TableId {
-    place: u32,
-}
-
-impl Model for TableId {
-    ghost use Rattle.std.specs.Prelude.{ℕ};
-
-    ghost Value = { ℕ };
-
-    ghost view = { λ t. t.place };
-
-    ghost inverse = { λ n. record { place = n } };
-}
-
-impl TableId {
-    /// The table at this place.
-    pub fn new(place: u32) -> TableId
-        ensures { result ≡ place }
-    {
-        TableId { place }
-    }
-
-    /// Its place, from 0.
-    pub fn place(self) -> u32
-        ensures { result ≡ self }
-    {
-        self.place
-    }
-}
 
 /// A shared list of values: its copy shares them. Contracts see it as the list.
 #[derive(Drop)]

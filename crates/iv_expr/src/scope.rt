@@ -5,7 +5,8 @@ ghost use Rattle.iv_expr.specs.References.{outer};
 ghost use Rattle.iv_expr.specs.Scopes.{Rises, no_frame, numbered, row_above, scope_of, table_rows, variable_of};
 ghost use Rattle.iv_expr.specs.declared.row.StoredRow.{StoredRow};
 
-use crate::row::{Change, TableId};
+use crate::number::TableId;
+use crate::row::Change;
 use crate::tree::Side;
 use iv_value::Value;
 use std::marker::Model;

@@ -1,5 +1,5 @@
 //! Expressions and conditions with every name resolved.
-use crate::row::TableId;
+use crate::number::TableId;
 use iv_value::Value;
 use sqlite_items::Boxed;
 

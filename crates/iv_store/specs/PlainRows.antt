@@ -6,6 +6,7 @@ use Rattle.iv_machine.specs.declared.database.Database.{Database}
 use Rattle.iv_machine.specs.Bounds.{last_row_number, most_changes_in_a_transaction}
 use Rattle.iv_machine.specs.Databases.{rows_with}
 use Rattle.iv_machine.specs.Invariants.{Rising}
+use Rattle.iv_store.specs.declared.database.PlainDatabase.TheInside.{Inside}
 
 -- The numbers of the rows rise from 1 and stay below the next one, which is above the last number that a row may have at most by
 -- one; and no more changes are counted than a transaction may have.
@@ -13,6 +14,10 @@ pub record InBounds (db : Database) : Type 0 where
   pub rising : Rising 0 db.rows db.next
   pub next : db.next ≤ last_row_number + 1
   pub count : db.count ≤ most_changes_in_a_transaction
+
+-- the database that a plain one keeps
+abbrev pub database_of : Inside → Database
+database_of d = record { rows = d.rows.items; next = d.next; count = d.count }
 
 -- the rows without that of this number
 abbrev pub without_row : ℕ → List StoredRow → List StoredRow

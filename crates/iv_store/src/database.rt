@@ -24,14 +24,13 @@ pub struct PlainDatabase {
 
 impl Model for PlainDatabase {
     ghost use Rattle.iv_machine.specs.declared.database.Database.{Database};
-    ghost use Rattle.iv_store.specs.PlainRows.{InBounds};
+    ghost use Rattle.iv_store.specs.PlainRows.{InBounds, database_of};
 
     ghost Value = { Database };
 
-    ghost view = { λ d. record { rows = d.rows.items; next = d.next; count = d.count } };
+    ghost view = { λ d. database_of d };
 
-    ghost invariant = { λ d.
-        InBounds (record { rows = d.rows.items; next = d.next; count = d.count }) };
+    ghost invariant = { λ d. InBounds (database_of d) };
 }
 
 // The rows again, which share their values.
