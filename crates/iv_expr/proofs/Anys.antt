@@ -1,9 +1,8 @@
 -- Whether one of some truths is true, one truth after another.
 use Rattle.std.proofs.Common.{◌≡◌, refl, Bool, true, false, ◌||◌, List, [], ◌∷◌, Result, Ok, Err, ap, ◌∙◌}
 use Rattle.std.specs.List.{list_any}
-use Rattle.iv_value.specs.declared.value.Truth.{Truth}
+use Rattle.iv_expr.specs.Words.{Truth, ExprFault}
 use Rattle.iv_value.specs.Truths.{is_true, truth_of}
-use Rattle.iv_expr.specs.declared.tree.ExprFault.{ExprFault}
 use Rattle.iv_expr.specs.Evaluation.{and_then, all_results, any_true}
 
 -- whether one of the truths is true, or one was before

@@ -3,12 +3,8 @@ use Rattle.std.proofs.Common.{◌≡◌, ℕ, ◌^◌, ◌<◌, ◌≤◌, ◌�
 use Rattle.std.specs.Prelude.{nat_lt, if◌then◌else◌}
 use Rattle.std.proofs.lemmas.Bool.Decides.{nat_tests}
 use Rattle.iv_expr.specs.Scopes.{Rises, row_above, Scope, within, contents, table_rows, numbered}
-use Rattle.iv_expr.specs.declared.row.StoredRow.{StoredRow}
-use Rattle.iv_value.specs.declared.value.Value.{Value}
-use Rattle.iv_value.specs.declared.value.Truth.{Truth}
-use Rattle.iv_expr.specs.declared.tree.ExprFault.{ExprFault}
+use Rattle.iv_expr.specs.Words.{StoredRow, Value, Truth, ExprFault, Cond}
 use Rattle.iv_value.specs.Truths.{is_true}
-use Rattle.iv_expr.specs.declared.tree.Cond.{Cond}
 use Rattle.iv_expr.specs.Evaluation.{truth}
 use Rattle.iv_expr.proofs.Anys.{any_from}
 

@@ -1,10 +1,8 @@
 -- Values and truths at the trees that code matches.
 use Rattle.std.proofs.Common.{◌≡◌, refl, ◌+ℤ◌, ◌-ℤ◌, ◌*ℤ◌, Ok, map}
-use Rattle.iv_expr.specs.declared.tree.Expr.{Expr}
-use Rattle.iv_expr.specs.declared.tree.Expr.TheVariants.{Plus, Minus, Times}
-use Rattle.iv_expr.specs.declared.tree.Range.{Range}
-use Rattle.iv_expr.specs.declared.tree.Cond.{Cond}
-use Rattle.iv_expr.specs.declared.tree.Cond.TheVariants.{Not, And, Or, Exists}
+use Rattle.iv_expr.specs.Words.{Expr, Range, Cond}
+use Rattle.iv_expr.specs.Words.expr.{Plus, Minus, Times}
+use Rattle.iv_expr.specs.Words.cond.{Not, And, Or, Exists}
 use Rattle.iv_value.specs.Truths.{truth_not, truth_and, truth_or}
 use Rattle.iv_expr.specs.Evaluation.{value, truth, both, and_then, any_true, arithmetic}
 use Rattle.iv_expr.specs.Scopes.{Scope, within, range_rows}

@@ -1,20 +1,13 @@
 -- A tree that suits its scope has no fault but OutOfRange.
 use Rattle.std.proofs.Common.{◌≡◌, refl, ℕ, zero, suc, ℤ, ◌+ℤ◌, ◌-ℤ◌, ◌*ℤ◌, Bool, true, false, ◌&&◌, ◌||◌, ◌≢◌, List, [], ◌∷◌, map, Option, Some, None, is_some, Result, Ok, Err, slice_get, subst}
-use Rattle.iv_value.specs.declared.value.Value.{Value}
-use Rattle.iv_value.specs.declared.value.Value.TheVariants.{Null, Int, Text}
-use Rattle.iv_value.specs.declared.value.Truth.{Truth}
-use Rattle.iv_value.specs.declared.value.Kind.{Kind}
+use Rattle.iv_expr.specs.Words.{Value, Truth, Kind, Range, Expr, Comparison, Cond, ExprFault}
+use Rattle.iv_expr.specs.Words.value.{Null, Int, Text}
+use Rattle.iv_expr.specs.Words.side.{Old, New}
+use Rattle.iv_expr.specs.Words.range.{Table, Transition}
+use Rattle.iv_expr.specs.Words.expr.{Literal, Column, Variable}
+use Rattle.iv_expr.specs.Words.cond.{Always, Compare, IsNull}
+use Rattle.iv_expr.specs.Words.expr_fault.{OutOfRange, Misfit}
 use Rattle.iv_value.specs.Truths.{is_true}
-use Rattle.iv_expr.specs.declared.tree.Side.TheVariants.{Old, New}
-use Rattle.iv_expr.specs.declared.tree.Range.{Range}
-use Rattle.iv_expr.specs.declared.tree.Range.TheVariants.{Table, Transition}
-use Rattle.iv_expr.specs.declared.tree.Expr.{Expr}
-use Rattle.iv_expr.specs.declared.tree.Expr.TheVariants.{Literal, Column, Variable}
-use Rattle.iv_expr.specs.declared.tree.Comparison.{Comparison}
-use Rattle.iv_expr.specs.declared.tree.Cond.{Cond}
-use Rattle.iv_expr.specs.declared.tree.Cond.TheVariants.{Always, Compare, IsNull}
-use Rattle.iv_expr.specs.declared.tree.ExprFault.{ExprFault}
-use Rattle.iv_expr.specs.declared.tree.ExprFault.TheVariants.{OutOfRange, Misfit}
 use Rattle.iv_expr.specs.Trees.{plus, minus, times, not_c, and_c, or_c, exists_c}
 use Rattle.iv_expr.specs.Scopes.{Scope, within, range_rows}
 use Rattle.iv_expr.specs.Evaluation.{value, truth, both, and_then, arithmetic, comparison_of, number_of, column_of}

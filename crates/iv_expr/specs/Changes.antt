@@ -1,6 +1,6 @@
 -- Waves of row changes, and when changes are by rising row number.
 use Rattle.std.specs.Prelude.{ℕ, ◌<◌, List, [], ◌∷◌}
-use Rattle.iv_expr.specs.declared.row.Change.{Change}
+use Rattle.iv_expr.specs.Words.{Change}
 
 -- A wave: row changes that are made together.
 pub record Wave : Type 0 where

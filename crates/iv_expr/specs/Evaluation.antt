@@ -3,20 +3,15 @@ use Rattle.std.specs.List.{list_any}
 use Rattle.std.specs.Prelude.{ℕ, Bool, ◌||◌, if◌then◌else◌, List, [], ◌∷◌, map, ℤ, ◌+ℤ◌, ◌-ℤ◌, ◌*ℤ◌, Option, Some, None, Result, Ok, Err, slice_get}
 use Rattle.std.specs.declared.cmp.Ordering.{Ordering}
 use Rattle.std.specs.Ordering.{is_eq, is_ne, is_lt, is_gt, is_le, is_ge}
-use Rattle.iv_value.specs.declared.value.Value.{Value}
-use Rattle.iv_value.specs.declared.value.Value.TheVariants.{Null, Int}
-use Rattle.iv_value.specs.declared.value.Truth.{Truth}
-use Rattle.iv_value.specs.declared.value.Truth.TheVariants.{False, Unknown, True}
+use Rattle.iv_expr.specs.Words.{Value, Truth, Expr, Comparison, Cond, ExprFault}
+use Rattle.iv_expr.specs.Words.value.{Null, Int}
+use Rattle.iv_expr.specs.Words.truth.{False, Unknown, True}
+use Rattle.iv_expr.specs.Words.expr.{Literal, Column, Variable}
+use Rattle.iv_expr.specs.Words.comparison as by
+use Rattle.iv_expr.specs.Words.cond.{Always, Compare, IsNull}
+use Rattle.iv_expr.specs.Words.expr_fault.{OutOfRange, Misfit}
 use Rattle.iv_value.specs.Truths.{truth_not, truth_and, truth_or, truth_of, is_true}
 use Rattle.iv_value.specs.Values.{is_null, order, checked}
-use Rattle.iv_expr.specs.declared.tree.Expr.{Expr}
-use Rattle.iv_expr.specs.declared.tree.Expr.TheVariants.{Literal, Column, Variable}
-use Rattle.iv_expr.specs.declared.tree.Comparison.{Comparison}
-use Rattle.iv_expr.specs.declared.tree.Comparison.TheVariants as by
-use Rattle.iv_expr.specs.declared.tree.Cond.{Cond}
-use Rattle.iv_expr.specs.declared.tree.Cond.TheVariants.{Always, Compare, IsNull}
-use Rattle.iv_expr.specs.declared.tree.ExprFault.{ExprFault}
-use Rattle.iv_expr.specs.declared.tree.ExprFault.TheVariants.{OutOfRange, Misfit}
 use Rattle.iv_expr.specs.Trees.{plus, minus, times, not_c, and_c, or_c, exists_c}
 use Rattle.iv_expr.specs.Scopes.{Scope, within, alone, range_rows, variable_of}
 

@@ -1,10 +1,9 @@
 -- What borrowed results, outer ranges and the code's operators mean.
 use Rattle.std.specs.Prelude.{◌≡◌, ◌⊎◌, List, [], Option, Some, None, Result, Ok, Err, ℤ, ◌+ℤ◌, ◌-ℤ◌, ◌*ℤ◌}
-use Rattle.iv_value.specs.declared.value.Value.{Value}
-use Rattle.iv_value.specs.declared.value.Value.TheVariants.{Text}
+use Rattle.iv_expr.specs.Words.{Value, ExprFault}
+use Rattle.iv_expr.specs.Words.value.{Text}
+use Rattle.iv_expr.specs.Words.expr_fault.{NoMemory}
 use Rattle.iv_value.specs.declared.value.ValueRef.{ValueRef}
-use Rattle.iv_expr.specs.declared.tree.ExprFault.{ExprFault}
-use Rattle.iv_expr.specs.declared.tree.ExprFault.TheVariants.{NoMemory}
 use Rattle.iv_value.specs.References.{value_of}
 use Rattle.iv_expr.specs.declared.operators.Operator.{Operator}
 use Rattle.iv_expr.specs.declared.operators.Operator.TheVariants as op

@@ -1,12 +1,8 @@
 -- This file defines scopes: what the columns, row variables and tables of an expression mean where it is evaluated.
 use Rattle.std.specs.Prelude.{ℕ, ◌^◌, ◌<◌, List, [], ◌∷◌, map, filter, filter_map, ◌==◌, Option, Some, None, if◌then◌else◌, nat_lt}
-use Rattle.iv_value.specs.declared.value.Value.{Value}
-use Rattle.iv_expr.specs.declared.row.Change.{Change}
-use Rattle.iv_expr.specs.declared.row.StoredRow.{StoredRow}
-use Rattle.iv_expr.specs.declared.tree.Side.{Side}
-use Rattle.iv_expr.specs.declared.tree.Side.TheVariants.{Old, New}
-use Rattle.iv_expr.specs.declared.tree.Range.{Range}
-use Rattle.iv_expr.specs.declared.tree.Range.TheVariants.{Table, Transition}
+use Rattle.iv_expr.specs.Words.{Value, Change, StoredRow, Side, Range}
+use Rattle.iv_expr.specs.Words.side.{Old, New}
+use Rattle.iv_expr.specs.Words.range.{Table, Transition}
 
 -- The row numbers rise, from above `low`, and are less than 2 ^ 63.
 abbrev pub Rises : ℕ → List StoredRow → Type 0

@@ -1,17 +1,12 @@
 -- This file defines when a tree suits a scope: by the kinds of the columns alone, as they are known before any row is.
 use Rattle.std.specs.Prelude.{◌≡◌, ℕ, Bool, true, false, ◌&&◌, List, [], ◌∷◌, Option, Some, None, is_some, option_map, slice_get}
-use Rattle.iv_value.specs.declared.value.Value.{Value}
-use Rattle.iv_value.specs.declared.value.Value.TheVariants.{Null, Int, Text}
-use Rattle.iv_value.specs.declared.value.Kind.{Kind}
-use Rattle.iv_value.specs.declared.value.Kind.TheVariants.{Integer, Varchar}
-use Rattle.iv_expr.specs.declared.tree.Side.{Side}
-use Rattle.iv_expr.specs.declared.tree.Side.TheVariants.{Old, New}
-use Rattle.iv_expr.specs.declared.tree.Range.{Range}
-use Rattle.iv_expr.specs.declared.tree.Range.TheVariants.{Table, Transition}
-use Rattle.iv_expr.specs.declared.tree.Expr.{Expr}
-use Rattle.iv_expr.specs.declared.tree.Expr.TheVariants.{Literal, Column, Variable}
-use Rattle.iv_expr.specs.declared.tree.Cond.{Cond}
-use Rattle.iv_expr.specs.declared.tree.Cond.TheVariants.{Always, Compare, IsNull}
+use Rattle.iv_expr.specs.Words.{Value, Kind, Side, Range, Expr, Cond}
+use Rattle.iv_expr.specs.Words.value.{Null, Int, Text}
+use Rattle.iv_expr.specs.Words.kind.{Integer, Varchar}
+use Rattle.iv_expr.specs.Words.side.{Old, New}
+use Rattle.iv_expr.specs.Words.range.{Table, Transition}
+use Rattle.iv_expr.specs.Words.expr.{Literal, Column, Variable}
+use Rattle.iv_expr.specs.Words.cond.{Always, Compare, IsNull}
 use Rattle.iv_expr.specs.Trees.{plus, minus, times, not_c, and_c, or_c, exists_c}
 use Rattle.iv_expr.specs.Scopes.{Scope, contents, table_rows, transition_rows}
 

@@ -1,23 +1,18 @@
 -- This file states worked values of the definitions: arithmetic at its edges, the tables of NOT, AND and OR with unknowns and
 -- faults, and EXISTS over no rows, over nulls, over a fault and inside of another range.
 use Rattle.std.specs.Prelude.{true, false, ◌≡◌, ℕ, [], ◌∷◌, ℤ, pos, negsuc, Result, None, Ok, Err}
-use Rattle.iv_value.specs.declared.value.Value.{Value}
-use Rattle.iv_value.specs.declared.value.Value.TheVariants.{Null, Int}
-use Rattle.iv_value.specs.declared.value.Truth.{Truth}
-use Rattle.iv_value.specs.declared.value.Truth.TheVariants.{False, Unknown, True}
-use Rattle.iv_expr.specs.declared.row.StoredRow.{StoredRow}
-use Rattle.iv_expr.specs.declared.tree.Range.TheVariants.{Table}
-use Rattle.iv_expr.specs.declared.tree.Expr.{Expr}
-use Rattle.iv_expr.specs.declared.tree.Expr.TheVariants.{Literal, Column}
-use Rattle.iv_expr.specs.declared.tree.Comparison.TheVariants.{Equal, Less}
-use Rattle.iv_expr.specs.declared.tree.Cond.{Cond}
-use Rattle.iv_expr.specs.declared.tree.Cond.TheVariants.{Always, Compare, IsNull}
-use Rattle.iv_expr.specs.declared.tree.ExprFault.{ExprFault}
-use Rattle.iv_expr.specs.declared.tree.ExprFault.TheVariants.{OutOfRange, Misfit}
+use Rattle.iv_expr.specs.Words.{Value, Truth, StoredRow, Expr, Cond, ExprFault}
+use Rattle.iv_expr.specs.Words.value.{Null, Int}
+use Rattle.iv_expr.specs.Words.truth.{False, Unknown, True}
+use Rattle.iv_expr.specs.Words.range.{Table}
+use Rattle.iv_expr.specs.Words.expr.{Literal, Column}
+use Rattle.iv_expr.specs.Words.comparison.{Equal, Less}
+use Rattle.iv_expr.specs.Words.cond.{Always, Compare, IsNull}
+use Rattle.iv_expr.specs.Words.expr_fault.{OutOfRange, Misfit}
+use Rattle.iv_expr.specs.Words.kind.{Integer, Varchar}
 use Rattle.iv_expr.specs.Trees.{plus, minus, times, not_c, and_c, or_c, exists_c}
 use Rattle.iv_expr.specs.Scopes.{Scope, scope_of, no_frame, alone}
 use Rattle.iv_expr.specs.Suiting.{Shape, suits, Suits}
-use Rattle.iv_value.specs.declared.value.Kind.TheVariants.{Integer, Varchar}
 use Rattle.iv_expr.specs.Evaluation.{value, truth, check_truth}
 
 -- A scope without tables, and literals.

@@ -7,8 +7,8 @@ ghost use Rattle.iv_expr.specs.Suiting.{Suits};
 ghost use Rattle.iv_expr.specs.declared.tree.ExprFault.TheVariants as fault;
 
 use crate::expression::value_in;
-use crate::operators::{and_both, compare_both, is_null_of, not_of, or_both, or_true};
 use crate::number::TableId;
+use crate::operators::{and_both, compare_both, is_null_of, not_of, or_both, or_true};
 use crate::row::Change;
 use crate::scope::{Frame, Rows, Scope};
 use crate::tree::{Cond, ExprFault, Range, Side};

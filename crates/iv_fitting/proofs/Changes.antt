@@ -2,10 +2,8 @@
 use Rattle.std.proofs.Common.{◌≡◌, ℕ, zero, suc, ◌≤◌, nat_le, Bool, true, false, not, ◌&&◌, ◌||◌, ◌==◌, List, [], ◌∷◌, ◌∙◌, Option, Some, None, refl, sym, ap, length, map, zip, slice_get, arith}
 use Rattle.std.specs.List.{list_any, list_all, enumerate_from}
 use Rattle.std.proofs.lemmas.Bool.Decides.{nat_tests}
-use Rattle.iv_value.specs.declared.value.Kind.{Kind}
-use Rattle.iv_value.specs.declared.value.Kind.TheVariants as kind
-use Rattle.iv_expr.specs.declared.tree.Expr.{Expr}
-use Rattle.iv_expr.specs.declared.tree.Range.{Range}
+use Rattle.iv_fitting.specs.Words.{Kind, Expr, Range, Column}
+use Rattle.iv_fitting.specs.Words.kind
 use Rattle.iv_expr.specs.Suiting.{Shape, shape_within, range_kinds, suits}
 use Rattle.iv_syntax.specs.declared.table.ColumnType.{ColumnType}
 use Rattle.iv_syntax.specs.declared.tree.Condition.{Condition}
@@ -16,7 +14,6 @@ use Rattle.iv_syntax.specs.declared.statement.SelectList.TheVariants as list
 use Rattle.iv_syntax.specs.declared.statement.InsertSource.{InsertSource}
 use Rattle.iv_syntax.specs.declared.statement.InsertSource.TheVariants as source
 use Rattle.iv_syntax.specs.Trees.{condition_depth}
-use Rattle.iv_catalogue.specs.declared.catalogue.Column.{Column}
 use Rattle.iv_catalogue.specs.declared.limits.TheConstants.{DEEPEST_TREE}
 use Rattle.iv_resolution.specs.Scopes.{NamedColumn, NamedRange, Names, Source, type_of, named_columns, source_named, is_source, source_columns, source_range, range_of}
 use Rattle.iv_resolution.specs.Terms.{unknown_expression, unknown_filter, misshaped_expression, misshaped_filter, bound_expression, bound_filter}

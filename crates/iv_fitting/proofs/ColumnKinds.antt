@@ -1,15 +1,13 @@
 -- The kinds of the columns that names see are those of a shape.
 use Rattle.std.proofs.Common.{◌≡◌, ℕ, zero, suc, ◌<◌, ◌≤◌, Bool, List, [], ◌∷◌, ◌++◌, ◌∙◌, Option, Some, None, refl, sym, ap, length, map, slice_get, option_map, subst, arith}
-use Rattle.iv_value.specs.declared.value.Kind.{Kind}
-use Rattle.iv_value.specs.declared.value.Kind.TheVariants as kind
+use Rattle.iv_fitting.specs.Words.{Kind, Column, Table}
+use Rattle.iv_fitting.specs.Words.kind
 use Rattle.iv_expr.specs.declared.tree.Side.{Side}
 use Rattle.iv_expr.specs.declared.tree.Side.TheVariants as side
 use Rattle.iv_expr.specs.Suiting.{Sort, numbers, texts, Shape, sort_of_kind, variable_kinds, column_sort, sort_of}
 use Rattle.iv_syntax.specs.declared.table.ColumnType.{ColumnType}
 use Rattle.iv_syntax.specs.declared.table.ColumnType.TheVariants as type
 use Rattle.iv_syntax.specs.declared.tree.ColumnName.{ColumnName}
-use Rattle.iv_catalogue.specs.declared.catalogue.Column.{Column}
-use Rattle.iv_catalogue.specs.declared.catalogue.Table.{Table}
 use Rattle.iv_resolution.specs.declared.origin.Origin.{Origin}
 use Rattle.iv_resolution.specs.declared.origin.Origin.TheVariants.{Rows, Variable}
 use Rattle.iv_resolution.specs.Scopes.{NamedColumn, NamedRange, Found, number, count_outward, type_of, named_columns, column_meant}

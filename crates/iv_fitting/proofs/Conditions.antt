@@ -1,8 +1,7 @@
 -- A condition that has no name that names nothing, and no operand of the wrong kind, suits the shape of its names.
 use Rattle.std.proofs.Common.{◌≡◌, ℕ, ◌+◌, ◌≤◌, Bool, true, false, not, ◌&&◌, ◌||◌, List, [], ◌∷◌, ◌∙◌, Option, Some, None, is_some, refl, sym, ap, length, subst, arith}
-use Rattle.iv_value.specs.declared.value.Kind.{Kind}
-use Rattle.iv_expr.specs.declared.tree.Range.{Range}
-use Rattle.iv_expr.specs.declared.tree.Range.TheVariants as range
+use Rattle.iv_fitting.specs.Words.{Kind, Range}
+use Rattle.iv_fitting.specs.Words.range
 use Rattle.iv_expr.specs.Suiting.{Sort, nulls, numbers, texts, Shape, shape_within, range_kinds, sort_of, comparable, suits}
 use Rattle.iv_syntax.specs.declared.tree.Expression.{Expression}
 use Rattle.iv_syntax.specs.declared.tree.Condition.{Condition}

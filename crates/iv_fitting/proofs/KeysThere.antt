@@ -4,14 +4,9 @@ use Rattle.std.specs.List.{list_any, list_all, enumerate_from}
 use Rattle.std.specs.Str.{bytes_eq}
 use Rattle.std.proofs.lemmas.Bool.Decides.{nat_tests}
 use Rattle.iv_catalogue.specs.Names.{is_among}
-use Rattle.iv_catalogue.specs.declared.constraint.Constraint.{Constraint}
-use Rattle.iv_catalogue.specs.declared.constraint.ForeignKey.{ForeignKey}
-use Rattle.iv_catalogue.specs.declared.constraint.Rule.{Rule}
-use Rattle.iv_catalogue.specs.declared.constraint.Rule.TheVariants as rule
-use Rattle.iv_value.specs.declared.value.Kind.{Kind}
+use Rattle.iv_fitting.specs.Words.{Constraint, ForeignKey, Rule, Kind, Column, Table}
+use Rattle.iv_fitting.specs.Words.rule
 use Rattle.iv_catalogue.specs.Catalogues.{Schema}
-use Rattle.iv_catalogue.specs.declared.catalogue.Column.{Column}
-use Rattle.iv_catalogue.specs.declared.catalogue.Table.{Table}
 use Rattle.iv_syntax.specs.declared.table.ConstraintTime.{ConstraintTime}
 use Rattle.iv_syntax.specs.declared.table.References.{References}
 use Rattle.iv_machine.specs.ReferentialActions.{foreign_key}

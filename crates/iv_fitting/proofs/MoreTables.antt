@@ -2,34 +2,21 @@
 use Rattle.std.proofs.Common.{◌≡◌, ℕ, zero, suc, ◌+◌, nat_lt, true, false, ◌&&◌, List, [], ◌∷◌, ◌++◌, ◌∙◌, Option, Some, None, is_some, refl, sym, ap, length, slice_get, option_map, arith}
 use Rattle.std.specs.List.{list_all}
 use Rattle.std.proofs.lemmas.Bool.Decides.{nat_tests}
-use Rattle.iv_value.specs.declared.value.Kind.{Kind}
-use Rattle.iv_value.specs.declared.value.Kind.TheVariants as kind
-use Rattle.iv_syntax.specs.declared.trigger.Granularity.{Granularity}
-use Rattle.iv_syntax.specs.declared.trigger.TriggerEvent.{TriggerEvent}
+use Rattle.iv_fitting.specs.Words.{Kind, Granularity, TriggerEvent, Range, Expr, Table, Constraint, Rule, BodyStatement, DataStatement, InsertRows, Outputs, Setting, Trigger}
+use Rattle.iv_fitting.specs.Words.kind
+use Rattle.iv_fitting.specs.Words.range
+use Rattle.iv_fitting.specs.Words.rule
+use Rattle.iv_fitting.specs.Words.body
+use Rattle.iv_fitting.specs.Words.data_statement.{Insert, Update, Delete}
+use Rattle.iv_fitting.specs.Words.insert_rows as rows
+use Rattle.iv_fitting.specs.Words.outputs
 use Rattle.iv_expr.specs.declared.tree.Side.{Side}
 use Rattle.iv_expr.specs.declared.tree.Side.TheVariants as side
-use Rattle.iv_expr.specs.declared.tree.Range.{Range}
-use Rattle.iv_expr.specs.declared.tree.Range.TheVariants as range
-use Rattle.iv_expr.specs.declared.tree.Expr.{Expr}
 use Rattle.iv_expr.specs.declared.tree.Expr.TheVariants as expr
 use Rattle.iv_expr.specs.declared.tree.Cond.{Cond}
 use Rattle.iv_expr.specs.declared.tree.Cond.TheVariants as cond
 use Rattle.iv_expr.specs.Trees.{plus, minus, times, not_c, and_c, or_c, exists_c}
 use Rattle.iv_expr.specs.Suiting.{Sort, nulls, numbers, texts, Shape, shape_within, range_kinds, variable_kinds, sort_of_kind, column_sort, arithmetic_sort, sort_of, comparable, suits}
-use Rattle.iv_catalogue.specs.declared.catalogue.Table.{Table}
-use Rattle.iv_catalogue.specs.declared.constraint.Constraint.{Constraint}
-use Rattle.iv_catalogue.specs.declared.constraint.Rule.{Rule}
-use Rattle.iv_catalogue.specs.declared.constraint.Rule.TheVariants as rule
-use Rattle.iv_catalogue.specs.declared.plan.BodyStatement.{BodyStatement}
-use Rattle.iv_catalogue.specs.declared.plan.BodyStatement.TheVariants as body
-use Rattle.iv_catalogue.specs.declared.plan.DataStatement.{DataStatement}
-use Rattle.iv_catalogue.specs.declared.plan.DataStatement.TheVariants.{Insert, Update, Delete}
-use Rattle.iv_catalogue.specs.declared.plan.InsertRows.{InsertRows}
-use Rattle.iv_catalogue.specs.declared.plan.InsertRows.TheVariants as rows
-use Rattle.iv_catalogue.specs.declared.plan.Outputs.{Outputs}
-use Rattle.iv_catalogue.specs.declared.plan.Outputs.TheVariants as outputs
-use Rattle.iv_catalogue.specs.declared.plan.Setting.{Setting}
-use Rattle.iv_catalogue.specs.declared.plan.Trigger.{Trigger}
 use Rattle.iv_fitting.specs.ConstraintShapes.{pairs_suit, rule_suits, constraint_suits}
 use Rattle.iv_fitting.specs.PlanShapes.{kinds_of, table_kinds, is_there, is_range_there, sort_suits, value_suits, values_suit, target_kinds, outputs_suit, rows_suit, setting_suits, data_suits, trigger_shape, action_suits, trigger_suits}
 use Rattle.iv_fitting.proofs.Pointwise.{two, parts_of, all_at, all_by}

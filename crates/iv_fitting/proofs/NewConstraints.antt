@@ -3,8 +3,8 @@
 use Rattle.std.proofs.Common.{◌≡◌, ℕ, zero, suc, ◌≤◌, Bool, true, false, not, ◌&&◌, ◌||◌, ◌==◌, List, [], ◌∷◌, ◌∙◌, Option, Some, is_some, refl, sym, ap, length, zip, slice_get, option_map, unwrap_or, arith}
 use Rattle.std.specs.List.{list_any, list_all}
 use Rattle.std.proofs.lemmas.Bool.Decides.{nat_tests}
-use Rattle.iv_value.specs.declared.value.Kind.{Kind}
-use Rattle.iv_value.specs.declared.value.Kind.TheVariants as kind
+use Rattle.iv_fitting.specs.Words.{Kind}
+use Rattle.iv_fitting.specs.Words.kind
 use Rattle.iv_expr.specs.Suiting.{Shape, suits}
 use Rattle.iv_syntax.specs.declared.table.ColumnType.{ColumnType}
 use Rattle.iv_syntax.specs.declared.tree.Condition.{Condition}

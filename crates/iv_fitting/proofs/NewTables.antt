@@ -16,8 +16,7 @@ use Rattle.iv_syntax.specs.declared.table.TableElement.{TableElement}
 use Rattle.iv_catalogue.specs.Catalogues.{Schema, AllOn, has_constraint}
 use Rattle.iv_catalogue.specs.Names.{is_among, has_repeated}
 use Rattle.iv_catalogue.proofs.NamedLists.{any_map}
-use Rattle.iv_catalogue.specs.declared.catalogue.Column.{Column}
-use Rattle.iv_catalogue.specs.declared.constraint.Constraint.{Constraint}
+use Rattle.iv_fitting.specs.Words.{Column, Constraint}
 use Rattle.iv_catalogue.specs.declared.limits.TheConstants.{MOST_CHARACTERS, MOST_COLUMNS}
 use Rattle.iv_resolution.specs.Constraints.{WrittenConstraint, written_columns, constraint_name, constraint_names, comes_twice, Altered, default_fits, literal_fits}
 use Rattle.iv_resolution.specs.Tables.{type_beyond_limits}

@@ -1,8 +1,11 @@
 -- The plans of INSERT, UPDATE, DELETE and SELECT statements that deserve no cause.
 use Rattle.std.proofs.Common.{◌≡◌, ℕ, ◌≤◌, Bool, true, false, not, ◌&&◌, ◌||◌, List, [], ◌∷◌, ◌∙◌, Option, Some, None, Ok, refl, sym, ap, cond, length, map, slice_get, subst, unwrap_or, arith}
 use Rattle.std.specs.List.{list_all}
-use Rattle.iv_value.specs.declared.value.Kind.{Kind}
-use Rattle.iv_expr.specs.declared.tree.Range.TheVariants as range
+use Rattle.iv_fitting.specs.Words.{Kind, Statement, Table, Cause, DataStatement, QueryPlan}
+use Rattle.iv_fitting.specs.Words.range
+use Rattle.iv_fitting.specs.Words.cause.{Unknown, Duplicate, SchemaFault, WrongShape, Limit}
+use Rattle.iv_fitting.specs.Words.plan
+use Rattle.iv_fitting.specs.Words.query
 use Rattle.iv_expr.specs.Suiting.{Shape, shape_within, range_kinds, suits}
 use Rattle.iv_syntax.specs.declared.tree.Condition.{Condition}
 use Rattle.iv_syntax.specs.declared.tree.RangeName.{RangeName}
@@ -10,17 +13,9 @@ use Rattle.iv_syntax.specs.declared.statement.SelectList.{SelectList}
 use Rattle.iv_syntax.specs.declared.statement.SelectList.TheVariants as list
 use Rattle.iv_syntax.specs.declared.statement.Select.{Select}
 use Rattle.iv_syntax.specs.declared.statement.Select.TheVariants as select
-use Rattle.iv_syntax.specs.declared.statement.Statement.{Statement}
 use Rattle.iv_syntax.specs.declared.statement.Statement.TheVariants as statement
 use Rattle.iv_catalogue.specs.Catalogues.{Schema}
-use Rattle.iv_catalogue.specs.declared.catalogue.Table.{Table}
-use Rattle.iv_catalogue.specs.declared.cause.Cause.{Cause}
-use Rattle.iv_catalogue.specs.declared.cause.Cause.TheVariants.{Unknown, Duplicate, SchemaFault, WrongShape, Limit}
-use Rattle.iv_catalogue.specs.declared.plan.DataStatement.{DataStatement}
 use Rattle.iv_catalogue.specs.declared.plan.Plan.{Plan}
-use Rattle.iv_catalogue.specs.declared.plan.Plan.TheVariants as plan
-use Rattle.iv_catalogue.specs.declared.plan.QueryPlan.{QueryPlan}
-use Rattle.iv_catalogue.specs.declared.plan.QueryPlan.TheVariants as query
 use Rattle.iv_catalogue.specs.declared.plan.TransactionPlan.TheVariants as transaction
 use Rattle.iv_resolution.specs.Scopes.{NamedRange, Names, Source, source_named, is_source, range_of, named_columns, table_place}
 use Rattle.iv_resolution.specs.Terms.{unknown_expression, unknown_filter, misshaped_expression, misshaped_filter, bound_expression, bound_filter}

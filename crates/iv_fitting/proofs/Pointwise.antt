@@ -1,8 +1,7 @@
 -- Lists element by element.
 use Rattle.std.proofs.Common.{◌≡◌, ℕ, zero, suc, ◌+◌, Bool, true, false, not, ◌&&◌, List, [], ◌∷◌, ◌∙◌, Option, Some, refl, sym, ap, length, map, zip, slice_get, option_map, arith}
 use Rattle.std.specs.List.{list_any, list_all, enumerate_from}
-use Rattle.iv_value.specs.declared.value.Kind.{Kind}
-use Rattle.iv_expr.specs.declared.tree.Expr.{Expr}
+use Rattle.iv_fitting.specs.Words.{Kind, Expr}
 use Rattle.iv_expr.specs.Suiting.{Shape}
 use Rattle.iv_naming.proofs.Firsts.{neither}
 use Rattle.iv_fitting.specs.PlanShapes.{value_suits, values_suit, kind_suits, kinds_suit}

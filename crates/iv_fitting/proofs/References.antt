@@ -3,15 +3,11 @@ use Rattle.std.proofs.Common.{◌≡◌, ℕ, zero, suc, nat_lt, Bool, true, fal
 use Rattle.std.specs.List.{list_all, cons_option}
 use Rattle.std.specs.Str.{bytes_eq}
 use Rattle.std.proofs.lemmas.Bool.Decides.{nat_tests}
-use Rattle.iv_value.specs.declared.value.Kind.{Kind}
+use Rattle.iv_fitting.specs.Words.{Kind, Column, Table, Constraint, Rule}
+use Rattle.iv_fitting.specs.Words.rule
 use Rattle.iv_syntax.specs.declared.table.ColumnType.{ColumnType}
 use Rattle.iv_catalogue.specs.Catalogues.{Schema}
 use Rattle.iv_catalogue.specs.Names.{is_among}
-use Rattle.iv_catalogue.specs.declared.catalogue.Column.{Column}
-use Rattle.iv_catalogue.specs.declared.catalogue.Table.{Table}
-use Rattle.iv_catalogue.specs.declared.constraint.Constraint.{Constraint}
-use Rattle.iv_catalogue.specs.declared.constraint.Rule.{Rule}
-use Rattle.iv_catalogue.specs.declared.constraint.Rule.TheVariants as rule
 use Rattle.iv_resolution.specs.Scopes.{NamedColumn, named_columns, type_named}
 use Rattle.iv_resolution.specs.Constraints.{Key, name_at, key_of_rule, stored_keys, comes_twice, constraints_of}
 use Rattle.iv_naming.specs.Naming.{column_is_called}

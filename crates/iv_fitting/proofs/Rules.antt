@@ -2,10 +2,9 @@
 use Rattle.std.proofs.Common.{◌≡◌, ℕ, Bool, true, false, not, ◌&&◌, ◌||◌, ◌==◌, List, [], ◌∙◌, Option, Some, None, refl, sym, ap, length, zip, slice_get, option_map, subst, arith}
 use Rattle.std.specs.List.{list_any, list_all}
 use Rattle.std.specs.Str.{bytes_eq}
-use Rattle.iv_value.specs.declared.value.Kind.{Kind}
+use Rattle.iv_fitting.specs.Words.{Kind, Table}
 use Rattle.iv_syntax.specs.declared.table.References.{References}
 use Rattle.iv_catalogue.specs.Catalogues.{Schema}
-use Rattle.iv_catalogue.specs.declared.catalogue.Table.{Table}
 use Rattle.iv_resolution.specs.Scopes.{Names, named_columns}
 use Rattle.iv_resolution.specs.Constraints.{WrittenRule, not_null, unique, primary_key, check, foreign_key, Key, places_of, stored_keys, constraints_of, Altered, Referenced, stored_reference, referenced, pairs_differ, faulty_reference, is_reliable}
 use Rattle.iv_resolution.specs.Changes.{unknown_names}

@@ -3,36 +3,25 @@ use Rattle.std.proofs.Common.{◌≡◌, ℕ, zero, suc, ◌+◌, nat_le, Bool, 
 use Rattle.std.specs.List.{list_all}
 use Rattle.iv_value.specs.declared.value.Value.{Value}
 use Rattle.iv_value.specs.declared.value.Value.TheVariants.{Null, Int, Text}
-use Rattle.iv_value.specs.declared.value.Kind.{Kind}
-use Rattle.iv_value.specs.declared.value.Kind.TheVariants as kind
+use Rattle.iv_fitting.specs.Words.{Kind, Expr, Range, Column, Table, Cause, InsertColumns, DataStatement, InsertRows, Outputs, Setting, Database}
+use Rattle.iv_fitting.specs.Words.kind
+use Rattle.iv_fitting.specs.Words.cause.{WrongShape, TextTooLong}
+use Rattle.iv_fitting.specs.Words.range
+use Rattle.iv_fitting.specs.Words.insert_columns as columns
+use Rattle.iv_fitting.specs.Words.data_statement.{Insert, Update, Delete}
+use Rattle.iv_fitting.specs.Words.insert_rows as rows
+use Rattle.iv_fitting.specs.Words.outputs
 use Rattle.iv_value.specs.declared.value.Truth.{Truth}
 use Rattle.iv_value.specs.Truths.{is_true}
 use Rattle.iv_value.specs.declared.value.Fit.TheVariants.{Yes, WrongKind, TooLong}
-use Rattle.iv_catalogue.specs.declared.cause.Cause.TheVariants.{WrongShape, TextTooLong}
 use Rattle.iv_expr.specs.declared.row.StoredRow.{StoredRow}
-use Rattle.iv_expr.specs.declared.tree.Expr.{Expr}
 use Rattle.iv_expr.specs.declared.tree.Cond.{Cond}
 use Rattle.iv_expr.specs.declared.tree.ExprFault.{ExprFault}
 use Rattle.iv_expr.specs.Evaluation.{value, truth, and_then}
-use Rattle.iv_expr.specs.declared.tree.Range.{Range}
-use Rattle.iv_expr.specs.declared.tree.Range.TheVariants as range
 use Rattle.iv_expr.specs.Scopes.{Frame, Scope, within, contents, table_rows, transition_rows, range_rows, scope_of}
 use Rattle.iv_expr.specs.Suiting.{Sort, nulls, numbers, texts, of_sort, sort_of_kind, Shape, shape_within, range_kinds, sort_of, suits, row_suits, AllSuit, HasShape}
 use Rattle.iv_expr.proofs.Suiting.{Sorted, Fine, value_sorted, truth_fine}
 use Rattle.iv_catalogue.specs.Catalogues.{Schema}
-use Rattle.iv_catalogue.specs.declared.catalogue.Column.{Column}
-use Rattle.iv_catalogue.specs.declared.catalogue.Table.{Table}
-use Rattle.iv_catalogue.specs.declared.cause.Cause.{Cause}
-use Rattle.iv_catalogue.specs.declared.plan.InsertColumns.{InsertColumns}
-use Rattle.iv_catalogue.specs.declared.plan.InsertColumns.TheVariants as columns
-use Rattle.iv_catalogue.specs.declared.plan.DataStatement.{DataStatement}
-use Rattle.iv_catalogue.specs.declared.plan.DataStatement.TheVariants.{Insert, Update, Delete}
-use Rattle.iv_catalogue.specs.declared.plan.InsertRows.{InsertRows}
-use Rattle.iv_catalogue.specs.declared.plan.InsertRows.TheVariants as rows
-use Rattle.iv_catalogue.specs.declared.plan.Outputs.{Outputs}
-use Rattle.iv_catalogue.specs.declared.plan.Outputs.TheVariants as outputs
-use Rattle.iv_catalogue.specs.declared.plan.Setting.{Setting}
-use Rattle.iv_machine.specs.declared.database.Database.{Database}
 use Rattle.std.proofs.lemmas.Bool.Decides.{nat_tests}
 use Rattle.iv_machine.specs.Context.{Context, each}
 use Rattle.iv_machine.specs.Proposals.{cause_of, holds, column_at, value_for_column, stored_value, stored_values, element_where_true, where_true, matching_rows, outputs_of, values_by_column, row_of_values, insertion, insertion_of, proposed_insertions, update_of, deletion, with_columns, proposed_changes}

@@ -2,23 +2,19 @@
 use Rattle.std.proofs.Common.{◌≡◌, ℕ, zero, suc, ◌+◌, ◌≤◌, min, nat_lt, nat_le, Bool, true, false, not, ◌&&◌, ◌==◌, if◌then◌else◌, List, [], ◌∷◌, ◌++◌, ◌∙◌, Option, Some, None, is_some, refl, sym, ap, cond, length, map, filter, slice_get, subst, unwrap_or, arith}
 use Rattle.std.specs.List.{list_any, list_all, enumerate_from}
 use Rattle.std.proofs.lemmas.Bool.Decides.{nat_tests}
-use Rattle.iv_value.specs.declared.value.Kind.{Kind}
+use Rattle.iv_fitting.specs.Words.{Kind, Statement, Column, Table, Constraint}
+use Rattle.iv_fitting.specs.Words.plan
+use Rattle.iv_fitting.specs.Words.schema.{CreateTable, AddConstraint}
 use Rattle.iv_syntax.specs.declared.table.ColumnType.{ColumnType}
 use Rattle.iv_syntax.specs.declared.table.ColumnType.TheVariants as type
 use Rattle.iv_syntax.specs.declared.table.ColumnDefinition.{ColumnDefinition}
 use Rattle.iv_syntax.specs.declared.table.ConstraintTime.{ConstraintTime}
 use Rattle.iv_syntax.specs.declared.table.TableConstraint.{TableConstraint}
 use Rattle.iv_syntax.specs.declared.table.TableElement.{TableElement}
-use Rattle.iv_syntax.specs.declared.statement.Statement.{Statement}
 use Rattle.iv_syntax.specs.declared.statement.Statement.TheVariants as statement
 use Rattle.iv_catalogue.specs.Catalogues.{Schema, has_table, has_constraint, places_from}
-use Rattle.iv_catalogue.specs.declared.catalogue.Column.{Column}
-use Rattle.iv_catalogue.specs.declared.catalogue.Table.{Table}
-use Rattle.iv_catalogue.specs.declared.constraint.Constraint.{Constraint}
 use Rattle.iv_catalogue.specs.declared.limits.TheConstants.{MOST_CHARACTERS, MOST_COLUMNS, MOST_CONSTRAINTS, MOST_TABLES}
 use Rattle.iv_catalogue.specs.declared.plan.Plan.{Plan}
-use Rattle.iv_catalogue.specs.declared.plan.Plan.TheVariants as plan
-use Rattle.iv_catalogue.specs.declared.plan.SchemaPlan.TheVariants.{CreateTable, AddConstraint}
 use Rattle.iv_catalogue.specs.declared.plan.TransactionPlan.TheVariants as transaction
 use Rattle.iv_resolution.specs.Scopes.{NamedColumn, type_of, table_place}
 use Rattle.iv_resolution.specs.Constraints.{WrittenRule, not_null, unique, primary_key, check, foreign_key, WrittenConstraint, written_columns, defined_column, defined_columns, written_constraints, table_constraint, constraint_names, comes_twice, constraints_of, is_contradictory, Key, primary_key_of, key_of_written, Altered, default_fits}

@@ -1,7 +1,7 @@
 -- Whole INSERT, UPDATE and DELETE statements.
 use Rattle.std.proofs.Common.{◌≡◌, ℕ, ◌≤◌, Bool, true, false, not, ◌&&◌, ◌||◌, ◌==◌, List, ◌∷◌, ◌∙◌, Option, refl, sym, ap, length, map, option_map, subst, arith}
 use Rattle.std.specs.List.{list_any, list_all}
-use Rattle.iv_value.specs.declared.value.Kind.{Kind}
+use Rattle.iv_fitting.specs.Words.{Kind, Column}
 use Rattle.iv_expr.specs.Suiting.{Shape, shape_within, suits}
 use Rattle.iv_syntax.specs.declared.table.ColumnType.{ColumnType}
 use Rattle.iv_syntax.specs.declared.statement.Insert.{Insert}
@@ -9,7 +9,6 @@ use Rattle.iv_syntax.specs.declared.statement.Insert.TheVariants as insert
 use Rattle.iv_syntax.specs.declared.statement.Assignment.{Assignment}
 use Rattle.iv_syntax.specs.declared.statement.Update.{Update}
 use Rattle.iv_syntax.specs.declared.statement.Delete.{Delete}
-use Rattle.iv_catalogue.specs.declared.catalogue.Column.{Column}
 use Rattle.iv_resolution.specs.Scopes.{NamedRange, Names, named_columns, place_of, has_column, type_named, own_range}
 use Rattle.iv_resolution.specs.Terms.{unknown_filter, misshaped_filter, bound_filter}
 use Rattle.iv_resolution.specs.Changes.{is_table, stored_columns, target_columns, unknown_listed, unknown_value, unknown_source, unknown_insert, unknown_assignment, unknown_update, unknown_delete, value_clashes, misshaped_value, target_types, misshaped_source, misshaped_insert, misshaped_assignment, misshaped_update, misshaped_delete}

@@ -1,8 +1,8 @@
 -- A schema that suits still suits after a schema statement.
 use Rattle.std.proofs.Common.{◌≡◌, Bool, true, false, not, ◌==◌, List, [], ◌∷◌, ◌++◌, refl, cond, filter}
 use Rattle.std.specs.List.{list_all}
-use Rattle.iv_catalogue.specs.declared.plan.SchemaPlan.TheVariants.{CreateTable, AddConstraint, CreateTrigger, DropTrigger}
-use Rattle.iv_catalogue.specs.declared.plan.Trigger.{Trigger}
+use Rattle.iv_fitting.specs.Words.{Trigger}
+use Rattle.iv_fitting.specs.Words.schema.{CreateTable, AddConstraint, CreateTrigger, DropTrigger}
 use Rattle.iv_fitting.specs.ConstraintShapes.{constraint_suits}
 use Rattle.iv_fitting.specs.Laws.{SchemasStaySuited, EmptySchemaSuits}
 use Rattle.iv_fitting.specs.PlanShapes.{table_suits, trigger_suits}

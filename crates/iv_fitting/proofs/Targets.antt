@@ -4,16 +4,14 @@ use Rattle.std.specs.List.{list_all}
 use Rattle.std.proofs.lemmas.Bool.Decides.{nat_tests}
 use Rattle.iv_value.specs.declared.value.Value.{Value}
 use Rattle.iv_value.specs.declared.value.Value.TheVariants as value
-use Rattle.iv_value.specs.declared.value.Kind.{Kind}
-use Rattle.iv_value.specs.declared.value.Kind.TheVariants as kind
+use Rattle.iv_fitting.specs.Words.{Kind, Column, Table}
+use Rattle.iv_fitting.specs.Words.kind
 use Rattle.iv_value.specs.Values.{fit_of}
 use Rattle.iv_expr.specs.Suiting.{Sort, nulls, numbers, texts, Shape, sort_of_value}
 use Rattle.iv_syntax.specs.declared.table.ColumnType.{ColumnType}
 use Rattle.iv_syntax.specs.declared.tree.Expression.{Expression}
 use Rattle.iv_syntax.specs.declared.statement.ValueOrDefault.{ValueOrDefault}
 use Rattle.iv_syntax.specs.declared.statement.ValueOrDefault.TheVariants as given
-use Rattle.iv_catalogue.specs.declared.catalogue.Column.{Column}
-use Rattle.iv_catalogue.specs.declared.catalogue.Table.{Table}
 use Rattle.iv_catalogue.specs.declared.limits.TheConstants.{MOST_COLUMNS}
 use Rattle.iv_resolution.specs.Scopes.{NamedColumn, NamedRange, Names, number, type_of, named_column, named_columns, place_of, has_column, type_named, table_place}
 use Rattle.iv_resolution.specs.Terms.{is_text, bound_expression}

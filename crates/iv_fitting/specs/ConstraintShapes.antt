@@ -2,16 +2,12 @@
 -- one type ("Table constraint definition", "Referential constraint definition").
 use Rattle.std.specs.Prelude.{◌≡◌, ℕ, ◌<◌, ◌≤◌, ◌==◌, Bool, true, false, ◌&&◌, List, [], ◌∷◌, ◌++◌, length, map, zip, Option, Some, None, slice_get, nat_lt}
 use Rattle.std.specs.List.{list_all}
-use Rattle.iv_value.specs.declared.value.Kind.{Kind}
-use Rattle.iv_value.specs.declared.value.Kind.TheVariants.{Integer, Varchar}
+use Rattle.iv_fitting.specs.Words.{Kind, Table, Constraint, ForeignKey, Rule}
+use Rattle.iv_fitting.specs.Words.kind.{Integer, Varchar}
+use Rattle.iv_fitting.specs.Words.rule
 use Rattle.iv_expr.specs.Suiting.{Shape, suits}
 use Rattle.iv_catalogue.specs.Catalogues.{Schema, AllOn, has_constraint, has_table, constraint_places}
 use Rattle.iv_catalogue.specs.Names.{has_repeated}
-use Rattle.iv_catalogue.specs.declared.catalogue.Table.{Table}
-use Rattle.iv_catalogue.specs.declared.constraint.Constraint.{Constraint}
-use Rattle.iv_catalogue.specs.declared.constraint.ForeignKey.{ForeignKey}
-use Rattle.iv_catalogue.specs.declared.constraint.Rule.{Rule}
-use Rattle.iv_catalogue.specs.declared.constraint.Rule.TheVariants as rule
 use Rattle.iv_catalogue.specs.declared.limits.TheConstants.{MOST_CONSTRAINTS, MOST_TABLES}
 use Rattle.iv_machine.specs.ReferentialActions.{foreign_key}
 use Rattle.iv_store.specs.Stores.{has_key}

@@ -1,16 +1,10 @@
 -- The plans of statements that deserve no cause fit the tables of the schema.
 use Rattle.std.specs.Prelude.{◌≡◌, List, true, Ok}
 use Rattle.std.specs.List.{list_all}
-use Rattle.iv_syntax.specs.declared.statement.Statement.{Statement}
+use Rattle.iv_fitting.specs.Words.{Statement, Table, Constraint, DataStatement, QueryPlan, SchemaPlan, Trigger}
+use Rattle.iv_fitting.specs.Words.plan
+use Rattle.iv_fitting.specs.Words.schema.{CreateTable, AddConstraint, CreateTrigger}
 use Rattle.iv_catalogue.specs.Catalogues.{Schema, after, empty_schema}
-use Rattle.iv_catalogue.specs.declared.catalogue.Table.{Table}
-use Rattle.iv_catalogue.specs.declared.constraint.Constraint.{Constraint}
-use Rattle.iv_catalogue.specs.declared.plan.DataStatement.{DataStatement}
-use Rattle.iv_catalogue.specs.declared.plan.Plan.TheVariants as plan
-use Rattle.iv_catalogue.specs.declared.plan.QueryPlan.{QueryPlan}
-use Rattle.iv_catalogue.specs.declared.plan.SchemaPlan.{SchemaPlan}
-use Rattle.iv_catalogue.specs.declared.plan.SchemaPlan.TheVariants.{CreateTable, AddConstraint, CreateTrigger}
-use Rattle.iv_catalogue.specs.declared.plan.Trigger.{Trigger}
 use Rattle.iv_resolution.specs.Resolution.{resolution}
 use Rattle.iv_fitting.specs.ConstraintShapes.{constraint_suits, TableFits, ConstraintFits, SchemaSuits}
 use Rattle.iv_fitting.specs.PlanShapes.{plain_shape, table_suits, data_suits, query_suits, trigger_suits}

@@ -1,3 +1,4 @@
+pub mod Words
 pub mod ConstraintShapes
 pub mod Laws
 pub mod PlanShapes

@@ -2,34 +2,20 @@
 -- said by the kinds of columns alone, before any row is there ("Store assignment", "Value expression", "Search condition").
 use Rattle.std.specs.Prelude.{ℕ, Bool, true, false, not, ◌&&◌, List, [], ◌∷◌, length, map, Option, Some, None, is_some, slice_get, nat_le, nat_lt}
 use Rattle.std.specs.List.{list_all}
-use Rattle.iv_value.specs.declared.value.Kind.{Kind}
-use Rattle.iv_value.specs.declared.value.Kind.TheVariants.{Integer, Varchar}
+use Rattle.iv_fitting.specs.Words.{Kind, Expr, Range, Granularity, TriggerEvent, Column, Table, BodyStatement, DataStatement, InsertColumns, InsertRows, Outputs, QueryPlan, Setting, Trigger}
+use Rattle.iv_fitting.specs.Words.kind.{Integer, Varchar}
+use Rattle.iv_fitting.specs.Words.range
+use Rattle.iv_fitting.specs.Words.granularity
+use Rattle.iv_fitting.specs.Words.event
+use Rattle.iv_fitting.specs.Words.body
+use Rattle.iv_fitting.specs.Words.data_statement.{Insert, Update, Delete}
+use Rattle.iv_fitting.specs.Words.insert_columns as columns
+use Rattle.iv_fitting.specs.Words.insert_rows as rows
+use Rattle.iv_fitting.specs.Words.outputs
+use Rattle.iv_fitting.specs.Words.query
 use Rattle.iv_value.specs.Values.{fit_of}
-use Rattle.iv_expr.specs.declared.tree.Expr.{Expr}
-use Rattle.iv_expr.specs.declared.tree.Range.{Range}
-use Rattle.iv_expr.specs.declared.tree.Range.TheVariants as range
 use Rattle.iv_expr.specs.Suiting.{Sort, nulls, numbers, texts, Shape, shape_within, range_kinds, sort_of, suits}
-use Rattle.iv_syntax.specs.declared.trigger.Granularity.{Granularity}
-use Rattle.iv_syntax.specs.declared.trigger.Granularity.TheVariants as granularity
-use Rattle.iv_syntax.specs.declared.trigger.TriggerEvent.{TriggerEvent}
-use Rattle.iv_syntax.specs.declared.trigger.TriggerEvent.TheVariants as event
-use Rattle.iv_catalogue.specs.declared.catalogue.Column.{Column}
-use Rattle.iv_catalogue.specs.declared.catalogue.Table.{Table}
 use Rattle.iv_catalogue.specs.declared.limits.TheConstants.{MOST_COLUMNS}
-use Rattle.iv_catalogue.specs.declared.plan.BodyStatement.{BodyStatement}
-use Rattle.iv_catalogue.specs.declared.plan.BodyStatement.TheVariants as body
-use Rattle.iv_catalogue.specs.declared.plan.DataStatement.{DataStatement}
-use Rattle.iv_catalogue.specs.declared.plan.DataStatement.TheVariants.{Insert, Update, Delete}
-use Rattle.iv_catalogue.specs.declared.plan.InsertColumns.{InsertColumns}
-use Rattle.iv_catalogue.specs.declared.plan.InsertColumns.TheVariants as columns
-use Rattle.iv_catalogue.specs.declared.plan.InsertRows.{InsertRows}
-use Rattle.iv_catalogue.specs.declared.plan.InsertRows.TheVariants as rows
-use Rattle.iv_catalogue.specs.declared.plan.Outputs.{Outputs}
-use Rattle.iv_catalogue.specs.declared.plan.Outputs.TheVariants as outputs
-use Rattle.iv_catalogue.specs.declared.plan.QueryPlan.{QueryPlan}
-use Rattle.iv_catalogue.specs.declared.plan.QueryPlan.TheVariants as query
-use Rattle.iv_catalogue.specs.declared.plan.Setting.{Setting}
-use Rattle.iv_catalogue.specs.declared.plan.Trigger.{Trigger}
 use Rattle.iv_resolution.specs.Constraints.{comes_twice}
 use Rattle.iv_store.specs.Stores.{is_fit}
 

@@ -3,12 +3,10 @@
 use Rattle.std.specs.Prelude.{◌≡◌, ℕ, Bool, true, false, Err}
 use Rattle.iv_expr.specs.Scopes.{Frame, scope_of}
 use Rattle.iv_expr.specs.Suiting.{Shape, HasShape}
-use Rattle.iv_catalogue.specs.declared.cause.Cause.{Cause}
-use Rattle.iv_catalogue.specs.declared.cause.Cause.TheVariants.{NumberOutOfRange, TextTooLong}
-use Rattle.iv_catalogue.specs.declared.plan.DataStatement.{DataStatement}
+use Rattle.iv_fitting.specs.Words.{Cause, DataStatement, Database}
+use Rattle.iv_fitting.specs.Words.cause.{NumberOutOfRange, TextTooLong}
 use Rattle.iv_machine.specs.Context.{Context}
 use Rattle.iv_machine.specs.Proposals.{proposed_changes}
-use Rattle.iv_machine.specs.declared.database.Database.{Database}
 use Rattle.iv_fitting.specs.PlanShapes.{table_kinds, data_suits}
 
 -- a cause that values have, which no kind tells beforehand

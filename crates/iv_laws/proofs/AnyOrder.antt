@@ -3,11 +3,8 @@ use Rattle.std.proofs.Common.{◌≡◌, refl, ℕ, suc, ◌+◌, max, Bool, tru
 use Rattle.std.specs.Bool.{◌==◌}
 use Rattle.std.specs.List.{cons_option}
 use Rattle.std.proofs.lemmas.Bool.{eqb-true, or_parts}
-use Rattle.iv_value.specs.declared.value.Value.{Value}
-use Rattle.iv_expr.specs.declared.row.StoredRow.{StoredRow}
-use Rattle.iv_expr.specs.declared.row.Change.{Change}
+use Rattle.iv_laws.specs.Words.{Value, StoredRow, Change, Database}
 use Rattle.iv_expr.specs.Changes.{Wave}
-use Rattle.iv_machine.specs.declared.database.Database.{Database}
 use Rattle.iv_machine.specs.Databases.{row_at, has_change, next_after, database_after}
 use Rattle.iv_laws.specs.RisingRows.{InOrder}
 use Rattle.iv_laws.specs.Reorderings.{after_changes, Distinct, Reordered, same, further, swapped, twice, one_by_one}

@@ -5,10 +5,7 @@ use Rattle.std.specs.List.{cons_option}
 use Rattle.std.specs.Option.{option_or}
 use Rattle.std.proofs.lemmas.List.Folds.{find-append}
 use Rattle.std.proofs.lemmas.Bool.{eqb-true, true≢false}
-use Rattle.iv_value.specs.declared.value.Value.{Value}
-use Rattle.iv_expr.specs.declared.row.StoredRow.{StoredRow}
-use Rattle.iv_expr.specs.declared.row.Change.{Change}
-use Rattle.iv_machine.specs.declared.database.Database.{Database}
+use Rattle.iv_laws.specs.Words.{Value, StoredRow, Change, Database}
 use Rattle.iv_machine.specs.Databases.{row_at, has_change, rows_after}
 use Rattle.iv_laws.specs.RisingRows.{InOrder}
 use Rattle.iv_laws.specs.Holders.{is_outside}

@@ -1,16 +1,12 @@
 -- What BEFORE row triggers leave of a change: its row, its old values, and a deletion.
 use Rattle.std.proofs.Common.{◌≡◌, refl, ℕ, Bool, true, false, ◌||◌, if◌then◌else◌, List, [], ◌∷◌, filter, Option, Some, None, Ok, sym, ap, subst, ◌∙◌}
 use Rattle.std.specs.Bool.{◌==◌}
-use Rattle.iv_value.specs.declared.value.Value.{Value}
-use Rattle.iv_expr.specs.declared.row.StoredRow.{StoredRow}
-use Rattle.iv_expr.specs.declared.row.Change.{Change}
+use Rattle.iv_laws.specs.Words.{Value, StoredRow, Change, BodyStatement, Database}
+use Rattle.iv_laws.specs.Words.body
 use Rattle.iv_expr.specs.Changes.{Wave}
 use Rattle.iv_expr.specs.Evaluation.{value}
 use Rattle.iv_expr.specs.Scopes.{scope_of}
-use Rattle.iv_catalogue.specs.declared.plan.BodyStatement.{BodyStatement}
-use Rattle.iv_catalogue.specs.declared.plan.BodyStatement.TheVariants as body
 use Rattle.iv_catalogue.specs.declared.plan.Trigger.{Trigger}
-use Rattle.iv_machine.specs.declared.database.Database.{Database}
 use Rattle.iv_machine.specs.Databases.{row_at, has_change}
 use Rattle.iv_machine.specs.Context.{Context, while_running, each, in_turn}
 use Rattle.iv_machine.specs.Proposals.{holds, stored_value}

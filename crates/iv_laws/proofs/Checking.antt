@@ -1,10 +1,9 @@
 -- After a level no immediate constraint is violated.
 use Rattle.std.proofs.Common.{◌≡◌, ℕ, zero, suc, [], Ok}
 use Rattle.iv_expr.specs.Scopes.{Frame}
-use Rattle.iv_catalogue.specs.declared.cause.Cause.TheVariants.{Violation}
-use Rattle.iv_catalogue.specs.declared.plan.DataStatement.{DataStatement}
-use Rattle.iv_machine.specs.declared.database.Database.{Database}
-use Rattle.iv_machine.specs.declared.database.Which.TheVariants.{Immediate}
+use Rattle.iv_laws.specs.Words.{DataStatement, Database}
+use Rattle.iv_laws.specs.Words.cause.{Violation}
+use Rattle.iv_laws.specs.Words.which.{Immediate}
 use Rattle.iv_machine.specs.Context.{Context}
 use Rattle.iv_machine.specs.Databases.{scan, is_chosen}
 use Rattle.iv_machine.specs.Waves.{net_wave}

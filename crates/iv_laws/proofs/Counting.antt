@@ -5,14 +5,11 @@ use Rattle.iv_expr.specs.Changes.{Wave}
 use Rattle.iv_expr.specs.Evaluation.{and_then}
 use Rattle.iv_expr.specs.Scopes.{Frame, scope_of}
 use Rattle.iv_catalogue.specs.declared.cause.Cause.{Cause}
-use Rattle.iv_catalogue.specs.declared.cause.Cause.TheVariants.{Restrict, ActionConflict, Violation, TooManyChanges, TransactionTooLarge, Limit}
-use Rattle.iv_catalogue.specs.declared.cause.Fault.{Fault}
+use Rattle.iv_laws.specs.Words.{Fault, BodyStatement, DataStatement, Database}
+use Rattle.iv_laws.specs.Words.cause.{Restrict, ActionConflict, Violation, TooManyChanges, TransactionTooLarge, Limit}
+use Rattle.iv_laws.specs.Words.body
+use Rattle.iv_laws.specs.Words.which.{Immediate}
 use Rattle.iv_catalogue.specs.declared.cause.Refusal.{Refusal}
-use Rattle.iv_catalogue.specs.declared.plan.BodyStatement.{BodyStatement}
-use Rattle.iv_catalogue.specs.declared.plan.BodyStatement.TheVariants as body
-use Rattle.iv_catalogue.specs.declared.plan.DataStatement.{DataStatement}
-use Rattle.iv_machine.specs.declared.database.Database.{Database}
-use Rattle.iv_machine.specs.declared.database.Which.TheVariants.{Immediate}
 use Rattle.iv_machine.specs.Bounds.{most_changes_in_a_transaction}
 use Rattle.iv_machine.specs.Databases.{scan, is_chosen, size, database_after}
 use Rattle.iv_machine.specs.Context.{Context, Failure, fails, over, unless_first, with_count, inside_trigger, in_turn}

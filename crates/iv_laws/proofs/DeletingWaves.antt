@@ -2,18 +2,12 @@
 use Rattle.std.proofs.Common.{◌≡◌, refl, ℕ, Bool, true, false, ◌&&◌, not, if◌then◌else◌, List, [], ◌∷◌, filter, Option, Some, None, sym, ap, subst, ◌∙◌, inl, inr}
 use Rattle.std.specs.Bool.{◌==◌}
 use Rattle.std.specs.List.{cons_option}
-use Rattle.iv_value.specs.declared.value.Value.{Value}
+use Rattle.iv_laws.specs.Words.{Value, StoredRow, Change, ReferentialAction, ForeignKey, Database, Effect}
+use Rattle.iv_laws.specs.Words.referential_action as action
 use Rattle.iv_value.specs.Values.{all_same}
-use Rattle.iv_expr.specs.declared.row.StoredRow.{StoredRow}
-use Rattle.iv_expr.specs.declared.row.Change.{Change}
 use Rattle.iv_expr.specs.Scopes.{table_rows}
-use Rattle.iv_syntax.specs.declared.table.ReferentialAction.{ReferentialAction}
-use Rattle.iv_syntax.specs.declared.table.ReferentialAction.TheVariants as action
 use Rattle.iv_catalogue.specs.Catalogues.{Schema}
-use Rattle.iv_catalogue.specs.declared.constraint.ForeignKey.{ForeignKey}
-use Rattle.iv_machine.specs.declared.database.Database.{Database}
 use Rattle.iv_machine.specs.Databases.{row_at, key_of, none_null, holds_key, has_change}
-use Rattle.iv_machine.specs.declared.effect.Effect.{Effect}
 use Rattle.iv_machine.specs.declared.effect.Effect.TheVariants.{DeleteRow}
 use Rattle.iv_machine.specs.ReferentialActions.{Reference, Loss, deleted, updated, loss_of_row, lost_keys, lost_reference, action_on, effects_of_action, effects_of_loss}
 use Rattle.iv_laws.specs.Reorderings.{after_changes}

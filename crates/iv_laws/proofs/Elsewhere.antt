@@ -2,10 +2,7 @@
 use Rattle.std.proofs.Common.{◌≡◌, refl, ℕ, Bool, true, false, ◌&&◌, not, if◌then◌else◌, List, [], ◌∷◌, filter, Option, Some, None, sym, ap, ◌∙◌}
 use Rattle.std.specs.Bool.{◌==◌}
 use Rattle.std.proofs.lemmas.Bool.{eqb-true, eq-eqb}
-use Rattle.iv_expr.specs.declared.row.StoredRow.{StoredRow}
-use Rattle.iv_expr.specs.declared.row.Change.{Change}
-use Rattle.iv_catalogue.specs.declared.constraint.Constraint.{Constraint}
-use Rattle.iv_machine.specs.declared.database.Database.{Database}
+use Rattle.iv_laws.specs.Words.{StoredRow, Change, Constraint, Database}
 use Rattle.iv_machine.specs.Databases.{row_at, violates}
 use Rattle.iv_laws.specs.Reorderings.{after_changes}
 use Rattle.iv_laws.specs.RisingRows.{InOrder}

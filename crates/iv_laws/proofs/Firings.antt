@@ -2,10 +2,8 @@
 use Rattle.std.proofs.Common.{◌≡◌, ℕ, Bool, true, false, if◌then◌else◌, List, [], ◌∷◌, Ok, subst}
 use Rattle.iv_expr.specs.Changes.{Wave}
 use Rattle.iv_expr.specs.Scopes.{Frame, scope_of}
-use Rattle.iv_catalogue.specs.declared.plan.BodyStatement.{BodyStatement}
-use Rattle.iv_catalogue.specs.declared.plan.BodyStatement.TheVariants as body
-use Rattle.iv_catalogue.specs.declared.plan.DataStatement.{DataStatement}
-use Rattle.iv_machine.specs.declared.database.Database.{Database}
+use Rattle.iv_laws.specs.Words.{BodyStatement, DataStatement, Database}
+use Rattle.iv_laws.specs.Words.body
 use Rattle.iv_machine.specs.Databases.{size}
 use Rattle.iv_machine.specs.Context.{Context, over, with_count}
 use Rattle.iv_machine.specs.Proposals.{holds, proposed_wave, table_of, event_of}

@@ -1,15 +1,12 @@
 -- What data statements that fit a catalogue keep, the triggers that fire keep, where their bodies fit it.
 use Rattle.std.proofs.Common.{◌≡◌, ℕ, ◌+◌, ◌≤◌, ◌||◌, Bool, true, false, not, if◌then◌else◌, nat_lt, List, [], ◌∷◌, ◌++◌, length, map, filter, flat_map, Ok, subst, arith}
 use Rattle.std.specs.List.{enumerate_from}
-use Rattle.iv_expr.specs.declared.row.Change.{Change}
+use Rattle.iv_laws.specs.Words.{Change, BodyStatement, DataStatement, Database}
+use Rattle.iv_laws.specs.Words.body
 use Rattle.iv_expr.specs.Changes.{Wave}
 use Rattle.iv_expr.specs.Scopes.{Frame, scope_of}
 use Rattle.iv_catalogue.specs.Catalogues.{Schema}
-use Rattle.iv_catalogue.specs.declared.plan.BodyStatement.{BodyStatement}
-use Rattle.iv_catalogue.specs.declared.plan.BodyStatement.TheVariants as body
-use Rattle.iv_catalogue.specs.declared.plan.DataStatement.{DataStatement}
 use Rattle.iv_catalogue.specs.declared.plan.Trigger.{Trigger}
-use Rattle.iv_machine.specs.declared.database.Database.{Database}
 use Rattle.iv_machine.specs.Context.{Context, over}
 use Rattle.iv_machine.specs.Proposals.{holds, table_of, event_of}
 use Rattle.iv_machine.specs.BeforeTriggers.{is_before, for_each_row, is_on, placed_statements}

@@ -4,14 +4,10 @@ use Rattle.std.specs.Bool.{◌==◌}
 use Rattle.std.specs.List.{list_any}
 use Rattle.std.proofs.lemmas.Bool.{or_parts}
 use Rattle.iv_value.specs.Values.{all_same}
-use Rattle.iv_expr.specs.declared.row.StoredRow.{StoredRow}
+use Rattle.iv_laws.specs.Words.{StoredRow, Constraint, ForeignKey, Database, Effect}
+use Rattle.iv_laws.specs.Words.cause.{Restrict, ActionConflict}
 use Rattle.iv_expr.specs.Changes.{Wave, wave_of, RisingChanges}
 use Rattle.iv_catalogue.specs.Catalogues.{Schema}
-use Rattle.iv_catalogue.specs.declared.cause.Cause.TheVariants.{Restrict, ActionConflict}
-use Rattle.iv_catalogue.specs.declared.constraint.Constraint.{Constraint}
-use Rattle.iv_catalogue.specs.declared.constraint.ForeignKey.{ForeignKey}
-use Rattle.iv_machine.specs.declared.database.Database.{Database}
-use Rattle.iv_machine.specs.declared.effect.Effect.{Effect}
 use Rattle.iv_machine.specs.Databases.{row_at, key_of, none_null, fault_at, database_after}
 use Rattle.iv_machine.specs.Context.{Context, unless_first}
 use Rattle.iv_machine.specs.ReferentialActions.{Reference, references, LostKeys, lost_keys, lost_reference, is_restricted, restricted_rows, effects_of_loss, keeps_reference, effects_on, change_by, next_wave, has_conflict, conflicts, following_wave}

@@ -3,18 +3,12 @@ use Rattle.std.proofs.Common.{◌≡◌, refl, ℕ, Bool, true, false, ◌&&◌,
 use Rattle.std.specs.Bool.{◌==◌}
 use Rattle.std.specs.List.{list_any}
 use Rattle.std.proofs.lemmas.Bool.{eqb-true, or_parts}
-use Rattle.iv_value.specs.declared.value.Value.{Value}
+use Rattle.iv_laws.specs.Words.{Value, StoredRow, Change, Constraint, Rule, ForeignKey, Database}
+use Rattle.iv_laws.specs.Words.rule
 use Rattle.iv_value.specs.Values.{all_same}
-use Rattle.iv_expr.specs.declared.row.StoredRow.{StoredRow}
-use Rattle.iv_expr.specs.declared.row.Change.{Change}
 use Rattle.iv_expr.specs.Scopes.{table_rows}
 use Rattle.iv_syntax.specs.declared.table.MatchType.{MatchType}
 use Rattle.iv_syntax.specs.declared.table.MatchType.TheVariants.{Simple, Full}
-use Rattle.iv_catalogue.specs.declared.constraint.Constraint.{Constraint}
-use Rattle.iv_catalogue.specs.declared.constraint.Rule.{Rule}
-use Rattle.iv_catalogue.specs.declared.constraint.Rule.TheVariants as rule
-use Rattle.iv_catalogue.specs.declared.constraint.ForeignKey.{ForeignKey}
-use Rattle.iv_machine.specs.declared.database.Database.{Database}
 use Rattle.iv_machine.specs.Databases.{row_at, key_of, none_null, all_null, holds_key, is_unique, has_referenced, matches, obeys, satisfies}
 use Rattle.iv_laws.specs.Reorderings.{after_changes}
 use Rattle.iv_laws.specs.RisingRows.{InOrder}

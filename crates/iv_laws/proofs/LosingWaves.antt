@@ -4,13 +4,9 @@ use Rattle.std.specs.Bool.{◌==◌}
 use Rattle.std.specs.List.{cons_option, find}
 use Rattle.std.specs.Option.{option_map}
 use Rattle.std.proofs.lemmas.Bool.{eqb-true, eq-eqb}
-use Rattle.iv_value.specs.declared.value.Value.{Value}
+use Rattle.iv_laws.specs.Words.{Value, StoredRow, Change, ForeignKey, Database}
 use Rattle.iv_value.specs.Values.{all_same}
-use Rattle.iv_expr.specs.declared.row.StoredRow.{StoredRow}
-use Rattle.iv_expr.specs.declared.row.Change.{Change}
 use Rattle.iv_expr.specs.Changes.{Wave, RisingChangesFrom, RisingChanges}
-use Rattle.iv_catalogue.specs.declared.constraint.ForeignKey.{ForeignKey}
-use Rattle.iv_machine.specs.declared.database.Database.{Database}
 use Rattle.iv_machine.specs.Databases.{row_at, key_of, holds_key, has_change, in_order, first, rows_after, database_after}
 use Rattle.iv_machine.specs.ReferentialActions.{Loss, deleted, updated, loss_of_row, lost_keys}
 use Rattle.iv_laws.specs.RisingRows.{Above, InOrder}

@@ -3,8 +3,7 @@ use Rattle.std.proofs.Common.{◌≡◌, refl, ℕ, Bool, true, false, ◌||◌,
 use Rattle.std.specs.Bool.{◌==◌}
 use Rattle.std.specs.List.{list_any, list_all, cons_option}
 use Rattle.std.proofs.lemmas.Bool.{eqb-true, eq-eqb}
-use Rattle.iv_expr.specs.declared.row.StoredRow.{StoredRow}
-use Rattle.iv_expr.specs.declared.row.Change.{Change}
+use Rattle.iv_laws.specs.Words.{StoredRow, Change}
 use Rattle.iv_machine.specs.Databases.{row_at, has_change, first}
 use Rattle.iv_laws.specs.RisingRows.{InOrder}
 use Rattle.iv_laws.proofs.RowNumbers.{some_none, some_same}

@@ -2,10 +2,7 @@
 use Rattle.std.proofs.Common.{ℕ, ◌<◌, ◌≤◌, Bool, true, false, if◌then◌else◌, List, [], ◌∷◌, ◌++◌, filter, Option, Some, None, arith}
 use Rattle.std.specs.Bool.{nat_lt, ◌==◌}
 use Rattle.std.specs.List.{cons_option}
-use Rattle.iv_value.specs.declared.value.Value.{Value}
-use Rattle.iv_expr.specs.declared.row.StoredRow.{StoredRow}
-use Rattle.iv_expr.specs.declared.row.Change.{Change}
-use Rattle.iv_machine.specs.declared.database.Database.{Database}
+use Rattle.iv_laws.specs.Words.{Value, StoredRow, Change, Database}
 use Rattle.iv_machine.specs.Databases.{rows_with, in_order, rows_after, next_after}
 use Rattle.iv_machine.specs.Invariants.{Rising}
 use Rattle.iv_laws.specs.Reorderings.{after_changes}

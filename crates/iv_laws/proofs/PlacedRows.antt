@@ -1,8 +1,7 @@
 -- Rows are of tables that are there, and data statements that fit the catalogue keep them so.
 use Rattle.std.proofs.Common.{◌≡◌, ℕ, zero, suc, ◌+◌, ◌<◌, ◌≤◌, true, false, if◌then◌else◌, List, [], ◌∷◌, length, map, is_none, Result, Ok, subst, arith}
-use Rattle.iv_value.specs.declared.value.Value.{Value}
-use Rattle.iv_expr.specs.declared.row.StoredRow.{StoredRow}
-use Rattle.iv_expr.specs.declared.row.Change.{Change}
+use Rattle.iv_laws.specs.Words.{Value, StoredRow, Change, DataStatement, Database}
+use Rattle.iv_laws.specs.Words.data_statement
 use Rattle.iv_expr.specs.Changes.{Wave}
 use Rattle.iv_expr.specs.declared.tree.ExprFault.{ExprFault}
 use Rattle.iv_expr.specs.Evaluation.{value}
@@ -10,9 +9,6 @@ use Rattle.iv_expr.specs.Scopes.{Scope, Frame, scope_of, range_rows}
 use Rattle.iv_catalogue.specs.declared.plan.InsertColumns.{InsertColumns}
 use Rattle.iv_catalogue.specs.declared.plan.InsertRows.{InsertRows}
 use Rattle.iv_catalogue.specs.declared.plan.InsertRows.TheVariants as rows
-use Rattle.iv_catalogue.specs.declared.plan.DataStatement.{DataStatement}
-use Rattle.iv_catalogue.specs.declared.plan.DataStatement.TheVariants as data_statement
-use Rattle.iv_machine.specs.declared.database.Database.{Database}
 use Rattle.iv_machine.specs.Context.{Context, each}
 use Rattle.iv_machine.specs.Databases.{database_after}
 use Rattle.iv_machine.specs.Proposals.{where_true, stored_values, values_by_column, row_of_values, insertion, insertion_of, outputs_of, proposed_insertions, proposed_changes, table_of}

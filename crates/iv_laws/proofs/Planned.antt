@@ -4,23 +4,18 @@ use Rattle.iv_expr.specs.Scopes.{no_frame}
 use Rattle.iv_syntax.specs.declared.statement.ConstraintMode.{ConstraintMode}
 use Rattle.iv_catalogue.specs.Catalogues.{AllOn, NumbersRise, TriggersNumbered, Schema, with_table, with_constraint, with_trigger, without_trigger}
 use Rattle.iv_catalogue.specs.declared.catalogue.Table.{Table}
-use Rattle.iv_catalogue.specs.declared.constraint.Constraint.{Constraint}
+use Rattle.iv_laws.specs.Words.{Constraint, Fault, DataStatement, Plan, SchemaPlan, Database}
+use Rattle.iv_laws.specs.Words.cause.{NotDeferrable, Violation, AddRefused}
+use Rattle.iv_laws.specs.Words.plan
+use Rattle.iv_laws.specs.Words.schema
 use Rattle.iv_catalogue.specs.declared.cause.Cause.{Cause}
-use Rattle.iv_catalogue.specs.declared.cause.Cause.TheVariants.{NotDeferrable, Violation, AddRefused}
-use Rattle.iv_catalogue.specs.declared.cause.Fault.{Fault}
-use Rattle.iv_catalogue.specs.declared.plan.DataStatement.{DataStatement}
 use Rattle.iv_catalogue.specs.declared.plan.Trigger.{Trigger}
-use Rattle.iv_catalogue.specs.declared.plan.Plan.{Plan}
-use Rattle.iv_catalogue.specs.declared.plan.Plan.TheVariants as plan
-use Rattle.iv_catalogue.specs.declared.plan.SchemaPlan.{SchemaPlan}
-use Rattle.iv_catalogue.specs.declared.plan.SchemaPlan.TheVariants as schema
 use Rattle.iv_catalogue.specs.declared.plan.QueryPlan.{QueryPlan}
 use Rattle.iv_catalogue.specs.declared.plan.QueryPlan.TheVariants as query
 use Rattle.iv_catalogue.specs.declared.plan.TransactionPlan.{TransactionPlan}
 use Rattle.iv_catalogue.specs.declared.plan.TransactionPlan.TheVariants as transaction
 use Rattle.iv_machine.specs.declared.answer.Answer.{Answer}
 use Rattle.iv_machine.specs.declared.answer.Answer.TheVariants.{Done}
-use Rattle.iv_machine.specs.declared.database.Database.{Database}
 use Rattle.iv_machine.specs.Context.{Failure}
 use Rattle.iv_machine.specs.Databases.{scan, is_deferred, first}
 use Rattle.iv_machine.specs.Levels.{Finished, level}

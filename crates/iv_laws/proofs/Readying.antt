@@ -1,25 +1,19 @@
 -- What is proposed, and what follows a wave: changes of some rows in their order, or insertions.
 use Rattle.std.proofs.Common.{◌≡◌, refl, ℕ, List, [], ◌∷◌, map, filter, Some, None, Result, Ok, sym, ap, subst, ◌∙◌, ◌⊎◌, inl, inr}
-use Rattle.iv_value.specs.declared.value.Value.{Value}
-use Rattle.iv_expr.specs.declared.row.StoredRow.{StoredRow}
-use Rattle.iv_expr.specs.declared.row.Change.{Change}
+use Rattle.iv_laws.specs.Words.{Value, StoredRow, Change, Cond, DataStatement, Database, Effect}
+use Rattle.iv_laws.specs.Words.cause.{Restrict, ActionConflict}
+use Rattle.iv_laws.specs.Words.data_statement
 use Rattle.iv_expr.specs.Changes.{Wave, wave_of}
-use Rattle.iv_expr.specs.declared.tree.Cond.{Cond}
 use Rattle.iv_expr.specs.declared.tree.ExprFault.{ExprFault}
 use Rattle.iv_expr.specs.Evaluation.{value}
 use Rattle.iv_expr.specs.Scopes.{Scope, Frame, scope_of, within, table_rows, range_rows}
 use Rattle.iv_catalogue.specs.Catalogues.{Schema}
-use Rattle.iv_catalogue.specs.declared.cause.Cause.TheVariants.{Restrict, ActionConflict}
 use Rattle.iv_catalogue.specs.declared.plan.Setting.{Setting}
 use Rattle.iv_catalogue.specs.declared.plan.InsertColumns.{InsertColumns}
 use Rattle.iv_catalogue.specs.declared.plan.InsertRows.{InsertRows}
 use Rattle.iv_catalogue.specs.declared.plan.InsertRows.TheVariants as rows
-use Rattle.iv_catalogue.specs.declared.plan.DataStatement.{DataStatement}
-use Rattle.iv_catalogue.specs.declared.plan.DataStatement.TheVariants as data_statement
-use Rattle.iv_machine.specs.declared.database.Database.{Database}
 use Rattle.iv_machine.specs.Context.{Context, each}
 use Rattle.iv_machine.specs.Proposals.{matching_rows, where_true, stored_values, values_by_column, row_of_values, insertion, insertion_of, outputs_of, proposed_insertions, update_of, deletion, proposed_changes, proposed_wave, with_columns}
-use Rattle.iv_machine.specs.declared.effect.Effect.{Effect}
 use Rattle.iv_machine.specs.Databases.{row_at}
 use Rattle.iv_machine.specs.ReferentialActions.{LostKeys, lost_keys, effects_on, change_by, restricted_rows, conflicts, next_wave, following_wave}
 use Rattle.iv_laws.proofs.Chains.{ok_same, step_of, none_first}

@@ -2,9 +2,7 @@
 use Rattle.std.proofs.Common.{◌≡◌, refl, ℕ, ◌+◌, Bool, true, false, not, ◌&&◌, List, [], ◌∷◌, ◌++◌, length, cond, None, sym, ap, ◌∙◌, arith}
 use Rattle.std.specs.Bool.{◌==◌}
 use Rattle.std.proofs.lemmas.Bool.{eq-eqb}
-use Rattle.iv_expr.specs.declared.row.StoredRow.{StoredRow}
-use Rattle.iv_catalogue.specs.declared.constraint.Constraint.{Constraint}
-use Rattle.iv_catalogue.specs.declared.cause.Fault.{Fault}
+use Rattle.iv_laws.specs.Words.{StoredRow, Constraint, Fault}
 use Rattle.iv_machine.specs.Databases.{violations, chosen_violations, scan, first}
 use Rattle.iv_machine.proofs.Scans.{scan_from, left_empty, right_empty, both_empty}
 use Rattle.iv_laws.proofs.RowNumbers.{some_none}

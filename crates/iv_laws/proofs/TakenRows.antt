@@ -2,16 +2,12 @@
 use Rattle.std.proofs.Common.{◌≡◌, refl, ℕ, true, ◌&&◌, not, if◌then◌else◌, List, [], ◌∷◌, map, flat_map, filter, Option, Some, None, Ok, sym, ap, subst, ◌∙◌, inl, inr}
 use Rattle.std.specs.Bool.{◌==◌}
 use Rattle.std.proofs.lemmas.Bool.{true≢false, and_from}
-use Rattle.iv_expr.specs.declared.row.StoredRow.{StoredRow}
+use Rattle.iv_laws.specs.Words.{StoredRow, Change, Cond, Database, Effect}
+use Rattle.iv_laws.specs.Words.data_statement.{Delete}
 use Rattle.iv_value.specs.Values.{all_same}
-use Rattle.iv_expr.specs.declared.row.Change.{Change}
 use Rattle.iv_expr.specs.Changes.{Wave, wave_of}
-use Rattle.iv_expr.specs.declared.tree.Cond.{Cond}
 use Rattle.iv_expr.specs.Scopes.{Frame, scope_of, table_rows}
 use Rattle.iv_catalogue.specs.Catalogues.{Schema}
-use Rattle.iv_catalogue.specs.declared.plan.DataStatement.TheVariants.{Delete}
-use Rattle.iv_machine.specs.declared.database.Database.{Database}
-use Rattle.iv_machine.specs.declared.effect.Effect.{Effect}
 use Rattle.iv_machine.specs.declared.effect.Effect.TheVariants.{DeleteRow}
 use Rattle.iv_machine.specs.Databases.{row_at, key_of, has_change, database_after}
 use Rattle.iv_machine.specs.Context.{Context}

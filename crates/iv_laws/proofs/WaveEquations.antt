@@ -3,11 +3,9 @@ use Rattle.std.proofs.Common.{◌≡◌, refl, ℕ, zero, suc, ◌-◌, ◌<◌,
 use Rattle.std.specs.Bool.{◌==◌}
 use Rattle.std.specs.List.{find}
 use Rattle.std.proofs.lemmas.Bool.{eqb-true}
-use Rattle.iv_expr.specs.declared.row.StoredRow.{StoredRow}
-use Rattle.iv_expr.specs.declared.row.Change.{Change}
+use Rattle.iv_laws.specs.Words.{StoredRow, Change, Database}
 use Rattle.iv_expr.specs.Changes.{Wave}
 use Rattle.iv_expr.specs.Evaluation.{and_then}
-use Rattle.iv_machine.specs.declared.database.Database.{Database}
 use Rattle.iv_machine.specs.Databases.{row_at, has_change, new_row, size, database_after}
 use Rattle.iv_machine.specs.Context.{Context, Failure}
 use Rattle.iv_machine.specs.Waves.{is_empty, AppliedWave, one_wave, SettledWaves, Settles, none_settled, settled_by, settled_within, settled_waves}

@@ -1,9 +1,8 @@
 -- What a data statement checks.
 use Rattle.std.specs.Prelude.{◌≡◌, ℕ, [], Ok}
 use Rattle.iv_expr.specs.Scopes.{Frame}
-use Rattle.iv_catalogue.specs.declared.plan.DataStatement.{DataStatement}
-use Rattle.iv_machine.specs.declared.database.Database.{Database}
-use Rattle.iv_machine.specs.declared.database.Which.TheVariants.{Immediate}
+use Rattle.iv_laws.specs.Words.{DataStatement, Database}
+use Rattle.iv_laws.specs.Words.which.{Immediate}
 use Rattle.iv_machine.specs.Context.{Context}
 use Rattle.iv_machine.specs.Databases.{scan, is_chosen}
 use Rattle.iv_machine.specs.Levels.{Finished, nested_level, level}

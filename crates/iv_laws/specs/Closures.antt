@@ -1,16 +1,11 @@
 -- Which rows a DELETE takes away, where foreign keys delete, restrict or do nothing on delete.
 use Rattle.std.specs.Prelude.{◌≡◌, ℕ, Bool, true, false, ◌&&◌, not, ◌==◌, List, Some, None, Ok}
 use Rattle.std.specs.List.{list_any, list_all}
-use Rattle.iv_expr.specs.declared.row.StoredRow.{StoredRow}
+use Rattle.iv_laws.specs.Words.{StoredRow, Cond, ReferentialAction, Constraint, ForeignKey, Database}
+use Rattle.iv_laws.specs.Words.referential_action as action
+use Rattle.iv_laws.specs.Words.data_statement.{Delete}
 use Rattle.iv_expr.specs.Changes.{Wave}
-use Rattle.iv_expr.specs.declared.tree.Cond.{Cond}
 use Rattle.iv_expr.specs.Scopes.{Frame}
-use Rattle.iv_syntax.specs.declared.table.ReferentialAction.{ReferentialAction}
-use Rattle.iv_syntax.specs.declared.table.ReferentialAction.TheVariants as action
-use Rattle.iv_catalogue.specs.declared.constraint.Constraint.{Constraint}
-use Rattle.iv_catalogue.specs.declared.constraint.ForeignKey.{ForeignKey}
-use Rattle.iv_catalogue.specs.declared.plan.DataStatement.TheVariants.{Delete}
-use Rattle.iv_machine.specs.declared.database.Database.{Database}
 use Rattle.iv_machine.specs.Databases.{row_at, key_of, holds_key, has_change}
 use Rattle.iv_machine.specs.Context.{Context}
 use Rattle.iv_machine.specs.Proposals.{proposed_wave}

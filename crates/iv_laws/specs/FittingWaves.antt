@@ -1,11 +1,8 @@
 -- Waves that fit the databases that they are applied to: what a law of one wave asks, levels keep.
 use Rattle.std.specs.Prelude.{◌≡◌, ℕ, ◌≤◌, List, [], ◌∷◌, Option, Some, None, Ok}
-use Rattle.iv_expr.specs.declared.row.StoredRow.{StoredRow}
-use Rattle.iv_expr.specs.declared.row.Change.{Change}
+use Rattle.iv_laws.specs.Words.{StoredRow, Change, DataStatement, Database}
 use Rattle.iv_expr.specs.Changes.{Wave, RisingChanges}
 use Rattle.iv_expr.specs.Scopes.{Frame}
-use Rattle.iv_catalogue.specs.declared.plan.DataStatement.{DataStatement}
-use Rattle.iv_machine.specs.declared.database.Database.{Database}
 use Rattle.iv_machine.specs.Databases.{no_rows, row_at, database_after}
 use Rattle.iv_machine.specs.Context.{Context}
 use Rattle.iv_machine.specs.Invariants.{Rising}

@@ -3,19 +3,12 @@
 use Rattle.std.specs.Prelude.{◌≡◌, ℕ, Bool, true, false, ◌&&◌, not, ◌==◌, List, ◌++◌, map, filter, filter_map, flat_map, find, Option, Some, None, is_some, Result, Ok}
 use Rattle.std.specs.List.{list_any}
 use Rattle.std.specs.Option.{option_map}
-use Rattle.iv_value.specs.declared.value.Value.{Value}
+use Rattle.iv_laws.specs.Words.{Value, StoredRow, Change, Fault, Constraint, ForeignKey, Database, Effect}
+use Rattle.iv_laws.specs.Words.cause.{Restrict, ActionConflict}
 use Rattle.iv_value.specs.Values.{all_same}
-use Rattle.iv_expr.specs.declared.row.StoredRow.{StoredRow}
-use Rattle.iv_expr.specs.declared.row.Change.{Change}
 use Rattle.iv_expr.specs.Changes.{Wave, wave_of, RisingChanges}
 use Rattle.iv_expr.specs.Scopes.{table_rows}
 use Rattle.iv_catalogue.specs.Catalogues.{Schema}
-use Rattle.iv_catalogue.specs.declared.cause.Cause.TheVariants.{Restrict, ActionConflict}
-use Rattle.iv_catalogue.specs.declared.cause.Fault.{Fault}
-use Rattle.iv_catalogue.specs.declared.constraint.Constraint.{Constraint}
-use Rattle.iv_catalogue.specs.declared.constraint.ForeignKey.{ForeignKey}
-use Rattle.iv_machine.specs.declared.database.Database.{Database}
-use Rattle.iv_machine.specs.declared.effect.Effect.{Effect}
 use Rattle.iv_machine.specs.Databases.{row_at, key_of, holds_key, has_change, in_order, fault_at, database_after}
 use Rattle.iv_machine.specs.Context.{Context, Failure, unless_first}
 use Rattle.iv_machine.specs.ReferentialActions.{Reference, references, Loss, deleted, updated, LostKeys, lost_keys, lost_reference, is_restricted, restricted_rows, effects_on, change_by, next_wave, has_conflict, conflicts, following_wave}

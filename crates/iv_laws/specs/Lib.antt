@@ -1,3 +1,4 @@
+pub mod Words
 pub mod Budgets
 pub mod Checks
 pub mod RisingRows

@@ -1,12 +1,7 @@
 -- Of which rows a change of one row can alter whether they satisfy a constraint.
 use Rattle.std.specs.Prelude.{◌≡◌, ℕ, Bool, false, ◌&&◌, ◌||◌, not, ◌==◌, List, [], ◌∷◌, filter, Option, Some, None}
-use Rattle.iv_value.specs.declared.value.Value.{Value}
-use Rattle.iv_expr.specs.declared.row.StoredRow.{StoredRow}
-use Rattle.iv_expr.specs.declared.row.Change.{Change}
-use Rattle.iv_catalogue.specs.declared.constraint.Constraint.{Constraint}
-use Rattle.iv_catalogue.specs.declared.constraint.Rule.{Rule}
-use Rattle.iv_catalogue.specs.declared.constraint.Rule.TheVariants as rule
-use Rattle.iv_machine.specs.declared.database.Database.{Database}
+use Rattle.iv_laws.specs.Words.{Value, StoredRow, Change, Constraint, Rule, Database}
+use Rattle.iv_laws.specs.Words.rule
 use Rattle.iv_machine.specs.Databases.{row_at, key_of, holds_key, satisfies, violates}
 use Rattle.iv_laws.specs.RisingRows.{InOrder}
 use Rattle.iv_laws.specs.Reorderings.{after_changes}

@@ -1,8 +1,7 @@
 -- The net changes of a chain of waves follow from the waves alone.
 use Rattle.std.specs.Prelude.{◌≡◌, ℕ, ◌==◌, List, [], ◌∷◌, find, Option, Some, None}
-use Rattle.iv_expr.specs.declared.row.StoredRow.{StoredRow}
+use Rattle.iv_laws.specs.Words.{StoredRow, Database}
 use Rattle.iv_expr.specs.Changes.{Wave}
-use Rattle.iv_machine.specs.declared.database.Database.{Database}
 use Rattle.iv_machine.specs.Databases.{row_at, new_row}
 use Rattle.iv_machine.specs.Waves.{net_wave}
 use Rattle.iv_laws.specs.FittingWaves.{old_row, Chain}

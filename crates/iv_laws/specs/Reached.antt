@@ -1,13 +1,10 @@
 -- The states that resolved statements reach, whatever constraints, modes, savepoints and triggers there are.
 use Rattle.std.specs.Prelude.{◌≡◌, ℕ, ◌<◌, List, [], ◌∷◌, length}
 use Rattle.iv_catalogue.specs.Catalogues.{AllOn, Schema}
-use Rattle.iv_catalogue.specs.declared.constraint.Constraint.{Constraint}
-use Rattle.iv_catalogue.specs.declared.plan.BodyStatement.{BodyStatement}
-use Rattle.iv_catalogue.specs.declared.plan.BodyStatement.TheVariants as body
-use Rattle.iv_catalogue.specs.declared.plan.Plan.{Plan}
-use Rattle.iv_catalogue.specs.declared.plan.Plan.TheVariants as plan
-use Rattle.iv_catalogue.specs.declared.plan.SchemaPlan.{SchemaPlan}
-use Rattle.iv_catalogue.specs.declared.plan.SchemaPlan.TheVariants as schema
+use Rattle.iv_laws.specs.Words.{Constraint, BodyStatement, Plan, SchemaPlan}
+use Rattle.iv_laws.specs.Words.body
+use Rattle.iv_laws.specs.Words.plan
+use Rattle.iv_laws.specs.Words.schema
 use Rattle.iv_machine.specs.Bounds.{Bounds}
 use Rattle.iv_machine.specs.Laws.{IsSound}
 use Rattle.iv_machine.specs.Machine.{State, Outcome, empty_state, is_open, transaction_cause, plan_occasion, outcome_unless, plan_outcome}

@@ -1,8 +1,7 @@
 -- The changes of a wave one by one, in any order.
 use Rattle.std.specs.Prelude.{◌≡◌, false, List, [], ◌∷◌}
-use Rattle.iv_expr.specs.declared.row.Change.{Change}
+use Rattle.iv_laws.specs.Words.{Change, Database}
 use Rattle.iv_expr.specs.Changes.{Wave, wave_of}
-use Rattle.iv_machine.specs.declared.database.Database.{Database}
 use Rattle.iv_machine.specs.Databases.{has_change, database_after}
 use Rattle.iv_laws.specs.RisingRows.{InOrder}
 

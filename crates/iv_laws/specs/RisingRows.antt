@@ -1,6 +1,6 @@
 -- Rows in rising number.
 use Rattle.std.specs.Prelude.{ℕ, ◌<◌, List, [], ◌∷◌}
-use Rattle.iv_expr.specs.declared.row.StoredRow.{StoredRow}
+use Rattle.iv_laws.specs.Words.{StoredRow}
 
 -- each of these rows is so
 abbrev pub Every : (StoredRow → Type 0) → List StoredRow → Type 0

@@ -1,8 +1,7 @@
 -- What one wave does to rows, and how waves are settled one after another.
 use Rattle.std.specs.Prelude.{◌≡◌, ℕ, ◌==◌, List, find, Option, Some, None}
-use Rattle.iv_expr.specs.declared.row.StoredRow.{StoredRow}
+use Rattle.iv_laws.specs.Words.{StoredRow, Database}
 use Rattle.iv_expr.specs.Changes.{Wave}
-use Rattle.iv_machine.specs.declared.database.Database.{Database}
 use Rattle.iv_machine.specs.Databases.{row_at, new_row, database_after}
 use Rattle.iv_machine.specs.Context.{Context}
 use Rattle.iv_machine.specs.Waves.{settled_by, settled_waves}

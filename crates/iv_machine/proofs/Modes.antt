@@ -1,10 +1,7 @@
 -- Where no immediate constraint is violated, the violations are those of the deferred ones.
 use Rattle.std.proofs.Common.{◌≡◌, ℕ, ◌+◌, Bool, true, false, not, List, [], ◌∷◌, ◌++◌, refl, cond}
-use Rattle.iv_expr.specs.declared.row.StoredRow.{StoredRow}
-use Rattle.iv_syntax.specs.declared.statement.ConstraintMode.{ConstraintMode}
-use Rattle.iv_catalogue.specs.declared.cause.Fault.{Fault}
-use Rattle.iv_catalogue.specs.declared.constraint.Constraint.{Constraint}
-use Rattle.iv_machine.specs.declared.database.Which.TheVariants.{Immediate, Deferred}
+use Rattle.iv_machine.specs.Words.{StoredRow, ConstraintMode, Fault, Constraint}
+use Rattle.iv_machine.specs.Words.which.{Immediate, Deferred}
 use Rattle.iv_machine.specs.Databases.{violations, chosen_violations, scan, is_chosen, is_deferred}
 use Rattle.iv_machine.proofs.Scans.{scan_from}
 

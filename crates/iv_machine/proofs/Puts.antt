@@ -2,7 +2,7 @@
 use Rattle.std.proofs.Common.{◌≡◌, ℕ, ◌+◌, ◌≤◌, Bool, true, false, if◌then◌else◌, ◌==◌, nat_lt, List, [], ◌∷◌, ◌∙◌, refl, ap, cond, suc, length, option_map, unwrap_or, arith}
 use Rattle.std.proofs.lemmas.Bool.Decides.{nat_tests}
 use Rattle.std.specs.List.{prefix_len, slice_get, slice_set, insert}
-use Rattle.iv_expr.specs.declared.row.StoredRow.{StoredRow}
+use Rattle.iv_machine.specs.Words.{StoredRow}
 use Rattle.iv_machine.specs.Databases.{rows_with}
 
 abbrev pub place_of : ℕ → List StoredRow → ℕ

@@ -3,9 +3,7 @@ use Rattle.std.proofs.Common.{◌≡◌, ℕ, ◌+◌, ◌<◌, ◌≤◌, Bool,
 use Rattle.std.specs.List.{enumerate_from}
 use Rattle.std.proofs.lemmas.Bool.Decides.{nat_tests}
 use Rattle.std.proofs.lemmas.Grind.{common_steps}
-use Rattle.iv_catalogue.specs.declared.constraint.Constraint.{Constraint}
-use Rattle.iv_catalogue.specs.declared.cause.Fault.{Fault}
-use Rattle.iv_expr.specs.declared.row.StoredRow.{StoredRow}
+use Rattle.iv_machine.specs.Words.{Constraint, Fault, StoredRow}
 use Rattle.iv_catalogue.specs.Catalogues.{AllOn}
 use Rattle.iv_machine.specs.Invariants.{Below}
 use Rattle.iv_machine.specs.Databases.{satisfies, violates, fault_at, violations, chosen_violations, scan}

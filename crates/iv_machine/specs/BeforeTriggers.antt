@@ -1,23 +1,15 @@
 -- BEFORE triggers: those of a statement, and those of the rows of a wave ("Triggers", "Execution of BEFORE triggers").
 use Rattle.std.specs.Prelude.{ℕ, Bool, true, false, ◌&&◌, not, if◌then◌else◌, ◌==◌, List, [], filter, find, slice_set, Some, None, is_none, Result, Ok, Err}
 use Rattle.std.specs.List.{enumerate_from}
-use Rattle.iv_value.specs.declared.value.Value.{Value}
-use Rattle.iv_expr.specs.declared.row.StoredRow.{StoredRow}
-use Rattle.iv_expr.specs.declared.row.Change.{Change}
+use Rattle.iv_machine.specs.Words.{Value, StoredRow, Change, TriggerEvent, Cause, Refusal, BodyStatement, Setting, Trigger}
+use Rattle.iv_machine.specs.Words.time.{Before, After}
+use Rattle.iv_machine.specs.Words.granularity
+use Rattle.iv_machine.specs.Words.event
+use Rattle.iv_machine.specs.Words.cause.{Signal}
+use Rattle.iv_machine.specs.Words.body
 use Rattle.iv_expr.specs.Changes.{Wave}
 use Rattle.iv_expr.specs.Scopes.{Frame, no_frame, scope_of}
 use Rattle.iv_expr.specs.Evaluation.{value, and_then}
-use Rattle.iv_syntax.specs.declared.trigger.ActionTime.TheVariants.{Before, After}
-use Rattle.iv_syntax.specs.declared.trigger.Granularity.TheVariants as granularity
-use Rattle.iv_syntax.specs.declared.trigger.TriggerEvent.{TriggerEvent}
-use Rattle.iv_syntax.specs.declared.trigger.TriggerEvent.TheVariants as event
-use Rattle.iv_catalogue.specs.declared.cause.Cause.{Cause}
-use Rattle.iv_catalogue.specs.declared.cause.Cause.TheVariants.{Signal}
-use Rattle.iv_catalogue.specs.declared.cause.Refusal.{Refusal}
-use Rattle.iv_catalogue.specs.declared.plan.BodyStatement.{BodyStatement}
-use Rattle.iv_catalogue.specs.declared.plan.BodyStatement.TheVariants as body
-use Rattle.iv_catalogue.specs.declared.plan.Setting.{Setting}
-use Rattle.iv_catalogue.specs.declared.plan.Trigger.{Trigger}
 use Rattle.iv_machine.specs.Context.{Context, while_running, each, in_turn}
 use Rattle.iv_machine.specs.Proposals.{holds, stored_value}
 

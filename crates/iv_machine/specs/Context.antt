@@ -1,12 +1,8 @@
 -- What a data statement runs under, and how it is refused half-way.
 use Rattle.std.specs.Prelude.{ℕ, List, [], ◌∷◌, Option, Some, None, is_none, if◌then◌else◌, Result, Ok, Err}
-use Rattle.iv_syntax.specs.declared.statement.ConstraintMode.{ConstraintMode}
+use Rattle.iv_machine.specs.Words.{ConstraintMode, Cause, Fault, Refusal, Database}
 use Rattle.iv_expr.specs.Evaluation.{and_then}
 use Rattle.iv_catalogue.specs.Catalogues.{Schema}
-use Rattle.iv_catalogue.specs.declared.cause.Cause.{Cause}
-use Rattle.iv_catalogue.specs.declared.cause.Fault.{Fault}
-use Rattle.iv_catalogue.specs.declared.cause.Refusal.{Refusal}
-use Rattle.iv_machine.specs.declared.database.Database.{Database}
 
 -- The catalogue, and the mode of each constraint.
 pub record Context : Type 0 where

@@ -2,27 +2,17 @@
 -- changes (ISO/IEC 9075-2:1999, "Integrity constraints").
 use Rattle.std.specs.Prelude.{ℕ, ◌+◌, max, Bool, true, false, ◌&&◌, ◌||◌, not, if◌then◌else◌, ◌==◌, nat_lt, List, [], ◌∷◌, ◌++◌, length, map, filter, filter_map, flat_map, find, slice_get, Option, Some, None}
 use Rattle.std.specs.List.{list_any, list_all, enumerate_from}
-use Rattle.iv_value.specs.declared.value.Value.{Value}
-use Rattle.iv_value.specs.declared.value.Value.TheVariants.{Null}
+use Rattle.iv_machine.specs.Words.{Value, StoredRow, Change, ConstraintMode, MatchType, Constraint, Rule, ForeignKey, Fault, Database, Which}
+use Rattle.iv_machine.specs.Words.value.{Null}
+use Rattle.iv_machine.specs.Words.mode
+use Rattle.iv_machine.specs.Words.matching.{Simple, Full}
+use Rattle.iv_machine.specs.Words.rule
+use Rattle.iv_machine.specs.Words.which.{Immediate, Deferred, All}
 use Rattle.iv_value.specs.Truths.{is_false}
 use Rattle.iv_value.specs.Values.{is_null, all_same}
-use Rattle.iv_expr.specs.declared.row.StoredRow.{StoredRow}
-use Rattle.iv_expr.specs.declared.row.Change.{Change}
 use Rattle.iv_expr.specs.Changes.{Wave}
 use Rattle.iv_expr.specs.Evaluation.{check_truth}
 use Rattle.iv_expr.specs.Scopes.{table_rows}
-use Rattle.iv_syntax.specs.declared.statement.ConstraintMode.{ConstraintMode}
-use Rattle.iv_syntax.specs.declared.statement.ConstraintMode.TheVariants as mode
-use Rattle.iv_syntax.specs.declared.table.MatchType.{MatchType}
-use Rattle.iv_syntax.specs.declared.table.MatchType.TheVariants.{Simple, Full}
-use Rattle.iv_catalogue.specs.declared.constraint.Constraint.{Constraint}
-use Rattle.iv_catalogue.specs.declared.constraint.Rule.{Rule}
-use Rattle.iv_catalogue.specs.declared.constraint.Rule.TheVariants as rule
-use Rattle.iv_catalogue.specs.declared.constraint.ForeignKey.{ForeignKey}
-use Rattle.iv_catalogue.specs.declared.cause.Fault.{Fault}
-use Rattle.iv_machine.specs.declared.database.Database.{Database}
-use Rattle.iv_machine.specs.declared.database.Which.{Which}
-use Rattle.iv_machine.specs.declared.database.Which.TheVariants.{Immediate, Deferred, All}
 
 -- the database of no row; numbers begin at 1
 abbrev pub no_rows : Database

@@ -1,7 +1,7 @@
 -- What is true of every state that statements reach.
 use Rattle.std.specs.Prelude.{◌≡◌, ◌↔◌, List, [], ◌∷◌, None}
 use Rattle.iv_catalogue.specs.Catalogues.{Schema, TriggersNumbered}
-use Rattle.iv_machine.specs.declared.database.Which.TheVariants.{Immediate, Deferred, All}
+use Rattle.iv_machine.specs.Words.which.{Immediate, Deferred, All}
 use Rattle.iv_machine.specs.Databases.{scan, is_chosen, initial_modes}
 use Rattle.iv_machine.specs.Machine.{State, Savepoint}
 use Rattle.iv_machine.specs.Invariants.{Rising}

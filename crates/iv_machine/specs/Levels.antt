@@ -1,17 +1,13 @@
 -- A data statement with all that follows from it: a level ("Delete statement: searched", "Insert statement", "Update statement:
 -- searched", "Execution of triggers").
 use Rattle.std.specs.Prelude.{ℕ, zero, suc, ◌||◌, not, if◌then◌else◌, nat_lt, List, [], ◌∷◌, length, map, filter, flat_map, None, Result, Ok}
-use Rattle.iv_expr.specs.declared.row.Change.{Change}
+use Rattle.iv_machine.specs.Words.{Change, BodyStatement, DataStatement, Trigger, Database}
+use Rattle.iv_machine.specs.Words.cause.{Violation, Signal, DepthLimit, TooManyChanges}
+use Rattle.iv_machine.specs.Words.body
+use Rattle.iv_machine.specs.Words.which.{Immediate}
 use Rattle.iv_expr.specs.Changes.{Wave}
 use Rattle.iv_expr.specs.Scopes.{Frame, scope_of}
 use Rattle.iv_expr.specs.Evaluation.{and_then}
-use Rattle.iv_catalogue.specs.declared.cause.Cause.TheVariants.{Violation, Signal, DepthLimit, TooManyChanges}
-use Rattle.iv_catalogue.specs.declared.plan.BodyStatement.{BodyStatement}
-use Rattle.iv_catalogue.specs.declared.plan.BodyStatement.TheVariants as body
-use Rattle.iv_catalogue.specs.declared.plan.DataStatement.{DataStatement}
-use Rattle.iv_catalogue.specs.declared.plan.Trigger.{Trigger}
-use Rattle.iv_machine.specs.declared.database.Database.{Database}
-use Rattle.iv_machine.specs.declared.database.Which.TheVariants.{Immediate}
 use Rattle.iv_machine.specs.Databases.{scan, is_chosen, size}
 use Rattle.iv_machine.specs.Context.{Context, Failure, fails, over, unless_first, with_count, inside_trigger, in_turn}
 use Rattle.iv_machine.specs.Proposals.{holds, proposed_wave, table_of, event_of}

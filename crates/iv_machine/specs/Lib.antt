@@ -1,3 +1,4 @@
+pub mod Words
 pub mod Bounds
 pub mod Databases
 pub mod Context

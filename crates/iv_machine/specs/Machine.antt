@@ -2,38 +2,21 @@
 use Rattle.std.specs.Prelude.{◌≡◌, ℕ, ◌-◌, nat_lt, Bool, true, false, not, ◌&&◌, if◌then◌else◌, ◌==◌, List, [], ◌∷◌, length, map, filter, find, fold, pos, slice_get, slice_set, Option, Some, None, is_some, unwrap_or, Result, Ok, Err}
 use Rattle.std.specs.List.{enumerate_from}
 use Rattle.std.specs.Str.{bytes_eq}
-use Rattle.iv_value.specs.declared.value.Value.{Value}
-use Rattle.iv_value.specs.declared.value.Value.TheVariants.{Int}
-use Rattle.iv_expr.specs.declared.row.StoredRow.{StoredRow}
-use Rattle.iv_expr.specs.declared.tree.Cond.{Cond}
+use Rattle.iv_machine.specs.Words.{Value, StoredRow, Cond, ConstraintMode, Statement, Constraint, Cause, Fault, Refusal, ConstraintSet, DataStatement, Outputs, Plan, SchemaPlan, QueryPlan, TransactionPlan, Database, Answer}
+use Rattle.iv_machine.specs.Words.value.{Int}
+use Rattle.iv_machine.specs.Words.statement
+use Rattle.iv_machine.specs.Words.cause.{InTransaction, NoTransaction, ActiveTransaction, UnknownSavepoint, NotDeferrable, Violation, CommitRefused, AddRefused}
+use Rattle.iv_machine.specs.Words.set
+use Rattle.iv_machine.specs.Words.plan
+use Rattle.iv_machine.specs.Words.schema
+use Rattle.iv_machine.specs.Words.query
+use Rattle.iv_machine.specs.Words.transaction
+use Rattle.iv_machine.specs.Words.which.{All}
+use Rattle.iv_machine.specs.Words.answer.{Done, Changed, Rows}
 use Rattle.iv_expr.specs.Scopes.{Scope, scope_of, no_frame, table_rows}
 use Rattle.iv_expr.specs.Evaluation.{and_then}
-use Rattle.iv_syntax.specs.declared.statement.ConstraintMode.{ConstraintMode}
-use Rattle.iv_syntax.specs.declared.statement.Statement.{Statement}
-use Rattle.iv_syntax.specs.declared.statement.Statement.TheVariants as statement
 use Rattle.iv_catalogue.specs.Catalogues.{Schema, empty_schema, with_table, with_constraint, with_trigger, without_trigger}
-use Rattle.iv_catalogue.specs.declared.constraint.Constraint.{Constraint}
-use Rattle.iv_catalogue.specs.declared.cause.Cause.{Cause}
-use Rattle.iv_catalogue.specs.declared.cause.Cause.TheVariants.{InTransaction, NoTransaction, ActiveTransaction, UnknownSavepoint, NotDeferrable, Violation, CommitRefused, AddRefused}
-use Rattle.iv_catalogue.specs.declared.cause.Fault.{Fault}
-use Rattle.iv_catalogue.specs.declared.cause.Refusal.{Refusal}
-use Rattle.iv_catalogue.specs.declared.plan.ConstraintSet.{ConstraintSet}
-use Rattle.iv_catalogue.specs.declared.plan.ConstraintSet.TheVariants as set
-use Rattle.iv_catalogue.specs.declared.plan.DataStatement.{DataStatement}
-use Rattle.iv_catalogue.specs.declared.plan.Outputs.{Outputs}
-use Rattle.iv_catalogue.specs.declared.plan.Plan.{Plan}
-use Rattle.iv_catalogue.specs.declared.plan.Plan.TheVariants as plan
-use Rattle.iv_catalogue.specs.declared.plan.SchemaPlan.{SchemaPlan}
-use Rattle.iv_catalogue.specs.declared.plan.SchemaPlan.TheVariants as schema
-use Rattle.iv_catalogue.specs.declared.plan.QueryPlan.{QueryPlan}
-use Rattle.iv_catalogue.specs.declared.plan.QueryPlan.TheVariants as query
-use Rattle.iv_catalogue.specs.declared.plan.TransactionPlan.{TransactionPlan}
-use Rattle.iv_catalogue.specs.declared.plan.TransactionPlan.TheVariants as transaction
 use Rattle.iv_catalogue.specs.Refusals.{refusal_answer, out_of_memory}
-use Rattle.iv_machine.specs.declared.database.Database.{Database}
-use Rattle.iv_machine.specs.declared.database.Which.TheVariants.{All}
-use Rattle.iv_machine.specs.declared.answer.Answer.{Answer}
-use Rattle.iv_machine.specs.declared.answer.Answer.TheVariants.{Done, Changed, Rows}
 use Rattle.iv_machine.specs.Bounds.{Bounds}
 use Rattle.iv_machine.specs.Databases.{no_rows, scan, is_chosen, is_deferred, initial_modes, first}
 use Rattle.iv_machine.specs.Context.{Context, Failure, each}

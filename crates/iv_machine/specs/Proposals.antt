@@ -2,34 +2,21 @@
 -- "Update statement: searched").
 use Rattle.std.specs.Prelude.{ℕ, Bool, if◌then◌else◌, List, [], map, filter_map, fold, zip, slice_get, slice_set, Option, Some, None, Result, Ok, Err}
 use Rattle.std.specs.List.{enumerate_from}
-use Rattle.iv_value.specs.declared.value.Value.{Value}
-use Rattle.iv_value.specs.declared.value.Fit.TheVariants.{Yes, WrongKind, TooLong}
+use Rattle.iv_machine.specs.Words.{Value, StoredRow, Change, Cond, ExprFault, TriggerEvent, Column, Cause, Setting, Outputs, InsertColumns, InsertRows, DataStatement, Database}
+use Rattle.iv_machine.specs.Words.fit.{Yes, WrongKind, TooLong}
+use Rattle.iv_machine.specs.Words.expr_fault.{OutOfRange, Misfit, NoMemory}
+use Rattle.iv_machine.specs.Words.event
+use Rattle.iv_machine.specs.Words.cause.{NumberOutOfRange, TextTooLong, WrongShape, OutOfMemory}
+use Rattle.iv_machine.specs.Words.outputs.{Star, Values}
+use Rattle.iv_machine.specs.Words.insert_columns as columns
+use Rattle.iv_machine.specs.Words.insert_rows as rows
+use Rattle.iv_machine.specs.Words.data_statement
 use Rattle.iv_value.specs.Truths.{is_true}
 use Rattle.iv_value.specs.Values.{fit_of}
-use Rattle.iv_expr.specs.declared.row.StoredRow.{StoredRow}
-use Rattle.iv_expr.specs.declared.row.Change.{Change}
 use Rattle.iv_expr.specs.Changes.{Wave, wave_of}
-use Rattle.iv_expr.specs.declared.tree.Cond.{Cond}
-use Rattle.iv_expr.specs.declared.tree.ExprFault.{ExprFault}
-use Rattle.iv_expr.specs.declared.tree.ExprFault.TheVariants.{OutOfRange, Misfit, NoMemory}
 use Rattle.iv_expr.specs.Scopes.{Scope, Frame, scope_of, within, range_rows, table_rows}
 use Rattle.iv_expr.specs.Evaluation.{value, truth, and_then}
-use Rattle.iv_syntax.specs.declared.trigger.TriggerEvent.{TriggerEvent}
-use Rattle.iv_syntax.specs.declared.trigger.TriggerEvent.TheVariants as event
 use Rattle.iv_catalogue.specs.Catalogues.{Schema}
-use Rattle.iv_catalogue.specs.declared.catalogue.Column.{Column}
-use Rattle.iv_catalogue.specs.declared.cause.Cause.{Cause}
-use Rattle.iv_catalogue.specs.declared.cause.Cause.TheVariants.{NumberOutOfRange, TextTooLong, WrongShape, OutOfMemory}
-use Rattle.iv_catalogue.specs.declared.plan.Setting.{Setting}
-use Rattle.iv_catalogue.specs.declared.plan.Outputs.{Outputs}
-use Rattle.iv_catalogue.specs.declared.plan.Outputs.TheVariants.{Star, Values}
-use Rattle.iv_catalogue.specs.declared.plan.InsertColumns.{InsertColumns}
-use Rattle.iv_catalogue.specs.declared.plan.InsertColumns.TheVariants as columns
-use Rattle.iv_catalogue.specs.declared.plan.InsertRows.{InsertRows}
-use Rattle.iv_catalogue.specs.declared.plan.InsertRows.TheVariants as rows
-use Rattle.iv_catalogue.specs.declared.plan.DataStatement.{DataStatement}
-use Rattle.iv_catalogue.specs.declared.plan.DataStatement.TheVariants as data_statement
-use Rattle.iv_machine.specs.declared.database.Database.{Database}
 use Rattle.iv_machine.specs.Context.{Context, each}
 
 -- ---- values and conditions

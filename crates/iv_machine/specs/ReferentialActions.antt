@@ -2,25 +2,16 @@
 -- wave that follows (ISO/IEC 9075-2:1999, "Referential constraint definition").
 use Rattle.std.specs.Prelude.{ℕ, Bool, true, false, ◌&&◌, not, if◌then◌else◌, ◌==◌, nat_lt, List, [], ◌∷◌, map, filter, filter_map, flat_map, zip, Option, Some, None, Result, Ok}
 use Rattle.std.specs.List.{list_any, enumerate_from}
-use Rattle.iv_value.specs.declared.value.Value.{Value}
-use Rattle.iv_value.specs.declared.value.Value.TheVariants.{Null}
+use Rattle.iv_machine.specs.Words.{Value, StoredRow, Change, ReferentialAction, Constraint, Rule, ForeignKey, Fault, Database, Effect}
+use Rattle.iv_machine.specs.Words.value.{Null}
+use Rattle.iv_machine.specs.Words.referential_action as action
+use Rattle.iv_machine.specs.Words.rule
+use Rattle.iv_machine.specs.Words.cause.{Restrict, ActionConflict}
+use Rattle.iv_machine.specs.Words.effect.{DeleteRow, SetColumns}
 use Rattle.iv_value.specs.Values.{is_same, all_same}
-use Rattle.iv_expr.specs.declared.row.StoredRow.{StoredRow}
-use Rattle.iv_expr.specs.declared.row.Change.{Change}
 use Rattle.iv_expr.specs.Changes.{Wave, wave_of}
 use Rattle.iv_expr.specs.Scopes.{table_rows}
-use Rattle.iv_syntax.specs.declared.table.ReferentialAction.{ReferentialAction}
-use Rattle.iv_syntax.specs.declared.table.ReferentialAction.TheVariants as action
 use Rattle.iv_catalogue.specs.Catalogues.{Schema}
-use Rattle.iv_catalogue.specs.declared.constraint.Constraint.{Constraint}
-use Rattle.iv_catalogue.specs.declared.constraint.Rule.{Rule}
-use Rattle.iv_catalogue.specs.declared.constraint.Rule.TheVariants as rule
-use Rattle.iv_catalogue.specs.declared.constraint.ForeignKey.{ForeignKey}
-use Rattle.iv_catalogue.specs.declared.cause.Fault.{Fault}
-use Rattle.iv_catalogue.specs.declared.cause.Cause.TheVariants.{Restrict, ActionConflict}
-use Rattle.iv_machine.specs.declared.database.Database.{Database}
-use Rattle.iv_machine.specs.declared.effect.Effect.{Effect}
-use Rattle.iv_machine.specs.declared.effect.Effect.TheVariants.{DeleteRow, SetColumns}
 use Rattle.iv_machine.specs.Databases.{row_at, value_at, key_of, none_null, holds_key, fault_at, first}
 use Rattle.iv_machine.specs.Context.{Context, Failure, unless_first}
 use Rattle.iv_machine.specs.Proposals.{with_columns, defaults_of}

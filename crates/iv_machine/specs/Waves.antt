@@ -1,13 +1,10 @@
 -- The waves of a data statement, one after another until nothing follows, and the net change of them all.
 use Rattle.std.specs.Prelude.{ℕ, zero, suc, ◌+◌, ◌-◌, Bool, true, false, ◌&&◌, if◌then◌else◌, nat_lt, List, [], ◌∷◌, ◌++◌, map, filter, Option, Some, None, is_none, Result, Ok}
 use Rattle.std.specs.List.{list_any}
-use Rattle.iv_value.specs.declared.value.Value.{Value}
-use Rattle.iv_expr.specs.declared.row.StoredRow.{StoredRow}
-use Rattle.iv_expr.specs.declared.row.Change.{Change}
+use Rattle.iv_machine.specs.Words.{Value, StoredRow, Change, Database}
+use Rattle.iv_machine.specs.Words.cause.{TooManyChanges, TransactionTooLarge, Limit}
 use Rattle.iv_expr.specs.Changes.{Wave, wave_of}
 use Rattle.iv_expr.specs.Evaluation.{and_then}
-use Rattle.iv_catalogue.specs.declared.cause.Cause.TheVariants.{TooManyChanges, TransactionTooLarge, Limit}
-use Rattle.iv_machine.specs.declared.database.Database.{Database}
 use Rattle.iv_machine.specs.Bounds.{most_changes_in_a_transaction, last_row_number}
 use Rattle.iv_machine.specs.Databases.{row_at, has_change, size, database_after}
 use Rattle.iv_machine.specs.Context.{Context, Failure, fails, with_count}

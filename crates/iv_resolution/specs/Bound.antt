@@ -3,68 +3,35 @@
 use Rattle.std.specs.Prelude.{ℕ, min, ◌-ℤ◌, pos, List, [], ◌∷◌, map, find, Option, Some, None, unwrap_or, position, slice_get}
 use Rattle.std.specs.List.{enumerate_from}
 use Rattle.std.specs.Str.{bytes_eq}
-use Rattle.iv_value.specs.declared.value.Value.{Value}
-use Rattle.iv_value.specs.declared.value.Value.TheVariants as value
-use Rattle.iv_value.specs.declared.value.Kind.{Kind}
-use Rattle.iv_value.specs.declared.value.Kind.TheVariants as kind
-use Rattle.iv_expr.specs.declared.tree.Expr.{Expr}
-use Rattle.iv_expr.specs.declared.tree.Expr.TheVariants as expr
-use Rattle.iv_syntax.specs.declared.tree.Sign.TheVariants as sign
-use Rattle.iv_syntax.specs.declared.table.ColumnType.{ColumnType}
-use Rattle.iv_syntax.specs.declared.table.ColumnType.TheVariants as type
-use Rattle.iv_syntax.specs.declared.table.Literal.{Literal}
-use Rattle.iv_syntax.specs.declared.table.Literal.TheVariants as literal
-use Rattle.iv_syntax.specs.declared.table.MatchType.TheVariants.{Simple}
-use Rattle.iv_syntax.specs.declared.table.ReferentialAction.TheVariants.{NoAction}
-use Rattle.iv_syntax.specs.declared.table.References.{References}
-use Rattle.iv_syntax.specs.declared.table.ColumnDefinition.{ColumnDefinition}
-use Rattle.iv_syntax.specs.declared.table.TableElement.{TableElement}
-use Rattle.iv_syntax.specs.declared.statement.ValueOrDefault.{ValueOrDefault}
-use Rattle.iv_syntax.specs.declared.statement.ValueOrDefault.TheVariants as given
-use Rattle.iv_syntax.specs.declared.statement.SelectList.{SelectList}
-use Rattle.iv_syntax.specs.declared.statement.SelectList.TheVariants as list
-use Rattle.iv_syntax.specs.declared.statement.InsertSource.{InsertSource}
-use Rattle.iv_syntax.specs.declared.statement.InsertSource.TheVariants as source
-use Rattle.iv_syntax.specs.declared.statement.Insert.{Insert}
-use Rattle.iv_syntax.specs.declared.statement.Insert.TheVariants as insert
-use Rattle.iv_syntax.specs.declared.statement.Assignment.{Assignment}
-use Rattle.iv_syntax.specs.declared.statement.Update.{Update}
-use Rattle.iv_syntax.specs.declared.statement.Delete.{Delete}
-use Rattle.iv_syntax.specs.declared.statement.Select.{Select}
-use Rattle.iv_syntax.specs.declared.statement.Select.TheVariants as select
-use Rattle.iv_syntax.specs.declared.statement.ConstraintList.{ConstraintList}
-use Rattle.iv_syntax.specs.declared.statement.ConstraintList.TheVariants as constraints
-use Rattle.iv_syntax.specs.declared.statement.Statement.{Statement}
-use Rattle.iv_syntax.specs.declared.statement.Statement.TheVariants as statement
-use Rattle.iv_syntax.specs.declared.trigger.TriggerAction.{TriggerAction}
-use Rattle.iv_syntax.specs.declared.trigger.TriggerAction.TheVariants as action
-use Rattle.iv_syntax.specs.declared.trigger.TriggerDefinition.{TriggerDefinition}
+use Rattle.iv_resolution.specs.Words.{Value, Kind, Expr, ColumnType, Literal, References, ColumnDefinition, TableElement, ValueOrDefault, SelectList, InsertSource, Insert, Assignment, Update, Delete, Select, ConstraintList, Statement, TriggerAction, TriggerDefinition, Column, Constraint, ForeignKey, Rule, Plan, QueryPlan, ConstraintSet, Setting, Outputs, InsertColumns, InsertRows, DataStatement, BodyStatement, Trigger}
+use Rattle.iv_resolution.specs.Words.value
+use Rattle.iv_resolution.specs.Words.kind
+use Rattle.iv_resolution.specs.Words.expr
+use Rattle.iv_resolution.specs.Words.sign
+use Rattle.iv_resolution.specs.Words.type
+use Rattle.iv_resolution.specs.Words.literal
+use Rattle.iv_resolution.specs.Words.matching.{Simple}
+use Rattle.iv_resolution.specs.Words.referential_action.{NoAction}
+use Rattle.iv_resolution.specs.Words.given
+use Rattle.iv_resolution.specs.Words.select_list as list
+use Rattle.iv_resolution.specs.Words.source
+use Rattle.iv_resolution.specs.Words.insert
+use Rattle.iv_resolution.specs.Words.select
+use Rattle.iv_resolution.specs.Words.constraints
+use Rattle.iv_resolution.specs.Words.statement
+use Rattle.iv_resolution.specs.Words.action
+use Rattle.iv_resolution.specs.Words.rule
+use Rattle.iv_resolution.specs.Words.plan
+use Rattle.iv_resolution.specs.Words.schema.{CreateTable, AddConstraint, CreateTrigger, DropTrigger}
+use Rattle.iv_resolution.specs.Words.query
+use Rattle.iv_resolution.specs.Words.transaction
+use Rattle.iv_resolution.specs.Words.set
+use Rattle.iv_resolution.specs.Words.outputs
+use Rattle.iv_resolution.specs.Words.insert_columns as listing
+use Rattle.iv_resolution.specs.Words.insert_rows as rows
+use Rattle.iv_resolution.specs.Words.data_statement
+use Rattle.iv_resolution.specs.Words.body
 use Rattle.iv_catalogue.specs.Catalogues.{Schema}
-use Rattle.iv_catalogue.specs.declared.catalogue.Column.{Column}
-use Rattle.iv_catalogue.specs.declared.constraint.Constraint.{Constraint}
-use Rattle.iv_catalogue.specs.declared.constraint.ForeignKey.{ForeignKey}
-use Rattle.iv_catalogue.specs.declared.constraint.Rule.{Rule}
-use Rattle.iv_catalogue.specs.declared.constraint.Rule.TheVariants as rule
-use Rattle.iv_catalogue.specs.declared.plan.Plan.{Plan}
-use Rattle.iv_catalogue.specs.declared.plan.Plan.TheVariants as plan
-use Rattle.iv_catalogue.specs.declared.plan.SchemaPlan.TheVariants.{CreateTable, AddConstraint, CreateTrigger, DropTrigger}
-use Rattle.iv_catalogue.specs.declared.plan.QueryPlan.{QueryPlan}
-use Rattle.iv_catalogue.specs.declared.plan.QueryPlan.TheVariants as query
-use Rattle.iv_catalogue.specs.declared.plan.TransactionPlan.TheVariants as transaction
-use Rattle.iv_catalogue.specs.declared.plan.ConstraintSet.{ConstraintSet}
-use Rattle.iv_catalogue.specs.declared.plan.ConstraintSet.TheVariants as set
-use Rattle.iv_catalogue.specs.declared.plan.Setting.{Setting}
-use Rattle.iv_catalogue.specs.declared.plan.Outputs.{Outputs}
-use Rattle.iv_catalogue.specs.declared.plan.Outputs.TheVariants as outputs
-use Rattle.iv_catalogue.specs.declared.plan.InsertColumns.{InsertColumns}
-use Rattle.iv_catalogue.specs.declared.plan.InsertColumns.TheVariants as listing
-use Rattle.iv_catalogue.specs.declared.plan.InsertRows.{InsertRows}
-use Rattle.iv_catalogue.specs.declared.plan.InsertRows.TheVariants as rows
-use Rattle.iv_catalogue.specs.declared.plan.DataStatement.{DataStatement}
-use Rattle.iv_catalogue.specs.declared.plan.DataStatement.TheVariants as data_statement
-use Rattle.iv_catalogue.specs.declared.plan.BodyStatement.{BodyStatement}
-use Rattle.iv_catalogue.specs.declared.plan.BodyStatement.TheVariants as body
-use Rattle.iv_catalogue.specs.declared.plan.Trigger.{Trigger}
 use Rattle.iv_resolution.specs.Scopes.{NamedColumn, NamedRange, Names, named_columns, place_of, table_place, range_of, source_range}
 use Rattle.iv_resolution.specs.Terms.{integer_of, bound_expression, bound_condition, bound_filter}
 use Rattle.iv_resolution.specs.Constraints.{WrittenRule, not_null, unique, primary_key, check, foreign_key, WrittenConstraint, written_columns, written_constraints, table_constraint, constraint_name, is_deferrable, initial_mode, places_of, primary_key_of, Referenced, Altered, referenced}

@@ -2,25 +2,12 @@
 -- statement", "Update statement: searched", "Delete statement: searched", "Query specification").
 use Rattle.std.specs.Prelude.{ℕ, Bool, false, not, ◌&&◌, ◌||◌, ◌==◌, List, [], ◌∷◌, length, map, zip, Option, Some, None, is_some, slice_get}
 use Rattle.std.specs.List.{list_any}
-use Rattle.iv_syntax.specs.declared.table.ColumnType.{ColumnType}
-use Rattle.iv_syntax.specs.declared.tree.Condition.{Condition}
-use Rattle.iv_syntax.specs.declared.tree.Expression.{Expression}
-use Rattle.iv_syntax.specs.declared.tree.RangeName.{RangeName}
-use Rattle.iv_syntax.specs.declared.statement.ValueOrDefault.{ValueOrDefault}
-use Rattle.iv_syntax.specs.declared.statement.ValueOrDefault.TheVariants as value
-use Rattle.iv_syntax.specs.declared.statement.SelectList.{SelectList}
-use Rattle.iv_syntax.specs.declared.statement.SelectList.TheVariants as list
-use Rattle.iv_syntax.specs.declared.statement.InsertSource.{InsertSource}
-use Rattle.iv_syntax.specs.declared.statement.InsertSource.TheVariants as source
-use Rattle.iv_syntax.specs.declared.statement.Insert.{Insert}
-use Rattle.iv_syntax.specs.declared.statement.Insert.TheVariants as insert
-use Rattle.iv_syntax.specs.declared.statement.Assignment.{Assignment}
-use Rattle.iv_syntax.specs.declared.statement.Update.{Update}
-use Rattle.iv_syntax.specs.declared.statement.Delete.{Delete}
-use Rattle.iv_syntax.specs.declared.statement.Select.{Select}
-use Rattle.iv_syntax.specs.declared.statement.Select.TheVariants as select
-use Rattle.iv_catalogue.specs.declared.catalogue.Column.{Column}
-use Rattle.iv_catalogue.specs.declared.catalogue.Table.{Table}
+use Rattle.iv_resolution.specs.Words.{ColumnType, Condition, Expression, RangeName, ValueOrDefault, SelectList, InsertSource, Insert, Assignment, Update, Delete, Select, Column, Table}
+use Rattle.iv_resolution.specs.Words.given as value
+use Rattle.iv_resolution.specs.Words.select_list as list
+use Rattle.iv_resolution.specs.Words.source
+use Rattle.iv_resolution.specs.Words.insert
+use Rattle.iv_resolution.specs.Words.select
 use Rattle.iv_resolution.specs.Scopes.{NamedColumn, NamedRange, Names, named_columns, has_column, type_named, table_place, is_source, source_columns, range_of, own_range}
 use Rattle.iv_resolution.specs.Terms.{unknown_expression, unknown_filter, is_integer_type, is_text_type, is_integer, is_text, misshaped_expression, misshaped_filter}
 use Rattle.iv_resolution.specs.Constraints.{comes_twice}

@@ -3,29 +3,16 @@
 use Rattle.std.specs.Prelude.{ℕ, Bool, true, false, not, ◌&&◌, ◌||◌, ◌==◌, List, [], ◌∷◌, length, map, filter, filter_map, flat_map, find, zip, chars, Option, Some, None, nat_le, unwrap_or, option_map, slice_get}
 use Rattle.std.specs.List.{list_any, list_all, enumerate_from}
 use Rattle.std.specs.Str.{bytes_eq}
-use Rattle.iv_syntax.specs.declared.statement.ConstraintMode.{ConstraintMode}
-use Rattle.iv_syntax.specs.declared.statement.ConstraintMode.TheVariants as mode
-use Rattle.iv_syntax.specs.declared.table.ColumnType.{ColumnType}
-use Rattle.iv_syntax.specs.declared.table.ColumnType.TheVariants as type
-use Rattle.iv_syntax.specs.declared.table.Literal.{Literal}
-use Rattle.iv_syntax.specs.declared.table.Literal.TheVariants as literal
-use Rattle.iv_syntax.specs.declared.table.ConstraintTime.{ConstraintTime}
-use Rattle.iv_syntax.specs.declared.table.References.{References}
-use Rattle.iv_syntax.specs.declared.table.ColumnRule.{ColumnRule}
-use Rattle.iv_syntax.specs.declared.table.ColumnRule.TheVariants as column_rule
-use Rattle.iv_syntax.specs.declared.table.ColumnConstraint.{ColumnConstraint}
-use Rattle.iv_syntax.specs.declared.table.ColumnDefinition.{ColumnDefinition}
-use Rattle.iv_syntax.specs.declared.table.TableRule.{TableRule}
-use Rattle.iv_syntax.specs.declared.table.TableRule.TheVariants as table_rule
-use Rattle.iv_syntax.specs.declared.table.TableConstraint.{TableConstraint}
-use Rattle.iv_syntax.specs.declared.table.TableElement.{TableElement}
-use Rattle.iv_syntax.specs.declared.table.TableElement.TheVariants as element
-use Rattle.iv_syntax.specs.declared.tree.Condition.{Condition}
+use Rattle.iv_resolution.specs.Words.{ConstraintMode, ColumnType, Literal, ConstraintTime, References, ColumnRule, ColumnConstraint, ColumnDefinition, TableRule, TableConstraint, TableElement, Condition, Constraint, Rule}
+use Rattle.iv_resolution.specs.Words.mode
+use Rattle.iv_resolution.specs.Words.type
+use Rattle.iv_resolution.specs.Words.literal
+use Rattle.iv_resolution.specs.Words.column_rule
+use Rattle.iv_resolution.specs.Words.table_rule
+use Rattle.iv_resolution.specs.Words.element
+use Rattle.iv_resolution.specs.Words.rule
 use Rattle.iv_catalogue.specs.Names.{is_among, generated_name}
 use Rattle.iv_catalogue.specs.Catalogues.{Schema}
-use Rattle.iv_catalogue.specs.declared.constraint.Constraint.{Constraint}
-use Rattle.iv_catalogue.specs.declared.constraint.Rule.{Rule}
-use Rattle.iv_catalogue.specs.declared.constraint.Rule.TheVariants as rule
 use Rattle.iv_resolution.specs.Scopes.{NamedColumn, named_columns, place_of, type_named, table_place}
 
 -- ---- columns of a CREATE TABLE

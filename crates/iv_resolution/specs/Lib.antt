@@ -1,3 +1,4 @@
+pub mod Words
 pub mod Scopes
 pub mod Terms
 pub mod Constraints

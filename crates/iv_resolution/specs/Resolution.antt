@@ -1,16 +1,12 @@
 -- Resolution: what a statement deserves to be refused for, by cause, the least of these, and the plan of a statement that deserves none.
 use Rattle.std.specs.Prelude.{◌≡◌, ℕ, Bool, true, false, not, ◌||◌, List, [], ◌∷◌, find, Option, Some, None, is_some, is_ok, Result, Ok, Err, slice_get, MatchBool}
 use Rattle.std.specs.List.{list_any}
-use Rattle.iv_syntax.specs.declared.statement.ConstraintList.{ConstraintList}
-use Rattle.iv_syntax.specs.declared.statement.ConstraintList.TheVariants as constraints
-use Rattle.iv_syntax.specs.declared.statement.Statement.{Statement}
-use Rattle.iv_syntax.specs.declared.statement.Statement.TheVariants as statement
+use Rattle.iv_resolution.specs.Words.{ConstraintList, Statement, Cause, Refusal, Plan}
+use Rattle.iv_resolution.specs.Words.constraints
+use Rattle.iv_resolution.specs.Words.statement
+use Rattle.iv_resolution.specs.Words.cause.{Unknown, Duplicate, SchemaFault, WrongShape, Limit}
 use Rattle.iv_catalogue.specs.Catalogues.{Schema, has_constraint, has_trigger}
 use Rattle.iv_catalogue.specs.Refusals.{refusal_answer, out_of_memory, is_memory}
-use Rattle.iv_catalogue.specs.declared.cause.Cause.{Cause}
-use Rattle.iv_catalogue.specs.declared.cause.Cause.TheVariants.{Unknown, Duplicate, SchemaFault, WrongShape, Limit}
-use Rattle.iv_catalogue.specs.declared.cause.Refusal.{Refusal}
-use Rattle.iv_catalogue.specs.declared.plan.Plan.{Plan}
 use Rattle.iv_resolution.specs.Scopes.{table_place}
 use Rattle.iv_resolution.specs.Constraints.{table_constraint, Altered}
 use Rattle.iv_resolution.specs.Changes.{unknown_insert, unknown_update, unknown_delete, unknown_select, duplicate_insert, duplicate_update, misshaped_insert, misshaped_update, misshaped_delete, misshaped_select}

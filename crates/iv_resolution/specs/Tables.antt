@@ -1,12 +1,10 @@
 -- CREATE TABLE and ALTER TABLE: what each of their constraints is refused for ("Table definition", "Add table constraint definition").
 use Rattle.std.specs.Prelude.{ℕ, ◌+◌, Bool, true, false, not, ◌&&◌, ◌||◌, ◌==◌, List, [], ◌∷◌, length, map, filter, Option, Some, None, nat_le, nat_lt}
 use Rattle.std.specs.List.{list_any}
-use Rattle.iv_syntax.specs.declared.table.ColumnType.{ColumnType}
-use Rattle.iv_syntax.specs.declared.table.ColumnType.TheVariants as type
-use Rattle.iv_syntax.specs.declared.table.TableElement.{TableElement}
+use Rattle.iv_resolution.specs.Words.{ColumnType, TableElement, Table}
+use Rattle.iv_resolution.specs.Words.type
 use Rattle.iv_catalogue.specs.Catalogues.{Schema, has_constraint, has_table}
 use Rattle.iv_catalogue.specs.declared.limits.TheConstants.{MOST_COLUMNS, MOST_CONSTRAINTS, MOST_TABLES, MOST_KEY_COLUMNS, MOST_CHARACTERS}
-use Rattle.iv_catalogue.specs.declared.catalogue.Table.{Table}
 use Rattle.iv_resolution.specs.Scopes.{NamedRange, Names, named_columns, has_column, own_range}
 use Rattle.iv_resolution.specs.Terms.{unknown_condition, misshaped_condition, has_exists}
 use Rattle.iv_resolution.specs.Constraints.{WrittenRule, not_null, unique, primary_key, check, foreign_key, WrittenConstraint, written_columns, defined_columns, written_constraints, constraint_name, constraint_names, comes_twice, constraints_of, is_contradictory, stored_keys, written_keys, primary_key_of, Referenced, Altered, referenced, faulty_reference, default_fits}

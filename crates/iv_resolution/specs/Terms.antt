@@ -1,21 +1,15 @@
 -- Value expressions and search conditions as they are written: the names in them that name nothing, where an integer meets a text, and
 -- what they mean once every name is resolved ("Value expression", "Search condition").
 use Rattle.std.specs.Prelude.{min, ℤ, ℕ, Bool, true, false, not, ◌&&◌, ◌||◌, List, ◌∷◌, pos, Option, Some, None, is_none}
-use Rattle.iv_value.specs.declared.value.Value.TheVariants as value
-use Rattle.iv_expr.specs.declared.tree.Expr.{Expr}
-use Rattle.iv_expr.specs.declared.tree.Expr.TheVariants as expr
-use Rattle.iv_expr.specs.declared.tree.Cond.{Cond}
-use Rattle.iv_expr.specs.declared.tree.Cond.TheVariants as cond
+use Rattle.iv_resolution.specs.Words.{Expr, Cond, ColumnType, Sign, ColumnName, Expression, Condition}
+use Rattle.iv_resolution.specs.Words.value
+use Rattle.iv_resolution.specs.Words.expr
+use Rattle.iv_resolution.specs.Words.cond
+use Rattle.iv_resolution.specs.Words.type
+use Rattle.iv_resolution.specs.Words.sign
+use Rattle.iv_resolution.specs.Words.expression
+use Rattle.iv_resolution.specs.Words.condition
 use Rattle.iv_expr.specs.Trees.{plus, minus, times, not_c, and_c, or_c, exists_c}
-use Rattle.iv_syntax.specs.declared.table.ColumnType.{ColumnType}
-use Rattle.iv_syntax.specs.declared.table.ColumnType.TheVariants as type
-use Rattle.iv_syntax.specs.declared.tree.Sign.{Sign}
-use Rattle.iv_syntax.specs.declared.tree.Sign.TheVariants as sign
-use Rattle.iv_syntax.specs.declared.tree.ColumnName.{ColumnName}
-use Rattle.iv_syntax.specs.declared.tree.Expression.{Expression}
-use Rattle.iv_syntax.specs.declared.tree.Expression.TheVariants as expression
-use Rattle.iv_syntax.specs.declared.tree.Condition.{Condition}
-use Rattle.iv_syntax.specs.declared.tree.Condition.TheVariants as condition
 use Rattle.iv_syntax.specs.Trees.{group, signed, product, sum, enclosed, negated, both, either, exists_where}
 use Rattle.iv_catalogue.specs.declared.limits.TheConstants.{GREATEST_INTEGER}
 use Rattle.iv_resolution.specs.declared.origin.Origin.TheVariants.{Rows, Variable}

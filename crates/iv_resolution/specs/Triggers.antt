@@ -2,17 +2,13 @@
 use Rattle.std.specs.Prelude.{ℕ, Bool, true, false, not, ◌&&◌, ◌||◌, List, length, map, filter, find, Option, Some, None, nat_le, nat_lt, option_map, is_none}
 use Rattle.std.specs.List.{list_any}
 use Rattle.std.specs.Str.{bytes_eq}
-use Rattle.iv_expr.specs.declared.tree.Side.{Side}
-use Rattle.iv_expr.specs.declared.tree.Side.TheVariants as side
-use Rattle.iv_syntax.specs.declared.trigger.ActionTime.TheVariants as time
-use Rattle.iv_syntax.specs.declared.trigger.TriggerEvent.{TriggerEvent}
-use Rattle.iv_syntax.specs.declared.trigger.TriggerEvent.TheVariants as event
-use Rattle.iv_syntax.specs.declared.trigger.Granularity.TheVariants as granularity
-use Rattle.iv_syntax.specs.declared.trigger.TransitionName.TheVariants as what
-use Rattle.iv_syntax.specs.declared.trigger.Referencing.{Referencing}
-use Rattle.iv_syntax.specs.declared.trigger.TriggerAction.{TriggerAction}
-use Rattle.iv_syntax.specs.declared.trigger.TriggerAction.TheVariants as action
-use Rattle.iv_syntax.specs.declared.trigger.TriggerDefinition.{TriggerDefinition}
+use Rattle.iv_resolution.specs.Words.{Side, TriggerEvent, Referencing, TriggerAction, TriggerDefinition}
+use Rattle.iv_resolution.specs.Words.side
+use Rattle.iv_resolution.specs.Words.time
+use Rattle.iv_resolution.specs.Words.event
+use Rattle.iv_resolution.specs.Words.granularity
+use Rattle.iv_resolution.specs.Words.transition as what
+use Rattle.iv_resolution.specs.Words.action
 use Rattle.iv_catalogue.specs.Catalogues.{Schema, has_trigger}
 use Rattle.iv_catalogue.specs.declared.limits.TheConstants.{MOST_TRIGGERS, MOST_TRIGGERS_EVER, MOST_BODY_STATEMENTS}
 use Rattle.iv_resolution.specs.declared.origin.Origin.{Origin}

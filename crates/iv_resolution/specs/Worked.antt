@@ -1,63 +1,46 @@
 -- Worked statements: what each deserves over one catalogue, and what some of them mean. The SQL is above each.
 use Rattle.std.specs.Prelude.{◌≡◌, ℕ, Bool, true, false, List, [], ◌∷◌, map, codes, Option, Some, None, pos}
-use Rattle.iv_value.specs.declared.value.Value.TheVariants as value
-use Rattle.iv_value.specs.declared.value.Kind.TheVariants as kind
-use Rattle.iv_expr.specs.declared.tree.Comparison.TheVariants.{Equal, Greater}
-use Rattle.iv_expr.specs.declared.tree.Side.{Side}
-use Rattle.iv_expr.specs.declared.tree.Side.TheVariants.{Old, New}
-use Rattle.iv_expr.specs.declared.tree.Range.TheVariants as range
-use Rattle.iv_expr.specs.declared.tree.Expr.TheVariants as expr
-use Rattle.iv_expr.specs.declared.tree.Cond.TheVariants as cond
+use Rattle.iv_resolution.specs.Words.{Side, RangeName, Expression, Condition, Statement, ColumnType, ColumnRule, TableRule, TableElement, Literal, References, ConstraintTime, ActionTime, TriggerEvent, TransitionName, TriggerAction, Referencing, Cause}
+use Rattle.iv_resolution.specs.Words.value
+use Rattle.iv_resolution.specs.Words.kind
+use Rattle.iv_resolution.specs.Words.comparison.{Equal, Greater}
+use Rattle.iv_resolution.specs.Words.side.{Old, New}
+use Rattle.iv_resolution.specs.Words.range
+use Rattle.iv_resolution.specs.Words.expr
+use Rattle.iv_resolution.specs.Words.cond
+use Rattle.iv_resolution.specs.Words.sign.{Plus}
+use Rattle.iv_resolution.specs.Words.expression
+use Rattle.iv_resolution.specs.Words.condition
+use Rattle.iv_resolution.specs.Words.statement
+use Rattle.iv_resolution.specs.Words.insert
+use Rattle.iv_resolution.specs.Words.source
+use Rattle.iv_resolution.specs.Words.select
+use Rattle.iv_resolution.specs.Words.select_list as list
+use Rattle.iv_resolution.specs.Words.given
+use Rattle.iv_resolution.specs.Words.constraints
+use Rattle.iv_resolution.specs.Words.mode
+use Rattle.iv_resolution.specs.Words.type
+use Rattle.iv_resolution.specs.Words.column_rule
+use Rattle.iv_resolution.specs.Words.table_rule
+use Rattle.iv_resolution.specs.Words.element
+use Rattle.iv_resolution.specs.Words.literal
+use Rattle.iv_resolution.specs.Words.matching.{Simple}
+use Rattle.iv_resolution.specs.Words.referential_action.{NoAction}
+use Rattle.iv_resolution.specs.Words.time
+use Rattle.iv_resolution.specs.Words.event
+use Rattle.iv_resolution.specs.Words.granularity.{Row}
+use Rattle.iv_resolution.specs.Words.transition as what
+use Rattle.iv_resolution.specs.Words.action
+use Rattle.iv_resolution.specs.Words.cause.{Unknown, Duplicate, SchemaFault, WrongShape, Limit}
+use Rattle.iv_resolution.specs.Words.rule
+use Rattle.iv_resolution.specs.Words.plan
+use Rattle.iv_resolution.specs.Words.query
+use Rattle.iv_resolution.specs.Words.schema.{CreateTable}
+use Rattle.iv_resolution.specs.Words.outputs
 use Rattle.iv_expr.specs.Trees.{exists_c}
-use Rattle.iv_syntax.specs.declared.tree.Sign.TheVariants.{Plus}
-use Rattle.iv_syntax.specs.declared.tree.RangeName.{RangeName}
-use Rattle.iv_syntax.specs.declared.tree.Expression.{Expression}
-use Rattle.iv_syntax.specs.declared.tree.Expression.TheVariants as expression
-use Rattle.iv_syntax.specs.declared.tree.Condition.{Condition}
-use Rattle.iv_syntax.specs.declared.tree.Condition.TheVariants as condition
 use Rattle.iv_syntax.specs.Trees.{signed, exists_where}
-use Rattle.iv_syntax.specs.declared.statement.Statement.{Statement}
-use Rattle.iv_syntax.specs.declared.statement.Statement.TheVariants as statement
-use Rattle.iv_syntax.specs.declared.statement.Insert.TheVariants as insert
-use Rattle.iv_syntax.specs.declared.statement.InsertSource.TheVariants as source
-use Rattle.iv_syntax.specs.declared.statement.Select.TheVariants as select
-use Rattle.iv_syntax.specs.declared.statement.SelectList.TheVariants as list
-use Rattle.iv_syntax.specs.declared.statement.ValueOrDefault.TheVariants as given
-use Rattle.iv_syntax.specs.declared.statement.ConstraintList.TheVariants as constraints
-use Rattle.iv_syntax.specs.declared.statement.ConstraintMode.TheVariants as mode
-use Rattle.iv_syntax.specs.declared.table.ColumnType.{ColumnType}
-use Rattle.iv_syntax.specs.declared.table.ColumnType.TheVariants as type
-use Rattle.iv_syntax.specs.declared.table.ColumnRule.{ColumnRule}
-use Rattle.iv_syntax.specs.declared.table.ColumnRule.TheVariants as column_rule
-use Rattle.iv_syntax.specs.declared.table.TableRule.{TableRule}
-use Rattle.iv_syntax.specs.declared.table.TableRule.TheVariants as table_rule
-use Rattle.iv_syntax.specs.declared.table.TableElement.{TableElement}
-use Rattle.iv_syntax.specs.declared.table.TableElement.TheVariants as element
-use Rattle.iv_syntax.specs.declared.table.Literal.{Literal}
-use Rattle.iv_syntax.specs.declared.table.Literal.TheVariants as literal
-use Rattle.iv_syntax.specs.declared.table.References.{References}
-use Rattle.iv_syntax.specs.declared.table.MatchType.TheVariants.{Simple}
-use Rattle.iv_syntax.specs.declared.table.ReferentialAction.TheVariants.{NoAction}
-use Rattle.iv_syntax.specs.declared.table.ConstraintTime.{ConstraintTime}
-use Rattle.iv_syntax.specs.declared.trigger.ActionTime.{ActionTime}
-use Rattle.iv_syntax.specs.declared.trigger.ActionTime.TheVariants as time
-use Rattle.iv_syntax.specs.declared.trigger.TriggerEvent.{TriggerEvent}
-use Rattle.iv_syntax.specs.declared.trigger.TriggerEvent.TheVariants as event
-use Rattle.iv_syntax.specs.declared.trigger.Granularity.TheVariants.{Row}
-use Rattle.iv_syntax.specs.declared.trigger.TransitionName.{TransitionName}
-use Rattle.iv_syntax.specs.declared.trigger.TransitionName.TheVariants as what
-use Rattle.iv_syntax.specs.declared.trigger.TriggerAction.{TriggerAction}
-use Rattle.iv_syntax.specs.declared.trigger.TriggerAction.TheVariants as action
-use Rattle.iv_syntax.specs.declared.trigger.Referencing.{Referencing}
 use Rattle.iv_catalogue.specs.Names.{generated_name}
 use Rattle.iv_catalogue.specs.Catalogues.{Schema}
-use Rattle.iv_catalogue.specs.declared.cause.Cause.{Cause}
-use Rattle.iv_catalogue.specs.declared.cause.Cause.TheVariants.{Unknown, Duplicate, SchemaFault, WrongShape, Limit}
-use Rattle.iv_catalogue.specs.declared.constraint.Rule.TheVariants as rule
-use Rattle.iv_catalogue.specs.declared.plan.Plan.TheVariants as plan
-use Rattle.iv_catalogue.specs.declared.plan.QueryPlan.TheVariants as query
-use Rattle.iv_catalogue.specs.declared.plan.SchemaPlan.TheVariants.{CreateTable}
-use Rattle.iv_catalogue.specs.declared.plan.Outputs.TheVariants as outputs
 use Rattle.iv_resolution.specs.Bound.{bound}
 use Rattle.iv_resolution.specs.Resolution.{least}
 

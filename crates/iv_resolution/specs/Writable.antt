@@ -2,37 +2,19 @@
 -- ("Names and identifiers", "Literal").
 use Rattle.std.specs.Prelude.{ℕ, Bool, true, false, not, ◌&&◌, ◌||◌, ◌==◌, List, [], ◌∷◌, length, Option, Some, None, nat_le}
 use Rattle.std.specs.List.{list_all}
-use Rattle.iv_syntax.specs.declared.table.Literal.{Literal}
-use Rattle.iv_syntax.specs.declared.table.Literal.TheVariants as literal
-use Rattle.iv_syntax.specs.declared.table.ColumnDefinition.{ColumnDefinition}
-use Rattle.iv_syntax.specs.declared.table.TableElement.{TableElement}
-use Rattle.iv_syntax.specs.declared.tree.ColumnName.{ColumnName}
-use Rattle.iv_syntax.specs.declared.tree.RangeName.{RangeName}
-use Rattle.iv_syntax.specs.declared.tree.Expression.{Expression}
-use Rattle.iv_syntax.specs.declared.tree.Expression.TheVariants as expression
-use Rattle.iv_syntax.specs.declared.tree.Condition.{Condition}
-use Rattle.iv_syntax.specs.declared.tree.Condition.TheVariants as condition
+use Rattle.iv_resolution.specs.Words.{Literal, ColumnDefinition, TableElement, ColumnName, RangeName, Expression, Condition, ValueOrDefault, SelectList, InsertSource, Insert, Assignment, Update, Delete, Select, ConstraintList, Statement, TriggerAction, TriggerDefinition}
+use Rattle.iv_resolution.specs.Words.literal
+use Rattle.iv_resolution.specs.Words.expression
+use Rattle.iv_resolution.specs.Words.condition
+use Rattle.iv_resolution.specs.Words.given as value
+use Rattle.iv_resolution.specs.Words.select_list as list
+use Rattle.iv_resolution.specs.Words.source
+use Rattle.iv_resolution.specs.Words.insert
+use Rattle.iv_resolution.specs.Words.select
+use Rattle.iv_resolution.specs.Words.constraints
+use Rattle.iv_resolution.specs.Words.statement
+use Rattle.iv_resolution.specs.Words.action
 use Rattle.iv_syntax.specs.Trees.{group, signed, product, sum, enclosed, negated, both, either, exists_where, depth, condition_depth}
-use Rattle.iv_syntax.specs.declared.statement.ValueOrDefault.{ValueOrDefault}
-use Rattle.iv_syntax.specs.declared.statement.ValueOrDefault.TheVariants as value
-use Rattle.iv_syntax.specs.declared.statement.SelectList.{SelectList}
-use Rattle.iv_syntax.specs.declared.statement.SelectList.TheVariants as list
-use Rattle.iv_syntax.specs.declared.statement.InsertSource.{InsertSource}
-use Rattle.iv_syntax.specs.declared.statement.InsertSource.TheVariants as source
-use Rattle.iv_syntax.specs.declared.statement.Insert.{Insert}
-use Rattle.iv_syntax.specs.declared.statement.Insert.TheVariants as insert
-use Rattle.iv_syntax.specs.declared.statement.Assignment.{Assignment}
-use Rattle.iv_syntax.specs.declared.statement.Update.{Update}
-use Rattle.iv_syntax.specs.declared.statement.Delete.{Delete}
-use Rattle.iv_syntax.specs.declared.statement.Select.{Select}
-use Rattle.iv_syntax.specs.declared.statement.Select.TheVariants as select
-use Rattle.iv_syntax.specs.declared.statement.ConstraintList.{ConstraintList}
-use Rattle.iv_syntax.specs.declared.statement.ConstraintList.TheVariants as constraints
-use Rattle.iv_syntax.specs.declared.statement.Statement.{Statement}
-use Rattle.iv_syntax.specs.declared.statement.Statement.TheVariants as statement
-use Rattle.iv_syntax.specs.declared.trigger.TriggerAction.{TriggerAction}
-use Rattle.iv_syntax.specs.declared.trigger.TriggerAction.TheVariants as action
-use Rattle.iv_syntax.specs.declared.trigger.TriggerDefinition.{TriggerDefinition}
 use Rattle.iv_catalogue.specs.declared.limits.TheConstants.{GREATEST_INTEGER, DEEPEST_TREE, LONGEST_NAME}
 use Rattle.iv_resolution.specs.Constraints.{WrittenRule, not_null, unique, primary_key, check, foreign_key, WrittenConstraint, written_columns, written_constraints, table_constraint}
 

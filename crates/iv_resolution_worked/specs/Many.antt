@@ -1,26 +1,21 @@
 -- Words for what there may be only so many of: names, columns, constraints, tables, triggers, and depth.
 use Rattle.std.specs.Prelude.{ℕ, zero, suc, false, List, [], ◌∷◌, map, codes, None}
-use Rattle.iv_value.specs.declared.value.Value.TheVariants as value
-use Rattle.iv_value.specs.declared.value.Kind.TheVariants as kind
-use Rattle.iv_expr.specs.declared.tree.Cond.TheVariants as cond
-use Rattle.iv_syntax.specs.declared.tree.Condition.{Condition}
-use Rattle.iv_syntax.specs.declared.tree.Expression.{Expression}
+use Rattle.iv_resolution_worked.specs.Words.{Condition, Expression, ColumnRule, TableElement, TriggerAction, Table}
+use Rattle.iv_resolution_worked.specs.Words.value
+use Rattle.iv_resolution_worked.specs.Words.kind
+use Rattle.iv_resolution_worked.specs.Words.cond
+use Rattle.iv_resolution_worked.specs.Words.mode
+use Rattle.iv_resolution_worked.specs.Words.type
+use Rattle.iv_resolution_worked.specs.Words.column_rule
+use Rattle.iv_resolution_worked.specs.Words.time
+use Rattle.iv_resolution_worked.specs.Words.event
+use Rattle.iv_resolution_worked.specs.Words.granularity
+use Rattle.iv_resolution_worked.specs.Words.action
+use Rattle.iv_resolution_worked.specs.Words.rule
+use Rattle.iv_resolution_worked.specs.Words.body
 use Rattle.iv_syntax.specs.Trees.{group, enclosed}
-use Rattle.iv_syntax.specs.declared.statement.ConstraintMode.TheVariants as mode
-use Rattle.iv_syntax.specs.declared.table.ColumnType.TheVariants as type
-use Rattle.iv_syntax.specs.declared.table.ColumnRule.{ColumnRule}
-use Rattle.iv_syntax.specs.declared.table.ColumnRule.TheVariants as column_rule
-use Rattle.iv_syntax.specs.declared.table.TableElement.{TableElement}
-use Rattle.iv_syntax.specs.declared.trigger.ActionTime.TheVariants as time
-use Rattle.iv_syntax.specs.declared.trigger.TriggerEvent.TheVariants as event
-use Rattle.iv_syntax.specs.declared.trigger.Granularity.TheVariants as granularity
-use Rattle.iv_syntax.specs.declared.trigger.TriggerAction.{TriggerAction}
-use Rattle.iv_syntax.specs.declared.trigger.TriggerAction.TheVariants as action
 use Rattle.iv_catalogue.specs.Names.{generated_name}
 use Rattle.iv_catalogue.specs.Catalogues.{Schema}
-use Rattle.iv_catalogue.specs.declared.catalogue.Table.{Table}
-use Rattle.iv_catalogue.specs.declared.constraint.Rule.TheVariants as rule
-use Rattle.iv_catalogue.specs.declared.plan.BodyStatement.TheVariants as body
 use Rattle.iv_resolution.specs.Worked.{a, p, t, defined}
 use Rattle.iv_resolution_worked.specs.Words.{x}
 

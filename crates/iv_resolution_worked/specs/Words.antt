@@ -1,38 +1,58 @@
 -- Words for statements, as short as the statements, and the catalogue that the worked statements are resolved over.
+pub use Rattle.iv_value.specs.declared.value.Value.TheVariants as value
+pub use Rattle.iv_value.specs.declared.value.Kind.TheVariants as kind
+pub use Rattle.iv_expr.specs.declared.tree.Comparison.TheVariants as comparison
+pub use Rattle.iv_expr.specs.declared.tree.Cond.TheVariants as cond
+pub use Rattle.iv_expr.specs.declared.tree.Side.TheVariants as side
+pub use Rattle.iv_syntax.specs.declared.tree.Condition.{Condition}
+pub use Rattle.iv_syntax.specs.declared.tree.Condition.TheVariants as condition
+pub use Rattle.iv_syntax.specs.declared.tree.Expression.{Expression}
+pub use Rattle.iv_syntax.specs.declared.tree.Expression.TheVariants as expression
+pub use Rattle.iv_syntax.specs.declared.tree.Sign.TheVariants as sign
+pub use Rattle.iv_syntax.specs.declared.table.ColumnConstraint.{ColumnConstraint}
+pub use Rattle.iv_syntax.specs.declared.table.ColumnRule.{ColumnRule}
+pub use Rattle.iv_syntax.specs.declared.table.ColumnRule.TheVariants as column_rule
+pub use Rattle.iv_syntax.specs.declared.table.ColumnType.{ColumnType}
+pub use Rattle.iv_syntax.specs.declared.table.ColumnType.TheVariants as type
+pub use Rattle.iv_syntax.specs.declared.table.ConstraintTime.{ConstraintTime}
+pub use Rattle.iv_syntax.specs.declared.table.Literal.{Literal}
+pub use Rattle.iv_syntax.specs.declared.table.Literal.TheVariants as literal
+pub use Rattle.iv_syntax.specs.declared.table.References.{References}
+pub use Rattle.iv_syntax.specs.declared.table.TableConstraint.{TableConstraint}
+pub use Rattle.iv_syntax.specs.declared.table.TableElement.{TableElement}
+pub use Rattle.iv_syntax.specs.declared.table.TableElement.TheVariants as element
+pub use Rattle.iv_syntax.specs.declared.table.TableRule.{TableRule}
+pub use Rattle.iv_syntax.specs.declared.table.TableRule.TheVariants as table_rule
+pub use Rattle.iv_syntax.specs.declared.statement.Assignment.{Assignment}
+pub use Rattle.iv_syntax.specs.declared.statement.ConstraintList.TheVariants as constraints
+pub use Rattle.iv_syntax.specs.declared.statement.ConstraintMode.{ConstraintMode}
+pub use Rattle.iv_syntax.specs.declared.statement.ConstraintMode.TheVariants as mode
+pub use Rattle.iv_syntax.specs.declared.statement.Delete.{Delete}
+pub use Rattle.iv_syntax.specs.declared.statement.Insert.TheVariants as insert
+pub use Rattle.iv_syntax.specs.declared.statement.InsertSource.TheVariants as source
+pub use Rattle.iv_syntax.specs.declared.statement.Select.TheVariants as select
+pub use Rattle.iv_syntax.specs.declared.statement.SelectList.TheVariants as select_list
+pub use Rattle.iv_syntax.specs.declared.statement.Statement.{Statement}
+pub use Rattle.iv_syntax.specs.declared.statement.Statement.TheVariants as statement
+pub use Rattle.iv_syntax.specs.declared.statement.Update.{Update}
+pub use Rattle.iv_syntax.specs.declared.statement.ValueOrDefault.{ValueOrDefault}
+pub use Rattle.iv_syntax.specs.declared.statement.ValueOrDefault.TheVariants as given
+pub use Rattle.iv_syntax.specs.declared.trigger.ActionTime.{ActionTime}
+pub use Rattle.iv_syntax.specs.declared.trigger.ActionTime.TheVariants as time
+pub use Rattle.iv_syntax.specs.declared.trigger.Granularity.{Granularity}
+pub use Rattle.iv_syntax.specs.declared.trigger.Granularity.TheVariants as granularity
+pub use Rattle.iv_syntax.specs.declared.trigger.Referencing.{Referencing}
+pub use Rattle.iv_syntax.specs.declared.trigger.TransitionName.TheVariants as transition
+pub use Rattle.iv_syntax.specs.declared.trigger.TriggerAction.{TriggerAction}
+pub use Rattle.iv_syntax.specs.declared.trigger.TriggerAction.TheVariants as action
+pub use Rattle.iv_syntax.specs.declared.trigger.TriggerEvent.{TriggerEvent}
+pub use Rattle.iv_syntax.specs.declared.trigger.TriggerEvent.TheVariants as event
+pub use Rattle.iv_catalogue.specs.declared.catalogue.Table.{Table}
+pub use Rattle.iv_catalogue.specs.declared.cause.Cause.TheVariants as cause
+pub use Rattle.iv_catalogue.specs.declared.constraint.Rule.TheVariants as rule
+pub use Rattle.iv_catalogue.specs.declared.plan.BodyStatement.TheVariants as body
 use Rattle.std.specs.Prelude.{ℕ, Bool, true, false, List, [], ◌∷◌, codes, Option, None}
-use Rattle.iv_value.specs.declared.value.Value.TheVariants as value
-use Rattle.iv_value.specs.declared.value.Kind.TheVariants as kind
-use Rattle.iv_expr.specs.declared.tree.Cond.TheVariants as cond
-use Rattle.iv_syntax.specs.declared.tree.Condition.{Condition}
-use Rattle.iv_syntax.specs.declared.statement.Statement.{Statement}
-use Rattle.iv_syntax.specs.declared.statement.Statement.TheVariants as statement
-use Rattle.iv_syntax.specs.declared.statement.ValueOrDefault.{ValueOrDefault}
-use Rattle.iv_syntax.specs.declared.statement.Assignment.{Assignment}
-use Rattle.iv_syntax.specs.declared.statement.Update.{Update}
-use Rattle.iv_syntax.specs.declared.statement.Delete.{Delete}
-use Rattle.iv_syntax.specs.declared.statement.ConstraintMode.{ConstraintMode}
-use Rattle.iv_syntax.specs.declared.statement.ConstraintMode.TheVariants as mode
-use Rattle.iv_syntax.specs.declared.table.ColumnType.{ColumnType}
-use Rattle.iv_syntax.specs.declared.table.ColumnRule.{ColumnRule}
-use Rattle.iv_syntax.specs.declared.table.ColumnConstraint.{ColumnConstraint}
-use Rattle.iv_syntax.specs.declared.table.TableRule.{TableRule}
-use Rattle.iv_syntax.specs.declared.table.TableConstraint.{TableConstraint}
-use Rattle.iv_syntax.specs.declared.table.TableElement.{TableElement}
-use Rattle.iv_syntax.specs.declared.table.TableElement.TheVariants as element
-use Rattle.iv_syntax.specs.declared.table.Literal.{Literal}
-use Rattle.iv_syntax.specs.declared.table.References.{References}
-use Rattle.iv_syntax.specs.declared.table.ConstraintTime.{ConstraintTime}
-use Rattle.iv_syntax.specs.declared.trigger.ActionTime.{ActionTime}
-use Rattle.iv_syntax.specs.declared.trigger.ActionTime.TheVariants as time
-use Rattle.iv_syntax.specs.declared.trigger.TriggerEvent.{TriggerEvent}
-use Rattle.iv_syntax.specs.declared.trigger.TriggerEvent.TheVariants as event
-use Rattle.iv_syntax.specs.declared.trigger.Granularity.{Granularity}
-use Rattle.iv_syntax.specs.declared.trigger.Granularity.TheVariants as granularity
-use Rattle.iv_syntax.specs.declared.trigger.TriggerAction.{TriggerAction}
-use Rattle.iv_syntax.specs.declared.trigger.Referencing.{Referencing}
 use Rattle.iv_catalogue.specs.Catalogues.{Schema}
-use Rattle.iv_catalogue.specs.declared.constraint.Rule.TheVariants as rule
-use Rattle.iv_catalogue.specs.declared.plan.BodyStatement.TheVariants as body
 use Rattle.iv_resolution.specs.Worked.{a, b, k, p, t, z}
 
 -- ---- names

@@ -1,24 +1,24 @@
 -- Duplicate: names in use, and names that come twice, each with a statement beside it that misses this by one name.
 use Rattle.std.specs.Prelude.{◌≡◌, [], ◌∷◌, codes, Some, None}
-use Rattle.iv_expr.specs.declared.tree.Side.TheVariants.{Old, New}
-use Rattle.iv_syntax.specs.declared.table.ColumnType.TheVariants as type
-use Rattle.iv_syntax.specs.declared.table.ColumnRule.TheVariants as column_rule
-use Rattle.iv_syntax.specs.declared.table.TableRule.TheVariants as table_rule
-use Rattle.iv_syntax.specs.declared.statement.ConstraintMode.TheVariants as mode
-use Rattle.iv_syntax.specs.declared.statement.ConstraintList.TheVariants as constraints
-use Rattle.iv_syntax.specs.declared.statement.ValueOrDefault.TheVariants as given
-use Rattle.iv_syntax.specs.declared.statement.SelectList.TheVariants as list
-use Rattle.iv_syntax.specs.declared.statement.InsertSource.TheVariants as source
-use Rattle.iv_syntax.specs.declared.statement.Insert.TheVariants as insert
-use Rattle.iv_syntax.specs.declared.statement.Select.TheVariants as select
-use Rattle.iv_syntax.specs.declared.statement.Statement.TheVariants as statement
-use Rattle.iv_syntax.specs.declared.tree.Expression.TheVariants as expression
-use Rattle.iv_syntax.specs.declared.trigger.ActionTime.TheVariants as time
-use Rattle.iv_syntax.specs.declared.trigger.TriggerEvent.TheVariants as event
-use Rattle.iv_syntax.specs.declared.trigger.Granularity.TheVariants as granularity
-use Rattle.iv_syntax.specs.declared.trigger.TransitionName.TheVariants as what
-use Rattle.iv_syntax.specs.declared.trigger.TriggerAction.TheVariants as action
-use Rattle.iv_catalogue.specs.declared.cause.Cause.TheVariants.{Duplicate}
+use Rattle.iv_resolution_worked.specs.Words.side.{Old, New}
+use Rattle.iv_resolution_worked.specs.Words.type
+use Rattle.iv_resolution_worked.specs.Words.column_rule
+use Rattle.iv_resolution_worked.specs.Words.table_rule
+use Rattle.iv_resolution_worked.specs.Words.mode
+use Rattle.iv_resolution_worked.specs.Words.constraints
+use Rattle.iv_resolution_worked.specs.Words.given
+use Rattle.iv_resolution_worked.specs.Words.select_list as list
+use Rattle.iv_resolution_worked.specs.Words.source
+use Rattle.iv_resolution_worked.specs.Words.insert
+use Rattle.iv_resolution_worked.specs.Words.select
+use Rattle.iv_resolution_worked.specs.Words.statement
+use Rattle.iv_resolution_worked.specs.Words.expression
+use Rattle.iv_resolution_worked.specs.Words.time
+use Rattle.iv_resolution_worked.specs.Words.event
+use Rattle.iv_resolution_worked.specs.Words.granularity
+use Rattle.iv_resolution_worked.specs.Words.transition as what
+use Rattle.iv_resolution_worked.specs.Words.action
+use Rattle.iv_resolution_worked.specs.Words.cause.{Duplicate}
 use Rattle.iv_resolution.specs.Resolution.{least}
 use Rattle.iv_resolution.specs.Worked.{a, b, t, column, one, text, from, any_time, item, insert_into, defined, constrained, named, create, to_table}
 use Rattle.iv_resolution_worked.specs.Words.{d, n, o, q, r, s, v, x, y, schema, sets, update_of, refers, in_column, column_of, constraint, trigger_of}

@@ -1,30 +1,30 @@
 -- Limit: one more than there may be, with as many as there may be beside it; and statements that no text of the language is, which a
 -- caller of the library may build.
 use Rattle.std.specs.Prelude.{◌≡◌, [], ◌∷◌, codes, Some, None}
-use Rattle.iv_expr.specs.declared.tree.Comparison.TheVariants.{Equal}
-use Rattle.iv_expr.specs.declared.tree.Side.TheVariants.{New}
-use Rattle.iv_syntax.specs.declared.table.ColumnType.TheVariants as type
-use Rattle.iv_syntax.specs.declared.table.ColumnRule.TheVariants as column_rule
-use Rattle.iv_syntax.specs.declared.table.TableRule.TheVariants as table_rule
-use Rattle.iv_syntax.specs.declared.table.Literal.TheVariants as literal
-use Rattle.iv_syntax.specs.declared.statement.ConstraintMode.TheVariants as mode
-use Rattle.iv_syntax.specs.declared.statement.ConstraintList.TheVariants as constraints
-use Rattle.iv_syntax.specs.declared.statement.ValueOrDefault.TheVariants as given
-use Rattle.iv_syntax.specs.declared.statement.SelectList.TheVariants as list
-use Rattle.iv_syntax.specs.declared.statement.InsertSource.TheVariants as source
-use Rattle.iv_syntax.specs.declared.statement.Insert.TheVariants as insert
-use Rattle.iv_syntax.specs.declared.statement.Select.TheVariants as select
-use Rattle.iv_syntax.specs.declared.statement.Statement.TheVariants as statement
-use Rattle.iv_syntax.specs.declared.tree.Expression.TheVariants as expression
-use Rattle.iv_syntax.specs.declared.tree.Condition.TheVariants as condition
-use Rattle.iv_syntax.specs.declared.trigger.ActionTime.TheVariants as time
-use Rattle.iv_syntax.specs.declared.trigger.TriggerEvent.TheVariants as event
-use Rattle.iv_syntax.specs.declared.trigger.Granularity.TheVariants as granularity
-use Rattle.iv_syntax.specs.declared.trigger.TransitionName.TheVariants as what
-use Rattle.iv_syntax.specs.declared.trigger.TriggerAction.TheVariants as action
-use Rattle.iv_syntax.specs.declared.tree.Sign.TheVariants.{Plus, Minus}
+use Rattle.iv_resolution_worked.specs.Words.comparison.{Equal}
+use Rattle.iv_resolution_worked.specs.Words.side.{New}
+use Rattle.iv_resolution_worked.specs.Words.type
+use Rattle.iv_resolution_worked.specs.Words.column_rule
+use Rattle.iv_resolution_worked.specs.Words.table_rule
+use Rattle.iv_resolution_worked.specs.Words.literal
+use Rattle.iv_resolution_worked.specs.Words.mode
+use Rattle.iv_resolution_worked.specs.Words.constraints
+use Rattle.iv_resolution_worked.specs.Words.given
+use Rattle.iv_resolution_worked.specs.Words.select_list as list
+use Rattle.iv_resolution_worked.specs.Words.source
+use Rattle.iv_resolution_worked.specs.Words.insert
+use Rattle.iv_resolution_worked.specs.Words.select
+use Rattle.iv_resolution_worked.specs.Words.statement
+use Rattle.iv_resolution_worked.specs.Words.expression
+use Rattle.iv_resolution_worked.specs.Words.condition
+use Rattle.iv_resolution_worked.specs.Words.time
+use Rattle.iv_resolution_worked.specs.Words.event
+use Rattle.iv_resolution_worked.specs.Words.granularity
+use Rattle.iv_resolution_worked.specs.Words.transition as what
+use Rattle.iv_resolution_worked.specs.Words.action
+use Rattle.iv_resolution_worked.specs.Words.sign.{Plus, Minus}
+use Rattle.iv_resolution_worked.specs.Words.cause.{Limit}
 use Rattle.iv_syntax.specs.Trees.{group, signed, product, sum, enclosed, negated, both, either, exists_where}
-use Rattle.iv_catalogue.specs.declared.cause.Cause.TheVariants.{Limit}
 use Rattle.iv_resolution.specs.Resolution.{least}
 use Rattle.iv_resolution.specs.Worked.{a, k, p, t, column, one, from, called, any_time, item, insert_into, select_of, delete_where, defined, constrained, named, create}
 use Rattle.iv_resolution_worked.specs.Words.{n, r, schema, sets, update_of, delete_of, in_column, column_of, constraint, trigger_of}

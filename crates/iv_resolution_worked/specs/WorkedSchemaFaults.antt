@@ -1,26 +1,26 @@
 -- SchemaFault: definitions that no schema can have, each with one beside it that a schema can have.
 use Rattle.std.specs.Prelude.{◌≡◌, true, false, [], ◌∷◌, codes, Some, None}
-use Rattle.iv_expr.specs.declared.tree.Comparison.TheVariants.{Equal}
-use Rattle.iv_expr.specs.declared.tree.Side.TheVariants.{Old, New}
-use Rattle.iv_syntax.specs.declared.table.TableElement.TheVariants as element
-use Rattle.iv_syntax.specs.declared.table.ColumnType.TheVariants as type
-use Rattle.iv_syntax.specs.declared.table.ColumnRule.TheVariants as column_rule
-use Rattle.iv_syntax.specs.declared.table.TableRule.TheVariants as table_rule
-use Rattle.iv_syntax.specs.declared.table.Literal.TheVariants as literal
-use Rattle.iv_syntax.specs.declared.statement.ConstraintMode.TheVariants as mode
-use Rattle.iv_syntax.specs.declared.statement.ValueOrDefault.TheVariants as given
-use Rattle.iv_syntax.specs.declared.statement.InsertSource.TheVariants as source
-use Rattle.iv_syntax.specs.declared.statement.Insert.TheVariants as insert
-use Rattle.iv_syntax.specs.declared.statement.Statement.TheVariants as statement
-use Rattle.iv_syntax.specs.declared.tree.Condition.TheVariants as condition
-use Rattle.iv_syntax.specs.declared.trigger.ActionTime.TheVariants as time
-use Rattle.iv_syntax.specs.declared.trigger.TriggerEvent.TheVariants as event
-use Rattle.iv_syntax.specs.declared.trigger.Granularity.TheVariants as granularity
-use Rattle.iv_syntax.specs.declared.trigger.TransitionName.TheVariants as what
-use Rattle.iv_syntax.specs.declared.trigger.TriggerAction.TheVariants as action
-use Rattle.iv_syntax.specs.declared.tree.Sign.TheVariants.{Minus}
+use Rattle.iv_resolution_worked.specs.Words.comparison.{Equal}
+use Rattle.iv_resolution_worked.specs.Words.side.{Old, New}
+use Rattle.iv_resolution_worked.specs.Words.element
+use Rattle.iv_resolution_worked.specs.Words.type
+use Rattle.iv_resolution_worked.specs.Words.column_rule
+use Rattle.iv_resolution_worked.specs.Words.table_rule
+use Rattle.iv_resolution_worked.specs.Words.literal
+use Rattle.iv_resolution_worked.specs.Words.mode
+use Rattle.iv_resolution_worked.specs.Words.given
+use Rattle.iv_resolution_worked.specs.Words.source
+use Rattle.iv_resolution_worked.specs.Words.insert
+use Rattle.iv_resolution_worked.specs.Words.statement
+use Rattle.iv_resolution_worked.specs.Words.condition
+use Rattle.iv_resolution_worked.specs.Words.time
+use Rattle.iv_resolution_worked.specs.Words.event
+use Rattle.iv_resolution_worked.specs.Words.granularity
+use Rattle.iv_resolution_worked.specs.Words.transition as what
+use Rattle.iv_resolution_worked.specs.Words.action
+use Rattle.iv_resolution_worked.specs.Words.sign.{Minus}
+use Rattle.iv_resolution_worked.specs.Words.cause.{SchemaFault}
 use Rattle.iv_syntax.specs.Trees.{enclosed, negated, both, either, exists_where}
-use Rattle.iv_catalogue.specs.declared.cause.Cause.TheVariants.{SchemaFault}
 use Rattle.iv_resolution.specs.Resolution.{least}
 use Rattle.iv_resolution.specs.Worked.{a, b, k, p, t, w, z, column, of_range, one, text, from, any_time, item, defined, constrained, create, to_table}
 use Rattle.iv_resolution_worked.specs.Words.{d, n, o, q, r, x, y, schema, sets, update_of, delete_of, refers, checked, in_column, column_of, constraint, trigger_of}

@@ -1,17 +1,10 @@
 -- A wave that fits does as it is applied, and so do the rows after it.
 use Rattle.std.proofs.Common.{◌≡◌, ℕ, ◌+◌, Bool, true, false, ◌&&◌, ◌||◌, if◌then◌else◌, List, [], ◌∷◌, ◌∙◌, Option, Some, None, is_none, is_some, Ok, refl, sym, ap, filter, slice_get, slice_set}
 use Rattle.std.specs.List.{cons_option}
-use Rattle.iv_value.specs.declared.value.Value.{Value}
-use Rattle.iv_expr.specs.declared.row.StoredRow.{StoredRow}
-use Rattle.iv_expr.specs.declared.row.Change.{Change}
+use Rattle.iv_row_laws.specs.Words.{Value, StoredRow, Change, Table, Cause, Refusal, BodyStatement, Trigger}
+use Rattle.iv_row_laws.specs.Words.body
 use Rattle.iv_expr.specs.Evaluation.{value}
 use Rattle.iv_expr.specs.Scopes.{scope_of}
-use Rattle.iv_catalogue.specs.declared.catalogue.Table.{Table}
-use Rattle.iv_catalogue.specs.declared.cause.Cause.{Cause}
-use Rattle.iv_catalogue.specs.declared.cause.Refusal.{Refusal}
-use Rattle.iv_catalogue.specs.declared.plan.BodyStatement.{BodyStatement}
-use Rattle.iv_catalogue.specs.declared.plan.BodyStatement.TheVariants as body
-use Rattle.iv_catalogue.specs.declared.plan.Trigger.{Trigger}
 use Rattle.iv_machine.specs.Databases.{database_after}
 use Rattle.iv_machine.specs.Context.{Context, while_running, each, in_turn}
 use Rattle.iv_machine.specs.Proposals.{holds, stored_value}

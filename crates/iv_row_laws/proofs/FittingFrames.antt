@@ -2,13 +2,12 @@
 use Rattle.std.proofs.Common.{◌≡◌, ℕ, nat_lt, Bool, true, false, not, ◌&&◌, ◌||◌, ◌==◌, if◌then◌else◌, List, [], ◌∷◌, ◌∙◌, Option, Some, None, is_none, is_some, refl, sym, ap, subst, length, map, filter, slice_get, inl, inr}
 use Rattle.std.specs.List.{list_all, cons_option}
 use Rattle.std.proofs.lemmas.Bool.{eqb-true}
-use Rattle.iv_value.specs.declared.value.Value.{Value}
+use Rattle.iv_row_laws.specs.Words.{Value, StoredRow, Change, TriggerEvent, Table, DataStatement, Trigger}
+use Rattle.iv_row_laws.specs.Words.body
 use Rattle.iv_value.specs.declared.value.Value.TheVariants.{Null, Int, Text}
 use Rattle.iv_value.specs.declared.value.Kind.{Kind}
 use Rattle.iv_value.specs.declared.value.Kind.TheVariants as kind
 use Rattle.iv_value.specs.Values.{fit_of}
-use Rattle.iv_expr.specs.declared.row.StoredRow.{StoredRow}
-use Rattle.iv_expr.specs.declared.row.Change.{Change}
 use Rattle.iv_expr.specs.declared.tree.Side.{Side}
 use Rattle.iv_expr.specs.declared.tree.Side.TheVariants.{Old, New}
 use Rattle.iv_expr.specs.Changes.{Wave}
@@ -16,13 +15,8 @@ use Rattle.iv_expr.specs.Scopes.{Frame, scope_of, contents, table_rows, side_of,
 use Rattle.iv_expr.specs.Suiting.{of_sort, sort_of_kind, Shape, row_suits, AllSuit, VariableSuits, HasShape, suits}
 use Rattle.iv_syntax.specs.declared.trigger.Granularity.{Granularity}
 use Rattle.iv_syntax.specs.declared.trigger.Granularity.TheVariants as granularity
-use Rattle.iv_syntax.specs.declared.trigger.TriggerEvent.{TriggerEvent}
 use Rattle.iv_syntax.specs.declared.trigger.TriggerEvent.TheVariants as event
 use Rattle.iv_catalogue.specs.declared.catalogue.Column.{Column}
-use Rattle.iv_catalogue.specs.declared.catalogue.Table.{Table}
-use Rattle.iv_catalogue.specs.declared.plan.BodyStatement.TheVariants as body
-use Rattle.iv_catalogue.specs.declared.plan.DataStatement.{DataStatement}
-use Rattle.iv_catalogue.specs.declared.plan.Trigger.{Trigger}
 use Rattle.iv_machine.specs.Context.{Context}
 use Rattle.iv_machine.specs.Proposals.{table_of, event_of}
 use Rattle.iv_machine.specs.BeforeTriggers.{is_before, for_each_row, same_event, is_on, event_of_change}

@@ -2,11 +2,8 @@
 use Rattle.std.proofs.Common.{◌≡◌, ℕ, zero, suc, ◌+◌, Bool, true, false, if◌then◌else◌, List, [], ◌∷◌, Some, Ok, refl, ap, subst, inl, inr}
 use Rattle.std.specs.List.{enumerate_from}
 use Rattle.iv_expr.specs.Scopes.{Frame, scope_of}
-use Rattle.iv_catalogue.specs.declared.catalogue.Table.{Table}
-use Rattle.iv_catalogue.specs.declared.plan.BodyStatement.{BodyStatement}
-use Rattle.iv_catalogue.specs.declared.plan.BodyStatement.TheVariants as body
-use Rattle.iv_catalogue.specs.declared.plan.DataStatement.{DataStatement}
-use Rattle.iv_machine.specs.declared.database.Database.{Database}
+use Rattle.iv_row_laws.specs.Words.{Table, BodyStatement, DataStatement, Database}
+use Rattle.iv_row_laws.specs.Words.body
 use Rattle.iv_machine.specs.Context.{Context, over}
 use Rattle.iv_machine.specs.Proposals.{holds}
 use Rattle.iv_machine.specs.BeforeTriggers.{placed_statements}

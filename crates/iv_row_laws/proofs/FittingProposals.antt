@@ -2,17 +2,13 @@
 use Rattle.std.proofs.Common.{◌≡◌, ℕ, zero, suc, Bool, true, ◌&&◌, ◌==◌, List, [], ◌∷◌, ◌∙◌, Option, Some, None, Result, Ok, refl, sym, ap, map, length, slice_get}
 use Rattle.std.specs.List.{list_all}
 use Rattle.iv_value.specs.declared.value.Kind.{Kind}
-use Rattle.iv_value.specs.declared.value.Value.{Value}
-use Rattle.iv_expr.specs.declared.row.StoredRow.{StoredRow}
-use Rattle.iv_expr.specs.declared.row.Change.{Change}
+use Rattle.iv_row_laws.specs.Words.{Value, StoredRow, Change, Table, Cause, DataStatement, Database}
 use Rattle.iv_expr.specs.declared.tree.Cond.{Cond}
 use Rattle.iv_expr.specs.declared.tree.Expr.{Expr}
 use Rattle.iv_expr.specs.declared.tree.ExprFault.{ExprFault}
 use Rattle.iv_expr.specs.Evaluation.{value}
 use Rattle.iv_expr.specs.Scopes.{Scope, Frame, scope_of, within, table_rows, range_rows}
 use Rattle.iv_expr.specs.Suiting.{of_sort, sort_of_kind, Shape, shape_within, range_kinds, row_suits, suits, HasShape}
-use Rattle.iv_catalogue.specs.declared.catalogue.Table.{Table}
-use Rattle.iv_catalogue.specs.declared.cause.Cause.{Cause}
 use Rattle.iv_catalogue.specs.declared.plan.Setting.{Setting}
 use Rattle.iv_catalogue.specs.declared.plan.Outputs.{Outputs}
 use Rattle.iv_catalogue.specs.declared.plan.Outputs.TheVariants as outputs
@@ -20,9 +16,7 @@ use Rattle.iv_catalogue.specs.declared.plan.InsertColumns.{InsertColumns}
 use Rattle.iv_catalogue.specs.declared.plan.InsertColumns.TheVariants as columns
 use Rattle.iv_catalogue.specs.declared.plan.InsertRows.{InsertRows}
 use Rattle.iv_catalogue.specs.declared.plan.InsertRows.TheVariants as rows
-use Rattle.iv_catalogue.specs.declared.plan.DataStatement.{DataStatement}
 use Rattle.iv_catalogue.specs.declared.plan.DataStatement.TheVariants.{Insert, Update, Delete}
-use Rattle.iv_machine.specs.declared.database.Database.{Database}
 use Rattle.iv_machine.specs.Context.{Context, each}
 use Rattle.iv_machine.specs.Proposals.{where_true, matching_rows, outputs_of, stored_values, values_by_column, row_of_values, insertion, insertion_of, proposed_insertions, update_of, deletion, with_columns, defaults_of, proposed_changes}
 use Rattle.iv_store.specs.Stores.{fits_table}

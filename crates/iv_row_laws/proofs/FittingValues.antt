@@ -2,7 +2,8 @@
 use Rattle.std.proofs.Common.{◌≡◌, ℕ, zero, suc, ◌+◌, nat_lt, nat_le, Bool, true, false, not, ◌&&◌, List, [], ◌∷◌, ◌∙◌, Option, Some, None, is_some, Result, Ok, Err, refl, sym, ap, map, length, slice_get, slice_set, arith}
 use Rattle.std.specs.List.{list_all, enumerate_from}
 use Rattle.std.proofs.lemmas.Bool.Decides.{nat_tests}
-use Rattle.iv_value.specs.declared.value.Value.{Value}
+use Rattle.iv_row_laws.specs.Words.{Value, Table, Cause}
+use Rattle.iv_row_laws.specs.Words.cause.{WrongShape, TextTooLong}
 use Rattle.iv_value.specs.declared.value.Value.TheVariants.{Null}
 use Rattle.iv_value.specs.declared.value.Fit.{Fit}
 use Rattle.iv_value.specs.declared.value.Fit.TheVariants.{Yes, WrongKind, TooLong}
@@ -10,9 +11,6 @@ use Rattle.iv_value.specs.Values.{fit_of}
 use Rattle.iv_expr.specs.declared.tree.ExprFault.{ExprFault}
 use Rattle.iv_catalogue.specs.Catalogues.{Schema}
 use Rattle.iv_catalogue.specs.declared.catalogue.Column.{Column}
-use Rattle.iv_catalogue.specs.declared.catalogue.Table.{Table}
-use Rattle.iv_catalogue.specs.declared.cause.Cause.{Cause}
-use Rattle.iv_catalogue.specs.declared.cause.Cause.TheVariants.{WrongShape, TextTooLong}
 use Rattle.iv_catalogue.specs.declared.limits.TheConstants.{MOST_COLUMNS}
 use Rattle.iv_resolution.specs.Constraints.{comes_twice}
 use Rattle.iv_machine.specs.Databases.{value_at}

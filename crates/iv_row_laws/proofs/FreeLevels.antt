@@ -1,15 +1,11 @@
 -- The waves of a statement that fits meet no misfit, and nor do the levels that it leads to.
 use Rattle.std.proofs.Common.{◌≡◌, ℕ, zero, suc, ◌+◌, ◌-◌, nat_lt, Bool, true, false, if◌then◌else◌, List, [], ◌∷◌, ◌∙◌, Some, Result, Ok, Err, refl, ap, filter}
-use Rattle.iv_expr.specs.declared.row.Change.{Change}
+use Rattle.iv_row_laws.specs.Words.{Change, Cause, BodyStatement, DataStatement, Database}
+use Rattle.iv_row_laws.specs.Words.cause.{Restrict, ActionConflict, Violation, TooManyChanges, TransactionTooLarge, Limit}
+use Rattle.iv_row_laws.specs.Words.body
 use Rattle.iv_expr.specs.Changes.{Wave, wave_of}
 use Rattle.iv_expr.specs.Evaluation.{and_then}
 use Rattle.iv_expr.specs.Scopes.{Frame, scope_of}
-use Rattle.iv_catalogue.specs.declared.cause.Cause.{Cause}
-use Rattle.iv_catalogue.specs.declared.cause.Cause.TheVariants.{Restrict, ActionConflict, Violation, TooManyChanges, TransactionTooLarge, Limit}
-use Rattle.iv_catalogue.specs.declared.plan.BodyStatement.{BodyStatement}
-use Rattle.iv_catalogue.specs.declared.plan.BodyStatement.TheVariants as body
-use Rattle.iv_catalogue.specs.declared.plan.DataStatement.{DataStatement}
-use Rattle.iv_machine.specs.declared.database.Database.{Database}
 use Rattle.iv_machine.specs.declared.database.Which.TheVariants.{Immediate}
 use Rattle.iv_machine.specs.Bounds.{most_changes_in_a_transaction}
 use Rattle.iv_machine.specs.Databases.{scan, is_chosen, size, database_after}

@@ -1,11 +1,9 @@
 -- Results that are free of misfits, one step after another.
 use Rattle.std.proofs.Common.{◌≡◌, ℕ, true, false, List, [], ◌∷◌, Some, is_none, Result, Ok, Err, if◌then◌else◌, refl, subst, inl, inr}
 use Rattle.iv_expr.specs.Evaluation.{and_then}
-use Rattle.iv_catalogue.specs.declared.cause.Cause.{Cause}
-use Rattle.iv_catalogue.specs.declared.cause.Cause.TheVariants.{NumberOutOfRange, TextTooLong}
+use Rattle.iv_row_laws.specs.Words.{Cause, Refusal, Database}
+use Rattle.iv_row_laws.specs.Words.cause.{NumberOutOfRange, TextTooLong}
 use Rattle.iv_catalogue.specs.declared.cause.Fault.{Fault}
-use Rattle.iv_catalogue.specs.declared.cause.Refusal.{Refusal}
-use Rattle.iv_machine.specs.declared.database.Database.{Database}
 use Rattle.iv_machine.specs.Context.{Failure, over, unless_first, while_running, with_count, inside_trigger, each, in_turn}
 use Rattle.iv_fitting.specs.Running.{is_of_values}
 use Rattle.iv_fitting.proofs.Running.{Plain}

@@ -2,13 +2,9 @@
 use Rattle.std.proofs.Common.{◌≡◌, ℕ, ◌+◌, ◌≤◌, nat_lt, Bool, true, false, ◌||◌, if◌then◌else◌, List, [], ◌∷◌, ◌∙◌, Option, Some, None, IfSome, Ok, refl, sym, ap, subst, length, arith}
 use Rattle.std.proofs.lemmas.Bool.{ne_eqb}
 use Rattle.std.proofs.lemmas.Bool.Decides.{nat_tests}
-use Rattle.iv_value.specs.declared.value.Value.{Value}
-use Rattle.iv_expr.specs.declared.row.StoredRow.{StoredRow}
-use Rattle.iv_expr.specs.declared.row.Change.{Change}
+use Rattle.iv_row_laws.specs.Words.{Value, StoredRow, Change, Table, Database}
+use Rattle.iv_row_laws.specs.Words.cause.{TooManyChanges, TransactionTooLarge, Limit}
 use Rattle.iv_expr.specs.Changes.{Wave, RisingChangesFrom}
-use Rattle.iv_catalogue.specs.declared.catalogue.Table.{Table}
-use Rattle.iv_catalogue.specs.declared.cause.Cause.TheVariants.{TooManyChanges, TransactionTooLarge, Limit}
-use Rattle.iv_machine.specs.declared.database.Database.{Database}
 use Rattle.iv_machine.specs.Bounds.{most_changes_in_a_transaction, last_row_number}
 use Rattle.iv_machine.specs.Databases.{row_at, has_change, size}
 use Rattle.iv_machine.specs.Context.{Context, fails, with_count}

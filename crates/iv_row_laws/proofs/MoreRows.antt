@@ -1,7 +1,6 @@
 -- Rows still fit where there are more tables.
 use Rattle.std.proofs.Common.{◌≡◌, ℕ, zero, suc, true, List, [], ◌∷◌, ◌++◌, ◌∙◌, Option, Some, None, refl, ap, slice_get}
-use Rattle.iv_value.specs.declared.value.Value.{Value}
-use Rattle.iv_catalogue.specs.declared.catalogue.Table.{Table}
+use Rattle.iv_row_laws.specs.Words.{Value, Table}
 use Rattle.iv_store.specs.Stores.{fits_table}
 use Rattle.iv_fitting.proofs.Pointwise.{two, parts_of}
 use Rattle.iv_row_laws.specs.RowFits.{row_fits, rows_fit}

@@ -1,12 +1,8 @@
 -- The net changes of a chain of waves fit.
 use Rattle.std.proofs.Common.{◌≡◌, Bool, true, ◌&&◌, List, [], ◌∷◌, ◌∙◌, Option, Some, None, is_none, inl, inr, refl, sym, ap, map, filter}
 use Rattle.std.proofs.lemmas.List.Folds.{list_all-append}
-use Rattle.iv_value.specs.declared.value.Value.{Value}
-use Rattle.iv_expr.specs.declared.row.StoredRow.{StoredRow}
-use Rattle.iv_expr.specs.declared.row.Change.{Change}
+use Rattle.iv_row_laws.specs.Words.{Value, StoredRow, Change, Table, Database}
 use Rattle.iv_expr.specs.Changes.{Wave}
-use Rattle.iv_catalogue.specs.declared.catalogue.Table.{Table}
-use Rattle.iv_machine.specs.declared.database.Database.{Database}
 use Rattle.iv_machine.specs.Databases.{row_at}
 use Rattle.iv_machine.specs.Waves.{in_waves, net_change, net_insertion, net_wave}
 use Rattle.iv_store.specs.Stores.{fits_table}

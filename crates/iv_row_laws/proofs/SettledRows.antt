@@ -2,7 +2,7 @@
 use Rattle.std.proofs.Common.{◌≡◌, true, refl}
 use Rattle.std.specs.List.{list_all}
 use Rattle.iv_expr.specs.Changes.{Wave}
-use Rattle.iv_machine.specs.declared.database.Database.{Database}
+use Rattle.iv_row_laws.specs.Words.{Database}
 use Rattle.iv_machine.specs.Databases.{database_after}
 use Rattle.iv_machine.specs.Context.{Context}
 use Rattle.iv_machine.specs.Waves.{SettledWaves}

@@ -1,10 +1,7 @@
 -- A row stays of its table, over a wave and over a chain of waves.
 use Rattle.std.proofs.Common.{◌≡◌, ℕ, ◌<◌, ◌≤◌, Bool, true, false, if◌then◌else◌, List, [], ◌∷◌, ◌∙◌, Option, Some, None, refl, sym, ap, subst, inl, inr, arith}
-use Rattle.iv_value.specs.declared.value.Value.{Value}
-use Rattle.iv_expr.specs.declared.row.StoredRow.{StoredRow}
-use Rattle.iv_expr.specs.declared.row.Change.{Change}
+use Rattle.iv_row_laws.specs.Words.{Value, StoredRow, Change, Database}
 use Rattle.iv_expr.specs.Changes.{Wave}
-use Rattle.iv_machine.specs.declared.database.Database.{Database}
 use Rattle.iv_machine.specs.Databases.{row_at, has_change, next_after, database_after}
 use Rattle.iv_laws.specs.FittingWaves.{old_row, Current, NumbersFrom, Numbered, FitsDatabase, Chain}
 use Rattle.iv_laws.proofs.RowNumbers.{some_none, some_same, number_of_row_at}

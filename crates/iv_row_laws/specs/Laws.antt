@@ -1,14 +1,9 @@
 -- The rows of every table fit its columns, whatever statements, waves and triggers do.
 use Rattle.std.specs.Prelude.{◌≡◌, ℕ, true, false, List, ◌++◌, slice_get, Some, Ok}
 use Rattle.std.specs.List.{list_all}
-use Rattle.iv_expr.specs.declared.row.StoredRow.{StoredRow}
-use Rattle.iv_expr.specs.declared.row.Change.{Change}
+use Rattle.iv_row_laws.specs.Words.{StoredRow, Change, Table, DataStatement, Trigger, Database}
 use Rattle.iv_expr.specs.Changes.{Wave}
 use Rattle.iv_expr.specs.Scopes.{Frame, no_frame}
-use Rattle.iv_catalogue.specs.declared.catalogue.Table.{Table}
-use Rattle.iv_catalogue.specs.declared.plan.DataStatement.{DataStatement}
-use Rattle.iv_catalogue.specs.declared.plan.Trigger.{Trigger}
-use Rattle.iv_machine.specs.declared.database.Database.{Database}
 use Rattle.iv_machine.specs.Databases.{database_after}
 use Rattle.iv_machine.specs.Context.{Context}
 use Rattle.iv_machine.specs.Proposals.{proposed_changes, proposed_wave}

@@ -1,3 +1,4 @@
+pub mod Words
 pub mod RowFits
 pub mod Laws
 pub mod Starting

@@ -1,17 +1,10 @@
 -- A data statement that fits meets no value of the wrong kind, and names no column that isn't there, in all that follows from it.
 use Rattle.std.specs.Prelude.{◌≡◌, ℕ, Bool, true, false, List, Err}
 use Rattle.std.specs.List.{list_all}
-use Rattle.iv_expr.specs.declared.row.StoredRow.{StoredRow}
-use Rattle.iv_expr.specs.declared.row.Change.{Change}
+use Rattle.iv_row_laws.specs.Words.{StoredRow, Change, TriggerEvent, Cause, Refusal, DataStatement, Trigger, Database}
+use Rattle.iv_row_laws.specs.Words.cause.{WrongShape}
 use Rattle.iv_expr.specs.Changes.{Wave}
 use Rattle.iv_expr.specs.Scopes.{Frame}
-use Rattle.iv_syntax.specs.declared.trigger.TriggerEvent.{TriggerEvent}
-use Rattle.iv_catalogue.specs.declared.cause.Cause.{Cause}
-use Rattle.iv_catalogue.specs.declared.cause.Cause.TheVariants.{WrongShape}
-use Rattle.iv_catalogue.specs.declared.cause.Refusal.{Refusal}
-use Rattle.iv_catalogue.specs.declared.plan.DataStatement.{DataStatement}
-use Rattle.iv_catalogue.specs.declared.plan.Trigger.{Trigger}
-use Rattle.iv_machine.specs.declared.database.Database.{Database}
 use Rattle.iv_machine.specs.Context.{Context, Failure}
 use Rattle.iv_machine.specs.BeforeTriggers.{changes_after_triggers, before_statement}
 use Rattle.iv_machine.specs.Waves.{settled_waves}

@@ -1,16 +1,11 @@
 -- When rows, changes and statements fit the tables: each value fits its column, by its kind and its length ("Store assignment").
 use Rattle.std.specs.Prelude.{◌≡◌, ℕ, Bool, true, ◌&&◌, ◌||◌, List, [], Option, Some, None, is_some, slice_get}
 use Rattle.std.specs.List.{list_all}
-use Rattle.iv_value.specs.declared.value.Value.{Value}
-use Rattle.iv_expr.specs.declared.row.StoredRow.{StoredRow}
-use Rattle.iv_expr.specs.declared.row.Change.{Change}
+use Rattle.iv_row_laws.specs.Words.{Value, StoredRow, Change, Table, BodyStatement, DataStatement}
+use Rattle.iv_row_laws.specs.Words.body
 use Rattle.iv_expr.specs.Changes.{Wave}
 use Rattle.iv_expr.specs.Scopes.{Frame, scope_of}
 use Rattle.iv_expr.specs.Suiting.{Shape, HasShape}
-use Rattle.iv_catalogue.specs.declared.catalogue.Table.{Table}
-use Rattle.iv_catalogue.specs.declared.plan.BodyStatement.{BodyStatement}
-use Rattle.iv_catalogue.specs.declared.plan.BodyStatement.TheVariants as body
-use Rattle.iv_catalogue.specs.declared.plan.DataStatement.{DataStatement}
 use Rattle.iv_store.specs.Stores.{fits_table}
 use Rattle.iv_fitting.specs.PlanShapes.{table_kinds, is_there, data_suits}
 

@@ -1,12 +1,9 @@
 -- What a wave is settled from, step by step, and what a store asks of each change of it.
 use Rattle.std.specs.Prelude.{◌≡◌, ℕ, ◌<◌, ◌≤◌, true, List, [], ◌∷◌, length, IfSome, Ok}
 use Rattle.std.specs.List.{list_all}
-use Rattle.iv_expr.specs.declared.row.Change.{Change}
+use Rattle.iv_row_laws.specs.Words.{Change, Table, DataStatement, Database}
 use Rattle.iv_expr.specs.Changes.{Wave}
 use Rattle.iv_expr.specs.Scopes.{Frame}
-use Rattle.iv_catalogue.specs.declared.catalogue.Table.{Table}
-use Rattle.iv_catalogue.specs.declared.plan.DataStatement.{DataStatement}
-use Rattle.iv_machine.specs.declared.database.Database.{Database}
 use Rattle.iv_machine.specs.Bounds.{most_changes_in_a_transaction, last_row_number}
 use Rattle.iv_machine.specs.Databases.{row_at, database_after}
 use Rattle.iv_machine.specs.Context.{Context}

@@ -1,9 +1,7 @@
 -- One statement after another, of which some may be refused memory.
 use Rattle.std.proofs.Common.{◌≡◌, ◌≢◌, Bool, true, false, not, if◌then◌else◌, cond, List, [], ◌∷◌, ◌++◌, filter, length, Option, Some, None, Result, refl, sym, ap, subst, ◌∙◌, append-nil, append_assoc, length-append, arith, MatchBool}
-use Rattle.iv_syntax.specs.declared.statement.Statement.{Statement}
-use Rattle.iv_catalogue.specs.declared.cause.Refusal.{Refusal}
+use Rattle.iv_session.specs.Words.{Statement, Refusal, Answer}
 use Rattle.iv_catalogue.specs.Refusals.{is_memory}
-use Rattle.iv_machine.specs.declared.answer.Answer.{Answer}
 use Rattle.iv_machine.specs.Databases.{first}
 use Rattle.iv_machine.specs.Machine.{State, Outcome, Starved}
 use Rattle.iv_run.specs.Step.{Executes, run, step}

@@ -1,12 +1,9 @@
 -- A data statement on a store with a mark, and in a session.
 use Rattle.std.proofs.Common.{◌≡◌, ℕ, ◌==◌, ◌-◌, Bool, true, false, Option, Some, None, Result, Ok, Err, List, [], ◌∷◌, ◌++◌, length, take, slice_get, nat_lt, arith, refl, ap, sym, ◌∙◌, MatchBool}
 use Rattle.std.proofs.lemmas.Bool.Decides.{nat_tests}
-use Rattle.iv_catalogue.specs.declared.cause.Refusal.{Refusal}
-use Rattle.iv_catalogue.specs.declared.plan.DataStatement.{DataStatement}
+use Rattle.iv_session.specs.Words.{Refusal, DataStatement, Answer, Database}
 use Rattle.iv_catalogue.specs.Refusals.{is_memory_cause, out_of_memory}
 use Rattle.iv_expr.specs.Scopes.{no_frame}
-use Rattle.iv_machine.specs.declared.answer.Answer.{Answer}
-use Rattle.iv_machine.specs.declared.database.Database.{Database}
 use Rattle.iv_machine.specs.Context.{Failure}
 use Rattle.iv_machine.specs.Levels.{Finished, level}
 use Rattle.iv_machine.specs.Machine.{State, change_outcome, level_outcome}

@@ -2,12 +2,10 @@
 use Rattle.std.proofs.Common.{◌≡◌, ℕ, zero, suc, ◌+◌, Bool, true, false, not, ◌&&◌, ◌==◌, if◌then◌else◌, Option, Some, None, List, [], ◌∷◌, ◌++◌, filter, find, map, flat_map, slice_get, refl, ap, sym, ◌∙◌}
 use Rattle.std.specs.List.{enumerate_from}
 use Rattle.iv_expr.specs.declared.row.StoredRow.{StoredRow}
-use Rattle.iv_syntax.specs.declared.statement.ConstraintMode.{ConstraintMode}
+use Rattle.iv_session.specs.Words.{ConstraintMode, Constraint, Fault}
+use Rattle.iv_session.specs.Words.cause.{NotDeferrable, Violation}
+use Rattle.iv_session.specs.Words.answer.{Done}
 use Rattle.iv_catalogue.specs.Catalogues.{Schema}
-use Rattle.iv_catalogue.specs.declared.constraint.Constraint.{Constraint}
-use Rattle.iv_catalogue.specs.declared.cause.Cause.TheVariants.{NotDeferrable, Violation}
-use Rattle.iv_catalogue.specs.declared.cause.Fault.{Fault}
-use Rattle.iv_machine.specs.declared.answer.Answer.TheVariants.{Done}
 use Rattle.iv_machine.specs.declared.database.Which.TheVariants.{Deferred}
 use Rattle.iv_machine.specs.Databases.{chosen_violations, fault_at, first, is_chosen, is_deferred, satisfies, scan, violations}
 use Rattle.iv_machine.specs.Machine.{State, Outcome, accept, refuse, refuse_first, is_deferrable, modes_outcome, set_constraints_outcome, with_modes}

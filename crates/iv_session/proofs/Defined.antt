@@ -2,17 +2,11 @@
 use Rattle.std.proofs.Common.{◌≡◌, ℕ, zero, suc, ◌==◌, Bool, true, false, Option, Some, None, Result, Ok, Err, List, [], ◌∷◌, ◌++◌, length, option_map, is_some, refl, ap, sym, subst, ◌∙◌, MatchBool}
 use Rattle.iv_value.specs.declared.value.Value.{Value}
 use Rattle.iv_expr.specs.declared.row.StoredRow.{StoredRow}
-use Rattle.iv_syntax.specs.declared.statement.Statement.{Statement}
+use Rattle.iv_session.specs.Words.{Statement, Table, Fault, Refusal, Constraint, Plan, Answer}
+use Rattle.iv_session.specs.Words.cause.{AddRefused}
+use Rattle.iv_session.specs.Words.answer.{Done}
 use Rattle.iv_catalogue.specs.Catalogues.{Schema, with_constraint, with_table}
-use Rattle.iv_catalogue.specs.declared.catalogue.Table.{Table}
-use Rattle.iv_catalogue.specs.declared.cause.Cause.TheVariants.{AddRefused}
-use Rattle.iv_catalogue.specs.declared.cause.Fault.{Fault}
-use Rattle.iv_catalogue.specs.declared.cause.Refusal.{Refusal}
-use Rattle.iv_catalogue.specs.declared.constraint.Constraint.{Constraint}
-use Rattle.iv_catalogue.specs.declared.plan.Plan.{Plan}
 use Rattle.iv_catalogue.specs.Refusals.{is_memory, out_of_memory}
-use Rattle.iv_machine.specs.declared.answer.Answer.{Answer}
-use Rattle.iv_machine.specs.declared.answer.Answer.TheVariants.{Done}
 use Rattle.iv_machine.specs.Databases.{first, initial_modes, scan}
 use Rattle.iv_machine.specs.Machine.{State, Outcome, Work, no_work, accept, refuse, refuse_first, add_constraint_outcome, with_schema, may_run_triggers, resolution_outcome, Starved}
 use Rattle.iv_modes.specs.ModeMaps.{ModeMap, initial_map}

@@ -2,18 +2,14 @@
 use Rattle.std.proofs.Common.{◌≡◌, ℕ, ◌≤◌, ◌<◌, Bool, true, false, ◌||◌, Option, Some, None, Ok, length, map, slice_get, arith, refl, ap, sym, subst, ◌∙◌, nat_le, nat_lt}
 use Rattle.std.specs.List.{list_any}
 use Rattle.std.proofs.lemmas.Bool.Decides.{nat_tests}
-use Rattle.iv_syntax.specs.declared.statement.Statement.{Statement}
+use Rattle.iv_session.specs.Words.{Statement, Table, Plan, SchemaPlan, Trigger}
+use Rattle.iv_session.specs.Words.plan
+use Rattle.iv_session.specs.Words.schema
 use Rattle.iv_syntax.specs.declared.statement.Statement.TheVariants as statement
 use Rattle.iv_syntax.specs.declared.trigger.TriggerDefinition.{TriggerDefinition}
 use Rattle.iv_catalogue.specs.Catalogues.{Schema, has_trigger}
-use Rattle.iv_catalogue.specs.declared.catalogue.Table.{Table}
 use Rattle.iv_catalogue.specs.declared.limits.TheConstants.{MOST_BODY_STATEMENTS, MOST_TRIGGERS, MOST_TRIGGERS_EVER}
-use Rattle.iv_catalogue.specs.declared.plan.Plan.{Plan}
-use Rattle.iv_catalogue.specs.declared.plan.Plan.TheVariants as plan
-use Rattle.iv_catalogue.specs.declared.plan.SchemaPlan.{SchemaPlan}
-use Rattle.iv_catalogue.specs.declared.plan.SchemaPlan.TheVariants as schema
 use Rattle.iv_catalogue.specs.declared.plan.TransactionPlan.TheVariants as transaction
-use Rattle.iv_catalogue.specs.declared.plan.Trigger.{Trigger}
 use Rattle.iv_machine.specs.Machine.{State, is_open, occasion_of, transaction_cause, plan_occasion, may_run_triggers, outside, inside, beginning}
 use Rattle.iv_resolution.specs.Bound.{bound, bound_action, bound_addition, bound_trigger, table_id}
 use Rattle.iv_resolution.specs.Constraints.{WrittenConstraint, comes_twice, table_constraint}

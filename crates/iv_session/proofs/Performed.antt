@@ -1,9 +1,8 @@
 -- Small outcomes, as what a part of `execute` does.
 use Rattle.std.proofs.Common.{◌≡◌, Bool, false, Result, Ok, Err, ap, sym, subst, ◌∙◌, MatchBool}
 use Rattle.iv_catalogue.specs.declared.cause.Cause.{Cause}
-use Rattle.iv_catalogue.specs.declared.cause.Refusal.{Refusal}
+use Rattle.iv_session.specs.Words.{Refusal, Answer}
 use Rattle.iv_catalogue.specs.Refusals.{is_memory, is_memory_cause, out_of_memory, refusal_answer}
-use Rattle.iv_machine.specs.declared.answer.Answer.{Answer}
 use Rattle.iv_machine.specs.Machine.{State, Outcome, accept, no_work, refuse}
 use Rattle.iv_session.specs.Kept.{Seen}
 use Rattle.iv_session.specs.Performing.{Did, Performs}

@@ -1,9 +1,7 @@
 -- A list of savepoints with one more, and without those of a name.
 use Rattle.std.proofs.Common.{◌≡◌, ℕ, suc, ◌+◌, ◌<◌, Bool, true, false, not, ◌&&◌, if◌then◌else◌, Some, None, List, [], ◌∷◌, ◌++◌, length, arith, refl, ap, sym, subst, ◌∙◌, append-nil, length-append, slice_get, IfSome, is_some}
 use Rattle.std.specs.Str.{bytes_eq}
-use Rattle.iv_catalogue.specs.declared.catalogue.Table.{Table}
-use Rattle.iv_catalogue.specs.declared.constraint.Constraint.{Constraint}
-use Rattle.iv_machine.specs.declared.database.Database.{Database}
+use Rattle.iv_session.specs.Words.{Table, Constraint, Database}
 use Rattle.iv_machine.specs.Machine.{Savepoint, without_name, state_with_savepoint}
 use Rattle.iv_modes.specs.ModeMaps.{ModeMap}
 use Rattle.iv_store.specs.Stores.{StoreState, marked_database, store_with_mark}

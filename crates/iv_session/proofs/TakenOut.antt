@@ -3,7 +3,7 @@ use Rattle.std.proofs.Common.{◌≡◌, ℕ, zero, suc, ◌+◌, ◌-◌, ◌<�
 use Rattle.std.specs.List.{remove}
 use Rattle.std.specs.Str.{bytes_eq}
 use Rattle.std.proofs.lemmas.List.Edits.{length-remove}
-use Rattle.iv_machine.specs.declared.database.Database.{Database}
+use Rattle.iv_session.specs.Words.{Database}
 use Rattle.iv_store.specs.Stores.{StoreState, marked_database, store_without_mark}
 use Rattle.iv_session.specs.declared.session.Saved.{Saved}
 use Rattle.iv_session.specs.Kept.{later}

@@ -2,13 +2,10 @@
 use Rattle.std.specs.Prelude.{◌≡◌, ◌≤◌, ◌<◌, true, false, length, None}
 use Rattle.iv_catalogue.specs.Catalogues.{Schema, after, has_trigger}
 use Rattle.iv_catalogue.specs.declared.limits.TheConstants.{MOST_BODY_STATEMENTS, MOST_TRIGGERS, MOST_TRIGGERS_EVER}
-use Rattle.iv_catalogue.specs.declared.plan.Plan.{Plan}
-use Rattle.iv_catalogue.specs.declared.plan.Plan.TheVariants as plan
-use Rattle.iv_catalogue.specs.declared.plan.SchemaPlan.{SchemaPlan}
-use Rattle.iv_catalogue.specs.declared.plan.SchemaPlan.TheVariants as schema
-use Rattle.iv_catalogue.specs.declared.plan.Trigger.{Trigger}
-use Rattle.iv_catalogue.specs.declared.cause.Cause.TheVariants.{AddRefused}
-use Rattle.iv_catalogue.specs.declared.cause.Refusal.{Refusal}
+use Rattle.iv_session.specs.Words.{Plan, SchemaPlan, Trigger, Refusal}
+use Rattle.iv_session.specs.Words.plan
+use Rattle.iv_session.specs.Words.schema
+use Rattle.iv_session.specs.Words.cause.{AddRefused}
 use Rattle.iv_catalogue.specs.Refusals.{out_of_memory, refusal_of}
 use Rattle.iv_store.specs.declared.fault.AddFault.{AddFault}
 use Rattle.iv_store.specs.declared.fault.AddFault.TheVariants as fault

@@ -2,9 +2,7 @@
 use Rattle.std.specs.Prelude.{◌≡◌, ℕ, ◌+◌, Bool, true, false, List, [], ◌∷◌, ◌++◌, map, length, Option, Some, None, IfSome}
 use Rattle.std.specs.List.{list_all}
 use Rattle.iv_catalogue.specs.Catalogues.{Schema}
-use Rattle.iv_catalogue.specs.declared.catalogue.Table.{Table}
-use Rattle.iv_catalogue.specs.declared.constraint.Constraint.{Constraint}
-use Rattle.iv_machine.specs.declared.database.Database.{Database}
+use Rattle.iv_session.specs.Words.{Table, Constraint, Database}
 use Rattle.iv_machine.specs.Bounds.{Bounds}
 use Rattle.iv_machine.specs.Machine.{Savepoint, State, Work}
 use Rattle.iv_modes.specs.ModeMaps.{ModeMap, initial_map}

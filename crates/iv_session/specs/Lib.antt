@@ -1,3 +1,4 @@
+pub mod Words
 pub mod Changing
 pub mod Ending
 pub mod Fits

@@ -1,11 +1,8 @@
 -- What the parts of `execute` do: the answer, the next state and the work of an outcome, or memory was refused and the state stays.
 use Rattle.std.specs.Prelude.{◌≡◌, Bool, false, length, nat_lt, Result, Err, MatchBool}
-use Rattle.iv_catalogue.specs.declared.cause.Refusal.{Refusal}
+use Rattle.iv_session.specs.Words.{Refusal, Answer, Statement, Plan}
+use Rattle.iv_session.specs.Words.plan
 use Rattle.iv_catalogue.specs.Refusals.{is_memory, out_of_memory}
-use Rattle.iv_machine.specs.declared.answer.Answer.{Answer}
-use Rattle.iv_syntax.specs.declared.statement.Statement.{Statement}
-use Rattle.iv_catalogue.specs.declared.plan.Plan.{Plan}
-use Rattle.iv_catalogue.specs.declared.plan.Plan.TheVariants as plan
 use Rattle.iv_machine.specs.Machine.{State, Outcome, may_run_triggers, plan_outcome}
 use Rattle.iv_session.specs.Kept.{Seen}
 

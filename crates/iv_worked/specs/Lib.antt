@@ -1,3 +1,4 @@
+pub mod Words
 pub mod WorkedPlans
 pub mod WorkedAnswers
 pub mod WorkedConstraints

@@ -2,19 +2,18 @@
 -- have numbers from 0.
 use Rattle.std.specs.Prelude.{◌≡◌, List, [], ◌∷◌}
 use Rattle.iv_expr.specs.Trees.{minus}
-use Rattle.iv_expr.specs.declared.tree.Side.TheVariants.{Old}
-use Rattle.iv_expr.specs.declared.tree.Expr.TheVariants.{Variable}
-use Rattle.iv_expr.specs.declared.tree.Comparison.TheVariants.{Equal}
-use Rattle.iv_expr.specs.declared.tree.Cond.TheVariants.{Always}
-use Rattle.iv_syntax.specs.declared.table.ReferentialAction.{ReferentialAction}
-use Rattle.iv_syntax.specs.declared.table.ReferentialAction.TheVariants.{NoAction, Restrict, Cascade, SetNull, SetDefault}
-use Rattle.iv_syntax.specs.declared.trigger.ActionTime.TheVariants.{After}
-use Rattle.iv_syntax.specs.declared.trigger.TriggerEvent.TheVariants as event
-use Rattle.iv_syntax.specs.declared.trigger.Granularity.TheVariants.{Row, Statement}
-use Rattle.iv_catalogue.specs.declared.constraint.Rule.TheVariants as rule
-use Rattle.iv_catalogue.specs.declared.cause.Cause.TheVariants as cause
-use Rattle.iv_catalogue.specs.declared.plan.BodyStatement.TheVariants as body
-use Rattle.iv_catalogue.specs.declared.plan.Plan.{Plan}
+use Rattle.iv_worked.specs.Words.{ReferentialAction, Plan}
+use Rattle.iv_worked.specs.Words.side.{Old}
+use Rattle.iv_worked.specs.Words.expr.{Variable}
+use Rattle.iv_worked.specs.Words.comparison.{Equal}
+use Rattle.iv_worked.specs.Words.cond.{Always}
+use Rattle.iv_worked.specs.Words.referential_action.{NoAction, Restrict, Cascade, SetNull, SetDefault}
+use Rattle.iv_worked.specs.Words.time.{After}
+use Rattle.iv_worked.specs.Words.event
+use Rattle.iv_worked.specs.Words.granularity.{Row, Statement}
+use Rattle.iv_worked.specs.Words.rule
+use Rattle.iv_worked.specs.Words.cause
+use Rattle.iv_worked.specs.Words.body
 use Rattle.iv_worked.specs.WorkedPlans.{number, null, column, where_column, integer_column, integer_default, not_deferrable, references_rule, create_table, setting, insert_statement, insert, insert_value, update, delete, create_trigger, select_all, count_all, commit, rollback}
 use Rattle.iv_worked.specs.WorkedAnswers.{Answered, ok, ok_rows, int, rows, fault, refused, work, answers, answers_within, works_within}
 

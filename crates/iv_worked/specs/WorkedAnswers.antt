@@ -1,16 +1,10 @@
 -- Words for worked scripts: answers, and what the machine answers to a list of plans. No other file
 -- of this crate names the machine's definitions.
 use Rattle.std.specs.Prelude.{ℕ, pos, Bool, List, [], ◌∷◌, map, Option, Some, None, Result, Ok, Err}
-use Rattle.iv_value.specs.declared.value.Value.{Value}
-use Rattle.iv_value.specs.declared.value.Value.TheVariants.{Int}
-use Rattle.iv_syntax.specs.declared.statement.Statement.{Statement}
-use Rattle.iv_catalogue.specs.declared.cause.Cause.{Cause}
-use Rattle.iv_catalogue.specs.declared.cause.Fault.{Fault}
-use Rattle.iv_catalogue.specs.declared.cause.Refusal.{Refusal}
-use Rattle.iv_catalogue.specs.declared.plan.Plan.{Plan}
-use Rattle.iv_machine.specs.declared.answer.Answer.{Answer}
-use Rattle.iv_machine.specs.declared.answer.Answer.TheVariants.{Done, Changed, Rows}
-use Rattle.iv_machine.specs.declared.database.Which.TheVariants.{Deferred}
+use Rattle.iv_worked.specs.Words.{Value, Statement, Cause, Fault, Refusal, Plan, Answer}
+use Rattle.iv_worked.specs.Words.value.{Int}
+use Rattle.iv_worked.specs.Words.answer.{Done, Changed, Rows}
+use Rattle.iv_worked.specs.Words.which.{Deferred}
 use Rattle.iv_machine.specs.Bounds.{Bounds}
 use Rattle.iv_machine.specs.Databases.{scan, is_chosen}
 use Rattle.iv_machine.specs.Machine.{State, Outcome, Work, empty_state, plan_outcome, occasion_of, transaction_cause}

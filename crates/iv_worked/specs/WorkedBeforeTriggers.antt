@@ -1,17 +1,17 @@
 -- Worked scripts on BEFORE triggers: which of them run, on what tables, and what a SET stores.
 use Rattle.std.specs.Prelude.{◌≡◌, List, [], ◌∷◌, codes}
-use Rattle.iv_value.specs.declared.value.Value.TheVariants.{Null, Text}
+use Rattle.iv_worked.specs.Words.{Plan}
+use Rattle.iv_worked.specs.Words.value.{Null, Text}
+use Rattle.iv_worked.specs.Words.range.{Table}
+use Rattle.iv_worked.specs.Words.comparison.{Equal, Greater}
+use Rattle.iv_worked.specs.Words.cond.{Always, Compare}
+use Rattle.iv_worked.specs.Words.referential_action.{NoAction, SetNull}
+use Rattle.iv_worked.specs.Words.time.{Before}
+use Rattle.iv_worked.specs.Words.event
+use Rattle.iv_worked.specs.Words.granularity.{Row, Statement}
+use Rattle.iv_worked.specs.Words.rule
+use Rattle.iv_worked.specs.Words.cause.{Signal, TextTooLong}
 use Rattle.iv_expr.specs.Trees.{plus, not_c, exists_c}
-use Rattle.iv_expr.specs.declared.tree.Range.TheVariants.{Table}
-use Rattle.iv_expr.specs.declared.tree.Comparison.TheVariants.{Equal, Greater}
-use Rattle.iv_expr.specs.declared.tree.Cond.TheVariants.{Always, Compare}
-use Rattle.iv_syntax.specs.declared.table.ReferentialAction.TheVariants.{NoAction, SetNull}
-use Rattle.iv_syntax.specs.declared.trigger.ActionTime.TheVariants.{Before}
-use Rattle.iv_syntax.specs.declared.trigger.TriggerEvent.TheVariants as event
-use Rattle.iv_syntax.specs.declared.trigger.Granularity.TheVariants.{Row, Statement}
-use Rattle.iv_catalogue.specs.declared.constraint.Rule.TheVariants as rule
-use Rattle.iv_catalogue.specs.declared.cause.Cause.TheVariants.{Signal, TextTooLong}
-use Rattle.iv_catalogue.specs.declared.plan.Plan.{Plan}
 use Rattle.iv_worked.specs.WorkedPlans.{number, numbers, text, column, new, where_column, integer_column, varchar, not_deferrable, references_rule, create_table, insert, insert_row, insert_value, update_all, delete_all, create_trigger, sets, signals, select_all}
 use Rattle.iv_worked.specs.WorkedAnswers.{ok, ok_rows, int, rows, rows_of, refused, refused_in, work, idle, answers, works}
 

@@ -1,17 +1,16 @@
 -- Worked scripts on constraints, their modes, transactions and savepoints. Constraints, tables and
 -- triggers have numbers from 0.
 use Rattle.std.specs.Prelude.{◌≡◌, List, [], ◌∷◌, codes}
-use Rattle.iv_value.specs.declared.value.Value.TheVariants.{Null}
+use Rattle.iv_worked.specs.Words.{Rule, Plan}
+use Rattle.iv_worked.specs.Words.value.{Null}
+use Rattle.iv_worked.specs.Words.comparison.{Greater}
+use Rattle.iv_worked.specs.Words.cond.{Always}
+use Rattle.iv_worked.specs.Words.mode.{Immediate, Deferred}
+use Rattle.iv_worked.specs.Words.matching.{Simple, Full}
+use Rattle.iv_worked.specs.Words.referential_action.{NoAction}
+use Rattle.iv_worked.specs.Words.rule
+use Rattle.iv_worked.specs.Words.cause.{Violation, CommitRefused, UnknownSavepoint, NumberOutOfRange, AddRefused, NotDeferrable}
 use Rattle.iv_expr.specs.Trees.{plus}
-use Rattle.iv_expr.specs.declared.tree.Comparison.TheVariants.{Greater}
-use Rattle.iv_expr.specs.declared.tree.Cond.TheVariants.{Always}
-use Rattle.iv_syntax.specs.declared.statement.ConstraintMode.TheVariants.{Immediate, Deferred}
-use Rattle.iv_syntax.specs.declared.table.MatchType.TheVariants.{Simple, Full}
-use Rattle.iv_syntax.specs.declared.table.ReferentialAction.TheVariants.{NoAction}
-use Rattle.iv_catalogue.specs.declared.constraint.Rule.{Rule}
-use Rattle.iv_catalogue.specs.declared.constraint.Rule.TheVariants as rule
-use Rattle.iv_catalogue.specs.declared.cause.Cause.TheVariants.{Violation, CommitRefused, UnknownSavepoint, NumberOutOfRange, AddRefused, NotDeferrable}
-use Rattle.iv_catalogue.specs.declared.plan.Plan.{Plan}
 use Rattle.iv_worked.specs.WorkedPlans.{number, null, column, where_column, integer_column, not_deferrable, deferrable, initially_deferred, references_rule, create_table, add_constraint, setting, insert, insert_value, update, select, select_all, count_all, set_all, set_one, start, commit, rollback, savepoint, release, rollback_to}
 use Rattle.iv_worked.specs.WorkedAnswers.{ok, ok_rows, int, rows, fault, refused, work, answers, works_within}
 

@@ -1,20 +1,18 @@
 -- Worked scripts on referential actions: which rows an action reaches, what it sets, RESTRICT, and
 -- two actions on one row.
 use Rattle.std.specs.Prelude.{◌≡◌, List, [], ◌∷◌}
-use Rattle.iv_value.specs.declared.value.Value.TheVariants.{Null}
+use Rattle.iv_worked.specs.Words.{Expr, ReferentialAction, Plan}
+use Rattle.iv_worked.specs.Words.value.{Null}
+use Rattle.iv_worked.specs.Words.comparison.{Equal}
+use Rattle.iv_worked.specs.Words.cond.{Always, Compare}
+use Rattle.iv_worked.specs.Words.matching.{Simple}
+use Rattle.iv_worked.specs.Words.referential_action.{NoAction, Restrict, Cascade, SetNull, SetDefault}
+use Rattle.iv_worked.specs.Words.time.{Before}
+use Rattle.iv_worked.specs.Words.event
+use Rattle.iv_worked.specs.Words.granularity.{Row}
+use Rattle.iv_worked.specs.Words.rule
+use Rattle.iv_worked.specs.Words.cause
 use Rattle.iv_expr.specs.Trees.{plus}
-use Rattle.iv_expr.specs.declared.tree.Expr.{Expr}
-use Rattle.iv_expr.specs.declared.tree.Comparison.TheVariants.{Equal}
-use Rattle.iv_expr.specs.declared.tree.Cond.TheVariants.{Always, Compare}
-use Rattle.iv_syntax.specs.declared.table.MatchType.TheVariants.{Simple}
-use Rattle.iv_syntax.specs.declared.table.ReferentialAction.{ReferentialAction}
-use Rattle.iv_syntax.specs.declared.table.ReferentialAction.TheVariants.{NoAction, Restrict, Cascade, SetNull, SetDefault}
-use Rattle.iv_syntax.specs.declared.trigger.ActionTime.TheVariants.{Before}
-use Rattle.iv_syntax.specs.declared.trigger.TriggerEvent.TheVariants as event
-use Rattle.iv_syntax.specs.declared.trigger.Granularity.TheVariants.{Row}
-use Rattle.iv_catalogue.specs.declared.constraint.Rule.TheVariants as rule
-use Rattle.iv_catalogue.specs.declared.cause.Cause.TheVariants as cause
-use Rattle.iv_catalogue.specs.declared.plan.Plan.{Plan}
 use Rattle.iv_worked.specs.WorkedPlans.{number, numbers, null, column, old, new, where_column, integer_column, integer_default, not_deferrable, initially_deferred, foreign_key_rule, references_rule, create_table, setting, insert, insert_row, insert_value, update, update_all, delete, delete_all, create_trigger, sets, select_all, count_all, commit}
 use Rattle.iv_worked.specs.WorkedAnswers.{ok, ok_rows, int, rows, rows_of, count_row, fault, refused, work, idle, answers, works}
 

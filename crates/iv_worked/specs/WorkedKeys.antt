@@ -1,12 +1,11 @@
 -- Worked scripts on keys and their nulls, on the scan, and on constraints that are added over rows.
 use Rattle.std.specs.Prelude.{◌≡◌, List, [], ◌∷◌}
-use Rattle.iv_expr.specs.declared.tree.Comparison.TheVariants.{Greater}
-use Rattle.iv_syntax.specs.declared.table.MatchType.{MatchType}
-use Rattle.iv_syntax.specs.declared.table.MatchType.TheVariants.{Simple, Full}
-use Rattle.iv_syntax.specs.declared.table.ReferentialAction.TheVariants.{NoAction}
-use Rattle.iv_catalogue.specs.declared.constraint.Rule.TheVariants as rule
-use Rattle.iv_catalogue.specs.declared.cause.Cause.TheVariants.{Violation, CommitRefused, AddRefused}
-use Rattle.iv_catalogue.specs.declared.plan.Plan.{Plan}
+use Rattle.iv_worked.specs.Words.{MatchType, Plan}
+use Rattle.iv_worked.specs.Words.comparison.{Greater}
+use Rattle.iv_worked.specs.Words.matching.{Simple, Full}
+use Rattle.iv_worked.specs.Words.referential_action.{NoAction}
+use Rattle.iv_worked.specs.Words.rule
+use Rattle.iv_worked.specs.Words.cause.{Violation, CommitRefused, AddRefused}
 use Rattle.iv_worked.specs.WorkedPlans.{number, numbers, null, where_column, integer_column, not_deferrable, deferrable, initially_deferred, foreign_key_rule, create_table, add_constraint, insert, insert_row, insert_value, update_all, delete, commit}
 use Rattle.iv_worked.specs.WorkedAnswers.{ok, ok_rows, fault, refused, answers, pending_after}
 

@@ -1,15 +1,15 @@
 -- Worked scripts on limits: the budget of a statement, the changes of a transaction, and row
 -- numbers.
 use Rattle.std.specs.Prelude.{◌≡◌, List, [], ◌∷◌}
-use Rattle.iv_expr.specs.declared.tree.Comparison.TheVariants.{Equal, Less}
-use Rattle.iv_expr.specs.declared.tree.Cond.TheVariants.{Always}
-use Rattle.iv_syntax.specs.declared.trigger.ActionTime.TheVariants.{After}
-use Rattle.iv_syntax.specs.declared.trigger.TriggerEvent.TheVariants as event
-use Rattle.iv_syntax.specs.declared.trigger.Granularity.TheVariants.{Statement}
-use Rattle.iv_catalogue.specs.declared.constraint.Rule.TheVariants as rule
-use Rattle.iv_catalogue.specs.declared.cause.Cause.TheVariants.{Violation, TooManyChanges, TransactionTooLarge, Limit}
-use Rattle.iv_catalogue.specs.declared.plan.BodyStatement.TheVariants as body
-use Rattle.iv_catalogue.specs.declared.plan.Plan.{Plan}
+use Rattle.iv_worked.specs.Words.{Plan}
+use Rattle.iv_worked.specs.Words.comparison.{Equal, Less}
+use Rattle.iv_worked.specs.Words.cond.{Always}
+use Rattle.iv_worked.specs.Words.time.{After}
+use Rattle.iv_worked.specs.Words.event
+use Rattle.iv_worked.specs.Words.granularity.{Statement}
+use Rattle.iv_worked.specs.Words.rule
+use Rattle.iv_worked.specs.Words.cause.{Violation, TooManyChanges, TransactionTooLarge, Limit}
+use Rattle.iv_worked.specs.Words.body
 use Rattle.iv_worked.specs.WorkedPlans.{number, numbers, where_column, integer_column, not_deferrable, create_table, deletion_of, insert, insert_value, update_all, delete_all, create_trigger, count_all, start, commit, rollback}
 use Rattle.iv_worked.specs.WorkedAnswers.{ok, ok_rows, count_row, fault, refused, refused_in, work, idle, answers_within, works_within, standing, numbered_from, answers_from, works_from}
 

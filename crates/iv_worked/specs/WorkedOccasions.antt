@@ -1,19 +1,18 @@
 -- Worked lists of statements on what is refused before all else: schema statements inside a
 -- transaction, savepoints and modes outside, and START TRANSACTION inside.
 use Rattle.std.specs.Prelude.{◌≡◌, ◌++◌, List, [], ◌∷◌, map, Option, Some, None, codes}
-use Rattle.iv_syntax.specs.declared.statement.ConstraintList.TheVariants.{All}
-use Rattle.iv_syntax.specs.declared.statement.ConstraintMode.TheVariants.{Deferred}
-use Rattle.iv_syntax.specs.declared.statement.Insert.TheVariants.{DefaultValues}
-use Rattle.iv_syntax.specs.declared.statement.Select.TheVariants.{Count}
-use Rattle.iv_syntax.specs.declared.statement.Statement.{Statement}
-use Rattle.iv_syntax.specs.declared.statement.Statement.TheVariants as statement
-use Rattle.iv_syntax.specs.declared.table.TableRule.TheVariants.{Unique}
-use Rattle.iv_syntax.specs.declared.trigger.ActionTime.TheVariants.{After}
-use Rattle.iv_syntax.specs.declared.trigger.TriggerEvent.TheVariants as event
-use Rattle.iv_syntax.specs.declared.trigger.Granularity.TheVariants as granularity
-use Rattle.iv_syntax.specs.declared.trigger.TriggerAction.TheVariants.{Signal}
-use Rattle.iv_catalogue.specs.declared.cause.Cause.{Cause}
-use Rattle.iv_catalogue.specs.declared.cause.Cause.TheVariants.{InTransaction, NoTransaction, ActiveTransaction}
+use Rattle.iv_worked.specs.Words.{Statement, Cause}
+use Rattle.iv_worked.specs.Words.constraints.{All}
+use Rattle.iv_worked.specs.Words.mode.{Deferred}
+use Rattle.iv_worked.specs.Words.insert.{DefaultValues}
+use Rattle.iv_worked.specs.Words.select.{Count}
+use Rattle.iv_worked.specs.Words.statement
+use Rattle.iv_worked.specs.Words.table_rule.{Unique}
+use Rattle.iv_worked.specs.Words.time.{After}
+use Rattle.iv_worked.specs.Words.event
+use Rattle.iv_worked.specs.Words.granularity
+use Rattle.iv_worked.specs.Words.action.{Signal}
+use Rattle.iv_worked.specs.Words.cause.{InTransaction, NoTransaction, ActiveTransaction}
 use Rattle.iv_worked.specs.WorkedAnswers.{cause_inside, cause_outside}
 
 -- ALTER TABLE T ADD UNIQUE (A)

@@ -1,41 +1,25 @@
 -- Words for worked scripts: plans as short as their statements. Constraints, tables and triggers
 -- have numbers from 0.
 use Rattle.std.specs.Prelude.{ℕ, pos, Bool, List, [], ◌∷◌, map, codes}
-use Rattle.iv_value.specs.declared.value.Value.TheVariants.{Null, Int, Text}
-use Rattle.iv_value.specs.declared.value.Kind.TheVariants.{Integer, Varchar}
-use Rattle.iv_expr.specs.declared.tree.Expr.{Expr}
-use Rattle.iv_expr.specs.declared.tree.Expr.TheVariants as expr
-use Rattle.iv_expr.specs.declared.tree.Side.TheVariants.{Old, New}
-use Rattle.iv_expr.specs.declared.tree.Range.{Range}
-use Rattle.iv_expr.specs.declared.tree.Comparison.{Comparison}
-use Rattle.iv_expr.specs.declared.tree.Cond.{Cond}
-use Rattle.iv_expr.specs.declared.tree.Cond.TheVariants.{Always, Compare}
-use Rattle.iv_syntax.specs.declared.statement.ConstraintMode.{ConstraintMode}
-use Rattle.iv_syntax.specs.declared.statement.ConstraintMode.TheVariants as mode
-use Rattle.iv_syntax.specs.declared.table.MatchType.{MatchType}
-use Rattle.iv_syntax.specs.declared.table.MatchType.TheVariants.{Simple}
-use Rattle.iv_syntax.specs.declared.table.ReferentialAction.{ReferentialAction}
-use Rattle.iv_syntax.specs.declared.trigger.ActionTime.{ActionTime}
-use Rattle.iv_syntax.specs.declared.trigger.TriggerEvent.{TriggerEvent}
-use Rattle.iv_syntax.specs.declared.trigger.Granularity.{Granularity}
-use Rattle.iv_catalogue.specs.declared.catalogue.Column.{Column}
-use Rattle.iv_catalogue.specs.declared.constraint.Constraint.{Constraint}
-use Rattle.iv_catalogue.specs.declared.constraint.Rule.{Rule}
-use Rattle.iv_catalogue.specs.declared.constraint.Rule.TheVariants as rule
-use Rattle.iv_catalogue.specs.declared.plan.BodyStatement.{BodyStatement}
-use Rattle.iv_catalogue.specs.declared.plan.BodyStatement.TheVariants as body
-use Rattle.iv_catalogue.specs.declared.plan.ConstraintSet.TheVariants as set
-use Rattle.iv_catalogue.specs.declared.plan.DataStatement.{DataStatement}
-use Rattle.iv_catalogue.specs.declared.plan.DataStatement.TheVariants as data_statement
-use Rattle.iv_catalogue.specs.declared.plan.InsertColumns.TheVariants as insert_columns
-use Rattle.iv_catalogue.specs.declared.plan.InsertRows.TheVariants as insert_rows
-use Rattle.iv_catalogue.specs.declared.plan.Outputs.TheVariants as outputs
-use Rattle.iv_catalogue.specs.declared.plan.Setting.{Setting}
-use Rattle.iv_catalogue.specs.declared.plan.Plan.{Plan}
-use Rattle.iv_catalogue.specs.declared.plan.Plan.TheVariants as plan
-use Rattle.iv_catalogue.specs.declared.plan.SchemaPlan.TheVariants as schema
-use Rattle.iv_catalogue.specs.declared.plan.QueryPlan.TheVariants as query
-use Rattle.iv_catalogue.specs.declared.plan.TransactionPlan.TheVariants as transaction
+use Rattle.iv_worked.specs.Words.{Expr, Range, Comparison, Cond, ConstraintMode, MatchType, ReferentialAction, ActionTime, TriggerEvent, Granularity, Column, Constraint, Rule, BodyStatement, DataStatement, Setting, Plan}
+use Rattle.iv_worked.specs.Words.value.{Null, Int, Text}
+use Rattle.iv_worked.specs.Words.kind.{Integer, Varchar}
+use Rattle.iv_worked.specs.Words.expr
+use Rattle.iv_worked.specs.Words.side.{Old, New}
+use Rattle.iv_worked.specs.Words.cond.{Always, Compare}
+use Rattle.iv_worked.specs.Words.mode
+use Rattle.iv_worked.specs.Words.matching.{Simple}
+use Rattle.iv_worked.specs.Words.rule
+use Rattle.iv_worked.specs.Words.body
+use Rattle.iv_worked.specs.Words.set
+use Rattle.iv_worked.specs.Words.data_statement
+use Rattle.iv_worked.specs.Words.insert_columns
+use Rattle.iv_worked.specs.Words.insert_rows
+use Rattle.iv_worked.specs.Words.outputs
+use Rattle.iv_worked.specs.Words.plan
+use Rattle.iv_worked.specs.Words.schema
+use Rattle.iv_worked.specs.Words.query
+use Rattle.iv_worked.specs.Words.transaction
 
 -- ---- expressions and conditions
 

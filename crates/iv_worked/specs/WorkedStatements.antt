@@ -1,10 +1,10 @@
 -- Worked scripts on INSERT: its columns, its query, and the order in which values are stored.
 use Rattle.std.specs.Prelude.{◌≡◌, [], ◌∷◌, codes}
-use Rattle.iv_value.specs.declared.value.Value.TheVariants.{Null}
+use Rattle.iv_worked.specs.Words.{Expr}
+use Rattle.iv_worked.specs.Words.value.{Null}
+use Rattle.iv_worked.specs.Words.range.{Table}
+use Rattle.iv_worked.specs.Words.cause.{NumberOutOfRange, TextTooLong}
 use Rattle.iv_expr.specs.Trees.{plus}
-use Rattle.iv_expr.specs.declared.tree.Expr.{Expr}
-use Rattle.iv_expr.specs.declared.tree.Range.TheVariants.{Table}
-use Rattle.iv_catalogue.specs.declared.cause.Cause.TheVariants.{NumberOutOfRange, TextTooLong}
 use Rattle.iv_worked.specs.WorkedPlans.{number, numbers, text, column, integer_column, integer_default, varchar, create_table, insert_row, insert_listed, insert_from, select_all}
 use Rattle.iv_worked.specs.WorkedAnswers.{ok, ok_rows, int, rows, refused, answers}
 

@@ -1,12 +1,12 @@
 -- Worked scripts on transactions: savepoints, what is undone, modes at the end, and SET
 -- CONSTRAINTS.
 use Rattle.std.specs.Prelude.{◌≡◌, List, [], ◌∷◌, codes}
-use Rattle.iv_expr.specs.declared.tree.Comparison.TheVariants.{Less, Greater}
-use Rattle.iv_syntax.specs.declared.statement.ConstraintMode.TheVariants.{Immediate, Deferred}
-use Rattle.iv_syntax.specs.declared.table.ReferentialAction.TheVariants.{NoAction}
-use Rattle.iv_catalogue.specs.declared.constraint.Rule.TheVariants as rule
-use Rattle.iv_catalogue.specs.declared.cause.Cause.TheVariants.{Violation, UnknownSavepoint, NotDeferrable}
-use Rattle.iv_catalogue.specs.declared.plan.Plan.{Plan}
+use Rattle.iv_worked.specs.Words.{Plan}
+use Rattle.iv_worked.specs.Words.comparison.{Less, Greater}
+use Rattle.iv_worked.specs.Words.mode.{Immediate, Deferred}
+use Rattle.iv_worked.specs.Words.referential_action.{NoAction}
+use Rattle.iv_worked.specs.Words.rule
+use Rattle.iv_worked.specs.Words.cause.{Violation, UnknownSavepoint, NotDeferrable}
 use Rattle.iv_worked.specs.WorkedPlans.{number, numbers, where_column, integer_column, not_deferrable, deferrable, initially_deferred, references_rule, create_table, insert_row, insert_value, update_all, select_all, count_all, set_all, set_these, set_one, start, commit, rollback, savepoint, release, rollback_to}
 use Rattle.iv_worked.specs.WorkedAnswers.{ok, ok_rows, rows_of, count_row, fault, refused, work, idle, answers, works}
 

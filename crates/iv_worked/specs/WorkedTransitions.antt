@@ -2,17 +2,17 @@
 -- refusal names.
 use Rattle.std.specs.Prelude.{◌≡◌, List, [], ◌∷◌}
 use Rattle.iv_expr.specs.Trees.{plus}
-use Rattle.iv_expr.specs.declared.tree.Side.TheVariants.{Old, New}
-use Rattle.iv_expr.specs.declared.tree.Range.TheVariants.{Transition}
-use Rattle.iv_expr.specs.declared.tree.Comparison.TheVariants.{Equal, Less}
-use Rattle.iv_expr.specs.declared.tree.Cond.TheVariants.{Always, Compare}
-use Rattle.iv_syntax.specs.declared.table.ReferentialAction.TheVariants.{NoAction, Cascade}
-use Rattle.iv_syntax.specs.declared.trigger.ActionTime.TheVariants.{Before, After}
-use Rattle.iv_syntax.specs.declared.trigger.TriggerEvent.TheVariants as event
-use Rattle.iv_syntax.specs.declared.trigger.Granularity.TheVariants.{Row, Statement}
-use Rattle.iv_catalogue.specs.declared.constraint.Rule.TheVariants as rule
-use Rattle.iv_catalogue.specs.declared.cause.Cause.TheVariants.{Violation, Signal}
-use Rattle.iv_catalogue.specs.declared.plan.Plan.{Plan}
+use Rattle.iv_worked.specs.Words.{Plan}
+use Rattle.iv_worked.specs.Words.side.{Old, New}
+use Rattle.iv_worked.specs.Words.range.{Transition}
+use Rattle.iv_worked.specs.Words.comparison.{Equal, Less}
+use Rattle.iv_worked.specs.Words.cond.{Always, Compare}
+use Rattle.iv_worked.specs.Words.referential_action.{NoAction, Cascade}
+use Rattle.iv_worked.specs.Words.time.{Before, After}
+use Rattle.iv_worked.specs.Words.event
+use Rattle.iv_worked.specs.Words.granularity.{Row, Statement}
+use Rattle.iv_worked.specs.Words.rule
+use Rattle.iv_worked.specs.Words.cause.{Violation, Signal}
 use Rattle.iv_worked.specs.WorkedPlans.{number, numbers, column, old, new, where_column, integer_column, not_deferrable, references_rule, create_table, setting, insert, insert_value, update, update_all, create_trigger, drop_trigger, inserts, inserts_from, signals, select_all, count_all}
 use Rattle.iv_worked.specs.WorkedAnswers.{ok, ok_rows, rows_of, count_row, fault, refused_in, work, idle, answers, works}
 

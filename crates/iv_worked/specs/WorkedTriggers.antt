@@ -1,25 +1,25 @@
 -- Worked scripts on triggers. Constraints, tables and triggers have numbers from 0.
 use Rattle.std.specs.Prelude.{◌≡◌, List, [], ◌∷◌, codes}
-use Rattle.iv_value.specs.declared.value.Value.TheVariants.{Text}
+use Rattle.iv_worked.specs.Words.{Plan}
+use Rattle.iv_worked.specs.Words.value.{Text}
+use Rattle.iv_worked.specs.Words.side.{Old, New}
+use Rattle.iv_worked.specs.Words.range.{Table, Transition}
+use Rattle.iv_worked.specs.Words.expr.{Column, Variable}
+use Rattle.iv_worked.specs.Words.comparison.{Equal, Less}
+use Rattle.iv_worked.specs.Words.cond.{Always, Compare, IsNull}
+use Rattle.iv_worked.specs.Words.mode.{Deferred}
+use Rattle.iv_worked.specs.Words.time.{Before, After}
+use Rattle.iv_worked.specs.Words.event
+use Rattle.iv_worked.specs.Words.granularity.{Row, Statement}
+use Rattle.iv_worked.specs.Words.rule
+use Rattle.iv_worked.specs.Words.cause
+use Rattle.iv_worked.specs.Words.body
+use Rattle.iv_worked.specs.Words.data_statement
+use Rattle.iv_worked.specs.Words.insert_columns
+use Rattle.iv_worked.specs.Words.insert_rows
+use Rattle.iv_worked.specs.Words.outputs.{Values}
+use Rattle.iv_worked.specs.Words.plan.{Change}
 use Rattle.iv_expr.specs.Trees.{plus, times, not_c, exists_c}
-use Rattle.iv_expr.specs.declared.tree.Side.TheVariants.{Old, New}
-use Rattle.iv_expr.specs.declared.tree.Range.TheVariants.{Table, Transition}
-use Rattle.iv_expr.specs.declared.tree.Expr.TheVariants.{Column, Variable}
-use Rattle.iv_expr.specs.declared.tree.Comparison.TheVariants.{Equal, Less}
-use Rattle.iv_expr.specs.declared.tree.Cond.TheVariants.{Always, Compare, IsNull}
-use Rattle.iv_syntax.specs.declared.statement.ConstraintMode.TheVariants.{Deferred}
-use Rattle.iv_syntax.specs.declared.trigger.ActionTime.TheVariants.{Before, After}
-use Rattle.iv_syntax.specs.declared.trigger.TriggerEvent.TheVariants as event
-use Rattle.iv_syntax.specs.declared.trigger.Granularity.TheVariants.{Row, Statement}
-use Rattle.iv_catalogue.specs.declared.constraint.Rule.TheVariants as rule
-use Rattle.iv_catalogue.specs.declared.cause.Cause.TheVariants as cause
-use Rattle.iv_catalogue.specs.declared.plan.BodyStatement.TheVariants as body
-use Rattle.iv_catalogue.specs.declared.plan.DataStatement.TheVariants as data_statement
-use Rattle.iv_catalogue.specs.declared.plan.InsertColumns.TheVariants as insert_columns
-use Rattle.iv_catalogue.specs.declared.plan.InsertRows.TheVariants as insert_rows
-use Rattle.iv_catalogue.specs.declared.plan.Outputs.TheVariants.{Values}
-use Rattle.iv_catalogue.specs.declared.plan.Plan.{Plan}
-use Rattle.iv_catalogue.specs.declared.plan.Plan.TheVariants.{Change}
 use Rattle.iv_worked.specs.WorkedPlans.{number, null, text, column, where_column, integer_column, varchar, not_deferrable, deferrable, create_table, setting, insert_statement, insert, insert_value, update, delete, create_trigger, drop_trigger, select_all, count_all, set_one, start, commit}
 use Rattle.iv_worked.specs.WorkedAnswers.{ok, ok_rows, int, rows, fault, refused, refused_in, work, answers, answers_deep, works_within}
 

@@ -1,7 +1,7 @@
 use Rattle.std.proofs.Common.{◌≡◌, ◌∙◌, ap, sym, subst, false, None, Err}
 use Rattle.iv_catalogue.specs.Catalogues.{with_constraint}
-use Rattle.iv_catalogue.specs.declared.cause.Refusal.{Refusal}
-use Rattle.iv_machine.specs.declared.answer.Answer.TheVariants.{Done}
+use Rattle.iv_session.specs.Words.{Refusal}
+use Rattle.iv_session.specs.Words.answer.{Done}
 use Rattle.iv_machine.specs.Machine.{State, is_open, no_work, add_constraint_outcome, with_schema}
 use Rattle.iv_store.specs.Stores.{first_violating_row}
 use Rattle.iv_session.specs.Kept.{Parts, parts, Seen, state_of}

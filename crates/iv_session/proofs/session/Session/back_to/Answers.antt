@@ -1,5 +1,5 @@
 use Rattle.std.proofs.Common.{◌≡◌, ◌∙◌, ◌<◌, ◌-◌, ap, sym, subst, refl, true, length, Some, None}
-use Rattle.iv_machine.specs.declared.database.Database.{Database}
+use Rattle.iv_session.specs.Words.{Database}
 use Rattle.iv_machine.specs.Databases.{no_rows}
 use Rattle.iv_machine.specs.Machine.{is_open}
 use Rattle.iv_store.specs.Stores.{store_at_mark}

@@ -1,7 +1,7 @@
 use Rattle.std.proofs.Common.{◌≡◌, ◌∙◌, ap, refl, find, map, not, List, Option}
-use Rattle.iv_catalogue.specs.declared.cause.Cause.TheVariants.{NotDeferrable, Violation}
-use Rattle.iv_catalogue.specs.declared.cause.Fault.{Fault}
-use Rattle.iv_machine.specs.declared.answer.Answer.TheVariants.{Done}
+use Rattle.iv_session.specs.Words.{Fault}
+use Rattle.iv_session.specs.Words.cause.{NotDeferrable, Violation}
+use Rattle.iv_session.specs.Words.answer.{Done}
 use Rattle.iv_machine.specs.declared.database.Which.TheVariants.{Deferred}
 use Rattle.iv_machine.specs.Databases.{is_chosen, is_deferred, scan}
 use Rattle.iv_machine.specs.Machine.{State, accept, no_work, refuse_first, set_constraints_outcome}
