@@ -18,7 +18,6 @@ import hashlib
 import os
 import re
 import shutil
-import subprocess
 import sys
 import tempfile
 from concurrent.futures import ThreadPoolExecutor
@@ -171,19 +170,18 @@ def refused(crate, edit, output):
 
 
 def tried(crate, copy, edits):
-    """The edits of a round that were not refused, and what the check said."""
+    """The edits of a round that were not refused, what the check said, and the processor seconds that it took."""
     files = make(crate, copy, edits)
-    ran = subprocess.run(["rt", "check", "--jobs", "1"], cwd=copy, stdin=subprocess.DEVNULL, capture_output=True, text=True, errors="replace", check=False)
-    output = ran.stdout + ran.stderr
+    status, output, used = rooms.timed(["rt", "check", "--jobs", "1"], copy)
     for file in files:
         shutil.copy2(os.path.join(ROOT, "crates", crate, file), os.path.join(copy, file))
-    if ran.returncode != 1 or "logic=not-proved" not in output:
-        return edits, output
-    return [edit for edit in edits if not refused(crate, edit, output)], output
+    if status != 1 or "logic=not-proved" not in output:
+        return edits, output, used
+    return [edit for edit in edits if not refused(crate, edit, output)], output, used
 
 
 def all_tried(crate, rounds, room):
-    """Each round of a crate, with the edits of it that were not refused and what the check said."""
+    """Each round of a crate, with the edits of it that were not refused, what the check said and the processor seconds."""
     copy = copied(crate, room)
     said = [(one, *tried(crate, copy, one)) for one in rounds]
     shutil.rmtree(room)
@@ -216,11 +214,11 @@ def main():
         begun = [(crate, pool.submit(all_tried, crate, rounds[crate], os.path.join(room, crate))) for crate in rounds]
         for crate, done in begun:
             said = done.result()
-            if not any(kept for _, kept, _ in said):
+            if not any(kept for _, kept, _, _ in said):
                 remember([crate])
-            for number, (one, kept, output) in enumerate(said):
+            for number, (one, kept, output, used) in enumerate(said):
                 passed, failed = passed + len(one) - len(kept), failed + len(kept)
-                print(f"{crate}: {len(one) - len(kept)} of {len(one)} refused in one check", flush=True)
+                print(f"{crate}: {len(one) - len(kept)} of {len(one)} refused in one check, {used / 60:.1f} processor minutes", flush=True)
                 for edit in kept:
                     print(f"FAILED: {crate}/{edit.name}: {edit.function} of {edit.file} was not refused")
                 if words.keep:

@@ -12,13 +12,12 @@ standard error. A step that fails ends the work with status 1.
 import glob
 import os
 import re
-import resource
 import shutil
-import subprocess
 import sys
 import tempfile
 
 import crates as repository
+import rooms
 
 ROOT = repository.ROOT
 
@@ -34,18 +33,12 @@ def copied(room):
     return copy
 
 
-def processor_seconds():
-    used = resource.getrusage(resource.RUSAGE_CHILDREN)
-    return used.ru_utime + used.ru_stime
-
-
 def measured(folder, *words):
     """The processor seconds of a command."""
-    before = processor_seconds()
-    ran = subprocess.run(words, cwd=folder, stdin=subprocess.DEVNULL, stdout=subprocess.PIPE, stderr=subprocess.STDOUT, text=True, errors="replace", check=False)
-    if ran.returncode != 0:
-        raise Failed(f"{' '.join(words)} in {folder}:\n{ran.stdout}")
-    return processor_seconds() - before
+    status, output, used = rooms.timed(words, folder)
+    if status != 0:
+        raise Failed(f"{' '.join(words)} in {folder}:\n{output}")
+    return used
 
 
 def lines(folder, pattern):

@@ -89,8 +89,18 @@ def weights(wanted, named):
     return {crate: weight(crate) for crate in wanted}
 
 
+def timed(words, place):
+    """Runs a command, and gives its status, its output, and the processor seconds of all its processes."""
+    with tempfile.TemporaryFile() as output:
+        child = subprocess.Popen(words, cwd=place, stdin=subprocess.DEVNULL, stdout=output, stderr=subprocess.STDOUT)
+        _, status, used = os.wait4(child.pid, 0)
+        child.returncode = os.waitstatus_to_exitcode(status)
+        output.seek(0)
+        return child.returncode, output.read().decode("utf-8", "replace"), used.ru_utime + used.ru_stime
+
+
 def check(room, crate, names, jobs):
-    """Checks a crate in a room of its own, and gives the status, the output and the seconds that it took."""
+    """Checks a crate in a room of its own, and gives the status, the output, and the seconds and processor seconds that it took."""
     began = time.monotonic()
     with HANDING_OVER:
         there = furnish(room, crate, names)
@@ -98,13 +108,13 @@ def check(room, crate, names, jobs):
     if os.path.exists(here):
         shutil.move(here, kept)
     try:
-        ran = subprocess.run(["rt", "check", "--jobs", str(jobs)], cwd=there, stdin=subprocess.DEVNULL, stdout=subprocess.PIPE, stderr=subprocess.STDOUT, text=True, errors="replace", check=False)
+        status, output, used = timed(["rt", "check", "--jobs", str(jobs)], there)
     finally:
         if os.path.exists(kept):
             shutil.move(kept, here)
         hand_over(room, names - {crate})
         shutil.rmtree(room, ignore_errors=True)
-    return ran.returncode, ran.stdout, time.monotonic() - began
+    return status, output, time.monotonic() - began, used
 
 
 def prove(wanted, named, below, jobs, say):
@@ -125,10 +135,10 @@ def prove(wanted, named, below, jobs, say):
                 break
             for ended in wait(running, return_when=FIRST_COMPLETED).done:
                 crate = running.pop(ended)
-                status, output, seconds = ended.result()
+                status, output, seconds, used = ended.result()
                 if status == 0:
                     done.add(crate)
-                    say(f"{crate}: proved, {seconds:.0f} s; {len(left) + len(running)} to go")
+                    say(f"{crate}: proved, {seconds:.0f} s, {used / 60:.1f} processor minutes; {len(left) + len(running)} to go")
                 else:
                     proved = False
                     say(output)
