@@ -17,9 +17,13 @@ HUNDRED = 'CREATE TABLE t (a INT); INSERT INTO t VALUES ' + ', '.join('(%d)' % n
 HUNDRED_KEYS = HUNDRED.replace('a INT', 'a INT PRIMARY KEY')
 CHECKS = 'CREATE TABLE t (a INT, ' + ', '.join('CHECK (a > %d) DEFERRABLE' % -n for n in range(64)) + '); START TRANSACTION;'
 
+OTHERS = ' '.join('CREATE TABLE u%d (a INT, %s);' % (n, ', '.join(['CHECK (a > 0)'] * 64)) for n in range(32)) + ' CREATE TABLE t (a INT);'
+
 KINDS = {
     'INSERT of a row, COMMIT after each': ('CREATE TABLE t (a INT);', lambda n: 'INSERT INTO t VALUES (%d); COMMIT;' % n),
     'INSERT of a row, one transaction': ('CREATE TABLE t (a INT);', lambda n: 'INSERT INTO t VALUES (%d);' % n),
+    'INSERT beside 2,048 CHECKs of others': (OTHERS, lambda n: 'INSERT INTO t VALUES (%d);' % n),
+    'START, ROLLBACK beside them': (OTHERS, lambda n: 'START TRANSACTION; ROLLBACK;'),
     'INSERT of a row, with a key': ('CREATE TABLE t (a INT PRIMARY KEY);', lambda n: 'INSERT INTO t VALUES (%d); COMMIT;' % n),
     'INSERT of a row, with a deferred key': ('CREATE TABLE t (a INT PRIMARY KEY INITIALLY DEFERRED);', lambda n: 'INSERT INTO t VALUES (%d);' % n),
     'UPDATE of one of 100 rows': (HUNDRED, lambda n: 'UPDATE t SET a = a WHERE a = %d; COMMIT;' % (n % 100)),
