@@ -97,9 +97,9 @@ def options(program):
 def pages(program):
     """Scripts on the pages of the language, each with its transcript directly after it."""
     for file in files('../docs/language'):
-        pairs = re.findall(rb'```sql\n(.*?)```\n+```text\n(.*?)```', read('../docs/language', file), re.S)
-        for place, (script, want) in enumerate(pairs, 1):
-            yield 'docs/language/%s, script %d' % (file, place), judge(program, script, want)
+        found = re.findall(rb'```sql([^\n]*)\n(.*?)```\n+```text\n(.*?)```', read('../docs/language', file), re.S)
+        for place, (words, script, want) in enumerate(found, 1):
+            yield 'docs/language/%s, script %d' % (file, place), judge(program, script, want, words=shlex.split(words.decode()))
 
 
 def statements(program):

@@ -1,6 +1,6 @@
 //! Runs over devices that fail, and the session between statements.
 use crate::{DeviceFault, RunFault, Sink, Source, Std, Summary, run};
-use iv_catalogue::Fault;
+use iv_catalogue::{ConstraintId, Fault};
 use iv_machine::Limits;
 use iv_parse::script;
 use iv_session::Session;
@@ -310,7 +310,11 @@ fn commits_and_rolls_back(rt: HostRuntime) -> Result<(), Fail> {
     for statement in parsed.statements.as_slice().iter().take(2) {
         let _ = session.execute(statement);
     }
-    assert_eq!(rt; session.commit().is_err(), true);
+    let positive = Fault {
+        constraint: ConstraintId::new(0),
+        row: 1,
+    };
+    assert_eq!(rt; session.commit(), Err(positive));
     assert_eq!(rt; session.commit(), Ok(()));
     session.rollback();
     assert_eq!(rt; session.in_transaction(), false);

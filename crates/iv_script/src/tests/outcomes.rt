@@ -1,7 +1,7 @@
 //! The lines of each kind of outcome, with the names that a session's catalogue has.
 use super::{drops, usual_limits};
 use crate::{DeviceFault, Std};
-use iv_catalogue::{Cause, ConstraintId, Fault, Refusal};
+use iv_catalogue::{Cause, ConstraintId, Fault, Refusal, TriggerId};
 use iv_expr::Row;
 use iv_machine::Answer;
 use iv_parse::script;
@@ -14,9 +14,9 @@ use std::alloc::Global;
 use std::test::Fail;
 
 const TWO_NAMES: &str =
-    "CREATE TABLE t (a INT, CONSTRAINT pos CHECK (a > 0), CONSTRAINT big CHECK (a < 9));";
+    "CREATE TABLE t (a INT, CONSTRAINT pos CHECK (a > 0), CONSTRAINT big CHECK (a < 9)); CREATE TRIGGER guard BEFORE DELETE ON t SIGNAL 'it''s kept';";
 
-// A session that has the constraints POS and BIG.
+// A session that has the constraints POS and BIG, and the trigger GUARD.
 fn with_two_names(alloc: Global) -> Result<Option<Session<PlainStore>>, Fail> {
     let parsed = script(alloc, TWO_NAMES)?;
     let Some(limits) = usual_limits() else {
@@ -122,7 +122,6 @@ fn big_at_row_2() -> Fault {
     }
 }
 
-// Those that speak of a trigger are left out: no trigger has a name yet.
 #[test]
 fn causes_tell_their_constraint_and_row(rt: HostRuntime) -> Result<(), Fail> {
     for (cause, words) in [
@@ -145,6 +144,30 @@ fn causes_tell_their_constraint_and_row(rt: HostRuntime) -> Result<(), Fail> {
         let line = format!(in rt.alloc(); "3 refused {words}\n")?;
         let (done, found) = refused(rt.alloc(), &cause)?;
         assert_eq!(rt; done, Ok(()), "{words}");
+        assert_eq!(rt; found.as_slice(), line.as_bytes(), "{words}");
+    }
+    Ok(())
+}
+
+// Each is a refusal while GUARD was running. SIGNAL is its first statement.
+#[test]
+fn refusals_tell_their_trigger(rt: HostRuntime) -> Result<(), Fail> {
+    let guard = TriggerId::new(0);
+    for (cause, words) in [
+        (
+            Cause::Violation(big_at_row_2()),
+            "13 Violation BIG row 2 in GUARD",
+        ),
+        (Cause::TooManyChanges, "17 TooManyChanges in GUARD"),
+        (Cause::Signal(guard, 1), "15 Signal GUARD 'it''s kept'"),
+        (Cause::DepthLimit(guard), "16 DepthLimit GUARD"),
+    ] {
+        let line = format!(in rt.alloc(); "3 refused {words}\n")?;
+        let refusal = Refusal {
+            cause,
+            trigger: Some(guard),
+        };
+        let (_, found) = written(rt.alloc(), 3, &Err(refusal))?;
         assert_eq!(rt; found.as_slice(), line.as_bytes(), "{words}");
     }
     Ok(())
