@@ -131,7 +131,8 @@ def try_program(words):
     """Runs the program with these words without proof: its status, its output and its lines of standard error.
 
     It runs in a folder of its own, so a file is named by its whole path."""
-    words = [os.path.abspath(word) if os.path.exists(word) else word for word in words]
+    values = {at + 1 for at, word in enumerate(words) if word in ("--depth", "--changes")}
+    words = [os.path.abspath(word) if at not in values and os.path.exists(word) else word for at, word in enumerate(words)]
     with tempfile.TemporaryFile() as errors:
         status = subprocess.run(["rt", "try", "--seconds", "3600", "--", *words], cwd=folder(PROGRAM), stdin=sys.stdin.buffer, stderr=errors, check=False).returncode
         errors.seek(0)

@@ -6,7 +6,7 @@ use sqlite_items::Items;
 #[derive(Drop)]
 pub enum Answer {
     Done,
-    /// The number of rows that a data statement inserted.
+    /// The number of rows that a data statement inserted, updated or deleted, without those that follow from it.
     Changed(u64),
     /// The rows of a SELECT, by row number.
     Rows(Items<Row>),

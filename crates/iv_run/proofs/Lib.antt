@@ -1,3 +1,4 @@
 pub mod Occasions
 pub mod Reached
+pub mod Refused
 pub mod WorkedScripts

@@ -1,3 +1,4 @@
 pub mod Step
 pub mod Laws
+pub mod Refusals
 pub mod Worked

@@ -1,5 +1,6 @@
 //! Laws of runs, as contracts of functions that do nothing.
 ghost use Rattle.iv_run.specs.Laws.{PlansKeepTheOccasion, ReachedStatesAreSound};
+ghost use Rattle.iv_run.specs.Refusals.{RefusalsChangeNothing};
 ghost use Rattle.iv_run.specs.Worked.{WorkedScripts};
 
 /// In every state that a run of statements reaches from an empty one no immediate constraint is
@@ -14,6 +15,12 @@ pub fn reached_states_are_sound()
 /// one, or always.
 pub fn plans_keep_the_occasion()
     ensures { PlansKeepTheOccasion }
+{}
+
+/// No refusal changes anything, but that of a COMMIT for a violation, which ends the transaction with the
+/// database from its start.
+pub fn refusals_change_nothing()
+    ensures { RefusalsChangeNothing }
 {}
 
 /// Worked scripts of parsed statements answer what they should.

@@ -6,4 +6,6 @@ mod laws;
 #[cfg(test)]
 mod tests;
 
-pub use laws::{plans_keep_the_occasion, reached_states_are_sound, worked_scripts};
+pub use laws::{
+    plans_keep_the_occasion, reached_states_are_sound, refusals_change_nothing, worked_scripts,
+};

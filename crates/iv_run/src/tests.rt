@@ -1,9 +1,12 @@
 //! Each law is a call that returns.
-use crate::{plans_keep_the_occasion, reached_states_are_sound, worked_scripts};
+use crate::{
+    plans_keep_the_occasion, reached_states_are_sound, refusals_change_nothing, worked_scripts,
+};
 
 #[test]
 fn laws_are_called(rt: HostRuntime) {
     plans_keep_the_occasion();
     reached_states_are_sound();
+    refusals_change_nothing();
     worked_scripts();
 }

@@ -1,5 +1,6 @@
 -- SET CONSTRAINTS: which constraints may be set, and the first violation of one that becomes immediate.
 use Rattle.std.proofs.Common.{◌≡◌, ℕ, zero, suc, ◌+◌, Bool, true, false, not, ◌&&◌, ◌==◌, if◌then◌else◌, Option, Some, None, List, [], ◌∷◌, ◌++◌, filter, find, map, flat_map, slice_get, refl, ap, sym, ◌∙◌}
+use Rattle.std.proofs.lemmas.Bool.{true≢false}
 use Rattle.std.specs.List.{enumerate_from}
 use Rattle.iv_expr.specs.declared.row.StoredRow.{StoredRow}
 use Rattle.iv_session.specs.Words.{ConstraintMode, Constraint, Fault}
@@ -8,7 +9,7 @@ use Rattle.iv_session.specs.Words.answer.{Done}
 use Rattle.iv_catalogue.specs.Catalogues.{Schema}
 use Rattle.iv_machine.specs.declared.database.Which.TheVariants.{Deferred}
 use Rattle.iv_machine.specs.Databases.{chosen_violations, fault_at, first, is_chosen, is_deferred, satisfies, scan, violations}
-use Rattle.iv_machine.specs.Machine.{State, Outcome, accept, refuse, refuse_first, is_deferrable, modes_outcome, set_constraints_outcome, with_modes}
+use Rattle.iv_machine.specs.Machine.{State, Outcome, accept, refuse, refuse_first, first_made_immediate, is_deferrable, modes_outcome, set_constraints_outcome, with_modes}
 use Rattle.iv_modes.specs.ModeMaps.{ModeMap, first_not_deferrable, with_mode}
 use Rattle.iv_modes.specs.ModeMaps as modes
 
@@ -85,17 +86,35 @@ of_all rows chosen p id (c ∷ cs) =
     filter_more (λ (f : Fault). p f.constraint) (chosen_violations rows chosen id c) (from rows chosen (id + 1) cs)
     ∙ (λ i. of_one rows chosen p id c i ++ of_all rows chosen p (id + 1) cs i)
 
+-- the first of those that were deferred and no longer are
+pub made_immediate : (s : State) (new : List ConstraintMode)
+    → find (λ f. not (is_deferred new f.constraint)) (scan s.database.rows s.schema.constraints (is_chosen s.modes Deferred)) ≡ first_made_immediate s new
+made_immediate s new =
+    first_filter (λ x. not (is_deferred new x.constraint)) (scan s.database.rows s.schema.constraints (is_chosen s.modes Deferred))
+    ∙ ap first (of_all s.database.rows (is_deferred s.modes) (λ id. not (is_deferred new id)) 0 s.schema.constraints)
+
+-- nothing is chosen
+none_from : (rows : List StoredRow) (id : ℕ) (cs : List Constraint) → from rows (λ _. false) id cs ≡ []
+none_from rows id [] = refl
+none_from rows id (c ∷ cs) = none_from rows (id + 1) cs
+
+-- where all that was deferred still is, no constraint was made immediate
+pub none_made_immediate : (s : State) (new : List ConstraintMode) → ((id : ℕ) → is_deferred s.modes id ≡ true → is_deferred new id ≡ true)
+    → first_made_immediate s new ≡ None
+none_made_immediate s new h =
+    ap (λ (chosen : ℕ → Bool). first (scan s.database.rows s.schema.constraints chosen)) (λ i id. by (is_deferred s.modes id) (is_deferred new id) (h id) i)
+    ∙ ap first (none_from s.database.rows 0 s.schema.constraints) where
+  by : (b c : Bool) → (b ≡ true → c ≡ true) → (b && not c) ≡ false
+  by false c k = refl
+  by true true k = refl
+  by true false k = absurd (true≢false (sym (k refl)))
+
 -- SET CONSTRAINTS of constraints that may be set
-pub set_seen : (s : State) (ids : List ℕ) (mode : ConstraintMode) (m new : ModeMap) (faults : List Fault) (o : Option Fault)
+pub set_seen : (s : State) (ids : List ℕ) (mode : ConstraintMode) (m new : ModeMap) (o : Option Fault)
     → m.modes ≡ s.modes → m.deferrable ≡ map (λ c. c.deferrable) s.schema.constraints → first_not_deferrable m ids ≡ None → new ≡ with_mode m ids mode
-    → faults ≡ scan s.database.rows s.schema.constraints (is_chosen s.modes Deferred)
-    → o ≡ find (λ f. not (is_deferred new.modes f.constraint)) faults
+    → o ≡ first_made_immediate s new.modes
     → set_constraints_outcome s ids mode ≡ refuse_first s Violation o (accept (record s { modes = new.modes }) Done)
-set_seen s ids mode m new faults o a d n e f g =
+set_seen s ids mode m new o a d n e g =
     let modes_are : with_modes s.modes ids mode ≡ new.modes = ap (λ (l : List ConstraintMode). with_modes l ids mode) (sym a) ∙ sym (ap (λ (x : ModeMap). x.modes) e) in
-    let found : first (scan s.database.rows s.schema.constraints (λ id. is_deferred s.modes id && not (is_deferred new.modes id))) ≡ o =
-    sym (g ∙ ap (find (λ x. not (is_deferred new.modes x.constraint))) f
-    ∙ first_filter (λ x. not (is_deferred new.modes x.constraint)) (scan s.database.rows s.schema.constraints (is_chosen s.modes Deferred))
-    ∙ ap first (of_all s.database.rows (is_deferred s.modes) (λ id. not (is_deferred new.modes id)) 0 s.schema.constraints)) in
     ap (set_by s ids mode) (sym (first_same s.schema m ids d) ∙ n) ∙ ap (modes_outcome s) modes_are
-    ∙ ap (λ (x : Option Fault). refuse_first s Violation x (accept (record s { modes = new.modes }) Done)) found
+    ∙ ap (λ (x : Option Fault). refuse_first s Violation x (accept (record s { modes = new.modes }) Done)) (sym g)

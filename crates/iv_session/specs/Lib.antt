@@ -1,5 +1,6 @@
 pub mod Words
 pub mod Changing
+pub mod Deferring
 pub mod Ending
 pub mod Fits
 pub mod Kept

@@ -5,7 +5,8 @@ ghost use Rattle.iv_catalogue.specs.Refusals.{refusal_answer};
 ghost use Rattle.iv_catalogue.specs.declared.plan.ConstraintSet.TheVariants as set;
 ghost use Rattle.iv_catalogue.specs.declared.limits.TheConstants.{MOST_CONSTRAINTS, MOST_TABLES};
 ghost use Rattle.iv_machine.specs.Databases.{first, is_deferred, scan};
-ghost use Rattle.iv_machine.specs.Machine.{constraints_meant, is_deferrable, is_open, set_constraints_outcome};
+ghost use Rattle.iv_machine.specs.Machine.{constraints_meant, first_made_immediate, is_deferrable, is_open, set_constraints_outcome};
+ghost use Rattle.iv_session.specs.Deferring.{DefersNoLess};
 ghost use Rattle.iv_session.specs.Performing.{Performs};
 
 use crate::savepoints::refuse;
@@ -69,6 +70,27 @@ fn first_immediate(faults: &[Fault], modes: &Modes) -> Option<Fault>
 }
 
 impl<K: Keeper + Drop> Session<K> {
+    // The first violation of a constraint that these modes make immediate, where they come of setting this
+    // mode. To defer makes none immediate, so no row is read for it.
+    #[tactic(auto, using(crate::proofs::Deferred::made_immediate, crate::proofs::Deferred::none_made_immediate))]
+    fn first_made_immediate(
+        &self,
+        modes: &Modes,
+        mode: ConstraintMode,
+    ) -> Result<Option<Fault>, AllocError>
+        requires { DefersNoLess self.now.state.modes mode modes.now.modes }
+        ensures { IfOk result (λ fault.
+            fault ≡ first_made_immediate self.now.state modes.now.modes) }
+    {
+        match mode {
+            ConstraintMode::Deferred => Ok(None),
+            ConstraintMode::Immediate => {
+                let faults = self.pending()?;
+                Ok(first_immediate(faults.as_slice(), modes))
+            }
+        }
+    }
+
     // Sets the modes of these constraints.
     fn set_modes(&mut self, ids: &[ConstraintId], mode: ConstraintMode) -> Outcome
         requires { is_open self.old.state ≡ true }
@@ -81,8 +103,7 @@ impl<K: Keeper + Drop> Session<K> {
             Ok(()) => {}
             Err(refused) => return refuse(Cause::NotDeferrable(refused.0)),
         }
-        let faults = self.pending()?;
-        match first_immediate(faults.as_slice(), &modes) {
+        match self.first_made_immediate(&modes, mode)? {
             Some(fault) => refuse(Cause::Violation(fault)),
             None => {
                 self.changed = Some(modes);

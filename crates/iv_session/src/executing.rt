@@ -18,6 +18,7 @@ impl<K: Keeper + Drop> Session<K> {
         ensures state { self.new.state ≡ self.old.state }
         ensures work { self.new.work ≡ self.old.work }
         ensures lookups { self.new.lookups ≡ self.old.looked - looked }
+        ensures unlooked { ((store : K) → K.lookups store ≡ 0) → self.new.lookups ≡ 0 }
         ensures looked { self.new.looked ≡ self.old.looked }
     {
         self.work.lookups = self.store.looked().saturating_sub(looked);
@@ -29,6 +30,7 @@ impl<K: Keeper + Drop> Session<K> {
             (outcome_unless self.old.state (transaction_cause (is_open self.old.state) inside)
             (rollback_to_outcome self.old.state
             (savepoint_named name.now self.old.state.savepoints))) result self.new }
+        ensures sure { is_open self.old.state ≡ false → is_memory result ≡ false }
     {
         if self.in_transaction() {
             self.back_to(name)
@@ -46,6 +48,8 @@ impl<K: Keeper + Drop> Session<K> {
         ensures work { MatchBool (is_memory result) (Unit {0}) (self.new.work
             ≡ (step self.old.state statement.now).work) }
         ensures lookups { self.new.lookups ≡ self.new.looked - self.old.looked }
+        // a store that counts no look-up
+        ensures unlooked { ((store : K) → K.lookups store ≡ 0) → self.new.lookups ≡ 0 }
     {
         let looked = self.looked();
         let answer = self.run(statement);
@@ -70,9 +74,12 @@ impl<K: Keeper + Drop> Session<K> {
     }
 
     /// ROLLBACK TO SAVEPOINT as a call: the answer, the state after it and the changes that were undone are
-    /// those of the machine, or memory was refused and the state is as before.
+    /// those of the machine, or memory was refused and the state is as before. Outside a transaction it takes
+    /// no memory.
     pub fn rollback_to(&mut self, name: &str) -> Outcome
         ensures lookups { self.new.lookups ≡ self.new.looked - self.old.looked }
+        ensures unlooked { ((store : K) → K.lookups store ≡ 0) → self.new.lookups ≡ 0 }
+        ensures sure { is_open self.old.state ≡ false → is_memory result ≡ false }
         ensures performs { Performs self.old.state
             (outcome_unless self.old.state (transaction_cause (is_open self.old.state) inside)
             (rollback_to_outcome self.old.state

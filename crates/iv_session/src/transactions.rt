@@ -68,6 +68,7 @@ impl<K: Keeper + Drop> Session<K> {
         ensures state { self.new.state ≡ self.old.state }
         ensures work { self.new.work ≡ record { changes = changes; undone = undone } }
         ensures lookups { self.new.lookups ≡ self.old.looked - looked }
+        ensures unlooked { ((store : K) → K.lookups store ≡ 0) → self.new.lookups ≡ 0 }
         ensures looked { self.new.looked ≡ self.old.looked }
     {
         let lookups = self.store.looked().saturating_sub(looked);
@@ -115,6 +116,7 @@ impl<K: Keeper + Drop> Session<K> {
         ensures state { self.new.state ≡ (rollback_outcome self.old.state).state }
         ensures work { self.new.work ≡ (rollback_outcome self.old.state).work }
         ensures lookups { self.new.lookups ≡ self.new.looked - self.old.looked }
+        ensures unlooked { ((store : K) → K.lookups store ≡ 0) → self.new.lookups ≡ 0 }
     {
         let looked = self.looked();
         let undone = self.undone_at_end();
@@ -129,6 +131,7 @@ impl<K: Keeper + Drop> Session<K> {
             self.old.state) }
         ensures work { self.new.work ≡ no_work }
         ensures lookups { self.new.lookups ≡ self.new.looked - self.old.looked }
+        ensures unlooked { ((store : K) → K.lookups store ≡ 0) → self.new.lookups ≡ 0 }
     {
         if self.active {
             self.store.settle();
@@ -146,6 +149,7 @@ impl<K: Keeper + Drop> Session<K> {
         ensures state { self.new.state ≡ (commit_outcome self.old.state).state }
         ensures work { self.new.work ≡ (commit_outcome self.old.state).work }
         ensures lookups { self.new.lookups ≡ self.new.looked - self.old.looked }
+        ensures unlooked { ((store : K) → K.lookups store ≡ 0) → self.new.lookups ≡ 0 }
         // Inside a transaction it is accepted exactly where the scan of all constraints is empty.
         ensures accepted { OnOk result (is_open self.old.state ≡ true →
             scan self.old.state.database.rows self.old.state.schema.constraints

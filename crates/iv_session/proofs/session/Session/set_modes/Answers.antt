@@ -1,10 +1,8 @@
-use Rattle.std.proofs.Common.{◌≡◌, ◌∙◌, ap, refl, find, map, not, List, Option}
+use Rattle.std.proofs.Common.{◌≡◌, ◌∙◌, ap, refl, map, List, Option}
 use Rattle.iv_session.specs.Words.{Fault}
 use Rattle.iv_session.specs.Words.cause.{NotDeferrable, Violation}
 use Rattle.iv_session.specs.Words.answer.{Done}
-use Rattle.iv_machine.specs.declared.database.Which.TheVariants.{Deferred}
-use Rattle.iv_machine.specs.Databases.{is_chosen, is_deferred, scan}
-use Rattle.iv_machine.specs.Machine.{State, accept, no_work, refuse_first, set_constraints_outcome}
+use Rattle.iv_machine.specs.Machine.{State, accept, first_made_immediate, no_work, refuse_first, set_constraints_outcome}
 use Rattle.iv_modes.specs.ModeMaps.{ModeMap}
 use Rattle.iv_session.specs.Kept.{Parts, parts, Seen, state_of}
 use Rattle.iv_session.proofs.Deferred.{set_refused, set_seen}
@@ -30,13 +28,12 @@ returns-in-Some g c =
     let v : state_of h ≡ s = ap (λ x. x.state) c.self.view_is in
     let x : Seen = record { state = state_of h; work = record { changes = c.none-self-inside.result.changes; undone = c.none-self-inside.result.undone }; lookups = c.none-self-inside.result.lookups; looked = g.K.Kin.lookups c.self.inside.store } in
     let w : x.work ≡ no_work = ap (λ w. record { changes = w.changes; undone = w.undone }) c.none-self-inside.ensures in
-    let seen : set_constraints_outcome s c.args.ids.now c.args.mode ≡ refuse_first s Violation c.first_immediate.result (accept (record s { modes = c.set.new.self.modes }) Done) =
-    set_seen s c.args.ids.now c.args.mode c.in_ok-modes.modes c.set.new.self c.in_ok-faults.faults.items c.first_immediate.result
+    let seen : set_constraints_outcome s c.args.ids.now c.args.mode ≡ refuse_first s Violation c.in_ok-self.value (accept (record s { modes = c.set.new.self.modes }) Done) =
+    set_seen s c.args.ids.now c.args.mode c.in_ok-modes.modes c.set.new.self c.in_ok-self.value
     (ap (λ (x : ModeMap). x.modes) c.in_ok-modes.ensures ∙ c.modes.ensures.modes ∙ ap (λ (y : State). y.modes) v)
     (ap (λ (x : ModeMap). x.deferrable) c.in_ok-modes.ensures ∙ c.modes.ensures.settable ∙ ap (λ (y : State). map (λ k. k.deferrable) y.schema.constraints) v)
     c.in-Ok.ensures.accepted c.in-Ok.ensures.set
-    (c.in_ok-faults.ensures ∙ ap (λ (y : State). scan y.database.rows y.schema.constraints (is_chosen y.modes Deferred)) v)
-    (c.first_immediate.ensures ∙ ap (λ (l : List Fault). find (λ f. not (is_deferred c.set.new.self.modes f.constraint)) l) c.as_slice.ensures.value) in
+    (c.in_ok-self.ensures ∙ ap (λ (y : State). first_made_immediate y c.set.new.self.modes) v) in
     refuse_performs s (set_constraints_outcome s c.args.ids.now c.args.mode) (Violation c.in-Some.fault) c.refuse-in-Some.result x
     (seen ∙ ap (λ (o : Option Fault). refuse_first s Violation o (accept (record s { modes = c.set.new.self.modes }) Done)) c.in-Some.is) refl c.refuse-in-Some.ensures v w
 
@@ -47,13 +44,12 @@ returns-in-None g c =
     let v : state_of h ≡ s = ap (λ x. x.state) c.self.view_is in
     let x : Seen = record { state = state_of h; work = record { changes = c.none-self-inside.result.changes; undone = c.none-self-inside.result.undone }; lookups = c.none-self-inside.result.lookups; looked = g.K.Kin.lookups c.self.inside.store } in
     let w : x.work ≡ no_work = ap (λ w. record { changes = w.changes; undone = w.undone }) c.none-self-inside.ensures in
-    let seen : set_constraints_outcome s c.args.ids.now c.args.mode ≡ refuse_first s Violation c.first_immediate.result (accept (record s { modes = c.set.new.self.modes }) Done) =
-    set_seen s c.args.ids.now c.args.mode c.in_ok-modes.modes c.set.new.self c.in_ok-faults.faults.items c.first_immediate.result
+    let seen : set_constraints_outcome s c.args.ids.now c.args.mode ≡ refuse_first s Violation c.in_ok-self.value (accept (record s { modes = c.set.new.self.modes }) Done) =
+    set_seen s c.args.ids.now c.args.mode c.in_ok-modes.modes c.set.new.self c.in_ok-self.value
     (ap (λ (x : ModeMap). x.modes) c.in_ok-modes.ensures ∙ c.modes.ensures.modes ∙ ap (λ (y : State). y.modes) v)
     (ap (λ (x : ModeMap). x.deferrable) c.in_ok-modes.ensures ∙ c.modes.ensures.settable ∙ ap (λ (y : State). map (λ k. k.deferrable) y.schema.constraints) v)
     c.in-Ok.ensures.accepted c.in-Ok.ensures.set
-    (c.in_ok-faults.ensures ∙ ap (λ (y : State). scan y.database.rows y.schema.constraints (is_chosen y.modes Deferred)) v)
-    (c.first_immediate.ensures ∙ ap (λ (l : List Fault). find (λ f. not (is_deferred c.set.new.self.modes f.constraint)) l) c.as_slice.ensures.value) in
+    (c.in_ok-self.ensures ∙ ap (λ (y : State). first_made_immediate y c.set.new.self.modes) v) in
     accept_performs s (set_constraints_outcome s c.args.ids.now c.args.mode) (record s { modes = c.set.new.self.modes }) Done
     (record x { state = record (state_of h) { modes = c.set.new.self.modes } })
     (seen ∙ ap (λ (o : Option Fault). refuse_first s Violation o (accept (record s { modes = c.set.new.self.modes }) Done)) c.in-None.is)
