@@ -13,7 +13,7 @@ use Rattle.iv_syntax.specs.declared.statement.Insert.{Insert}
 use Rattle.iv_syntax.specs.declared.statement.Insert.TheVariants.{DefaultValues, Rows}
 use Rattle.iv_parse_terms.specs.After.{after, if_some, then_read, same}
 use Rattle.iv_parse_terms.specs.Expressions.{EndsExpression, spelling, qualifier_spelling, sign_kind}
-use Rattle.iv_parse_terms.specs.Trees.{group, signed, product, sum}
+use Rattle.iv_syntax.specs.Trees.{group, signed, product, sum}
 use Rattle.iv_syntax.specs.declared.tree.Sign.{Sign}
 use Rattle.iv_syntax.specs.declared.tree.Sign.TheVariants as sign
 use Rattle.iv_syntax.specs.declared.tree.Expression.TheVariants.{Number, Text, Null, Column}

@@ -13,7 +13,7 @@ use Rattle.iv_parse_terms.specs.declared.item.Connective.TheVariants.{And, Or}
 use Rattle.iv_syntax.specs.declared.tree.Condition.{Condition}
 use Rattle.iv_syntax.specs.declared.tree.RangeName.{RangeName}
 use Rattle.iv_parse_terms.specs.ItemDepth.{where_depth}
-use Rattle.iv_parse_terms.specs.Conditions.{condition_depth}
+use Rattle.iv_syntax.specs.Trees.{condition_depth}
 use Rattle.iv_parse_terms.proofs.Parts.{some_same}
 use Rattle.iv_parse_terms.specs.After.{after, if_some, then_read}
 use Rattle.iv_parse_terms.specs.ExpressionReader.{after_sign, simple, more_factors, more_terms, read_factor, read_term}

@@ -1,5 +1,4 @@
 pub mod After
-pub mod Trees
 pub mod Expressions
 pub mod ExpressionReader
 pub mod Seen

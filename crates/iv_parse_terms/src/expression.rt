@@ -1,8 +1,7 @@
 //! Expressions read from tokens.
 ghost use Rattle.std.specs.Prelude.{◌≡◌, ℕ, ◌+◌, ◌≤◌, List, IfOk};
 ghost use Rattle.iv_lex.specs.Words.{words};
-ghost use Rattle.iv_parse_terms.specs.Trees.{group, signed, product, sum};
-ghost use Rattle.iv_parse_terms.specs.Expressions.{depth as depth_of};
+ghost use Rattle.iv_syntax.specs.Trees.{group, signed, product, sum, depth as depth_of};
 ghost use Rattle.iv_parse_terms.specs.ExpressionReader.{column_from, simple as simple_at, close_group, fits, more_factors, more_terms, read_primary, read_factor, read_term, read_expression as read};
 ghost use Rattle.iv_parse_terms.specs.Seen.{expression_found, with_words};
 
