@@ -2,7 +2,7 @@
 ghost use Rattle.std.specs.Prelude.{◌≡◌, ℕ, ◌-◌, ◌≤◌, ◌<◌, IfOk};
 ghost use Rattle.iv_lex.specs.Words.{words};
 ghost use Rattle.iv_parse_terms.specs.declared.item.Connective.TheVariants.{And, Or};
-ghost use Rattle.iv_parse_terms.specs.ConditionReader.{exists_by, more_by, read_lead, lead_factor as lead_factor_of, read_test, read_negation, read_conjunction, read_item, read_from as from, read_condition as read};
+ghost use Rattle.iv_parse_terms.specs.readers.Conditions.{exists_by, more_by, read_lead, lead_factor as lead_factor_of, read_test, read_negation, read_conjunction, read_item, read_from as from, read_condition as read};
 ghost use Rattle.iv_parse_terms.specs.Seen.{with_words};
 ghost use Rattle.iv_parse_terms.specs.SeenItem.{item_found};
 ghost use Rattle.iv_parse_terms.specs.SeenFrom.{from_found};

@@ -2,7 +2,7 @@
 ghost use Rattle.std.specs.Prelude.{◌≡◌, ℕ, ◌+◌, ◌≤◌, List, IfOk};
 ghost use Rattle.iv_lex.specs.Words.{words};
 ghost use Rattle.iv_syntax.specs.Trees.{group, signed, product, sum, depth as depth_of};
-ghost use Rattle.iv_parse_terms.specs.ExpressionReader.{column_from, simple as simple_at, close_group, fits, more_factors, more_terms, read_primary, read_factor, read_term, read_expression as read};
+ghost use Rattle.iv_parse_terms.specs.readers.Expressions.{column_from, simple as simple_at, close_group, fits, more_factors, more_terms, read_primary, read_factor, read_term, read_expression as read};
 ghost use Rattle.iv_parse_terms.specs.Seen.{expression_found, with_words};
 
 use crate::expression_part::ExpressionPart;

@@ -1,7 +1,7 @@
 //! Trees made of trees.
 ghost use Rattle.std.specs.Prelude.{◌≡◌, IfOk};
 ghost use Rattle.iv_syntax.specs.Trees.{group, signed, product, sum, enclosed, negated, both, either, exists_where};
-ghost use Rattle.iv_parse_terms.specs.ConditionReader.{connection, exists_over};
+ghost use Rattle.iv_parse_terms.specs.readers.Conditions.{connection, exists_over};
 
 use crate::item::Connective;
 use iv_syntax::{Condition, Expression, RangeName, Sign};

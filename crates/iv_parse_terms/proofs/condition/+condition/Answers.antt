@@ -1,7 +1,7 @@
 use Rattle.std.proofs.Common.{refl}
 use Rattle.iv_lex.specs.Words.{words}
 use Rattle.iv_parse_terms.specs.declared.item.Connective.TheVariants.{And, Or}
-use Rattle.iv_parse_terms.specs.ConditionReader.{read_negation, read_conjunction, read_item}
+use Rattle.iv_parse_terms.specs.readers.Conditions.{read_negation, read_conjunction, read_item}
 use Rattle.iv_parse_terms.proofs.ConditionSteps.{lead_zero, lead_open, lead_exists, lead_simple, factor_signed, factor_lead, test_step, negation_not, negation_plain, conjunction_step, item_step, more_step}
 use Rattle.iv_parse_terms.proofs.condition.+condition.Goals as goal
 

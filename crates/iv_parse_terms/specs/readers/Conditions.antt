@@ -16,7 +16,7 @@ use Rattle.iv_parse_terms.specs.declared.item.Connective.{Connective}
 use Rattle.iv_parse_terms.specs.declared.item.Connective.TheVariants.{And, Or}
 use Rattle.iv_syntax.specs.Trees.{group, enclosed, negated, both, either, exists_where, condition_depth}
 use Rattle.iv_parse_terms.specs.After.{after, after_name, if_some, then_read}
-use Rattle.iv_parse_terms.specs.ExpressionReader.{FoundExpression, fits, after_sign, simple, more_factors, more_terms, read_factor, read_term, read_expression}
+use Rattle.iv_parse_terms.specs.readers.Expressions.{FoundExpression, fits, after_sign, simple, more_factors, more_terms, read_factor, read_term, read_expression}
 
 -- an item and the words that are left, or none
 abbrev pub FoundItem : Type 0
