@@ -190,6 +190,15 @@ read_negation d = negation_by d (read_test d)
 unfoldable pub read_conjunction : ℕ → List Word → FoundItem
 read_conjunction d = chain_by And d (read_negation d)
 
+-- what AND or OR stands between
+abbrev pub read_operand : Connective → ℕ → List Word → FoundItem
+read_operand And d = read_negation d
+read_operand Or d = read_conjunction d
+
+-- operands with AND or with OR between them
+abbrev pub read_chain : Connective → ℕ → List Word → FoundItem
+read_chain k d = chain_by k d (read_operand k d)
+
 -- a value or a condition
 unfoldable pub read_item : ℕ → List Word → FoundItem
 read_item d = chain_by Or d (read_conjunction d)
