@@ -19,7 +19,7 @@ use Rattle.iv_lex.specs.declared.token.Token.{Token}
 use Rattle.iv_lex.specs.Tokens.{is_digit, is_word_byte, value_from, single_symbol, double_symbol, tokens_of}
 use Rattle.iv_lex.specs.Words.{slice, is_boundary, characters}
 use Rattle.iv_lex.specs.Longest.{IsWord, IsDigits, IsText, one, two, IsToken}
-use Rattle.iv_lex.specs.Reserved.{reserved_words, kind_spelling, word_among, word_kind}
+use Rattle.iv_lex.specs.Reserved.{reserved_words, word_among, word_kind}
 use Rattle.iv_lex.specs.Longest.IsToken.{a_word, a_number, a_text, a_symbol}
 use Rattle.iv_lex.specs.IsTokens.{IsTokenOf, IsTokensFrom, HasCharacters, TokensHaveCharacters}
 use Rattle.iv_lex.proofs.Sequence.{dropped, tokens_found}
@@ -95,20 +95,20 @@ is_quoted : Kind → Bool
 is_quoted kind.Quoted = true
 is_quoted _ = false
 
-none_quoted : List Kind → Bool
+none_quoted : List (List ℕ × Kind) → Bool
 none_quoted [] = true
-none_quoted (k ∷ ks) = not (is_quoted k) && none_quoted ks
+none_quoted ((reserved, k) ∷ rest) = not (is_quoted k) && none_quoted rest
 
 by_word : (x : Bool) (j k : Kind) → not (is_quoted j) ≡ true → not (is_quoted k) ≡ true → not (is_quoted (if x then j else k)) ≡ true
 by_word true j k h g = h
 by_word false j k h g = g
 
-among_not_quoted : (ks : List Kind) (word : List ℕ) → none_quoted ks ≡ true → not (is_quoted (word_among ks word)) ≡ true
+among_not_quoted : (reserved : List (List ℕ × Kind)) (word : List ℕ) → none_quoted reserved ≡ true → not (is_quoted (word_among reserved word)) ≡ true
 unfolding none_quoted is_quoted
 among_not_quoted [] word h = refl
-among_not_quoted (k ∷ ks) word h =
-    let two = and_parts (not (is_quoted k)) (none_quoted ks) h in
-    by_word (str_eq_ignore_ascii_case word (kind_spelling k)) k (word_among ks word) two.0 (among_not_quoted ks word two.1)
+among_not_quoted ((spelling, k) ∷ rest) word h =
+    let two = and_parts (not (is_quoted k)) (none_quoted rest) h in
+    by_word (str_eq_ignore_ascii_case word spelling) k (word_among rest word) two.0 (among_not_quoted rest word two.1)
 
 word_not_quoted : (word : List ℕ) → not (is_quoted (word_kind word)) ≡ true
 unfolding word_kind none_quoted is_quoted

@@ -15,13 +15,13 @@ fn is_space(byte: u8) -> bool
 fn is_digit(byte: u8) -> bool
     ensures { result ≡ is_digit byte }
 {
-    48 <= byte && byte <= 57
+    byte.is_ascii_digit()
 }
 
 fn is_letter(byte: u8) -> bool
     ensures { result ≡ is_letter byte }
 {
-    (65 <= byte && byte <= 90) || (97 <= byte && byte <= 122) || byte == 95
+    byte.is_ascii_alphabetic() || byte == b'_'
 }
 
 fn is_word_byte(byte: u8) -> bool
@@ -33,7 +33,7 @@ fn is_word_byte(byte: u8) -> bool
 fn first_not_digit(bytes: &[u8]) -> Option<usize>
     ensures { result ≡ position (λ b. not (is_digit b)) bytes.now }
 {
-    bytes.iter().position(|b| !is_digit(*b))
+    bytes.iter().position(|byte| !is_digit(*byte))
 }
 
 fn digits_length(bytes: &[u8]) -> usize
@@ -46,7 +46,7 @@ fn digits_length(bytes: &[u8]) -> usize
 fn first_not_word(bytes: &[u8]) -> Option<usize>
     ensures { result ≡ position (λ b. not (is_word_byte b)) bytes.now }
 {
-    bytes.iter().position(|b| !is_word_byte(*b))
+    bytes.iter().position(|byte| !is_word_byte(*byte))
 }
 
 fn word_length(bytes: &[u8]) -> usize
@@ -61,7 +61,7 @@ fn byte_at(bytes: &[u8], at: usize) -> u8
     ensures byte { result ≡ slice_index bytes.now at }
     ensures past { length bytes.now ≤ at → result ≡ 0 }
 {
-    if at < bytes.len() { bytes[at] } else { 0 }
+    bytes.get(at).copied().unwrap_or(0)
 }
 
 // Whether a comment goes on after a byte of white space or of a comment.
@@ -69,10 +69,10 @@ fn gap_step(comment: bool, byte: u8, next: u8) -> Option<bool>
     ensures { result ≡ gap_step comment byte next }
 {
     if comment {
-        Some(byte != 10)
+        Some(byte != b'\n')
     } else if is_space(byte) {
         Some(false)
-    } else if byte == 45 && next == 45 {
+    } else if byte == b'-' && next == b'-' {
         Some(true)
     } else {
         None
@@ -103,7 +103,7 @@ fn number(digits: &[u8]) -> Option<Kind>
 {
     let mut value = 0u64;
     for digit in digits {
-        let next = u128::from(value) * 10 + u128::from(digit.saturating_sub(48));
+        let next = u128::from(value) * 10 + u128::from(digit.saturating_sub(b'0'));
         if next > u128::from(GREATEST_NUMBER) {
             return None;
         }
@@ -131,8 +131,8 @@ fn text_step(bytes: &[u8]) -> Option<(usize, &[u8])>
     ensures more { IfSome result (λ p. 0 < p.0) }
 {
     match bytes {
-        [39, 39, rest @ ..] => Some((2, rest)),
-        [39, ..] => None,
+        [b'\'', b'\'', rest @ ..] => Some((2, rest)),
+        [b'\'', ..] => None,
         [_, rest @ ..] => Some((1, rest)),
         [] => None,
     }
@@ -160,14 +160,11 @@ fn double_symbol(first: u8, second: u8) -> Option<Kind>
     ensures symbol { result ≡ double_symbol first second }
     ensures second { IfSome result (λ k. 0 < second) }
 {
-    if first == b'<' && second == b'>' {
-        Some(Kind::NotEquals)
-    } else if first == b'<' && second == b'=' {
-        Some(Kind::LessEquals)
-    } else if first == b'>' && second == b'=' {
-        Some(Kind::GreaterEquals)
-    } else {
-        None
+    match (first, second) {
+        (b'<', b'>') => Some(Kind::NotEquals),
+        (b'<', b'=') => Some(Kind::LessEquals),
+        (b'>', b'=') => Some(Kind::GreaterEquals),
+        _ => None,
     }
 }
 
@@ -195,13 +192,12 @@ fn symbol_at(bytes: &[u8]) -> Option<(Kind, usize)>
     ensures token { result ≡ symbol_at bytes.now }
     ensures within { IfSome result (λ p. p.1 ≤ length bytes.now) }
 {
-    match double_symbol(byte_at(bytes, 0), byte_at(bytes, 1)) {
-        Some(kind) => Some((kind, 2)),
-        None => {
-            let kind = single_symbol(byte_at(bytes, 0))?;
-            Some((kind, 1))
-        }
+    let first = byte_at(bytes, 0);
+    if let Some(kind) = double_symbol(first, byte_at(bytes, 1)) {
+        return Some((kind, 2));
     }
+    let kind = single_symbol(first)?;
+    Some((kind, 1))
 }
 
 fn word_at(bytes: &[u8]) -> Option<(Kind, usize)>

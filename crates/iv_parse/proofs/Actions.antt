@@ -4,8 +4,8 @@ use Rattle.iv_lex.specs.declared.kind.Kind.TheVariants as kind
 use Rattle.iv_lex.specs.Words.{Word}
 use Rattle.iv_syntax.specs.declared.trigger.TriggerAction.{TriggerAction}
 use Rattle.iv_parse_terms.specs.After.{after, if_some, then_read}
-use Rattle.iv_parse_data.specs.DataReaders.{then_word}
-use Rattle.iv_parse.specs.TriggerReaders.{read_action, read_with_semicolon, read_ended_action}
+use Rattle.iv_parse_data.specs.readers.Data.{then_word}
+use Rattle.iv_parse.specs.readers.Triggers.{read_action, read_with_semicolon, read_ended_action}
 use Rattle.iv_parse_data.proofs.Loops.{Amid, preceded, amid_none, amid_end, amid_more}
 
 -- what is read where the next word isn't END

@@ -7,11 +7,11 @@ use Rattle.iv_syntax.specs.declared.statement.Statement.TheVariants as statement
 use Rattle.iv_parse_terms.specs.After.{then_read}
 use Rattle.iv_parse_data.specs.Series.{Series, InParentheses}
 use Rattle.iv_parse_data.specs.Tables.{IsElement, IsTableConstraint}
-use Rattle.iv_parse_data.specs.TableReaders.{read_elements, read_table_constraint, read_create_table, read_alter}
+use Rattle.iv_parse_data.specs.readers.Tables.{read_elements, read_table_constraint, read_create_table, read_alter}
 use Rattle.iv_parse_data.specs.Data.{IsInsert, IsUpdate, IsDelete, IsSelect}
-use Rattle.iv_parse_data.specs.DataReaders.{then_word, read_insert, read_update, read_delete, read_select}
+use Rattle.iv_parse_data.specs.readers.Data.{then_word, read_insert, read_update, read_delete, read_select}
 use Rattle.iv_parse.specs.Statements.{Reads}
-use Rattle.iv_parse.specs.Readers.{read_drop, read_insert_rule, read_update_rule, read_delete_rule, read_select_rule, read_create, read_definition_rule, read_rule, read_statement}
+use Rattle.iv_parse.specs.readers.Statements.{read_drop, read_insert_rule, read_update_rule, read_delete_rule, read_select_rule, read_create, read_definition_rule, read_rule, read_statement}
 use Rattle.iv_parse.specs.Script.{BeginsStatement}
 use Rattle.iv_parse_data.proofs.Fronts.{Good, nothing_good, done_good, after_good, name_good, then_good, made_good}
 use Rattle.iv_parse_data.proofs.DataSound.{insert_good, update_good, delete_good, select_good}
@@ -19,7 +19,7 @@ use Rattle.iv_parse_data.proofs.TableSound.{elements_good, table_constraint_good
 use Rattle.iv_parse_data.proofs.TableComplete.{elements_complete, table_constraint_reads, statement_constraint}
 use Rattle.iv_parse_data.proofs.DataComplete.{insert_reads, update_reads, delete_reads, select_reads, semicolon}
 use Rattle.iv_parse.specs.Triggers.{IsTrigger}
-use Rattle.iv_parse.specs.TriggerReaders.{read_trigger}
+use Rattle.iv_parse.specs.readers.Triggers.{read_trigger}
 use Rattle.iv_parse.proofs.TriggerSound.{trigger_good}
 use Rattle.iv_parse.proofs.TriggerComplete.{trigger_reads}
 use Rattle.iv_parse.proofs.SessionSound.{drop_good, session_good}

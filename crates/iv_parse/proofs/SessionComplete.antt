@@ -9,13 +9,14 @@ use Rattle.iv_syntax.specs.declared.statement.ConstraintMode.TheVariants.{Immedi
 use Rattle.iv_syntax.specs.declared.statement.ConstraintList.{ConstraintList}
 use Rattle.iv_syntax.specs.declared.statement.ConstraintList.TheVariants.{All, Named}
 use Rattle.iv_parse_terms.specs.After.{after, if_some, then_read}
-use Rattle.iv_parse_data.specs.Series.{Optional, read_series}
+use Rattle.iv_parse_data.specs.Series.{Optional}
+use Rattle.iv_parse_data.specs.readers.Series.{read_series}
 use Rattle.iv_parse_data.specs.Data.{Names}
-use Rattle.iv_parse_data.specs.DataReaders.{FoundPart, read_name}
+use Rattle.iv_parse_data.specs.readers.Data.{FoundPart, read_name}
 use Rattle.iv_parse_data.specs.Tables.{mode_kind}
-use Rattle.iv_parse_data.specs.TableReaders.{read_mode}
+use Rattle.iv_parse_data.specs.readers.Tables.{read_mode}
 use Rattle.iv_parse.specs.Statements.{IsConstraintList}
-use Rattle.iv_parse.specs.Readers.{read_drop, read_start, read_commit, read_to, read_rollback, read_savepoint, read_release, read_list, read_set, read_savepoint_rule, read_session_rule}
+use Rattle.iv_parse.specs.readers.Statements.{read_drop, read_start, read_commit, read_to, read_rollback, read_savepoint, read_release, read_list, read_set, read_savepoint_rule, read_session_rule}
 use Rattle.iv_parse_data.proofs.DataComplete.{names_complete}
 
 -- a rule reads these words of a statement, and leaves the semicolon

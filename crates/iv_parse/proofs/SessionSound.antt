@@ -4,12 +4,13 @@ use Rattle.iv_lex.specs.declared.kind.Kind.TheVariants as kind
 use Rattle.iv_lex.specs.Words.{Word, plain}
 use Rattle.iv_syntax.specs.declared.statement.Statement.TheVariants.{DropTrigger, StartTransaction, Commit, Rollback, Savepoint, Release, RollbackTo, SetConstraints}
 use Rattle.iv_syntax.specs.declared.statement.ConstraintList.TheVariants.{All, Named}
-use Rattle.iv_parse_data.specs.Series.{Optional, read_series}
+use Rattle.iv_parse_data.specs.Series.{Optional}
+use Rattle.iv_parse_data.specs.readers.Series.{read_series}
 use Rattle.iv_parse_data.specs.Data.{Names}
-use Rattle.iv_parse_data.specs.DataReaders.{read_name}
-use Rattle.iv_parse_data.specs.TableReaders.{read_mode}
+use Rattle.iv_parse_data.specs.readers.Data.{read_name}
+use Rattle.iv_parse_data.specs.readers.Tables.{read_mode}
 use Rattle.iv_parse.specs.Statements.{IsConstraintList, Reads}
-use Rattle.iv_parse.specs.Readers.{read_drop, read_start, read_commit, read_to, read_rollback_rest, read_rollback, read_savepoint, read_release, read_list, read_set, read_savepoint_rule, read_session_rule}
+use Rattle.iv_parse.specs.readers.Statements.{read_drop, read_start, read_commit, read_to, read_rollback_rest, read_rollback, read_savepoint, read_release, read_list, read_set, read_savepoint_rule, read_session_rule}
 use Rattle.iv_parse_data.proofs.DataSound.{names_good}
 use Rattle.iv_parse_data.proofs.TableSound.{IsMode, mode_good}
 use Rattle.iv_parse_data.proofs.Fronts.{Good, nothing_good, done_good, after_good, name_good, then_good, skip_good}

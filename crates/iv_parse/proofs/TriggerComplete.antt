@@ -21,12 +21,13 @@ use Rattle.iv_syntax.specs.declared.trigger.TriggerDefinition.{TriggerDefinition
 use Rattle.iv_syntax.specs.declared.statement.Insert.TheVariants as insert
 use Rattle.iv_syntax.specs.declared.statement.Insert.{Insert}
 use Rattle.iv_parse_terms.specs.After.{after, if_some, then_read, same}
-use Rattle.iv_parse_data.specs.Series.{Maybe, Optional, read_sequence, skip}
+use Rattle.iv_parse_data.specs.Series.{Maybe, Optional}
+use Rattle.iv_parse_data.specs.readers.Series.{read_sequence, skip}
 use Rattle.iv_parse_data.specs.Data.{IsInsert}
-use Rattle.iv_parse_data.specs.DataReaders.{then_word, read_name, read_check}
-use Rattle.iv_parse_data.specs.ItemReaders.{read_transition, read_referencing_item_of, read_referencing_item}
+use Rattle.iv_parse_data.specs.readers.Data.{then_word, read_name, read_check}
+use Rattle.iv_parse_data.specs.readers.Items.{read_transition, read_referencing_item_of, read_referencing_item}
 use Rattle.iv_parse.specs.Triggers.{side_kind, IsTransition, IsItem, IsReferencing, IsGranularity, IsWhen, IsAction, IsEndedAction, IsBody, time_kind, event_kind, IsTrigger}
-use Rattle.iv_parse.specs.TriggerReaders.{read_middle, trigger_of, some_items, read_referencing, read_each, read_granularity, read_when, read_set_variable, read_signal, read_other_action, read_delete_action, read_update_action, read_action, read_with_semicolon, read_ended_action, some_actions, read_block, read_single, read_body, read_action_time, read_other_event, read_event, read_occasion, read_trigger_rest, read_trigger}
+use Rattle.iv_parse.specs.readers.Triggers.{read_middle, trigger_of, some_items, read_referencing, read_each, read_granularity, read_when, read_set_variable, read_signal, read_other_action, read_delete_action, read_update_action, read_action, read_with_semicolon, read_ended_action, some_actions, read_block, read_single, read_body, read_action_time, read_other_event, read_event, read_occasion, read_trigger_rest, read_trigger}
 use Rattle.iv_parse_data.proofs.Complete.{Anything}
 use Rattle.iv_parse_data.proofs.OptionalComplete.{maybe_after, Parts, sequence_complete}
 use Rattle.iv_parse_data.proofs.DataComplete.{EndsStatement, semicolon, shallow_complete, check_complete, insert_reads, update_reads, delete_reads, other_word, statement_expression}

@@ -16,13 +16,14 @@ use Rattle.iv_syntax.specs.declared.trigger.Referencing.{Referencing}
 use Rattle.iv_syntax.specs.declared.trigger.TriggerAction.{TriggerAction}
 use Rattle.iv_syntax.specs.declared.trigger.TriggerAction.TheVariants as action
 use Rattle.iv_parse_terms.specs.After.{after, if_some, then_read}
-use Rattle.iv_parse_data.specs.Series.{Sequence, Maybe, InParentheses, Optional, read_sequence}
+use Rattle.iv_parse_data.specs.Series.{Sequence, Maybe, InParentheses, Optional}
+use Rattle.iv_parse_data.specs.readers.Series.{read_sequence}
 use Rattle.iv_parse_data.specs.Data.{IsShallow, IsShallowCondition, IsInsert, IsUpdate, IsDelete}
-use Rattle.iv_parse_data.specs.DataReaders.{read_name, read_shallow, read_check, read_insert, read_update, read_delete}
-use Rattle.iv_parse_data.specs.TableReaders.{read_quoted}
-use Rattle.iv_parse_data.specs.ItemReaders.{read_transition, read_referencing_item_of, read_referencing_item}
+use Rattle.iv_parse_data.specs.readers.Data.{read_name, read_shallow, read_check, read_insert, read_update, read_delete}
+use Rattle.iv_parse_data.specs.readers.Tables.{read_quoted}
+use Rattle.iv_parse_data.specs.readers.Items.{read_transition, read_referencing_item_of, read_referencing_item}
 use Rattle.iv_parse.specs.Triggers.{side_kind, IsTransition, IsItem, IsReferencing, IsGranularity, IsWhen, IsAction, IsEndedAction, IsBody, time_kind, event_kind, IsTrigger}
-use Rattle.iv_parse.specs.TriggerReaders.{read_middle, trigger_of, some_items, read_referencing, read_each, read_granularity, read_when, read_set_variable, read_signal, read_other_action, read_delete_action, read_update_action, read_action, read_with_semicolon, read_ended_action, some_actions, read_block, read_single, read_body, read_action_time, read_other_event, read_event, read_occasion, read_trigger_rest, read_trigger}
+use Rattle.iv_parse.specs.readers.Triggers.{read_middle, trigger_of, some_items, read_referencing, read_each, read_granularity, read_when, read_set_variable, read_signal, read_other_action, read_delete_action, read_update_action, read_action, read_with_semicolon, read_ended_action, some_actions, read_block, read_single, read_body, read_action_time, read_other_event, read_event, read_occasion, read_trigger_rest, read_trigger}
 use Rattle.iv_parse_data.proofs.Fronts.{Good, nothing_good, done_good, after_good, name_good, then_good, made_good, skip_good}
 use Rattle.iv_parse_data.proofs.OptionalSound.{IsQuoted, quoted_good, sequence_good}
 use Rattle.iv_parse_data.proofs.DataSound.{shallow_good, check_good, insert_good, update_good, delete_good}

@@ -2,8 +2,8 @@
 ghost use Rattle.std.specs.Prelude.{◌≡◌, IfOk, ℕ, List, Some, length};
 ghost use Rattle.iv_lex.specs.Words.{words};
 ghost use Rattle.iv_parse_terms.specs.Seen.{with_words};
-ghost use Rattle.iv_parse_data.specs.Series.{read_sequence};
-ghost use Rattle.iv_parse.specs.TriggerReaders.{read_set_variable, read_signal, read_other_action, read_delete_action, read_update_action, read_action, read_ended_action, some_actions, read_block, read_single, read_body};
+ghost use Rattle.iv_parse_data.specs.readers.Series.{read_sequence};
+ghost use Rattle.iv_parse.specs.readers.Triggers.{read_set_variable, read_signal, read_other_action, read_delete_action, read_update_action, read_action, read_ended_action, some_actions, read_block, read_single, read_body};
 
 use iv_lex::{Kind, Token};
 use iv_parse_data::{Parse, delete, insert, quoted, update};
@@ -13,7 +13,7 @@ use sqlite_items::Items;
 use std::alloc::{AllocError, Global};
 
 // SET of a row variable's column, from the variable on.
-#[tactic(auto, unfolding(crate::specs::TriggerReaders::read_set_variable))]
+#[tactic(auto, unfolding(crate::specs::readers::Triggers::read_set_variable))]
 fn set_variable<'a>(
     alloc: Global,
     text: &str,
@@ -40,7 +40,7 @@ fn set_variable<'a>(
     }
 }
 
-#[tactic(auto, unfolding(crate::specs::TriggerReaders::read_signal))]
+#[tactic(auto, unfolding(crate::specs::readers::Triggers::read_signal))]
 fn signal<'a>(
     alloc: Global,
     text: &str,
@@ -54,7 +54,7 @@ fn signal<'a>(
     }
 }
 
-#[tactic(auto, unfolding(crate::specs::TriggerReaders::read_other_action))]
+#[tactic(auto, unfolding(crate::specs::readers::Triggers::read_other_action))]
 fn other_action<'a>(
     alloc: Global,
     text: &str,
@@ -72,7 +72,7 @@ fn other_action<'a>(
     }
 }
 
-#[tactic(auto, unfolding(crate::specs::TriggerReaders::read_delete_action))]
+#[tactic(auto, unfolding(crate::specs::readers::Triggers::read_delete_action))]
 fn delete_action<'a>(
     alloc: Global,
     text: &str,
@@ -90,7 +90,7 @@ fn delete_action<'a>(
     }
 }
 
-#[tactic(auto, unfolding(crate::specs::TriggerReaders::read_update_action))]
+#[tactic(auto, unfolding(crate::specs::readers::Triggers::read_update_action))]
 fn update_action<'a>(
     alloc: Global,
     text: &str,
@@ -108,7 +108,7 @@ fn update_action<'a>(
     }
 }
 
-#[tactic(auto, unfolding(crate::specs::TriggerReaders::read_action))]
+#[tactic(auto, unfolding(crate::specs::readers::Triggers::read_action))]
 fn action<'a>(
     alloc: Global,
     text: &str,
@@ -170,7 +170,7 @@ fn some_actions<'a>(
 }
 
 // BEGIN ATOMIC, from ATOMIC on.
-#[tactic(auto, unfolding(crate::specs::TriggerReaders::read_block))]
+#[tactic(auto, unfolding(crate::specs::readers::Triggers::read_block))]
 fn block<'a>(
     alloc: Global,
     text: &str,
@@ -187,7 +187,7 @@ fn block<'a>(
     }
 }
 
-#[tactic(auto, unfolding(crate::specs::TriggerReaders::read_single))]
+#[tactic(auto, unfolding(crate::specs::readers::Triggers::read_single))]
 fn single<'a>(
     alloc: Global,
     text: &str,
@@ -204,7 +204,7 @@ fn single<'a>(
 }
 
 /// The body of a trigger: an action, or BEGIN ATOMIC and actions.
-#[tactic(auto, unfolding(crate::specs::TriggerReaders::read_body))]
+#[tactic(auto, unfolding(crate::specs::readers::Triggers::read_body))]
 pub fn body<'a>(
     alloc: Global,
     text: &str,

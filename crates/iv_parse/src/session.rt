@@ -2,7 +2,7 @@
 ghost use Rattle.std.specs.Prelude.{◌≡◌, IfOk, ℕ, List, Some};
 ghost use Rattle.iv_lex.specs.Words.{words};
 ghost use Rattle.iv_parse_terms.specs.Seen.{with_words};
-ghost use Rattle.iv_parse.specs.Readers.{read_drop, read_start, read_commit, read_to, read_rollback_rest, read_rollback, read_savepoint, read_release, read_list, read_set, read_savepoint_rule, read_session_rule};
+ghost use Rattle.iv_parse.specs.readers.Statements.{read_drop, read_start, read_commit, read_to, read_rollback_rest, read_rollback, read_savepoint, read_release, read_list, read_set, read_savepoint_rule, read_session_rule};
 
 use iv_lex::{Kind, Token};
 use iv_parse_data::{mode, series, skip};
@@ -10,7 +10,7 @@ use iv_parse_terms::{after, name};
 use iv_syntax::{ConstraintList, Name, Statement};
 use std::alloc::{AllocError, Global};
 
-#[tactic(auto, unfolding(crate::specs::Readers::read_start))]
+#[tactic(auto, unfolding(crate::specs::readers::Statements::read_start))]
 fn start(tokens: &[Token]) -> Option<(Statement, &[Token])>
     ensures { (text : List ℕ) → with_words text result ≡ read_start (words text tokens.now) }
 {
@@ -18,7 +18,7 @@ fn start(tokens: &[Token]) -> Option<(Statement, &[Token])>
     Some((Statement::StartTransaction, rest))
 }
 
-#[tactic(auto, unfolding(crate::specs::Readers::read_commit))]
+#[tactic(auto, unfolding(crate::specs::readers::Statements::read_commit))]
 fn commit(tokens: &[Token]) -> (Statement, &[Token])
     ensures { (text : List ℕ)
         → with_words text (Some result) ≡ read_commit (words text tokens.now) }
@@ -26,7 +26,7 @@ fn commit(tokens: &[Token]) -> (Statement, &[Token])
     (Statement::Commit, skip(Kind::Work, tokens))
 }
 
-#[tactic(auto, unfolding(crate::specs::Readers::read_to))]
+#[tactic(auto, unfolding(crate::specs::readers::Statements::read_to))]
 fn rollback_to<'a>(
     alloc: Global,
     text: &str,
@@ -43,7 +43,7 @@ fn rollback_to<'a>(
     }
 }
 
-#[tactic(auto, unfolding(crate::specs::Readers::read_rollback))]
+#[tactic(auto, unfolding(crate::specs::readers::Statements::read_rollback))]
 fn rollback<'a>(
     alloc: Global,
     text: &str,
@@ -59,7 +59,7 @@ fn rollback<'a>(
 }
 
 // SAVEPOINT, from the name on.
-#[tactic(auto, unfolding(crate::specs::Readers::read_savepoint))]
+#[tactic(auto, unfolding(crate::specs::readers::Statements::read_savepoint))]
 fn savepoint<'a>(
     alloc: Global,
     text: &str,
@@ -74,7 +74,7 @@ fn savepoint<'a>(
     }
 }
 
-#[tactic(auto, unfolding(crate::specs::Readers::read_release))]
+#[tactic(auto, unfolding(crate::specs::readers::Statements::read_release))]
 fn release<'a>(
     alloc: Global,
     text: &str,
@@ -107,7 +107,7 @@ fn constraint_list<'a>(
     }
 }
 
-#[tactic(auto, unfolding(crate::specs::Readers::read_set))]
+#[tactic(auto, unfolding(crate::specs::readers::Statements::read_set))]
 fn set_constraints<'a>(
     alloc: Global,
     text: &str,
@@ -131,7 +131,7 @@ fn set_constraints<'a>(
 }
 
 // A statement about savepoints or constraint modes.
-#[tactic(auto, unfolding(crate::specs::Readers::read_savepoint_rule))]
+#[tactic(auto, unfolding(crate::specs::readers::Statements::read_savepoint_rule))]
 fn savepoint_statement<'a>(
     alloc: Global,
     text: &str,
@@ -153,7 +153,7 @@ fn savepoint_statement<'a>(
 }
 
 /// A statement about transactions, savepoints or constraint modes.
-#[tactic(auto, unfolding(crate::specs::Readers::read_session_rule))]
+#[tactic(auto, unfolding(crate::specs::readers::Statements::read_session_rule))]
 pub fn session_statement<'a>(
     alloc: Global,
     text: &str,

@@ -2,7 +2,7 @@
 ghost use Rattle.std.specs.Prelude.{◌≡◌, IfOk};
 ghost use Rattle.iv_lex.specs.Words.{words};
 ghost use Rattle.iv_parse_terms.specs.Seen.{with_words};
-ghost use Rattle.iv_parse.specs.Readers.{read_drop, read_insert_rule, read_update_rule, read_delete_rule, read_select_rule, read_create, read_definition_rule, read_rule, read_statement};
+ghost use Rattle.iv_parse.specs.readers.Statements.{read_drop, read_insert_rule, read_update_rule, read_delete_rule, read_select_rule, read_create, read_definition_rule, read_rule, read_statement};
 
 use crate::session::session_statement;
 use crate::trigger::create_trigger;
@@ -12,7 +12,7 @@ use iv_parse_terms::{after, name};
 use iv_syntax::Statement;
 use std::alloc::{AllocError, Global};
 
-#[tactic(auto, unfolding(crate::specs::Readers::read_drop))]
+#[tactic(auto, unfolding(crate::specs::readers::Statements::read_drop))]
 fn drop_trigger<'a>(
     alloc: Global,
     text: &str,
@@ -29,7 +29,7 @@ fn drop_trigger<'a>(
     }
 }
 
-#[tactic(auto, unfolding(crate::specs::Readers::read_insert_rule))]
+#[tactic(auto, unfolding(crate::specs::readers::Statements::read_insert_rule))]
 fn insert_statement<'a>(
     alloc: Global,
     text: &str,
@@ -44,7 +44,7 @@ fn insert_statement<'a>(
     }
 }
 
-#[tactic(auto, unfolding(crate::specs::Readers::read_update_rule))]
+#[tactic(auto, unfolding(crate::specs::readers::Statements::read_update_rule))]
 fn update_statement<'a>(
     alloc: Global,
     text: &str,
@@ -59,7 +59,7 @@ fn update_statement<'a>(
     }
 }
 
-#[tactic(auto, unfolding(crate::specs::Readers::read_delete_rule))]
+#[tactic(auto, unfolding(crate::specs::readers::Statements::read_delete_rule))]
 fn delete_statement<'a>(
     alloc: Global,
     text: &str,
@@ -74,7 +74,7 @@ fn delete_statement<'a>(
     }
 }
 
-#[tactic(auto, unfolding(crate::specs::Readers::read_select_rule))]
+#[tactic(auto, unfolding(crate::specs::readers::Statements::read_select_rule))]
 fn select_statement<'a>(
     alloc: Global,
     text: &str,
@@ -89,7 +89,7 @@ fn select_statement<'a>(
     }
 }
 
-#[tactic(auto, unfolding(crate::specs::Readers::read_create))]
+#[tactic(auto, unfolding(crate::specs::readers::Statements::read_create))]
 fn create<'a>(
     alloc: Global,
     text: &str,
@@ -155,7 +155,7 @@ fn rule<'a>(
 
 /// The statement at the front of the tokens of `text` and the tokens after its semicolon; none where no
 /// statement begins there.
-#[tactic(auto, unfolding(crate::specs::Readers::read_statement))]
+#[tactic(auto, unfolding(crate::specs::readers::Statements::read_statement))]
 pub fn statement<'a>(
     alloc: Global,
     text: &str,

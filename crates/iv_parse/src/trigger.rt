@@ -2,7 +2,7 @@
 ghost use Rattle.std.specs.Prelude.{◌≡◌, IfOk, ℕ, List};
 ghost use Rattle.iv_lex.specs.Words.{words};
 ghost use Rattle.iv_parse_terms.specs.Seen.{with_words};
-ghost use Rattle.iv_parse.specs.TriggerReaders.{some_items, read_referencing, read_each, read_granularity, read_when, read_action_time, read_other_event, read_event, read_occasion, read_middle, trigger_of, read_trigger_rest, read_trigger};
+ghost use Rattle.iv_parse.specs.readers.Triggers.{some_items, read_referencing, read_each, read_granularity, read_when, read_action_time, read_other_event, read_event, read_occasion, read_middle, trigger_of, read_trigger_rest, read_trigger};
 
 use crate::action::body;
 use iv_lex::{Kind, Token};
@@ -28,7 +28,7 @@ fn some_items<'a>(
     }
 }
 
-#[tactic(auto, unfolding(crate::specs::TriggerReaders::read_referencing))]
+#[tactic(auto, unfolding(crate::specs::readers::Triggers::read_referencing))]
 fn referencing<'a>(
     alloc: Global,
     text: &str,
@@ -46,7 +46,7 @@ fn referencing<'a>(
     }
 }
 
-#[tactic(auto, unfolding(crate::specs::TriggerReaders::read_each))]
+#[tactic(auto, unfolding(crate::specs::readers::Triggers::read_each))]
 fn each(tokens: &[Token]) -> Option<(Granularity, &[Token])>
     ensures { (text : List ℕ) → with_words text result ≡ read_each (words text tokens.now) }
 {
@@ -60,7 +60,7 @@ fn each(tokens: &[Token]) -> Option<(Granularity, &[Token])>
 }
 
 // FOR EACH and a granularity; STATEMENT where they are left out.
-#[tactic(auto, unfolding(crate::specs::TriggerReaders::read_granularity))]
+#[tactic(auto, unfolding(crate::specs::readers::Triggers::read_granularity))]
 fn granularity(tokens: &[Token]) -> Option<(Granularity, &[Token])>
     ensures { (text : List ℕ) → with_words text result ≡ read_granularity (words text tokens.now) }
 {
@@ -71,7 +71,7 @@ fn granularity(tokens: &[Token]) -> Option<(Granularity, &[Token])>
     each(rest)
 }
 
-#[tactic(auto, unfolding(crate::specs::TriggerReaders::read_when))]
+#[tactic(auto, unfolding(crate::specs::readers::Triggers::read_when))]
 fn when<'a>(
     alloc: Global,
     text: &str,
@@ -88,7 +88,7 @@ fn when<'a>(
     }
 }
 
-#[tactic(auto, unfolding(crate::specs::TriggerReaders::read_action_time))]
+#[tactic(auto, unfolding(crate::specs::readers::Triggers::read_action_time))]
 fn action_time(tokens: &[Token]) -> Option<(ActionTime, &[Token])>
     ensures { (text : List ℕ) → with_words text result ≡ read_action_time (words text tokens.now) }
 {
@@ -99,7 +99,7 @@ fn action_time(tokens: &[Token]) -> Option<(ActionTime, &[Token])>
     Some((ActionTime::After, rest))
 }
 
-#[tactic(auto, unfolding(crate::specs::TriggerReaders::read_other_event))]
+#[tactic(auto, unfolding(crate::specs::readers::Triggers::read_other_event))]
 fn other_event(tokens: &[Token]) -> Option<(TriggerEvent, &[Token])>
     ensures { (text : List ℕ) → with_words text result ≡ read_other_event (words text tokens.now) }
 {
@@ -112,7 +112,7 @@ fn other_event(tokens: &[Token]) -> Option<(TriggerEvent, &[Token])>
     }
 }
 
-#[tactic(auto, unfolding(crate::specs::TriggerReaders::read_event))]
+#[tactic(auto, unfolding(crate::specs::readers::Triggers::read_event))]
 fn event(tokens: &[Token]) -> Option<(TriggerEvent, &[Token])>
     ensures { (text : List ℕ) → with_words text result ≡ read_event (words text tokens.now) }
 {
@@ -123,7 +123,7 @@ fn event(tokens: &[Token]) -> Option<(TriggerEvent, &[Token])>
 }
 
 // The time, the event and ON.
-#[tactic(auto, unfolding(crate::specs::TriggerReaders::read_occasion))]
+#[tactic(auto, unfolding(crate::specs::readers::Triggers::read_occasion))]
 fn occasion(tokens: &[Token]) -> Option<((ActionTime, TriggerEvent), &[Token])>
     ensures { (text : List ℕ) → with_words text result ≡ read_occasion (words text tokens.now) }
 {
@@ -134,7 +134,7 @@ fn occasion(tokens: &[Token]) -> Option<((ActionTime, TriggerEvent), &[Token])>
 }
 
 // What is between the table and the body.
-#[tactic(auto, unfolding(crate::specs::TriggerReaders::read_middle))]
+#[tactic(auto, unfolding(crate::specs::readers::Triggers::read_middle))]
 fn middle<'a>(
     alloc: Global,
     text: &str,
@@ -186,7 +186,7 @@ fn trigger_of(
 }
 
 // CREATE TRIGGER, from what follows the table on.
-#[tactic(auto, unfolding(crate::specs::TriggerReaders::read_trigger_rest))]
+#[tactic(auto, unfolding(crate::specs::readers::Triggers::read_trigger_rest))]
 fn trigger_rest<'a>(
     alloc: Global,
     text: &str,
@@ -218,7 +218,7 @@ fn trigger_rest<'a>(
 }
 
 /// CREATE TRIGGER, from the name on.
-#[tactic(auto, unfolding(crate::specs::TriggerReaders::read_trigger))]
+#[tactic(auto, unfolding(crate::specs::readers::Triggers::read_trigger))]
 pub fn create_trigger<'a>(
     alloc: Global,
     text: &str,

@@ -3,7 +3,8 @@ use Rattle.std.proofs.Common.{◌≡◌, ℕ, zero, suc, ◌+◌, ◌≤◌, Opt
 use Rattle.iv_lex.specs.declared.kind.Kind.TheVariants as kind
 use Rattle.iv_lex.specs.Words.{Word, plain}
 use Rattle.iv_parse_terms.specs.After.{after, if_some, then_read}
-use Rattle.iv_parse_data.specs.Series.{More, Series, read_more, read_series, with_first, InParentheses, close, read_enclosed}
+use Rattle.iv_parse_data.specs.Series.{More, Series, InParentheses}
+use Rattle.iv_parse_data.specs.readers.Series.{read_more, read_series, with_first, close, read_enclosed}
 
 -- any words may follow
 abbrev pub Anything : List Word → Type 0

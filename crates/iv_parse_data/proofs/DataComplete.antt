@@ -13,7 +13,7 @@ use Rattle.iv_syntax.specs.declared.statement.Insert.{Insert}
 use Rattle.iv_syntax.specs.declared.statement.Insert.TheVariants.{DefaultValues, Rows}
 use Rattle.iv_parse_terms.specs.After.{after, if_some, then_read, same}
 use Rattle.iv_parse_terms.specs.Expressions.{EndsExpression, spelling, qualifier_spelling, sign_kind}
-use Rattle.iv_parse_terms.specs.Trees.{group, signed, product, sum}
+use Rattle.iv_syntax.specs.Trees.{group, signed, product, sum}
 use Rattle.iv_syntax.specs.declared.tree.Sign.{Sign}
 use Rattle.iv_syntax.specs.declared.tree.Sign.TheVariants as sign
 use Rattle.iv_syntax.specs.declared.tree.Expression.TheVariants.{Number, Text, Null, Column}
@@ -27,9 +27,10 @@ use Rattle.iv_syntax.specs.declared.statement.Update.{Update}
 use Rattle.iv_syntax.specs.declared.statement.Delete.{Delete}
 use Rattle.iv_syntax.specs.declared.statement.Select.{Select}
 use Rattle.iv_syntax.specs.declared.statement.Select.TheVariants as select
-use Rattle.iv_parse_data.specs.Series.{Series, Maybe, InParentheses, read_series, close, read_closed}
+use Rattle.iv_parse_data.specs.Series.{Series, Maybe, InParentheses}
+use Rattle.iv_parse_data.specs.readers.Series.{read_series, close, read_closed}
 use Rattle.iv_parse_data.specs.Data.{IsName, Names, IsShallow, IsShallowCondition, IsValue, IsTuple, IsColumnList, IsShallowFrom, IsSelectList, IsSource, IsInsert, IsAssignment, IsWhere, IsUpdate, IsDelete, IsSelect}
-use Rattle.iv_parse_data.specs.DataReaders.{then_word, read_name, read_shallow, read_shallow_condition, read_check, read_value, read_tuple, read_column_list, read_shallow_from, read_select_list, read_select_source, read_source, read_insert_rows, read_insert_into, read_insert, read_assignment, read_where, read_assignments, read_update, read_delete, read_count, read_query, read_select}
+use Rattle.iv_parse_data.specs.readers.Data.{then_word, read_name, read_shallow, read_shallow_condition, read_check, read_value, read_tuple, read_column_list, read_shallow_from, read_select_list, read_select_source, read_source, read_insert_rows, read_insert_into, read_insert, read_assignment, read_where, read_assignments, read_update, read_delete, read_count, read_query, read_select}
 use Rattle.iv_parse_data.proofs.Complete.{Reads_all, Anything, series_complete, enclosed_complete}
 
 pub name_complete : Reads_all IsName Anything read_name

@@ -8,9 +8,10 @@ use Rattle.iv_syntax.specs.declared.statement.SelectList.TheVariants as select_l
 use Rattle.iv_syntax.specs.declared.statement.Select.TheVariants as select
 use Rattle.iv_syntax.specs.declared.statement.Insert.TheVariants.{DefaultValues, Rows}
 use Rattle.iv_parse_terms.proofs.Theorems.{expression_front, condition_front, from_front}
-use Rattle.iv_parse_data.specs.Series.{Series, Maybe, InParentheses, read_series, read_closed}
+use Rattle.iv_parse_data.specs.Series.{Series, Maybe, InParentheses}
+use Rattle.iv_parse_data.specs.readers.Series.{read_series, read_closed}
 use Rattle.iv_parse_data.specs.Data.{IsName, Names, IsShallow, IsShallowCondition, IsValue, IsTuple, IsColumnList, IsShallowFrom, IsSelectList, IsSource, IsInsert, IsAssignment, IsWhere, IsUpdate, IsDelete, IsSelect}
-use Rattle.iv_parse_data.specs.DataReaders.{read_name, read_shallow, read_shallow_condition, read_check, read_value, read_tuple, read_column_list, read_shallow_from, read_select_list, read_select_source, read_source, read_insert_rows, read_insert_into, read_insert, read_assignment, read_where, read_assignments, read_update, read_delete, read_count, read_query, read_select}
+use Rattle.iv_parse_data.specs.readers.Data.{read_name, read_shallow, read_shallow_condition, read_check, read_value, read_tuple, read_column_list, read_shallow_from, read_select_list, read_select_source, read_source, read_insert_rows, read_insert_into, read_insert, read_assignment, read_where, read_assignments, read_update, read_delete, read_count, read_query, read_select}
 use Rattle.iv_parse_data.proofs.Fronts.{Good, nothing_good, done_good, after_good, name_good, then_good, series_good, closed_good, enclosed_good, made_good, name_is}
 
 pub one_name_good : (ws : List Word) → Good IsName ws (read_name ws)

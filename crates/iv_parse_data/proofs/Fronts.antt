@@ -6,7 +6,8 @@ use Rattle.iv_lex.specs.declared.kind.Kind.TheVariants as kind
 use Rattle.iv_lex.specs.Words.{Word, name, number, quoted, plain}
 use Rattle.iv_parse_terms.specs.After.{after, after_name, if_some, then_read, is_word}
 use Rattle.iv_parse_terms.proofs.Exact.{exact}
-use Rattle.iv_parse_data.specs.Series.{Optional, skip, More, Series, read_more, read_series, with_first, InParentheses, close, read_closed, read_enclosed}
+use Rattle.iv_parse_data.specs.Series.{Optional, More, Series, InParentheses}
+use Rattle.iv_parse_data.specs.readers.Series.{skip, read_more, read_series, with_first, close, read_closed, read_enclosed}
 
 -- the words begin with a part of the rule, which is this tree
 pub record Fits {A : Type 0} (Part : List Word → A → Type 0) (ws : List Word) (a : A) (rest : List Word) : Type 0 where

@@ -3,7 +3,7 @@ use Rattle.std.proofs.Common.{◌≡◌, ℕ, zero, suc, ◌-◌, ◌<◌, Optio
 use Rattle.iv_lex.specs.declared.kind.Kind.TheVariants as kind
 use Rattle.iv_lex.specs.Words.{Word}
 use Rattle.iv_parse_terms.specs.After.{after, if_some, then_read}
-use Rattle.iv_parse_data.specs.Series.{read_more, read_series, read_sequence, with_first}
+use Rattle.iv_parse_data.specs.readers.Series.{read_more, read_series, read_sequence, with_first}
 
 module _ {A : Type 0} where
   -- these parts before those that were found

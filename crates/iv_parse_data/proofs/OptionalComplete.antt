@@ -4,7 +4,8 @@ use Rattle.iv_lex.specs.declared.kind.Kind.{Kind}
 use Rattle.iv_lex.specs.Words.{Word}
 use Rattle.iv_parse_terms.specs.After.{after, if_some, then_read}
 use Rattle.iv_parse_data.proofs.Fronts.{same_found}
-use Rattle.iv_parse_data.specs.Series.{Sequence, Maybe, InEitherOrder, read_sequence, read_either_order, with_first}
+use Rattle.iv_parse_data.specs.Series.{Sequence, Maybe, InEitherOrder}
+use Rattle.iv_parse_data.specs.readers.Series.{read_sequence, read_either_order, with_first}
 
 module _ {A : Type 0} where
   -- a part that may be left out, where it is left out or begins with another word

@@ -6,9 +6,10 @@ use Rattle.iv_syntax.specs.declared.tree.Sign.{Sign}
 use Rattle.iv_syntax.specs.declared.tree.Sign.TheVariants as sign
 use Rattle.iv_parse_terms.specs.After.{if_some, then_read}
 use Rattle.iv_parse_terms.specs.Expressions.{sign_kind}
-use Rattle.iv_parse_terms.specs.ExpressionReader.{after_sign}
-use Rattle.iv_parse_data.specs.Series.{Sequence, Maybe, InEitherOrder, read_sequence, read_either_order, with_first}
-use Rattle.iv_parse_data.specs.TableReaders.{read_number, read_quoted}
+use Rattle.iv_parse_terms.specs.readers.Expressions.{after_sign}
+use Rattle.iv_parse_data.specs.Series.{Sequence, Maybe, InEitherOrder}
+use Rattle.iv_parse_data.specs.readers.Series.{read_sequence, read_either_order, with_first}
+use Rattle.iv_parse_data.specs.readers.Tables.{read_number, read_quoted}
 use Rattle.iv_parse_data.proofs.Fronts.{Good, nothing_good, done_good, after_good, then_good, further, same_found}
 
 abbrev pub IsNumber : List Word → ℕ → Type 0

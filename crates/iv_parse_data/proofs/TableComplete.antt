@@ -28,11 +28,12 @@ use Rattle.iv_syntax.specs.declared.table.TableElement.{TableElement}
 use Rattle.iv_syntax.specs.declared.table.TableElement.TheVariants.{Column, Constraint}
 use Rattle.iv_parse_terms.specs.After.{after, after_name, if_some, then_read, same}
 use Rattle.iv_parse_terms.specs.Expressions.{sign_kind}
-use Rattle.iv_parse_data.specs.Series.{Series, Sequence, Maybe, InParentheses, read_series}
+use Rattle.iv_parse_data.specs.Series.{Series, Sequence, Maybe, InParentheses}
+use Rattle.iv_parse_data.specs.readers.Series.{read_series}
 use Rattle.iv_parse_data.specs.Data.{Names}
-use Rattle.iv_parse_data.specs.DataReaders.{then_word, read_name}
+use Rattle.iv_parse_data.specs.readers.Data.{then_word, read_name}
 use Rattle.iv_parse_data.specs.Tables.{mode_kind, IsVarchar, IsType, IsLiteral, IsDefault, IsConstraintName, IsDeferrable, IsInitially, IsTime, match_kind, IsMatch, action_words, IsOn, AreActions, IsReferences, IsColumnRule, IsColumnConstraint, IsTableRule, IsTableConstraint, IsElement}
-use Rattle.iv_parse_data.specs.TableReaders.{read_length, read_varchar, read_type, read_literal, read_default, read_constraint_name, read_deferrable, read_mode, read_initially, read_time, read_match_type, read_match, read_strict_action, read_referential_action, read_on, read_actions, read_reference_columns, read_references, read_null_rule, read_primary_rule, read_plain_rule, read_condition_rule, read_column_rule, column_constraint_of, read_column_constraint, read_column_constraints, read_column, read_key, read_primary_key, read_foreign_key, read_check_rule, read_unique_rule, read_table_rule, read_table_constraint, read_column_element, read_element, read_elements}
+use Rattle.iv_parse_data.specs.readers.Tables.{read_length, read_varchar, read_type, read_literal, read_default, read_constraint_name, read_deferrable, read_mode, read_initially, read_time, read_match_type, read_match, read_strict_action, read_referential_action, read_on, read_actions, read_reference_columns, read_references, read_null_rule, read_primary_rule, read_plain_rule, read_condition_rule, read_column_rule, column_constraint_of, read_column_constraint, read_column_constraints, read_column, read_key, read_primary_key, read_foreign_key, read_check_rule, read_unique_rule, read_table_rule, read_table_constraint, read_column_element, read_element, read_elements}
 use Rattle.iv_parse_data.proofs.Complete.{Reads_all, Anything, series_complete, enclosed_complete}
 use Rattle.iv_parse_data.proofs.OptionalComplete.{maybe_after, either_after, either_order_complete, Parts, sequence_complete}
 use Rattle.iv_parse_data.proofs.DataComplete.{names_complete, column_list_reads, check_complete, other_word}

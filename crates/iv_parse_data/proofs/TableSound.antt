@@ -16,12 +16,13 @@ use Rattle.iv_syntax.specs.declared.table.ColumnRule.TheVariants as column_rule
 use Rattle.iv_syntax.specs.declared.table.TableRule.TheVariants as table_rule
 use Rattle.iv_syntax.specs.declared.table.TableElement.TheVariants.{Column, Constraint}
 use Rattle.iv_parse_terms.specs.Expressions.{sign_kind}
-use Rattle.iv_parse_terms.specs.ExpressionReader.{after_sign}
-use Rattle.iv_parse_data.specs.Series.{Series, Sequence, Maybe, InParentheses, InEitherOrder, read_series, read_either_order}
+use Rattle.iv_parse_terms.specs.readers.Expressions.{after_sign}
+use Rattle.iv_parse_data.specs.Series.{Series, Sequence, Maybe, InParentheses, InEitherOrder}
+use Rattle.iv_parse_data.specs.readers.Series.{read_series, read_either_order}
 use Rattle.iv_parse_data.specs.Data.{IsName, Names, IsColumnList, IsShallowCondition}
-use Rattle.iv_parse_data.specs.DataReaders.{read_name, read_column_list, read_check}
+use Rattle.iv_parse_data.specs.readers.Data.{read_name, read_column_list, read_check}
 use Rattle.iv_parse_data.specs.Tables.{mode_kind, IsVarchar, IsType, IsLiteral, IsDefault, IsConstraintName, IsDeferrable, IsInitially, IsTime, match_kind, IsMatch, action_words, IsOn, AreActions, IsReferences, IsColumnRule, IsColumnConstraint, IsColumn, IsTableRule, IsTableConstraint, IsElement}
-use Rattle.iv_parse_data.specs.TableReaders.{read_number, read_quoted, read_length, read_varying, read_varchar, read_type, read_literal, read_default, read_constraint_name, read_deferrable, read_mode, read_initially, read_time, read_match_type, read_match, read_set_action, read_strict_action, read_referential_action, read_on, read_actions, read_reference_columns, read_references, read_null_rule, read_primary_rule, read_plain_rule, read_condition_rule, read_column_rule, column_constraint_of, read_column_constraint, read_column_constraints, read_column, read_key, read_primary_key, read_foreign_key, read_check_rule, read_unique_rule, read_table_rule, read_table_constraint, read_column_element, read_element, read_elements}
+use Rattle.iv_parse_data.specs.readers.Tables.{read_number, read_quoted, read_length, read_varying, read_varchar, read_type, read_literal, read_default, read_constraint_name, read_deferrable, read_mode, read_initially, read_time, read_match_type, read_match, read_set_action, read_strict_action, read_referential_action, read_on, read_actions, read_reference_columns, read_references, read_null_rule, read_primary_rule, read_plain_rule, read_condition_rule, read_column_rule, column_constraint_of, read_column_constraint, read_column_constraints, read_column, read_key, read_primary_key, read_foreign_key, read_check_rule, read_unique_rule, read_table_rule, read_table_constraint, read_column_element, read_element, read_elements}
 use Rattle.iv_parse_data.proofs.Fronts.{Good, nothing_good, done_good, after_good, name_good, then_good, made_good, series_good, enclosed_good, ahead_good}
 use Rattle.iv_parse_data.proofs.OptionalSound.{IsNumber, IsQuoted, IsSign, number_good, quoted_good, sign_good, found_good, sequence_good, either_order_good}
 use Rattle.iv_parse_data.proofs.DataSound.{one_name_good, names_good, column_list_good, check_good}

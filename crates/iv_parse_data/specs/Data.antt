@@ -10,7 +10,8 @@ use Rattle.iv_syntax.specs.declared.statement.InsertSource.TheVariants as source
 use Rattle.iv_syntax.specs.declared.statement.Insert.{Insert}
 use Rattle.iv_syntax.specs.declared.statement.Insert.TheVariants.{DefaultValues, Rows}
 use Rattle.iv_syntax.specs.declared.tree.Condition.{Condition}
-use Rattle.iv_parse_terms.specs.Expressions.{IsExpression, depth}
+use Rattle.iv_parse_terms.specs.Expressions.{IsExpression}
+use Rattle.iv_syntax.specs.Trees.{depth, condition_depth}
 use Rattle.iv_syntax.specs.declared.tree.RangeName.{RangeName}
 use Rattle.iv_syntax.specs.declared.statement.SelectList.{SelectList}
 use Rattle.iv_syntax.specs.declared.statement.SelectList.TheVariants as select_list
@@ -19,7 +20,7 @@ use Rattle.iv_syntax.specs.declared.statement.Update.{Update}
 use Rattle.iv_syntax.specs.declared.statement.Delete.{Delete}
 use Rattle.iv_syntax.specs.declared.statement.Select.{Select}
 use Rattle.iv_syntax.specs.declared.statement.Select.TheVariants as select
-use Rattle.iv_parse_terms.specs.Conditions.{IsCondition, IsFrom, condition_depth}
+use Rattle.iv_parse_terms.specs.Conditions.{IsCondition, IsFrom}
 use Rattle.iv_parse_terms.specs.ItemDepth.{where_depth}
 use Rattle.iv_parse_terms.specs.declared.limits.TheConstants.{DEEPEST}
 use Rattle.iv_parse_data.specs.Series.{Series, Maybe, InParentheses}

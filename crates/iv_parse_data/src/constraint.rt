@@ -3,8 +3,8 @@ ghost use Rattle.std.specs.Prelude.{◌≡◌, IfOk, ℕ, List, true};
 ghost use Rattle.iv_lex.specs.Words.{words};
 ghost use Rattle.iv_parse_terms.specs.After.{is_plain};
 ghost use Rattle.iv_parse_terms.specs.Seen.{with_words};
-ghost use Rattle.iv_parse_data.specs.Series.{read_either_order};
-ghost use Rattle.iv_parse_data.specs.TableReaders.{read_match_type, read_match, read_set_action, read_strict_action, read_referential_action, read_on, read_actions, read_reference_columns, read_references, read_null_rule, read_primary_rule, read_plain_rule, read_condition_rule, read_column_rule, column_constraint_of, read_column_constraint, read_key, read_primary_key, read_foreign_key, read_check_rule, read_unique_rule, read_table_rule, read_table_constraint};
+ghost use Rattle.iv_parse_data.specs.readers.Series.{read_either_order};
+ghost use Rattle.iv_parse_data.specs.readers.Tables.{read_match_type, read_match, read_set_action, read_strict_action, read_referential_action, read_on, read_actions, read_reference_columns, read_references, read_null_rule, read_primary_rule, read_plain_rule, read_condition_rule, read_column_rule, column_constraint_of, read_column_constraint, read_key, read_primary_key, read_foreign_key, read_check_rule, read_unique_rule, read_table_rule, read_table_constraint};
 
 use crate::inserting::column_list;
 use crate::parts::ParseSome;
@@ -20,7 +20,7 @@ use iv_syntax::{
 use sqlite_items::Items;
 use std::alloc::{AllocError, Global};
 
-#[tactic(auto, unfolding(crate::specs::TableReaders::read_match_type))]
+#[tactic(auto, unfolding(crate::specs::readers::Tables::read_match_type))]
 fn match_type(tokens: &[Token]) -> Option<(MatchType, &[Token])>
     ensures { (text : List ℕ) → with_words text result ≡ read_match_type (words text tokens.now) }
 {
@@ -34,7 +34,7 @@ fn match_type(tokens: &[Token]) -> Option<(MatchType, &[Token])>
 }
 
 // MATCH and its type, where they are given.
-#[tactic(auto, unfolding(crate::specs::TableReaders::read_match))]
+#[tactic(auto, unfolding(crate::specs::readers::Tables::read_match))]
 fn matching(tokens: &[Token]) -> Option<(Option<MatchType>, &[Token])>
     ensures { (text : List ℕ) → with_words text result ≡ read_match (words text tokens.now) }
 {
@@ -57,7 +57,7 @@ fn set_action(tokens: &[Token]) -> Option<(ReferentialAction, &[Token])>
     }
 }
 
-#[tactic(auto, unfolding(crate::specs::TableReaders::read_strict_action))]
+#[tactic(auto, unfolding(crate::specs::readers::Tables::read_strict_action))]
 fn strict_action(tokens: &[Token]) -> Option<(ReferentialAction, &[Token])>
     ensures { (text : List ℕ)
         → with_words text result ≡ read_strict_action (words text tokens.now) }
@@ -74,7 +74,7 @@ fn strict_action(tokens: &[Token]) -> Option<(ReferentialAction, &[Token])>
     }
 }
 
-#[tactic(auto, unfolding(crate::specs::TableReaders::read_referential_action))]
+#[tactic(auto, unfolding(crate::specs::readers::Tables::read_referential_action))]
 fn action(tokens: &[Token]) -> Option<(ReferentialAction, &[Token])>
     ensures { (text : List ℕ)
         → with_words text result ≡ read_referential_action (words text tokens.now) }
@@ -89,7 +89,7 @@ fn action(tokens: &[Token]) -> Option<(ReferentialAction, &[Token])>
 }
 
 // ON, the event and an action, where they are given.
-#[tactic(auto, unfolding(crate::specs::TableReaders::read_on))]
+#[tactic(auto, unfolding(crate::specs::readers::Tables::read_on))]
 fn on(event: Kind, tokens: &[Token]) -> Option<(Option<ReferentialAction>, &[Token])>
     requires { is_plain event ≡ true }
     ensures { (text : List ℕ) → with_words text result ≡ read_on event (words text tokens.now) }
@@ -104,7 +104,7 @@ fn on(event: Kind, tokens: &[Token]) -> Option<(Option<ReferentialAction>, &[Tok
     Some((Some(found), rest))
 }
 
-#[tactic(auto, unfolding(crate::specs::TableReaders::read_actions))]
+#[tactic(auto, unfolding(crate::specs::readers::Tables::read_actions))]
 fn actions(
     tokens: &[Token],
 ) -> Option<
@@ -127,7 +127,7 @@ fn actions(
 }
 
 // REFERENCES, from the columns on.
-#[tactic(auto, unfolding(crate::specs::TableReaders::read_reference_columns))]
+#[tactic(auto, unfolding(crate::specs::readers::Tables::read_reference_columns))]
 fn reference_columns<'a>(
     alloc: Global,
     text: &str,
@@ -157,7 +157,7 @@ fn reference_columns<'a>(
 }
 
 // REFERENCES, from the table on.
-#[tactic(auto, unfolding(crate::specs::TableReaders::read_references))]
+#[tactic(auto, unfolding(crate::specs::readers::Tables::read_references))]
 fn references<'a>(
     alloc: Global,
     text: &str,
@@ -173,7 +173,7 @@ fn references<'a>(
 }
 
 // NOT NULL, from NULL on.
-#[tactic(auto, unfolding(crate::specs::TableReaders::read_null_rule))]
+#[tactic(auto, unfolding(crate::specs::readers::Tables::read_null_rule))]
 fn null_rule(tokens: &[Token]) -> Option<(Option<ColumnRule>, &[Token])>
     ensures { (text : List ℕ) → with_words text result ≡ read_null_rule (words text tokens.now) }
 {
@@ -181,7 +181,7 @@ fn null_rule(tokens: &[Token]) -> Option<(Option<ColumnRule>, &[Token])>
     Some((Some(ColumnRule::NotNull), rest))
 }
 
-#[tactic(auto, unfolding(crate::specs::TableReaders::read_primary_rule))]
+#[tactic(auto, unfolding(crate::specs::readers::Tables::read_primary_rule))]
 fn primary_rule(tokens: &[Token]) -> Option<(Option<ColumnRule>, &[Token])>
     ensures { (text : List ℕ) → with_words text result ≡ read_primary_rule (words text tokens.now) }
 {
@@ -193,7 +193,7 @@ fn primary_rule(tokens: &[Token]) -> Option<(Option<ColumnRule>, &[Token])>
 }
 
 // A rule that begins with NOT, UNIQUE or PRIMARY, where one begins.
-#[tactic(auto, unfolding(crate::specs::TableReaders::read_plain_rule))]
+#[tactic(auto, unfolding(crate::specs::readers::Tables::read_plain_rule))]
 fn plain_rule(tokens: &[Token]) -> Option<(Option<ColumnRule>, &[Token])>
     ensures { (text : List ℕ) → with_words text result ≡ read_plain_rule (words text tokens.now) }
 {
@@ -207,7 +207,7 @@ fn plain_rule(tokens: &[Token]) -> Option<(Option<ColumnRule>, &[Token])>
 }
 
 // CHECK or a rule of one or two words, where one begins.
-#[tactic(auto, unfolding(crate::specs::TableReaders::read_condition_rule))]
+#[tactic(auto, unfolding(crate::specs::readers::Tables::read_condition_rule))]
 fn condition_rule<'a>(
     alloc: Global,
     text: &str,
@@ -226,7 +226,7 @@ fn condition_rule<'a>(
 }
 
 // The rule of a column's constraint, where one begins.
-#[tactic(auto, unfolding(crate::specs::TableReaders::read_column_rule))]
+#[tactic(auto, unfolding(crate::specs::readers::Tables::read_column_rule))]
 fn column_rule<'a>(
     alloc: Global,
     text: &str,
@@ -270,7 +270,7 @@ fn column_constraint_of<'a>(
 impl ParseSome for ColumnConstraint {
     ghost found_some = { read_column_constraint };
 
-    #[tactic(auto, unfolding(crate::specs::TableReaders::read_column_constraint))]
+    #[tactic(auto, unfolding(crate::specs::readers::Tables::read_column_constraint))]
     fn parse_some<'a>(
         alloc: Global,
         text: &str,
@@ -296,7 +296,7 @@ fn key<'a>(
     enclosed_series::<Name>(alloc, text, tokens)
 }
 
-#[tactic(auto, unfolding(crate::specs::TableReaders::read_primary_key))]
+#[tactic(auto, unfolding(crate::specs::readers::Tables::read_primary_key))]
 fn primary_key<'a>(
     alloc: Global,
     text: &str,
@@ -314,7 +314,7 @@ fn primary_key<'a>(
     }
 }
 
-#[tactic(auto, unfolding(crate::specs::TableReaders::read_foreign_key))]
+#[tactic(auto, unfolding(crate::specs::readers::Tables::read_foreign_key))]
 fn foreign_key<'a>(
     alloc: Global,
     text: &str,
@@ -338,7 +338,7 @@ fn foreign_key<'a>(
     }
 }
 
-#[tactic(auto, unfolding(crate::specs::TableReaders::read_check_rule))]
+#[tactic(auto, unfolding(crate::specs::readers::Tables::read_check_rule))]
 fn check_rule<'a>(
     alloc: Global,
     text: &str,
@@ -356,7 +356,7 @@ fn check_rule<'a>(
     }
 }
 
-#[tactic(auto, unfolding(crate::specs::TableReaders::read_unique_rule))]
+#[tactic(auto, unfolding(crate::specs::readers::Tables::read_unique_rule))]
 fn unique_rule<'a>(
     alloc: Global,
     text: &str,
@@ -374,7 +374,7 @@ fn unique_rule<'a>(
     }
 }
 
-#[tactic(auto, unfolding(crate::specs::TableReaders::read_table_rule))]
+#[tactic(auto, unfolding(crate::specs::readers::Tables::read_table_rule))]
 fn table_rule<'a>(
     alloc: Global,
     text: &str,
@@ -393,7 +393,7 @@ fn table_rule<'a>(
 }
 
 /// A constraint of a table.
-#[tactic(auto, unfolding(crate::specs::TableReaders::read_table_constraint))]
+#[tactic(auto, unfolding(crate::specs::readers::Tables::read_table_constraint))]
 pub fn table_constraint<'a>(
     alloc: Global,
     text: &str,

@@ -2,7 +2,7 @@
 ghost use Rattle.std.specs.Prelude.{◌≡◌, IfOk};
 ghost use Rattle.iv_lex.specs.Words.{words};
 ghost use Rattle.iv_parse_terms.specs.Seen.{with_words};
-ghost use Rattle.iv_parse_data.specs.DataReaders.{read_shallow, read_value, read_tuple, read_column_list, read_select_source, read_source, read_insert_rows, read_insert_into, read_insert};
+ghost use Rattle.iv_parse_data.specs.readers.Data.{read_shallow, read_value, read_tuple, read_column_list, read_select_source, read_source, read_insert_rows, read_insert_into, read_insert};
 
 use crate::parts::Parse;
 use crate::repeated::{closed_series, enclosed_series, series};
@@ -16,7 +16,7 @@ use std::alloc::{AllocError, Global};
 impl Parse for Expression {
     ghost found = { read_shallow };
 
-    #[tactic(auto, unfolding(crate::specs::DataReaders::read_shallow))]
+    #[tactic(auto, unfolding(crate::specs::readers::Data::read_shallow))]
     fn parse<'a>(
         alloc: Global,
         text: &str,
@@ -29,7 +29,7 @@ impl Parse for Expression {
 impl Parse for ValueOrDefault {
     ghost found = { read_value };
 
-    #[tactic(auto, unfolding(crate::specs::DataReaders::read_value))]
+    #[tactic(auto, unfolding(crate::specs::readers::Data::read_value))]
     fn parse<'a>(
         alloc: Global,
         text: &str,
@@ -48,7 +48,7 @@ impl Parse for ValueOrDefault {
 impl Parse for Items<ValueOrDefault> {
     ghost found = { read_tuple };
 
-    #[tactic(auto, unfolding(crate::specs::DataReaders::read_tuple))]
+    #[tactic(auto, unfolding(crate::specs::readers::Data::read_tuple))]
     fn parse<'a>(
         alloc: Global,
         text: &str,
@@ -59,7 +59,7 @@ impl Parse for Items<ValueOrDefault> {
 }
 
 /// Names between parentheses, where they are given.
-#[tactic(auto, unfolding(crate::specs::DataReaders::read_column_list))]
+#[tactic(auto, unfolding(crate::specs::readers::Data::read_column_list))]
 pub fn column_list<'a>(
     alloc: Global,
     text: &str,
@@ -77,7 +77,7 @@ pub fn column_list<'a>(
     }
 }
 
-#[tactic(auto, unfolding(crate::specs::DataReaders::read_select_source))]
+#[tactic(auto, unfolding(crate::specs::readers::Data::read_select_source))]
 fn select_source<'a>(
     alloc: Global,
     text: &str,
@@ -98,7 +98,7 @@ fn select_source<'a>(
     }
 }
 
-#[tactic(auto, unfolding(crate::specs::DataReaders::read_source))]
+#[tactic(auto, unfolding(crate::specs::readers::Data::read_source))]
 fn source<'a>(
     alloc: Global,
     text: &str,
@@ -118,7 +118,7 @@ fn source<'a>(
     }
 }
 
-#[tactic(auto, unfolding(crate::specs::DataReaders::read_insert_rows))]
+#[tactic(auto, unfolding(crate::specs::readers::Data::read_insert_rows))]
 fn insert_rows<'a>(
     alloc: Global,
     text: &str,
@@ -144,7 +144,7 @@ fn insert_rows<'a>(
     }
 }
 
-#[tactic(auto, unfolding(crate::specs::DataReaders::read_insert_into))]
+#[tactic(auto, unfolding(crate::specs::readers::Data::read_insert_into))]
 fn insert_into<'a>(
     alloc: Global,
     text: &str,
@@ -164,7 +164,7 @@ fn insert_into<'a>(
 }
 
 /// INSERT, from INTO on.
-#[tactic(auto, unfolding(crate::specs::DataReaders::read_insert))]
+#[tactic(auto, unfolding(crate::specs::readers::Data::read_insert))]
 pub fn insert<'a>(
     alloc: Global,
     text: &str,

@@ -2,7 +2,7 @@
 ghost use Rattle.std.specs.Prelude.{◌≡◌, IfOk, ℕ, List, Some};
 ghost use Rattle.iv_lex.specs.Words.{words};
 ghost use Rattle.iv_parse_terms.specs.Seen.{with_words};
-ghost use Rattle.iv_parse_data.specs.ItemReaders.{read_transition, read_referencing_item_of, read_referencing_item};
+ghost use Rattle.iv_parse_data.specs.readers.Items.{read_transition, read_referencing_item_of, read_referencing_item};
 
 use crate::parts::ParseSome;
 use crate::repeated::skip;
@@ -13,7 +13,7 @@ use iv_syntax::{Referencing, TransitionName};
 use std::alloc::{AllocError, Global};
 
 // [ ROW | TABLE ]
-#[tactic(auto, unfolding(crate::specs::ItemReaders::read_transition))]
+#[tactic(auto, unfolding(crate::specs::readers::Items::read_transition))]
 fn transition(tokens: &[Token]) -> (TransitionName, &[Token])
     ensures { (text : List ℕ)
         → with_words text (Some result) ≡ read_transition (words text tokens.now) }
@@ -25,7 +25,7 @@ fn transition(tokens: &[Token]) -> (TransitionName, &[Token])
 }
 
 // An item, after OLD or NEW.
-#[tactic(auto, unfolding(crate::specs::ItemReaders::read_referencing_item_of))]
+#[tactic(auto, unfolding(crate::specs::readers::Items::read_referencing_item_of))]
 fn item_of<'a>(
     alloc: Global,
     text: &str,
@@ -45,7 +45,7 @@ fn item_of<'a>(
 impl ParseSome for Referencing {
     ghost found_some = { read_referencing_item };
 
-    #[tactic(auto, unfolding(crate::specs::ItemReaders::read_referencing_item))]
+    #[tactic(auto, unfolding(crate::specs::readers::Items::read_referencing_item))]
     fn parse_some<'a>(
         alloc: Global,
         text: &str,

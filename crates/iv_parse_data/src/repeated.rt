@@ -3,7 +3,7 @@ ghost use Rattle.std.specs.Prelude.{◌≡◌, IfOk, ℕ, List, true, length};
 ghost use Rattle.iv_parse_terms.specs.After.{is_plain};
 ghost use Rattle.iv_lex.specs.Words.{words};
 ghost use Rattle.iv_parse_terms.specs.Seen.{with_words};
-ghost use Rattle.iv_parse_data.specs.Series.{read_series, read_closed, read_enclosed, read_sequence, skip};
+ghost use Rattle.iv_parse_data.specs.readers.Series.{read_series, read_closed, read_enclosed, read_sequence, skip};
 
 use crate::parts::{Parse, ParseSome};
 use iv_lex::{Kind, Token};

@@ -2,7 +2,7 @@
 ghost use Rattle.std.specs.Prelude.{◌≡◌, IfOk};
 ghost use Rattle.iv_lex.specs.Words.{words};
 ghost use Rattle.iv_parse_terms.specs.Seen.{with_words};
-ghost use Rattle.iv_parse_data.specs.DataReaders.{read_shallow_condition, read_check, read_shallow_from, read_select_list, read_assignment, read_where, read_assignments, read_update, read_delete, read_count, read_query, read_select};
+ghost use Rattle.iv_parse_data.specs.readers.Data.{read_shallow_condition, read_check, read_shallow_from, read_select_list, read_assignment, read_where, read_assignments, read_update, read_delete, read_count, read_query, read_select};
 
 use crate::parts::Parse;
 use crate::repeated::series;
@@ -15,7 +15,7 @@ use iv_syntax::{
 use std::alloc::{AllocError, Global};
 
 /// FROM, a table, its alias and WHERE with a condition.
-#[tactic(auto, unfolding(crate::specs::DataReaders::read_shallow_from))]
+#[tactic(auto, unfolding(crate::specs::readers::Data::read_shallow_from))]
 pub fn from<'a>(
     alloc: Global,
     text: &str,
@@ -27,7 +27,7 @@ pub fn from<'a>(
     read_from(alloc, text, tokens)
 }
 
-#[tactic(auto, unfolding(crate::specs::DataReaders::read_shallow_condition))]
+#[tactic(auto, unfolding(crate::specs::readers::Data::read_shallow_condition))]
 fn condition<'a>(
     alloc: Global,
     text: &str,
@@ -40,7 +40,7 @@ fn condition<'a>(
 }
 
 /// The condition between parentheses.
-#[tactic(auto, unfolding(crate::specs::DataReaders::read_check))]
+#[tactic(auto, unfolding(crate::specs::readers::Data::read_check))]
 pub fn enclosed_condition<'a>(
     alloc: Global,
     text: &str,
@@ -64,7 +64,7 @@ pub fn enclosed_condition<'a>(
 }
 
 /// What a SELECT gives of each row.
-#[tactic(auto, unfolding(crate::specs::DataReaders::read_select_list))]
+#[tactic(auto, unfolding(crate::specs::readers::Data::read_select_list))]
 pub fn select_list<'a>(
     alloc: Global,
     text: &str,
@@ -85,7 +85,7 @@ pub fn select_list<'a>(
 impl Parse for Assignment {
     ghost found = { read_assignment };
 
-    #[tactic(auto, unfolding(crate::specs::DataReaders::read_assignment))]
+    #[tactic(auto, unfolding(crate::specs::readers::Data::read_assignment))]
     fn parse<'a>(
         alloc: Global,
         text: &str,
@@ -105,7 +105,7 @@ impl Parse for Assignment {
 }
 
 // WHERE and a condition, where they are given.
-#[tactic(auto, unfolding(crate::specs::DataReaders::read_where))]
+#[tactic(auto, unfolding(crate::specs::readers::Data::read_where))]
 fn filter<'a>(
     alloc: Global,
     text: &str,
@@ -123,7 +123,7 @@ fn filter<'a>(
 }
 
 // UPDATE, from the first assignment on.
-#[tactic(auto, unfolding(crate::specs::DataReaders::read_assignments))]
+#[tactic(auto, unfolding(crate::specs::readers::Data::read_assignments))]
 fn assignments<'a>(
     alloc: Global,
     text: &str,
@@ -148,7 +148,7 @@ fn assignments<'a>(
 }
 
 /// UPDATE, from the table on.
-#[tactic(auto, unfolding(crate::specs::DataReaders::read_update))]
+#[tactic(auto, unfolding(crate::specs::readers::Data::read_update))]
 pub fn update<'a>(
     alloc: Global,
     text: &str,
@@ -166,7 +166,7 @@ pub fn update<'a>(
 }
 
 /// DELETE, from FROM on.
-#[tactic(auto, unfolding(crate::specs::DataReaders::read_delete))]
+#[tactic(auto, unfolding(crate::specs::readers::Data::read_delete))]
 pub fn delete<'a>(
     alloc: Global,
     text: &str,
@@ -187,7 +187,7 @@ pub fn delete<'a>(
 }
 
 // SELECT COUNT, from the parenthesis on.
-#[tactic(auto, unfolding(crate::specs::DataReaders::read_count))]
+#[tactic(auto, unfolding(crate::specs::readers::Data::read_count))]
 fn count<'a>(
     alloc: Global,
     text: &str,
@@ -210,7 +210,7 @@ fn count<'a>(
     }
 }
 
-#[tactic(auto, unfolding(crate::specs::DataReaders::read_query))]
+#[tactic(auto, unfolding(crate::specs::readers::Data::read_query))]
 fn query<'a>(
     alloc: Global,
     text: &str,
@@ -228,7 +228,7 @@ fn query<'a>(
 }
 
 /// SELECT, from its list on.
-#[tactic(auto, unfolding(crate::specs::DataReaders::read_select))]
+#[tactic(auto, unfolding(crate::specs::readers::Data::read_select))]
 pub fn select<'a>(
     alloc: Global,
     text: &str,

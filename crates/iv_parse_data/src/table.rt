@@ -2,7 +2,7 @@
 ghost use Rattle.std.specs.Prelude.{◌≡◌, IfOk, ℕ, List};
 ghost use Rattle.iv_lex.specs.Words.{words};
 ghost use Rattle.iv_parse_terms.specs.Seen.{with_words};
-ghost use Rattle.iv_parse_data.specs.TableReaders.{read_column, read_column_constraints, read_column_element, read_element, read_elements, read_create_table, read_alter};
+ghost use Rattle.iv_parse_data.specs.readers.Tables.{read_column, read_column_constraints, read_column_element, read_element, read_elements, read_create_table, read_alter};
 
 use crate::constraint::table_constraint;
 use crate::parts::Parse;
@@ -14,7 +14,7 @@ use iv_syntax::{ColumnConstraint, ColumnDefinition, Name, Statement, TableElemen
 use sqlite_items::Items;
 use std::alloc::{AllocError, Global};
 
-#[tactic(auto, unfolding(crate::specs::TableReaders::read_column_constraints))]
+#[tactic(auto, unfolding(crate::specs::readers::Tables::read_column_constraints))]
 fn column_constraints<'a>(
     alloc: Global,
     text: &str,
@@ -27,7 +27,7 @@ fn column_constraints<'a>(
 }
 
 // A column, from its type on.
-#[tactic(auto, unfolding(crate::specs::TableReaders::read_column))]
+#[tactic(auto, unfolding(crate::specs::readers::Tables::read_column))]
 fn column<'a>(
     alloc: Global,
     text: &str,
@@ -55,7 +55,7 @@ fn column<'a>(
     Ok(Some((column, rest)))
 }
 
-#[tactic(auto, unfolding(crate::specs::TableReaders::read_column_element))]
+#[tactic(auto, unfolding(crate::specs::readers::Tables::read_column_element))]
 fn column_element<'a>(
     alloc: Global,
     text: &str,
@@ -74,7 +74,7 @@ fn column_element<'a>(
 impl Parse for TableElement {
     ghost found = { read_element };
 
-    #[tactic(auto, unfolding(crate::specs::TableReaders::read_element))]
+    #[tactic(auto, unfolding(crate::specs::readers::Tables::read_element))]
     fn parse<'a>(
         alloc: Global,
         text: &str,
@@ -90,7 +90,7 @@ impl Parse for TableElement {
     }
 }
 
-#[tactic(auto, unfolding(crate::specs::TableReaders::read_elements))]
+#[tactic(auto, unfolding(crate::specs::readers::Tables::read_elements))]
 fn elements<'a>(
     alloc: Global,
     text: &str,
@@ -102,7 +102,7 @@ fn elements<'a>(
 }
 
 /// CREATE TABLE, from the name on.
-#[tactic(auto, unfolding(crate::specs::TableReaders::read_create_table))]
+#[tactic(auto, unfolding(crate::specs::readers::Tables::read_create_table))]
 pub fn create_table<'a>(
     alloc: Global,
     text: &str,
@@ -121,7 +121,7 @@ pub fn create_table<'a>(
 }
 
 /// ALTER TABLE, from TABLE on.
-#[tactic(auto, unfolding(crate::specs::TableReaders::read_alter))]
+#[tactic(auto, unfolding(crate::specs::readers::Tables::read_alter))]
 pub fn alter_table<'a>(
     alloc: Global,
     text: &str,

@@ -2,8 +2,8 @@
 ghost use Rattle.std.specs.Prelude.{◌≡◌, IfOk, ℕ, List, Bool, Option};
 ghost use Rattle.iv_lex.specs.Words.{words};
 ghost use Rattle.iv_parse_terms.specs.Seen.{with_words};
-ghost use Rattle.iv_parse_data.specs.Series.{read_either_order};
-ghost use Rattle.iv_parse_data.specs.TableReaders.{read_number, read_quoted, read_length, read_varying, read_varchar, read_type, text_or_null, read_literal, read_default, read_constraint_name, read_deferrable, read_mode, read_initially, read_time};
+ghost use Rattle.iv_parse_data.specs.readers.Series.{read_either_order};
+ghost use Rattle.iv_parse_data.specs.readers.Tables.{read_number, read_quoted, read_length, read_varying, read_varchar, read_type, text_or_null, read_literal, read_default, read_constraint_name, read_deferrable, read_mode, read_initially, read_time};
 
 use iv_lex::{Kind, Token, unquoted_text};
 use iv_parse_terms::{after, name, sign};
@@ -44,7 +44,7 @@ pub fn quoted<'a>(
 }
 
 // The number between parentheses.
-#[tactic(auto, unfolding(crate::specs::TableReaders::read_length))]
+#[tactic(auto, unfolding(crate::specs::readers::Tables::read_length))]
 fn length(tokens: &[Token]) -> Option<(ColumnType, &[Token])>
     ensures { (text : List ℕ) → with_words text result ≡ read_length (words text tokens.now) }
 {
@@ -61,7 +61,7 @@ fn varying(tokens: &[Token]) -> Option<(ColumnType, &[Token])>
     length(rest)
 }
 
-#[tactic(auto, unfolding(crate::specs::TableReaders::read_varchar))]
+#[tactic(auto, unfolding(crate::specs::readers::Tables::read_varchar))]
 fn varchar(tokens: &[Token]) -> Option<(ColumnType, &[Token])>
     ensures { (text : List ℕ) → with_words text result ≡ read_varchar (words text tokens.now) }
 {
@@ -78,7 +78,7 @@ fn varchar(tokens: &[Token]) -> Option<(ColumnType, &[Token])>
 }
 
 /// The type of a column.
-#[tactic(auto, unfolding(crate::specs::TableReaders::read_type))]
+#[tactic(auto, unfolding(crate::specs::readers::Tables::read_type))]
 pub fn column_type(tokens: &[Token]) -> Option<(ColumnType, &[Token])>
     ensures { (text : List ℕ) → with_words text result ≡ read_type (words text tokens.now) }
 {
@@ -107,7 +107,7 @@ fn text_or_null<'a>(
     }
 }
 
-#[tactic(auto, unfolding(crate::specs::TableReaders::read_literal))]
+#[tactic(auto, unfolding(crate::specs::readers::Tables::read_literal))]
 fn literal<'a>(
     alloc: Global,
     text: &str,
@@ -128,7 +128,7 @@ fn literal<'a>(
 }
 
 /// DEFAULT and a literal, where they are given.
-#[tactic(auto, unfolding(crate::specs::TableReaders::read_default))]
+#[tactic(auto, unfolding(crate::specs::readers::Tables::read_default))]
 pub fn default<'a>(
     alloc: Global,
     text: &str,
@@ -146,7 +146,7 @@ pub fn default<'a>(
 }
 
 /// CONSTRAINT and a name, where they are given.
-#[tactic(auto, unfolding(crate::specs::TableReaders::read_constraint_name))]
+#[tactic(auto, unfolding(crate::specs::readers::Tables::read_constraint_name))]
 pub fn constraint_name<'a>(
     alloc: Global,
     text: &str,
@@ -165,7 +165,7 @@ pub fn constraint_name<'a>(
 }
 
 // [ NOT ] DEFERRABLE, where it is given.
-#[tactic(auto, unfolding(crate::specs::TableReaders::read_deferrable))]
+#[tactic(auto, unfolding(crate::specs::readers::Tables::read_deferrable))]
 fn deferrable(tokens: &[Token]) -> Option<(Option<bool>, &[Token])>
     ensures { (text : List ℕ) → with_words text result ≡ read_deferrable (words text tokens.now) }
 {
@@ -182,7 +182,7 @@ fn deferrable(tokens: &[Token]) -> Option<(Option<bool>, &[Token])>
 }
 
 /// DEFERRED or IMMEDIATE.
-#[tactic(auto, unfolding(crate::specs::TableReaders::read_mode))]
+#[tactic(auto, unfolding(crate::specs::readers::Tables::read_mode))]
 pub fn mode(tokens: &[Token]) -> Option<(ConstraintMode, &[Token])>
     ensures { (text : List ℕ) → with_words text result ≡ read_mode (words text tokens.now) }
 {
@@ -196,7 +196,7 @@ pub fn mode(tokens: &[Token]) -> Option<(ConstraintMode, &[Token])>
 }
 
 // INITIALLY and a mode, where they are given.
-#[tactic(auto, unfolding(crate::specs::TableReaders::read_initially))]
+#[tactic(auto, unfolding(crate::specs::readers::Tables::read_initially))]
 fn initially(tokens: &[Token]) -> Option<(Option<ConstraintMode>, &[Token])>
     ensures { (text : List ℕ) → with_words text result ≡ read_initially (words text tokens.now) }
 {
@@ -224,7 +224,7 @@ fn time_parts(tokens: &[Token]) -> Option<((Option<bool>, Option<ConstraintMode>
 }
 
 /// The constraint characteristics, as far as they are given.
-#[tactic(auto, unfolding(crate::specs::TableReaders::read_time))]
+#[tactic(auto, unfolding(crate::specs::readers::Tables::read_time))]
 pub fn time(tokens: &[Token]) -> Option<(ConstraintTime, &[Token])>
     ensures { (text : List ℕ) → with_words text result ≡ read_time (words text tokens.now) }
 {

@@ -9,10 +9,10 @@ use Rattle.iv_syntax.specs.declared.tree.Sign.TheVariants as sign
 use Rattle.iv_syntax.specs.declared.tree.ColumnName.{ColumnName}
 use Rattle.iv_syntax.specs.declared.tree.Expression.{Expression}
 use Rattle.iv_syntax.specs.declared.tree.Expression.TheVariants.{Number, Text, Null, Column}
-use Rattle.iv_parse_terms.specs.Trees.{group, signed, product, sum}
+use Rattle.iv_syntax.specs.Trees.{group, signed, product, sum, depth}
 use Rattle.iv_parse_terms.specs.After.{after, after_name, if_some, then_read}
-use Rattle.iv_parse_terms.specs.Expressions.{expression, term, factor, primary, sign_kind, qualifier_spelling, spelling, depth, Formed, EndsPrimary, EndsTerm, EndsExpression}
-use Rattle.iv_parse_terms.specs.ExpressionReader.{FoundExpression, fits, after_sign, column_tree, simple, close_group, more_factors, more_terms, expression_over, read_primary, read_factor, read_term, read_expression}
+use Rattle.iv_parse_terms.specs.Expressions.{expression, term, factor, primary, sign_kind, qualifier_spelling, spelling, Formed, EndsPrimary, EndsTerm, EndsExpression}
+use Rattle.iv_parse_terms.specs.readers.Expressions.{FoundExpression, fits, after_sign, column_tree, simple, close_group, more_factors, more_terms, expression_over, read_primary, read_factor, read_term, read_expression}
 
 pub fits_ok : (d : ℕ) (e : Expression) (ws : List Word) → depth e ≤ d → fits d e ws ≡ Some (e, ws)
 fits_ok d e ws h = rw (le-leb (depth e) d h) refl

@@ -17,12 +17,12 @@ use Rattle.iv_syntax.specs.declared.tree.Condition.TheVariants.{Compare, IsNull,
 use Rattle.iv_parse_terms.specs.declared.item.Item.TheVariants.{Value, Truth}
 use Rattle.iv_parse_terms.specs.declared.item.Connective.{Connective}
 use Rattle.iv_parse_terms.specs.declared.item.Connective.TheVariants.{And, Or}
-use Rattle.iv_parse_terms.specs.Trees.{group, signed, product, sum, enclosed, negated, both, either, exists_where}
+use Rattle.iv_syntax.specs.Trees.{group, signed, product, sum, enclosed, negated, both, either, exists_where, depth, condition_depth}
 use Rattle.iv_parse_terms.specs.After.{after, after_name, if_some, then_read}
-use Rattle.iv_parse_terms.specs.Expressions.{expression, term, factor, primary, sign_kind, qualifier_spelling, spelling, depth, Formed, EndsPrimary, EndsTerm, EndsExpression}
-use Rattle.iv_parse_terms.specs.ExpressionReader.{after_sign, more_factors, more_terms, read_factor, read_term}
-use Rattle.iv_parse_terms.specs.Conditions.{comparison_kind, AliasSpelled, RangeSpelled, exists_spelling, Spelled, condition_depth, condition, conjunction, negation, test, ConditionFormed, EndsConjunction, EndsCondition, EndsFrom}
-use Rattle.iv_parse_terms.specs.ConditionReader.{FoundItem, as_item, condition_fits, on_value, close_item, predicate_from, comparison_from, alias_from, range_from, with_condition, where_from, from_by, exists_over, close_exists, exists_by, lead_term_by, lead_expression_by, negate, connective_kind, connection, connection_from, more_by, read_lead, lead_factor, read_test, read_negation, read_conjunction, read_item}
+use Rattle.iv_parse_terms.specs.Expressions.{expression, term, factor, primary, sign_kind, qualifier_spelling, spelling, Formed, EndsPrimary, EndsTerm, EndsExpression}
+use Rattle.iv_parse_terms.specs.readers.Expressions.{after_sign, more_factors, more_terms, read_factor, read_term}
+use Rattle.iv_parse_terms.specs.Conditions.{comparison_kind, AliasSpelled, RangeSpelled, exists_spelling, Spelled, condition, conjunction, negation, test, ConditionFormed, EndsConjunction, EndsCondition, EndsFrom}
+use Rattle.iv_parse_terms.specs.readers.Conditions.{FoundItem, as_item, condition_fits, on_value, close_item, predicate_from, comparison_from, alias_from, range_from, with_condition, where_from, from_by, exists_over, close_exists, exists_by, lead_term_by, lead_expression_by, negate, connective_kind, connection, connection_from, more_by, read_lead, lead_factor, read_test, read_negation, read_conjunction, read_item}
 use Rattle.iv_parse_terms.proofs.Complete.{fits_ok, stop_factors, stop_terms, step_factor, step_term, complete, expression_whole, column_read, column_first, sign_ends}
 use Rattle.iv_parse_terms.proofs.Parts.{sign_found}
 use Rattle.iv_parse_terms.proofs.ConditionSteps.{lead_simple, factor_signed, factor_lead, negation_not, negation_plain, conjunction_step, item_step}

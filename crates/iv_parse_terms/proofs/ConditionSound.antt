@@ -15,13 +15,13 @@ use Rattle.iv_parse_terms.specs.declared.item.Item.{Item}
 use Rattle.iv_parse_terms.specs.declared.item.Item.TheVariants.{Value, Truth}
 use Rattle.iv_parse_terms.specs.declared.item.Connective.{Connective}
 use Rattle.iv_parse_terms.specs.declared.item.Connective.TheVariants.{And, Or}
-use Rattle.iv_parse_terms.specs.Trees.{group, enclosed, negated, both, either, exists_where}
+use Rattle.iv_syntax.specs.Trees.{group, enclosed, negated, both, either, exists_where, condition_depth}
 use Rattle.iv_parse_terms.specs.After.{after, after_name, then_read}
 use Rattle.iv_parse_terms.specs.ItemDepth.{where_depth}
 use Rattle.iv_parse_terms.specs.Expressions.{Rule, expression, term, factor, primary, spelling, Formed}
-use Rattle.iv_parse_terms.specs.ExpressionReader.{FoundExpression, fits, after_sign, simple, more_factors, more_terms, read_factor, read_term, read_expression}
-use Rattle.iv_parse_terms.specs.Conditions.{comparison_kind, AliasSpelled, exists_spelling, Spelled, condition_depth, ConditionRule, condition, conjunction, negation, test, ConditionFormed, IsFrom}
-use Rattle.iv_parse_terms.specs.ConditionReader.{FoundItem, as_item, condition_fits, on_value, enclose, close_item, after_comparison, null_test, comparison_from, predicate_from, alias_from, range_from, with_condition, where_from, from_by, exists_over, after_select, close_exists, exists_by, lead_by, lead_factor_by, lead_term_by, lead_expression_by, test_by, negate, negation_by, connective_kind, connection, connection_from, more_by, chain_by, item_over, read_lead, lead_factor, read_test, read_negation, read_conjunction, read_item}
+use Rattle.iv_parse_terms.specs.readers.Expressions.{FoundExpression, fits, after_sign, simple, more_factors, more_terms, read_factor, read_term, read_expression}
+use Rattle.iv_parse_terms.specs.Conditions.{comparison_kind, AliasSpelled, exists_spelling, Spelled, ConditionRule, condition, conjunction, negation, test, ConditionFormed, IsFrom}
+use Rattle.iv_parse_terms.specs.readers.Conditions.{FoundItem, as_item, condition_fits, on_value, enclose, close_item, after_comparison, null_test, comparison_from, predicate_from, alias_from, range_from, with_condition, where_from, from_by, exists_over, after_select, close_exists, exists_by, lead_by, lead_factor_by, lead_term_by, lead_expression_by, test_by, negate, negation_by, connective_kind, connection, connection_from, more_by, chain_by, item_over, read_lead, lead_factor, read_test, read_negation, read_conjunction, read_item}
 use Rattle.iv_parse_terms.proofs.Parts.{some_same, if_some_has, after_is, after_name_is}
 use Rattle.iv_parse_terms.proofs.Sound.{Read, Good, fits_good, factor_primary, term_factor, expression_term, simple_good, more_factors_good, more_terms_good, factor_sound, term_sound, expression_sound}
 

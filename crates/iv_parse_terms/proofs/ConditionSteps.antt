@@ -13,11 +13,11 @@ use Rattle.iv_parse_terms.specs.declared.item.Connective.TheVariants.{And, Or}
 use Rattle.iv_syntax.specs.declared.tree.Condition.{Condition}
 use Rattle.iv_syntax.specs.declared.tree.RangeName.{RangeName}
 use Rattle.iv_parse_terms.specs.ItemDepth.{where_depth}
-use Rattle.iv_parse_terms.specs.Conditions.{condition_depth}
+use Rattle.iv_syntax.specs.Trees.{condition_depth}
 use Rattle.iv_parse_terms.proofs.Parts.{some_same}
 use Rattle.iv_parse_terms.specs.After.{after, if_some, then_read}
-use Rattle.iv_parse_terms.specs.ExpressionReader.{after_sign, simple, more_factors, more_terms, read_factor, read_term}
-use Rattle.iv_parse_terms.specs.ConditionReader.{FoundItem, as_item, on_value, close_item, predicate_from, exists_by, exists_over, item_over, negate, after_truth, connection_from, condition_fits, connection, truth_alone, more_by, value_test, lead_factor, read_lead, read_test, read_negation, read_conjunction, read_item}
+use Rattle.iv_parse_terms.specs.readers.Expressions.{after_sign, simple, more_factors, more_terms, read_factor, read_term}
+use Rattle.iv_parse_terms.specs.readers.Conditions.{FoundItem, as_item, on_value, close_item, predicate_from, exists_by, exists_over, item_over, negate, after_truth, connection_from, condition_fits, connection, truth_alone, more_by, value_test, lead_factor, read_lead, read_test, read_negation, read_conjunction, read_item}
 
 -- a value, its further factors, its further terms, its predicate
 pub value_none : (d : ℕ) (e : Expression) (ws : List Word) → None ≡ more_factors d (read_factor d) d e ws → None ≡ value_test d e ws

@@ -1,6 +1,5 @@
 pub mod Exact
 pub mod Fronts
-pub mod Bridges
 pub mod Steps
 pub mod Parts
 pub mod Sound

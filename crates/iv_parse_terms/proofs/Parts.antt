@@ -10,7 +10,7 @@ use Rattle.iv_syntax.specs.declared.tree.Sign.{Sign}
 use Rattle.iv_syntax.specs.declared.tree.Sign.TheVariants as sign
 use Rattle.iv_parse_terms.specs.After.{is_word, after, after_name, if_some}
 use Rattle.iv_parse_terms.specs.Expressions.{sign_kind}
-use Rattle.iv_parse_terms.specs.ExpressionReader.{after_sign}
+use Rattle.iv_parse_terms.specs.readers.Expressions.{after_sign}
 use Rattle.iv_parse_terms.proofs.Exact.{exact}
 
 pub some_same : {A : Type 0} (x y : A) → Some x ≡ Some y → x ≡ y

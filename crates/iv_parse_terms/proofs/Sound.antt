@@ -8,10 +8,10 @@ use Rattle.iv_lex.specs.Words.{Word, name, number, quoted, plain}
 use Rattle.iv_syntax.specs.declared.tree.Sign.{Sign}
 use Rattle.iv_syntax.specs.declared.tree.Expression.{Expression}
 use Rattle.iv_syntax.specs.declared.tree.Expression.TheVariants.{Null}
-use Rattle.iv_parse_terms.specs.Trees.{group, signed, product, sum}
+use Rattle.iv_syntax.specs.Trees.{group, signed, product, sum, depth}
 use Rattle.iv_parse_terms.specs.After.{same, after, after_name, then_read}
-use Rattle.iv_parse_terms.specs.Expressions.{Rule, expression, term, factor, primary, sign_kind, spelling, depth, Formed}
-use Rattle.iv_parse_terms.specs.ExpressionReader.{FoundExpression, fits, after_sign, column_tree, column_from, simple, close_group, primary_by, factor_by, more_factors, term_by, more_terms, expression_by, expression_over, read_primary, read_factor, read_term, read_expression}
+use Rattle.iv_parse_terms.specs.Expressions.{Rule, expression, term, factor, primary, sign_kind, spelling, Formed}
+use Rattle.iv_parse_terms.specs.readers.Expressions.{FoundExpression, fits, after_sign, column_tree, column_from, simple, close_group, primary_by, factor_by, more_factors, term_by, more_terms, expression_by, expression_over, read_primary, read_factor, read_term, read_expression}
 use Rattle.iv_parse_terms.proofs.Exact.{exact}
 use Rattle.iv_parse_terms.proofs.Parts.{if_some_has, after_is, after_name_is, after_sign_is}
 

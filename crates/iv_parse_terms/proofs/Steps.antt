@@ -5,9 +5,9 @@ use Rattle.iv_lex.specs.declared.kind.Kind.TheVariants as kind
 use Rattle.iv_lex.specs.Words.{Word}
 use Rattle.iv_syntax.specs.declared.tree.Sign.{Sign}
 use Rattle.iv_syntax.specs.declared.tree.Expression.{Expression}
-use Rattle.iv_parse_terms.specs.Trees.{product, sum}
+use Rattle.iv_syntax.specs.Trees.{product, sum}
 use Rattle.iv_parse_terms.specs.After.{after, if_some, then_read}
-use Rattle.iv_parse_terms.specs.ExpressionReader.{FoundExpression, fits, after_sign, simple, close_group, expression_over, more_factors, more_terms, read_primary, read_expression}
+use Rattle.iv_parse_terms.specs.readers.Expressions.{FoundExpression, fits, after_sign, simple, close_group, expression_over, more_factors, more_terms, read_primary, read_expression}
 
 pub primary_zero : (d : ℕ) (ws : List Word) → d ≡ 0 → None ≡ read_primary d ws
 unfolding read_primary

@@ -10,10 +10,11 @@ use Rattle.iv_parse_terms.specs.declared.limits.TheConstants.{DEEPEST}
 use Rattle.iv_parse_terms.specs.declared.item.Item.TheVariants.{Value, Truth}
 use Rattle.iv_parse_terms.specs.After.{then_read}
 use Rattle.iv_parse_terms.specs.ItemDepth.{where_depth}
-use Rattle.iv_parse_terms.specs.Expressions.{IsExpression, EndsExpression, spelling, depth, expression}
-use Rattle.iv_parse_terms.specs.ExpressionReader.{FoundExpression, read_expression}
-use Rattle.iv_parse_terms.specs.Conditions.{IsCondition, IsFrom, EndsCondition, EndsFrom, condition_depth, condition}
-use Rattle.iv_parse_terms.specs.ConditionReader.{FoundItem, truth_alone, read_item, read_condition, read_from}
+use Rattle.iv_parse_terms.specs.Expressions.{IsExpression, EndsExpression, spelling, expression}
+use Rattle.iv_syntax.specs.Trees.{depth, condition_depth}
+use Rattle.iv_parse_terms.specs.readers.Expressions.{FoundExpression, read_expression}
+use Rattle.iv_parse_terms.specs.Conditions.{IsCondition, IsFrom, EndsCondition, EndsFrom, condition}
+use Rattle.iv_parse_terms.specs.readers.Conditions.{FoundItem, truth_alone, read_item, read_condition, read_from}
 use Rattle.iv_parse_terms.proofs.Parts.{some_same}
 use Rattle.iv_parse_terms.proofs.Sound.{Good, expression_sound}
 use Rattle.iv_parse_terms.proofs.Complete.{expression_whole}

@@ -1,5 +1,5 @@
--- Which words are which search condition, and how deep it is.
-use Rattle.std.specs.Prelude.{◌≡◌, ℕ, ◌+◌, max, ◌⊎◌, Option, Some, None, List, [], ◌∷◌, ◌++◌}
+-- Which words are which search condition.
+use Rattle.std.specs.Prelude.{◌≡◌, ℕ, ◌⊎◌, Option, Some, None, List, [], ◌∷◌, ◌++◌}
 use Rattle.iv_expr.specs.declared.tree.Comparison.{Comparison}
 use Rattle.iv_expr.specs.declared.tree.Comparison.TheVariants as comparison
 use Rattle.iv_lex.specs.declared.kind.Kind.{Kind}
@@ -8,10 +8,9 @@ use Rattle.iv_lex.specs.Words.{Word, name, plain}
 use Rattle.iv_syntax.specs.declared.tree.RangeName.{RangeName}
 use Rattle.iv_syntax.specs.declared.tree.Condition.{Condition}
 use Rattle.iv_syntax.specs.declared.tree.Condition.TheVariants.{Compare, IsNull, IsNotNull, Exists}
-use Rattle.iv_parse_terms.specs.Trees.{enclosed, negated, both, either, exists_where}
+use Rattle.iv_syntax.specs.Trees.{enclosed, negated, both, either, exists_where}
 use Rattle.iv_parse_terms.specs.After.{after, after_name}
-pub use Rattle.iv_syntax.specs.Trees.{condition_depth}
-use Rattle.iv_parse_terms.specs.Expressions.{spelling, depth, Formed, expression, EndsExpression}
+use Rattle.iv_parse_terms.specs.Expressions.{spelling, Formed, expression, EndsExpression}
 
 abbrev pub comparison_kind : Comparison → Kind
 comparison_kind comparison.Equal = kind.Equals

@@ -1,5 +1,5 @@
--- Which words are which value expression, and how deep it is.
-use Rattle.std.specs.Prelude.{◌≡◌, ℕ, ◌+◌, max, Option, Some, None, List, [], ◌∷◌, ◌++◌}
+-- Which words are which value expression.
+use Rattle.std.specs.Prelude.{◌≡◌, ℕ, Option, Some, None, List, [], ◌∷◌, ◌++◌}
 use Rattle.iv_lex.specs.declared.kind.Kind.{Kind}
 use Rattle.iv_lex.specs.declared.kind.Kind.TheVariants as kind
 use Rattle.iv_lex.specs.Words.{Word, name, number, quoted, plain}
@@ -7,8 +7,7 @@ use Rattle.iv_syntax.specs.declared.tree.Sign.{Sign}
 use Rattle.iv_syntax.specs.declared.tree.Sign.TheVariants as sign
 use Rattle.iv_syntax.specs.declared.tree.Expression.{Expression}
 use Rattle.iv_syntax.specs.declared.tree.Expression.TheVariants.{Number, Text, Null, Column}
-use Rattle.iv_parse_terms.specs.Trees.{group, signed, product, sum}
-pub use Rattle.iv_syntax.specs.Trees.{depth}
+use Rattle.iv_syntax.specs.Trees.{group, signed, product, sum}
 use Rattle.iv_parse_terms.specs.After.{after}
 
 abbrev pub sign_kind : Sign → Kind

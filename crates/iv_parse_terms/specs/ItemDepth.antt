@@ -3,8 +3,7 @@ use Rattle.std.specs.Prelude.{ℕ, Option, Some, None}
 use Rattle.iv_syntax.specs.declared.tree.Condition.{Condition}
 use Rattle.iv_parse_terms.specs.declared.item.Item.{Item}
 use Rattle.iv_parse_terms.specs.declared.item.Item.TheVariants.{Value, Truth}
-use Rattle.iv_parse_terms.specs.Expressions.{depth}
-use Rattle.iv_parse_terms.specs.Conditions.{condition_depth}
+use Rattle.iv_syntax.specs.Trees.{depth, condition_depth}
 
 abbrev pub item_depth : Item → ℕ
 item_depth (Value e) = depth e

@@ -6,10 +6,11 @@ use Rattle.iv_syntax.specs.declared.tree.RangeName.{RangeName}
 use Rattle.iv_syntax.specs.declared.tree.Condition.{Condition}
 use Rattle.iv_parse_terms.specs.declared.limits.TheConstants.{DEEPEST}
 use Rattle.iv_parse_terms.specs.ItemDepth.{where_depth}
-use Rattle.iv_parse_terms.specs.Expressions.{IsExpression, EndsExpression, depth}
-use Rattle.iv_parse_terms.specs.ExpressionReader.{read_expression}
-use Rattle.iv_parse_terms.specs.Conditions.{IsCondition, IsFrom, EndsCondition, EndsFrom, condition_depth}
-use Rattle.iv_parse_terms.specs.ConditionReader.{read_condition, read_from}
+use Rattle.iv_parse_terms.specs.Expressions.{IsExpression, EndsExpression}
+use Rattle.iv_syntax.specs.Trees.{depth, condition_depth}
+use Rattle.iv_parse_terms.specs.readers.Expressions.{read_expression}
+use Rattle.iv_parse_terms.specs.Conditions.{IsCondition, IsFrom, EndsCondition, EndsFrom}
+use Rattle.iv_parse_terms.specs.readers.Conditions.{read_condition, read_from}
 
 -- what is read is at the front, is an expression of the grammar, and is no deeper than DEEPEST
 abbrev pub ExpressionsSound : Type 0

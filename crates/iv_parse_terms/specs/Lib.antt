@@ -1,11 +1,9 @@
 pub mod After
-pub mod Trees
 pub mod Expressions
-pub mod ExpressionReader
 pub mod Seen
 pub mod Conditions
 pub mod ItemDepth
-pub mod ConditionReader
 pub mod SeenItem
 pub mod SeenFrom
 pub mod Laws
+pub mod readers

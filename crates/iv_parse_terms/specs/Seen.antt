@@ -4,7 +4,7 @@ use denote.Ref.{Bor}
 use Rattle.iv_lex.specs.declared.token.Token.{Token}
 use Rattle.iv_lex.specs.Words.{Word, words}
 use Rattle.iv_parse_terms.specs.declared.expression_part.ExpressionPart.{ExpressionPart}
-use Rattle.iv_parse_terms.specs.ExpressionReader.{FoundExpression}
+use Rattle.iv_parse_terms.specs.readers.Expressions.{FoundExpression}
 
 -- the words of the tokens that are left
 abbrev pub rest_words : List ℕ → Option (Bor (List Token)) → Option (List Word)

@@ -4,7 +4,7 @@ use Rattle.iv_lex.specs.Words.{Word, words}
 use Rattle.iv_syntax.specs.declared.tree.Condition.{Condition}
 use Rattle.iv_parse_terms.specs.declared.condition_part.ConditionPart.{ConditionPart}
 use Rattle.iv_parse_terms.specs.declared.item_part.ItemPart.{ItemPart}
-use Rattle.iv_parse_terms.specs.ConditionReader.{FoundItem}
+use Rattle.iv_parse_terms.specs.readers.Conditions.{FoundItem}
 
 abbrev pub item_found : List ℕ → Option ItemPart → FoundItem
 item_found text None = None

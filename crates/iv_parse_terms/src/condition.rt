@@ -1,8 +1,7 @@
 //! Conditions read from tokens.
 ghost use Rattle.std.specs.Prelude.{◌≡◌, ℕ, ◌-◌, ◌≤◌, ◌<◌, IfOk};
 ghost use Rattle.iv_lex.specs.Words.{words};
-ghost use Rattle.iv_parse_terms.specs.declared.item.Connective.TheVariants.{And, Or};
-ghost use Rattle.iv_parse_terms.specs.ConditionReader.{exists_by, more_by, read_lead, lead_factor as lead_factor_of, read_test, read_negation, read_conjunction, read_item, read_from as from, read_condition as read};
+ghost use Rattle.iv_parse_terms.specs.readers.Conditions.{exists_by, more_by, read_lead, lead_factor as lead_factor_of, read_test, read_negation, read_operand, read_chain, read_item, read_from as from, read_condition as read};
 ghost use Rattle.iv_parse_terms.specs.Seen.{with_words};
 ghost use Rattle.iv_parse_terms.specs.SeenItem.{item_found};
 ghost use Rattle.iv_parse_terms.specs.SeenFrom.{from_found};
@@ -149,75 +148,69 @@ fn negation<'a>(
     }
 }
 
-// The negations that follow, of which there are at most so many.
+// What AND or OR stands between: negations, or conjunctions.
 #[cycle(condition)]
-fn negations<'a>(
+fn operand<'a>(
     alloc: Global,
     limit: u8,
-    most: u8,
-    text: &str,
-    left: ItemPart<'a>,
-) -> Result<Option<ItemPart<'a>>, AllocError>
-    requires low { limit ≤ DEEPEST }
-    requires few { most ≤ DEEPEST }
-    ensures { IfOk result (λ r. item_found text.now r
-        ≡ more_by And limit (read_negation limit) most left.entry.item
-        (words text.now left.entry.rest.now)) }
-{
-    let Some(rest) = connective_after(Connective::And, &left) else {
-        return Ok(Some(left));
-    };
-    if most == 0 {
-        return Ok(discard(left));
-    }
-    let right = negation(alloc, limit, &*text, rest);
-    match join_found(alloc, limit, Connective::And, left, right)? {
-        Some(found) => negations(alloc, limit, most - 1, &*text, found),
-        None => Ok(None),
-    }
-}
-
-#[cycle(condition)]
-fn conjunction<'a>(
-    alloc: Global,
-    limit: u8,
+    connective: Connective,
     text: &str,
     tokens: &'a [Token],
 ) -> Result<Option<ItemPart<'a>>, AllocError>
     requires { limit ≤ DEEPEST }
     ensures { IfOk result (λ r. item_found text.now r
-        ≡ read_conjunction limit (words text.now tokens.now)) }
+        ≡ read_operand connective limit (words text.now tokens.now)) }
 {
-    match negation(alloc, limit, &*text, tokens)? {
-        Some(left) => negations(alloc, limit, limit, &*text, left),
-        None => Ok(None),
+    match connective {
+        Connective::And => negation(alloc, limit, &*text, tokens),
+        Connective::Or => chain(alloc, limit, Connective::And, &*text, tokens),
     }
 }
 
-// The conjunctions that follow, of which there are at most so many.
+// The operands that follow, of which there are at most so many.
 #[cycle(condition)]
-fn conjunctions<'a>(
+fn operands<'a>(
     alloc: Global,
     limit: u8,
     most: u8,
+    connective: Connective,
     text: &str,
     left: ItemPart<'a>,
 ) -> Result<Option<ItemPart<'a>>, AllocError>
     requires low { limit ≤ DEEPEST }
     requires few { most ≤ DEEPEST }
     ensures { IfOk result (λ r. item_found text.now r
-        ≡ more_by Or limit (read_conjunction limit) most left.entry.item
+        ≡ more_by connective limit (read_operand connective limit) most left.entry.item
         (words text.now left.entry.rest.now)) }
 {
-    let Some(rest) = connective_after(Connective::Or, &left) else {
+    let Some(rest) = connective_after(connective, &left) else {
         return Ok(Some(left));
     };
     if most == 0 {
         return Ok(discard(left));
     }
-    let right = conjunction(alloc, limit, &*text, rest);
-    match join_found(alloc, limit, Connective::Or, left, right)? {
-        Some(found) => conjunctions(alloc, limit, most - 1, &*text, found),
+    let right = operand(alloc, limit, connective, &*text, rest);
+    match join_found(alloc, limit, connective, left, right)? {
+        Some(found) => operands(alloc, limit, most - 1, connective, &*text, found),
+        None => Ok(None),
+    }
+}
+
+// Operands with AND or with OR between them.
+#[cycle(condition)]
+fn chain<'a>(
+    alloc: Global,
+    limit: u8,
+    connective: Connective,
+    text: &str,
+    tokens: &'a [Token],
+) -> Result<Option<ItemPart<'a>>, AllocError>
+    requires { limit ≤ DEEPEST }
+    ensures { IfOk result (λ r. item_found text.now r
+        ≡ read_chain connective limit (words text.now tokens.now)) }
+{
+    match operand(alloc, limit, connective, &*text, tokens)? {
+        Some(left) => operands(alloc, limit, limit, connective, &*text, left),
         None => Ok(None),
     }
 }
@@ -234,10 +227,7 @@ fn item<'a>(
     ensures { IfOk result (λ r. item_found text.now r
         ≡ read_item limit (words text.now tokens.now)) }
 {
-    match conjunction(alloc, limit, &*text, tokens)? {
-        Some(left) => conjunctions(alloc, limit, limit, &*text, left),
-        None => Ok(None),
-    }
+    chain(alloc, limit, Connective::Or, &*text, tokens)
 }
 
 /// The condition at the front of the tokens of `text`, as long as it can be, and the tokens after

@@ -1,6 +1,6 @@
 //! Conditions found at the front of tokens.
 ghost use Rattle.std.specs.Prelude.{◌≡◌};
-ghost use Rattle.iv_parse_terms.specs.Conditions.{condition_depth};
+ghost use Rattle.iv_syntax.specs.Trees.{condition_depth};
 
 use iv_lex::Token;
 use iv_syntax::Condition;

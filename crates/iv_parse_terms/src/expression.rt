@@ -1,9 +1,8 @@
 //! Expressions read from tokens.
-ghost use Rattle.std.specs.Prelude.{◌≡◌, ℕ, ◌+◌, ◌≤◌, List, IfOk};
+ghost use Rattle.std.specs.Prelude.{◌≡◌, ℕ, ◌+◌, ◌≤◌, max, List, IfOk, MatchOption};
 ghost use Rattle.iv_lex.specs.Words.{words};
-ghost use Rattle.iv_parse_terms.specs.Trees.{group, signed, product, sum};
-ghost use Rattle.iv_parse_terms.specs.Expressions.{depth as depth_of};
-ghost use Rattle.iv_parse_terms.specs.ExpressionReader.{column_from, simple as simple_at, close_group, fits, more_factors, more_terms, read_primary, read_factor, read_term, read_expression as read};
+ghost use Rattle.iv_syntax.specs.Trees.{group, signed, product, sum, depth as depth_of};
+ghost use Rattle.iv_parse_terms.specs.readers.Expressions.{column_from, simple as simple_at, close_group, fits, more_factors, more_terms, read_primary, read_factor, read_term, read_expression as read};
 ghost use Rattle.iv_parse_terms.specs.Seen.{expression_found, with_words};
 
 use crate::expression_part::ExpressionPart;
@@ -65,6 +64,27 @@ fn make_signed<'a>(
     }))
 }
 
+// Two operands, the depth of their product or sum and the tokens after it, where it is not too deep.
+fn fitting<'a>(
+    limit: u8,
+    left: ExpressionPart<'a>,
+    right: ExpressionPart<'a>,
+) -> Option<(Expression, Expression, u8, &'a [Token])>
+    ensures { MatchOption result
+        (limit ≤ max (depth_of left.entry.tree) (depth_of right.entry.tree))
+        (λ p. (p.0 ≡ left.entry.tree) × (p.1 ≡ right.entry.tree)
+        × (p.2 ≡ 1 + max (depth_of left.entry.tree) (depth_of right.entry.tree))
+        × (p.2 ≤ limit) × (p.3.now ≡ right.entry.rest.now)) }
+{
+    let below = left.depth.max(right.depth);
+    if below >= limit {
+        drop(left);
+        drop(right);
+        return None;
+    }
+    Some((left.tree, right.tree, below + 1, right.rest))
+}
+
 fn make_product<'a>(
     alloc: Global,
     limit: u8,
@@ -76,28 +96,11 @@ fn make_product<'a>(
         ≡ fits limit (product left.entry.tree right.entry.tree)
         (words text right.entry.rest.now)) }
 {
-    let depth = left.depth.max(right.depth);
-    if depth >= limit {
-        drop(left);
-        drop(right);
+    let Some((left, right, depth, rest)) = fitting(limit, left, right) else {
         return Ok(None);
-    }
-    let ExpressionPart {
-        tree: left,
-        depth: _,
-        rest: _,
-    } = left;
-    let ExpressionPart {
-        tree: right,
-        depth: _,
-        rest,
-    } = right;
+    };
     let tree = product_of(alloc, left, right)?;
-    Ok(Some(ExpressionPart {
-        tree,
-        depth: depth + 1,
-        rest,
-    }))
+    Ok(Some(ExpressionPart { tree, depth, rest }))
 }
 
 fn make_sum<'a>(
@@ -112,28 +115,11 @@ fn make_sum<'a>(
         ≡ fits limit (sum sign left.entry.tree right.entry.tree)
         (words text right.entry.rest.now)) }
 {
-    let depth = left.depth.max(right.depth);
-    if depth >= limit {
-        drop(left);
-        drop(right);
+    let Some((left, right, depth, rest)) = fitting(limit, left, right) else {
         return Ok(None);
-    }
-    let ExpressionPart {
-        tree: left,
-        depth: _,
-        rest: _,
-    } = left;
-    let ExpressionPart {
-        tree: right,
-        depth: _,
-        rest,
-    } = right;
+    };
     let tree = sum_of(alloc, sign, left, right)?;
-    Ok(Some(ExpressionPart {
-        tree,
-        depth: depth + 1,
-        rest,
-    }))
+    Ok(Some(ExpressionPart { tree, depth, rest }))
 }
 
 fn leaf<'a>(tree: Expression, rest: &'a [Token]) -> ExpressionPart<'a>

@@ -1,6 +1,6 @@
 //! Trees found at the front of tokens.
 ghost use Rattle.std.specs.Prelude.{◌≡◌};
-ghost use Rattle.iv_parse_terms.specs.Expressions.{depth as depth_of};
+ghost use Rattle.iv_syntax.specs.Trees.{depth as depth_of};
 
 use iv_lex::Token;
 use iv_syntax::Expression;

@@ -1,7 +1,7 @@
 //! Ranges of a FROM.
 ghost use Rattle.std.specs.Prelude.{◌≡◌, ℕ, List, Some, None, IfOk};
 ghost use Rattle.iv_lex.specs.Words.{words};
-ghost use Rattle.iv_parse_terms.specs.ConditionReader.{FoundItem, alias_from, range_from, with_condition, close_exists as closed_exists};
+ghost use Rattle.iv_parse_terms.specs.readers.Conditions.{FoundItem, alias_from, range_from, with_condition, close_exists as closed_exists};
 ghost use Rattle.iv_parse_terms.specs.After.{then_read};
 ghost use Rattle.iv_parse_terms.specs.SeenItem.{item_found};
 ghost use Rattle.iv_parse_terms.specs.SeenFrom.{from_found};

@@ -2,8 +2,8 @@
 ghost use Rattle.std.specs.Prelude.{◌≡◌, ℕ, List, true, IfOk};
 ghost use Rattle.iv_lex.specs.Words.{words};
 ghost use Rattle.iv_parse_terms.specs.After.{after as words_after, after_name, is_plain, same};
-ghost use Rattle.iv_parse_terms.specs.ExpressionReader.{after_sign};
-ghost use Rattle.iv_parse_terms.specs.ConditionReader.{after_comparison, after_select};
+ghost use Rattle.iv_parse_terms.specs.readers.Expressions.{after_sign};
+ghost use Rattle.iv_parse_terms.specs.readers.Conditions.{after_comparison, after_select};
 ghost use Rattle.iv_parse_terms.specs.Seen.{rest_words, with_words};
 
 use iv_expr::Comparison;

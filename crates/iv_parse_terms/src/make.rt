@@ -1,7 +1,7 @@
 //! Trees made of trees.
 ghost use Rattle.std.specs.Prelude.{◌≡◌, IfOk};
-ghost use Rattle.iv_parse_terms.specs.Trees.{group, signed, product, sum, enclosed, negated, both, either, exists_where};
-ghost use Rattle.iv_parse_terms.specs.ConditionReader.{connection, exists_over};
+ghost use Rattle.iv_syntax.specs.Trees.{group, signed, product, sum, enclosed, negated, both, either, exists_where};
+ghost use Rattle.iv_parse_terms.specs.readers.Conditions.{connection, exists_over};
 
 use crate::item::Connective;
 use iv_syntax::{Condition, Expression, RangeName, Sign};
@@ -22,7 +22,7 @@ fn boxes<T: Drop>(alloc: Global, a: T, b: T) -> Result<(Boxed<T>, Boxed<T>), All
 }
 
 /// The expression in parentheses.
-#[tactic(auto, using(crate::proofs::Bridges::group_is))]
+#[tactic(auto, using(iv_syntax::proofs::TreeShapes::group_is))]
 pub fn group_of(alloc: Global, a: Expression) -> Result<Expression, AllocError>
     ensures { IfOk result (λ e. e ≡ group a) }
 {
@@ -30,7 +30,7 @@ pub fn group_of(alloc: Global, a: Expression) -> Result<Expression, AllocError>
 }
 
 /// The sign and its operand.
-#[tactic(auto, using(crate::proofs::Bridges::signed_is))]
+#[tactic(auto, using(iv_syntax::proofs::TreeShapes::signed_is))]
 pub fn signed_of(alloc: Global, sign: Sign, a: Expression) -> Result<Expression, AllocError>
     ensures { IfOk result (λ e. e ≡ signed sign a) }
 {
@@ -38,7 +38,7 @@ pub fn signed_of(alloc: Global, sign: Sign, a: Expression) -> Result<Expression,
 }
 
 /// The product of two expressions.
-#[tactic(auto, using(crate::proofs::Bridges::product_is))]
+#[tactic(auto, using(iv_syntax::proofs::TreeShapes::product_is))]
 pub fn product_of(alloc: Global, a: Expression, b: Expression) -> Result<Expression, AllocError>
     ensures { IfOk result (λ e. e ≡ product a b) }
 {
@@ -47,7 +47,7 @@ pub fn product_of(alloc: Global, a: Expression, b: Expression) -> Result<Express
 }
 
 /// The sum or the difference of two expressions.
-#[tactic(auto, using(crate::proofs::Bridges::sum_is))]
+#[tactic(auto, using(iv_syntax::proofs::TreeShapes::sum_is))]
 pub fn sum_of(
     alloc: Global,
     sign: Sign,
@@ -61,7 +61,7 @@ pub fn sum_of(
 }
 
 /// The condition in parentheses.
-#[tactic(auto, using(crate::proofs::Bridges::enclosed_is))]
+#[tactic(auto, using(iv_syntax::proofs::TreeShapes::enclosed_is))]
 pub fn enclosed_of(alloc: Global, a: Condition) -> Result<Condition, AllocError>
     ensures { IfOk result (λ c. c ≡ enclosed a) }
 {
@@ -69,14 +69,14 @@ pub fn enclosed_of(alloc: Global, a: Condition) -> Result<Condition, AllocError>
 }
 
 /// NOT and its condition.
-#[tactic(auto, using(crate::proofs::Bridges::negated_is))]
+#[tactic(auto, using(iv_syntax::proofs::TreeShapes::negated_is))]
 pub fn negated_of(alloc: Global, a: Condition) -> Result<Condition, AllocError>
     ensures { IfOk result (λ c. c ≡ negated a) }
 {
     Ok(Condition::Not(Boxed::new(alloc, a)?))
 }
 
-#[tactic(auto, using(crate::proofs::Bridges::both_is))]
+#[tactic(auto, using(iv_syntax::proofs::TreeShapes::both_is))]
 fn both_of(alloc: Global, a: Condition, b: Condition) -> Result<Condition, AllocError>
     ensures { IfOk result (λ c. c ≡ both a b) }
 {
@@ -84,7 +84,7 @@ fn both_of(alloc: Global, a: Condition, b: Condition) -> Result<Condition, Alloc
     Ok(Condition::And(a, b))
 }
 
-#[tactic(auto, using(crate::proofs::Bridges::either_is))]
+#[tactic(auto, using(iv_syntax::proofs::TreeShapes::either_is))]
 fn either_of(alloc: Global, a: Condition, b: Condition) -> Result<Condition, AllocError>
     ensures { IfOk result (λ c. c ≡ either a b) }
 {
@@ -108,7 +108,7 @@ pub fn connected_of(
 }
 
 /// EXISTS over a table, with its condition where there is one.
-#[tactic(auto, using(crate::proofs::Bridges::exists_where_is))]
+#[tactic(auto, using(iv_syntax::proofs::TreeShapes::exists_where_is))]
 pub fn exists_of(
     alloc: Global,
     range: RangeName,

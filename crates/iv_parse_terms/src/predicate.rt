@@ -4,8 +4,8 @@ ghost use Rattle.iv_parse_terms.specs.declared.item.Item.TheVariants.{Truth};
 ghost use Rattle.iv_parse_terms.specs.After.{then_read};
 ghost use Rattle.iv_lex.specs.Words.{words};
 ghost use Rattle.iv_parse_terms.specs.ItemDepth.{item_depth};
-ghost use Rattle.iv_parse_terms.specs.Conditions.{condition_depth};
-ghost use Rattle.iv_parse_terms.specs.ConditionReader.{FoundItem, as_item, condition_fits, on_value, enclose as enclosed_item, close_item as closed_item, null_test, comparison_from, predicate_from, value_test, negate as negated_item, after_truth, connection, connection_from, truth_alone};
+ghost use Rattle.iv_syntax.specs.Trees.{condition_depth};
+ghost use Rattle.iv_parse_terms.specs.readers.Conditions.{FoundItem, as_item, condition_fits, on_value, enclose as enclosed_item, close_item as closed_item, null_test, comparison_from, predicate_from, value_test, negate as negated_item, after_truth, connection, connection_from, truth_alone};
 ghost use Rattle.iv_parse_terms.specs.Seen.{expression_found, rest_words};
 ghost use Rattle.iv_parse_terms.specs.SeenItem.{condition_found, item_found};
 

@@ -1,7 +1,7 @@
 use Rattle.std.proofs.Common.{length}
 use Rattle.iv_lex.specs.Words.{words}
-use Rattle.iv_parse_data.specs.Series.{read_sequence}
-use Rattle.iv_parse.specs.TriggerReaders.{read_ended_action}
+use Rattle.iv_parse_data.specs.readers.Series.{read_sequence}
+use Rattle.iv_parse.specs.readers.Triggers.{read_ended_action}
 use Rattle.iv_parse_data.proofs.Loops.{Amid}
 use Rattle.iv_parse.proofs.action.actions.Given as goal
 

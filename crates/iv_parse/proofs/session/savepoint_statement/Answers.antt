@@ -1,4 +1,4 @@
-use Rattle.iv_parse.specs.Readers.{read_savepoint_rule}
+use Rattle.iv_parse.specs.readers.Statements.{read_savepoint_rule}
 use Rattle.iv_parse.proofs.session.savepoint_statement.Goals as goal
 
 pub returns-in-Some : goal.returns-in-Some

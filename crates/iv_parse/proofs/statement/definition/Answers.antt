@@ -1,4 +1,4 @@
-use Rattle.iv_parse.specs.Readers.{read_definition_rule}
+use Rattle.iv_parse.specs.readers.Statements.{read_definition_rule}
 use Rattle.iv_parse.proofs.statement.definition.Goals as goal
 
 pub returns-in-Some : goal.returns-in-Some

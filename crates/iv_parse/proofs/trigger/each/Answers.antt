@@ -1,5 +1,5 @@
 use Rattle.std.proofs.Common.{refl}
-use Rattle.iv_parse.specs.TriggerReaders.{read_each}
+use Rattle.iv_parse.specs.readers.Triggers.{read_each}
 use Rattle.iv_parse.proofs.trigger.each.Goals as goal
 
 pub returns-in-Some : goal.returns-in-Some

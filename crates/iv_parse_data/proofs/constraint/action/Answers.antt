@@ -1,5 +1,5 @@
 use Rattle.std.proofs.Common.{refl}
-use Rattle.iv_parse_data.specs.TableReaders.{read_referential_action}
+use Rattle.iv_parse_data.specs.readers.Tables.{read_referential_action}
 use Rattle.iv_parse_data.proofs.constraint.action.Goals as goal
 
 pub returns-in-Some : goal.returns-in-Some

@@ -1,5 +1,5 @@
 use Rattle.std.proofs.Common.{refl}
-use Rattle.iv_parse_data.specs.TableReaders.{read_plain_rule}
+use Rattle.iv_parse_data.specs.readers.Tables.{read_plain_rule}
 use Rattle.iv_parse_data.proofs.constraint.plain_rule.Goals as goal
 
 pub returns-in-Some : goal.returns-in-Some

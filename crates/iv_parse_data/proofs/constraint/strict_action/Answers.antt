@@ -1,5 +1,5 @@
 use Rattle.std.proofs.Common.{refl}
-use Rattle.iv_parse_data.specs.TableReaders.{read_strict_action}
+use Rattle.iv_parse_data.specs.readers.Tables.{read_strict_action}
 use Rattle.iv_parse_data.proofs.constraint.strict_action.Goals as goal
 
 pub returns-in-Some-after : goal.returns-in-Some-after

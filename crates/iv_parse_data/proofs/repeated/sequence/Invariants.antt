@@ -1,6 +1,6 @@
 use Rattle.std.proofs.Common.{length}
 use Rattle.iv_lex.specs.Words.{words}
-use Rattle.iv_parse_data.specs.Series.{read_sequence}
+use Rattle.iv_parse_data.specs.readers.Series.{read_sequence}
 use Rattle.iv_parse_data.proofs.Loops.{Amid}
 use Rattle.iv_parse_data.proofs.repeated.sequence.Given as goal
 

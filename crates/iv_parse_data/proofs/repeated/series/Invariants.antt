@@ -1,5 +1,5 @@
 use Rattle.iv_lex.specs.Words.{words}
-use Rattle.iv_parse_data.specs.Series.{read_series}
+use Rattle.iv_parse_data.specs.readers.Series.{read_series}
 use Rattle.iv_parse_data.proofs.Loops.{Along}
 use Rattle.iv_parse_data.proofs.repeated.series.Given as goal
 

@@ -1,4 +1,4 @@
-use Rattle.iv_parse_data.specs.TableReaders.{read_varchar}
+use Rattle.iv_parse_data.specs.readers.Tables.{read_varchar}
 use Rattle.iv_parse_data.proofs.time.varchar.Goals as goal
 
 pub returns-in-Some : goal.returns-in-Some

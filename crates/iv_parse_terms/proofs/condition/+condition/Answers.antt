@@ -1,49 +1,36 @@
 use Rattle.std.proofs.Common.{refl}
 use Rattle.iv_lex.specs.Words.{words}
-use Rattle.iv_parse_terms.specs.declared.item.Connective.TheVariants.{And, Or}
-use Rattle.iv_parse_terms.specs.ConditionReader.{read_negation, read_conjunction, read_item}
+use Rattle.iv_parse_terms.specs.readers.Conditions.{read_operand, read_item}
 use Rattle.iv_parse_terms.proofs.ConditionSteps.{lead_zero, lead_open, lead_exists, lead_simple, factor_signed, factor_lead, test_step, negation_not, negation_plain, conjunction_step, item_step, more_step}
 use Rattle.iv_parse_terms.proofs.condition.+condition.Goals as goal
 
-pub conjunction-returns-in-Some : goal.conjunction-returns-in-Some
-conjunction-returns-in-Some t c =
-    rw (← conjunction_step c.args.limit (words c.args.text.now c.args.tokens.now), ← c.in_ok-left.ensures, c.in-Some.is) c.negations.ensures
+pub operand-returns-in-And : goal.operand-returns-in-And
+operand-returns-in-And t c = rw (c.in-And.is) c.negation.ensures
 
-pub conjunction-returns-in-None : goal.conjunction-returns-in-None
-conjunction-returns-in-None t c =
-    rw (← conjunction_step c.args.limit (words c.args.text.now c.args.tokens.now), ← c.in_ok-left.ensures, c.in-None.is) refl
+pub operand-returns-in-Or : goal.operand-returns-in-Or
+operand-returns-in-Or t c =
+    rw (c.in-Or.is, ← conjunction_step c.args.limit (words c.args.text.now c.args.tokens.now)) c.chain.ensures
 
-pub item-returns-in-Some : goal.item-returns-in-Some
-item-returns-in-Some t c =
-    rw (← item_step c.args.limit (words c.args.text.now c.args.tokens.now), ← c.in_ok-left.ensures, c.in-Some.is) c.conjunctions.ensures
+pub chain-returns-in-Some : goal.chain-returns-in-Some
+chain-returns-in-Some t c = rw (← c.in_ok-left.ensures, c.in-Some.is) c.operands.ensures
 
-pub item-returns-in-None : goal.item-returns-in-None
-item-returns-in-None t c =
-    rw (← item_step c.args.limit (words c.args.text.now c.args.tokens.now), ← c.in_ok-left.ensures, c.in-None.is) refl
+pub chain-returns-in-None : goal.chain-returns-in-None
+chain-returns-in-None t c = rw (← c.in_ok-left.ensures, c.in-None.is) refl
 
-pub negations-returns-in-Some-2 : goal.negations-returns-in-Some-2
-negations-returns-in-Some-2 t c =
+pub item-returns : goal.item-returns
+item-returns t c = rw (← item_step c.args.limit (words c.args.text.now c.args.tokens.now)) c.chain.ensures
+
+pub operands-returns-in-Some-2 : goal.operands-returns-in-Some-2
+operands-returns-in-Some-2 t c =
     let text = c.args.text.now in
-    let s = more_step And c.args.limit (read_negation c.args.limit) c.args.most c.args.left.item (words text c.args.left.rest.now) (words text c.in-Some.rest.now) c.if-most-eq0.false (c.in-Some.ensures text) in
-    rw (← s, ← c.in_ok-found.ensures text (read_negation c.args.limit (words text c.in-Some.rest.now)) c.negation-right.ensures, c.in-Some-2.is) c.negations.ensures
+    let s = more_step c.args.connective c.args.limit (read_operand c.args.connective c.args.limit) c.args.most c.args.left.item (words text c.args.left.rest.now) (words text c.in-Some.rest.now) c.if-most-eq0.false (c.in-Some.ensures text) in
+    rw (← s, ← c.in_ok-found.ensures text (read_operand c.args.connective c.args.limit (words text c.in-Some.rest.now)) c.operand-right.ensures, c.in-Some-2.is) c.operands.ensures
 
-pub negations-returns-in-None : goal.negations-returns-in-None
-negations-returns-in-None t c =
+pub operands-returns-in-None : goal.operands-returns-in-None
+operands-returns-in-None t c =
     let text = c.args.text.now in
-    let s = more_step And c.args.limit (read_negation c.args.limit) c.args.most c.args.left.item (words text c.args.left.rest.now) (words text c.in-Some.rest.now) c.if-most-eq0.false (c.in-Some.ensures text) in
-    rw (← s, ← c.in_ok-found.ensures text (read_negation c.args.limit (words text c.in-Some.rest.now)) c.negation-right.ensures, c.in-None.is) refl
-
-pub conjunctions-returns-in-Some-2 : goal.conjunctions-returns-in-Some-2
-conjunctions-returns-in-Some-2 t c =
-    let text = c.args.text.now in
-    let s = more_step Or c.args.limit (read_conjunction c.args.limit) c.args.most c.args.left.item (words text c.args.left.rest.now) (words text c.in-Some.rest.now) c.if-most-eq0.false (c.in-Some.ensures text) in
-    rw (← s, ← c.in_ok-found.ensures text (read_conjunction c.args.limit (words text c.in-Some.rest.now)) c.conjunction-right.ensures, c.in-Some-2.is) c.conjunctions.ensures
-
-pub conjunctions-returns-in-None : goal.conjunctions-returns-in-None
-conjunctions-returns-in-None t c =
-    let text = c.args.text.now in
-    let s = more_step Or c.args.limit (read_conjunction c.args.limit) c.args.most c.args.left.item (words text c.args.left.rest.now) (words text c.in-Some.rest.now) c.if-most-eq0.false (c.in-Some.ensures text) in
-    rw (← s, ← c.in_ok-found.ensures text (read_conjunction c.args.limit (words text c.in-Some.rest.now)) c.conjunction-right.ensures, c.in-None.is) refl
+    let s = more_step c.args.connective c.args.limit (read_operand c.args.connective c.args.limit) c.args.most c.args.left.item (words text c.args.left.rest.now) (words text c.in-Some.rest.now) c.if-most-eq0.false (c.in-Some.ensures text) in
+    rw (← s, ← c.in_ok-found.ensures text (read_operand c.args.connective c.args.limit (words text c.in-Some.rest.now)) c.operand-right.ensures, c.in-None.is) refl
 
 pub exists-returns-in-Some-2 : goal.exists-returns-in-Some-2
 exists-returns-in-Some-2 t c =

@@ -1,5 +1,12 @@
-use Rattle.std.proofs.Common.{◌+◌, ◌*◌}
+use Rattle.std.proofs.Common.{ℕ, ◌+◌, ◌*◌}
+use Rattle.iv_parse_terms.specs.declared.item.Connective.{Connective}
+use Rattle.iv_parse_terms.specs.declared.item.Connective.TheVariants.{And, Or}
 use Rattle.iv_parse_terms.proofs.condition.+condition.Given as goal
+
+-- AND binds before OR
+abbrev rank : Connective → ℕ
+rank And = 0
+rank Or = 1
 
 abbrev pub decreases-exists : goal.decreases-exists
 decreases-exists l = 400 * l.limit
@@ -16,14 +23,14 @@ decreases-test l = 400 * l.limit + 3
 abbrev pub decreases-negation : goal.decreases-negation
 decreases-negation l = 400 * l.limit + 4
 
-abbrev pub decreases-negations : goal.decreases-negations
-decreases-negations l = 400 * l.limit + 5 + l.most
+abbrev pub decreases-operand : goal.decreases-operand
+decreases-operand l = 400 * l.limit + 5 + 75 * rank l.connective
 
-abbrev pub decreases-conjunction : goal.decreases-conjunction
-decreases-conjunction l = 400 * l.limit + 75
+abbrev pub decreases-operands : goal.decreases-operands
+decreases-operands l = 400 * l.limit + 6 + 75 * rank l.connective + l.most
 
-abbrev pub decreases-conjunctions : goal.decreases-conjunctions
-decreases-conjunctions l = 400 * l.limit + 76 + l.most
+abbrev pub decreases-chain : goal.decreases-chain
+decreases-chain l = 400 * l.limit + 71 + 75 * rank l.connective
 
 abbrev pub decreases-item : goal.decreases-item
 decreases-item l = 400 * l.limit + 150

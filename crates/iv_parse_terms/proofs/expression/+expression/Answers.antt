@@ -1,6 +1,6 @@
 use Rattle.std.proofs.Common.{refl}
 use Rattle.iv_lex.specs.Words.{words}
-use Rattle.iv_parse_terms.specs.ExpressionReader.{read_factor, read_term}
+use Rattle.iv_parse_terms.specs.readers.Expressions.{read_factor, read_term}
 use Rattle.iv_parse_terms.proofs.Steps.{primary_zero, primary_open, primary_simple, factors_step, terms_step}
 use Rattle.iv_parse_terms.proofs.expression.+expression.Goals as goal
 

@@ -1,5 +1,5 @@
 use Rattle.std.proofs.Common.{◌+◌, sym, ◌∙◌, ap}
-use Rattle.iv_parse_terms.specs.Conditions.{condition_depth}
+use Rattle.iv_syntax.specs.Trees.{condition_depth}
 use Rattle.iv_parse_terms.proofs.ConditionSteps.{exists_depth}
 use Rattle.iv_parse_terms.proofs.from.close_exists.Goals as goal
 

@@ -1,5 +1,5 @@
 use Rattle.std.proofs.Common.{refl}
-use Rattle.iv_parse_terms.proofs.Bridges.{exists_where_is}
+use Rattle.iv_syntax.proofs.TreeShapes.{exists_where_is}
 use Rattle.iv_parse_terms.proofs.make.exists_of.Goals as goal
 
 pub returns-in_ok-new-in-Some : goal.returns-in_ok-new-in-Some

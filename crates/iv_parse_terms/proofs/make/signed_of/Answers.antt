@@ -1,5 +1,5 @@
 use Rattle.std.proofs.Common.{refl}
-use Rattle.iv_parse_terms.proofs.Bridges.{signed_is}
+use Rattle.iv_syntax.proofs.TreeShapes.{signed_is}
 use Rattle.iv_parse_terms.proofs.make.signed_of.Goals as goal
 
 pub returns : goal.returns

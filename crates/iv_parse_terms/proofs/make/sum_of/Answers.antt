@@ -1,5 +1,5 @@
 use Rattle.std.proofs.Common.{refl}
-use Rattle.iv_parse_terms.proofs.Bridges.{sum_is}
+use Rattle.iv_syntax.proofs.TreeShapes.{sum_is}
 use Rattle.iv_parse_terms.proofs.make.sum_of.Goals as goal
 
 pub returns : goal.returns

@@ -1,5 +1,5 @@
 use Rattle.std.proofs.Common.{◌+◌, sym, ◌∙◌, ap}
-use Rattle.iv_parse_terms.specs.Conditions.{condition_depth}
+use Rattle.iv_syntax.specs.Trees.{condition_depth}
 use Rattle.iv_parse_terms.proofs.ConditionSteps.{connected_depth}
 use Rattle.iv_parse_terms.proofs.predicate.connect.Goals as goal
 

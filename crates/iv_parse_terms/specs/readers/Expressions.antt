@@ -6,9 +6,8 @@ use Rattle.iv_syntax.specs.declared.tree.Sign.{Sign}
 use Rattle.iv_syntax.specs.declared.tree.Sign.TheVariants as sign
 use Rattle.iv_syntax.specs.declared.tree.Expression.{Expression}
 use Rattle.iv_syntax.specs.declared.tree.Expression.TheVariants.{Number, Text, Null, Column}
-use Rattle.iv_parse_terms.specs.Trees.{group, signed, product, sum}
+use Rattle.iv_syntax.specs.Trees.{group, signed, product, sum, depth}
 use Rattle.iv_parse_terms.specs.After.{after, after_name, same, if_some, then_read}
-use Rattle.iv_parse_terms.specs.Expressions.{depth}
 
 -- an expression and the words that are left, or none
 abbrev pub FoundExpression : Type 0

@@ -8,10 +8,10 @@ use Rattle.iv_syntax.specs.declared.statement.Statement.TheVariants as statement
 use Rattle.iv_syntax.specs.declared.statement.ConstraintList.{ConstraintList}
 use Rattle.iv_syntax.specs.declared.statement.ConstraintList.TheVariants.{All, Named}
 use Rattle.iv_parse_terms.specs.After.{after, if_some, then_read}
-use Rattle.iv_parse_data.specs.Series.{read_series, skip}
-use Rattle.iv_parse.specs.TriggerReaders.{read_trigger}
-use Rattle.iv_parse_data.specs.TableReaders.{read_mode, read_create_table, read_alter}
-use Rattle.iv_parse_data.specs.DataReaders.{FoundPart, then_word, read_name, read_insert, read_update, read_delete, read_select}
+use Rattle.iv_parse_data.specs.readers.Series.{read_series, skip}
+use Rattle.iv_parse.specs.readers.Triggers.{read_trigger}
+use Rattle.iv_parse_data.specs.readers.Tables.{read_mode, read_create_table, read_alter}
+use Rattle.iv_parse_data.specs.readers.Data.{FoundPart, then_word, read_name, read_insert, read_update, read_delete, read_select}
 
 unfoldable pub read_drop : List Word → FoundPart Statement
 read_drop ws = then_word kind.Trigger ws (λ rest. then_read (read_name rest) (λ n more. Some (DropTrigger n, more)))

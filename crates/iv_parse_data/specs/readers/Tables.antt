@@ -27,9 +27,9 @@ use Rattle.iv_syntax.specs.declared.table.ColumnDefinition.{ColumnDefinition}
 use Rattle.iv_syntax.specs.declared.table.TableElement.{TableElement}
 use Rattle.iv_syntax.specs.declared.table.TableElement.TheVariants.{Column, Constraint}
 use Rattle.iv_parse_terms.specs.After.{after, after_name, if_some, then_read}
-use Rattle.iv_parse_terms.specs.ExpressionReader.{after_sign}
-use Rattle.iv_parse_data.specs.Series.{read_series, read_enclosed, read_sequence, read_either_order}
-use Rattle.iv_parse_data.specs.DataReaders.{FoundPart, then_word, read_name, read_column_list, read_check}
+use Rattle.iv_parse_terms.specs.readers.Expressions.{after_sign}
+use Rattle.iv_parse_data.specs.readers.Series.{read_series, read_enclosed, read_sequence, read_either_order}
+use Rattle.iv_parse_data.specs.readers.Data.{FoundPart, then_word, read_name, read_column_list, read_check}
 
 abbrev pub read_number : List Word → FoundPart ℕ
 read_number (number n ∷ ws) = Some (n, ws)

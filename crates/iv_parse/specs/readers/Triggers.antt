@@ -14,10 +14,10 @@ use Rattle.iv_syntax.specs.declared.trigger.TriggerAction.{TriggerAction}
 use Rattle.iv_syntax.specs.declared.trigger.TriggerAction.TheVariants as action
 use Rattle.iv_syntax.specs.declared.trigger.TriggerDefinition.{TriggerDefinition}
 use Rattle.iv_parse_terms.specs.After.{after, if_some, then_read}
-use Rattle.iv_parse_data.specs.Series.{read_sequence}
-use Rattle.iv_parse_data.specs.DataReaders.{FoundPart, then_word, read_name, read_shallow, read_check, read_insert, read_update, read_delete}
-use Rattle.iv_parse_data.specs.TableReaders.{read_quoted}
-use Rattle.iv_parse_data.specs.ItemReaders.{read_referencing_item}
+use Rattle.iv_parse_data.specs.readers.Series.{read_sequence}
+use Rattle.iv_parse_data.specs.readers.Data.{FoundPart, then_word, read_name, read_shallow, read_check, read_insert, read_update, read_delete}
+use Rattle.iv_parse_data.specs.readers.Tables.{read_quoted}
+use Rattle.iv_parse_data.specs.readers.Items.{read_referencing_item}
 
 -- there is one at least
 abbrev pub some_items : List Referencing → List Word → FoundPart (List Referencing)

@@ -12,8 +12,8 @@ use Rattle.iv_syntax.specs.declared.statement.Insert.{Insert}
 use Rattle.iv_syntax.specs.declared.statement.Insert.TheVariants.{DefaultValues, Rows}
 use Rattle.iv_parse_terms.specs.declared.limits.TheConstants.{DEEPEST}
 use Rattle.iv_parse_terms.specs.After.{after, after_name, if_some, then_read}
-use Rattle.iv_parse_terms.specs.ExpressionReader.{read_expression}
-use Rattle.iv_parse_terms.specs.ConditionReader.{read_condition, read_from}
+use Rattle.iv_parse_terms.specs.readers.Expressions.{read_expression}
+use Rattle.iv_parse_terms.specs.readers.Conditions.{read_condition, read_from}
 use Rattle.iv_syntax.specs.declared.tree.RangeName.{RangeName}
 use Rattle.iv_syntax.specs.declared.statement.SelectList.{SelectList}
 use Rattle.iv_syntax.specs.declared.statement.SelectList.TheVariants as select_list
@@ -23,7 +23,7 @@ use Rattle.iv_syntax.specs.declared.statement.Delete.{Delete}
 use Rattle.iv_syntax.specs.declared.statement.Select.{Select}
 use Rattle.iv_syntax.specs.declared.statement.Select.TheVariants as select
 use Rattle.iv_syntax.specs.declared.tree.Condition.{Condition}
-use Rattle.iv_parse_data.specs.Series.{read_series, read_closed, read_enclosed}
+use Rattle.iv_parse_data.specs.readers.Series.{read_series, read_closed, read_enclosed}
 
 -- what was found, and the words after it
 abbrev pub FoundPart : Type 0 → Type 0

@@ -8,8 +8,8 @@ use Rattle.iv_syntax.specs.declared.trigger.TransitionName.{TransitionName}
 use Rattle.iv_syntax.specs.declared.trigger.TransitionName.TheVariants as transition
 use Rattle.iv_syntax.specs.declared.trigger.Referencing.{Referencing}
 use Rattle.iv_parse_terms.specs.After.{after, if_some, then_read}
-use Rattle.iv_parse_data.specs.Series.{skip}
-use Rattle.iv_parse_data.specs.DataReaders.{FoundPart, read_name}
+use Rattle.iv_parse_data.specs.readers.Series.{skip}
+use Rattle.iv_parse_data.specs.readers.Data.{FoundPart, read_name}
 
 unfoldable pub read_transition : List Word → FoundPart TransitionName
 read_transition ws = if_some (after kind.Table ws) (λ rest. Some (transition.Table, rest)) (Some (transition.Row, skip kind.Row ws))

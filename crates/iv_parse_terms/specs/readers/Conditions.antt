@@ -14,10 +14,9 @@ use Rattle.iv_parse_terms.specs.declared.item.Item.{Item}
 use Rattle.iv_parse_terms.specs.declared.item.Item.TheVariants.{Value, Truth}
 use Rattle.iv_parse_terms.specs.declared.item.Connective.{Connective}
 use Rattle.iv_parse_terms.specs.declared.item.Connective.TheVariants.{And, Or}
-use Rattle.iv_parse_terms.specs.Trees.{group, enclosed, negated, both, either, exists_where}
+use Rattle.iv_syntax.specs.Trees.{group, enclosed, negated, both, either, exists_where, condition_depth}
 use Rattle.iv_parse_terms.specs.After.{after, after_name, if_some, then_read}
-use Rattle.iv_parse_terms.specs.Conditions.{condition_depth}
-use Rattle.iv_parse_terms.specs.ExpressionReader.{FoundExpression, fits, after_sign, simple, more_factors, more_terms, read_factor, read_term, read_expression}
+use Rattle.iv_parse_terms.specs.readers.Expressions.{FoundExpression, fits, after_sign, simple, more_factors, more_terms, read_factor, read_term, read_expression}
 
 -- an item and the words that are left, or none
 abbrev pub FoundItem : Type 0
@@ -190,6 +189,15 @@ read_negation d = negation_by d (read_test d)
 
 unfoldable pub read_conjunction : ℕ → List Word → FoundItem
 read_conjunction d = chain_by And d (read_negation d)
+
+-- what AND or OR stands between
+abbrev pub read_operand : Connective → ℕ → List Word → FoundItem
+read_operand And d = read_negation d
+read_operand Or d = read_conjunction d
+
+-- operands with AND or with OR between them
+abbrev pub read_chain : Connective → ℕ → List Word → FoundItem
+read_chain k d = chain_by k d (read_operand k d)
 
 -- a value or a condition
 unfoldable pub read_item : ℕ → List Word → FoundItem

@@ -1,0 +1,4 @@
+pub mod Series
+pub mod Data
+pub mod Tables
+pub mod Items
