@@ -1,10 +1,10 @@
 -- No refusal but that of a COMMIT changes anything, statement by statement.
-use Rattle.std.proofs.Common.{◌≡◌, ℕ, true, false, not, List, find, Option, Some, None, Result, Ok, Err, refl}
+use Rattle.std.proofs.Common.{◌≡◌, ℕ, ◌-◌, ◌==◌, true, false, not, List, length, find, Option, Some, None, Result, Ok, Err, refl}
 use Rattle.std.proofs.lemmas.Bool.{true≢false}
 use Rattle.iv_syntax.specs.declared.statement.ConstraintMode.{ConstraintMode}
 use Rattle.iv_syntax.specs.declared.statement.Statement.{Statement}
 use Rattle.iv_catalogue.specs.declared.cause.Cause.{Cause}
-use Rattle.iv_catalogue.specs.declared.cause.Cause.TheVariants.{NotDeferrable, Violation}
+use Rattle.iv_catalogue.specs.declared.cause.Cause.TheVariants.{AddRefused, NotDeferrable, Violation}
 use Rattle.iv_catalogue.specs.declared.cause.Fault.{Fault}
 use Rattle.iv_catalogue.specs.declared.cause.Refusal.{Refusal}
 use Rattle.iv_catalogue.specs.declared.plan.Plan.{Plan}
@@ -19,8 +19,11 @@ use Rattle.iv_machine.specs.declared.answer.Answer.{Answer}
 use Rattle.iv_machine.specs.declared.answer.Answer.TheVariants.{Done}
 use Rattle.iv_machine.specs.declared.database.Database.{Database}
 use Rattle.iv_machine.specs.Context.{Failure}
-use Rattle.iv_machine.specs.Levels.{Finished}
-use Rattle.iv_machine.specs.Machine.{State, Outcome, NamedSavepoint, accept, refuse, refuse_first, level_outcome, answer_outcome, rows_answer, count_answer, rollback_by, commit_by, first_violation, savepoint_named, release_outcome, rollback_to_outcome, is_deferrable, constraints_meant, with_modes, first_made_immediate, modes_outcome, set_constraints_outcome, schema_outcome, query_outcome, transaction_outcome, plan_outcome, resolution_outcome, transaction_cause, outcome_unless, is_open, occasion_of}
+use Rattle.iv_machine.specs.Levels.{Finished, level}
+use Rattle.iv_machine.specs.Databases.{first, scan}
+use Rattle.iv_expr.specs.Scopes.{no_frame}
+use Rattle.iv_catalogue.specs.Catalogues.{with_constraint}
+use Rattle.iv_machine.specs.Machine.{State, Outcome, NamedSavepoint, accept, refuse, refuse_first, level_outcome, answer_outcome, rows_answer, count_answer, rollback_by, commit_by, first_violation, savepoint_named, release_outcome, rollback_to_outcome, is_deferrable, constraints_meant, with_modes, first_made_immediate, modes_outcome, set_constraints_outcome, schema_outcome, query_outcome, transaction_outcome, plan_outcome, resolution_outcome, transaction_cause, outcome_unless, is_open, occasion_of, with_schema, context_of}
 use Rattle.iv_resolution.specs.Resolution.{resolution}
 use Rattle.iv_run.specs.Refusals.{Leaves, RefusalsChangeNothing}
 
@@ -65,7 +68,10 @@ set_keeps s ids m =
 
 schema_keeps : (s : State) (p : SchemaPlan) → Keeps s (schema_outcome s p)
 schema_keeps s (schema.CreateTable table constraints) = tt
-schema_keeps s (schema.AddConstraint k) = first_keeps s _ _ _ tt
+schema_keeps s (schema.AddConstraint k) =
+    first_keeps s (λ f. AddRefused f.row)
+    (first (scan s.database.rows (with_constraint s.schema k).constraints (λ id. id == length s.schema.constraints)))
+    (accept (with_schema s (with_constraint s.schema k)) Done) tt
 schema_keeps s (schema.CreateTrigger t) = tt
 schema_keeps s (schema.DropTrigger id) = tt
 
@@ -84,7 +90,7 @@ transaction_keeps s (transaction.SetConstraints ids m) = set_keeps s (constraint
 
 plan_keeps : (s : State) (p : Plan) → Keeps s (plan_outcome s p)
 plan_keeps s (plan.Schema p) = schema_keeps s p
-plan_keeps s (plan.Change d) = level_keeps s _
+plan_keeps s (plan.Change d) = level_keeps s (level (s.limits.depth - 1) (context_of s) d no_frame s.database s.limits.changes)
 plan_keeps s (plan.Query p) = query_keeps s p
 plan_keeps s (plan.Transaction p) = transaction_keeps s p
 

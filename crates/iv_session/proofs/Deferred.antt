@@ -104,10 +104,10 @@ pub none_made_immediate : (s : State) (new : List ConstraintMode) → ((id : ℕ
 none_made_immediate s new h =
     ap (λ (chosen : ℕ → Bool). first (scan s.database.rows s.schema.constraints chosen)) (λ i id. by (is_deferred s.modes id) (is_deferred new id) (h id) i)
     ∙ ap first (none_from s.database.rows 0 s.schema.constraints) where
-  by : (b c : Bool) → (b ≡ true → c ≡ true) → (b && not c) ≡ false
-  by false c k = refl
-  by true true k = refl
-  by true false k = absurd (true≢false (sym (k refl)))
+      by : (b c : Bool) → (b ≡ true → c ≡ true) → (b && not c) ≡ false
+      by false c k = refl
+      by true true k = refl
+      by true false k = absurd (true≢false (sym (k refl)))
 
 -- SET CONSTRAINTS of constraints that may be set
 pub set_seen : (s : State) (ids : List ℕ) (mode : ConstraintMode) (m new : ModeMap) (o : Option Fault)
