@@ -2,7 +2,7 @@
 use Rattle.std.proofs.Common.{◌≡◌, ℕ, zero, suc, ◌-◌, ◌<◌, Option, Some, None, List, [], ◌∷◌, ◌++◌, refl, sym, ◌∙◌, ap, arith}
 use Rattle.iv_lex.specs.declared.kind.Kind.TheVariants as kind
 use Rattle.iv_lex.specs.Words.{Word}
-use Rattle.iv_syntax.specs.declared.trigger.TriggerAction.{TriggerAction}
+use Rattle.iv_parse.specs.Words.{TriggerAction}
 use Rattle.iv_parse_terms.specs.After.{after, if_some, then_read}
 use Rattle.iv_parse_data.specs.readers.Data.{then_word}
 use Rattle.iv_parse.specs.readers.Triggers.{read_action, read_with_semicolon, read_ended_action}

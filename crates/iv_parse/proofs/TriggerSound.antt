@@ -2,19 +2,13 @@
 use Rattle.std.proofs.Common.{◌≡◌, inl, inr, ℕ, Option, Some, None, List, [], ◌∷◌, ◌++◌, length, refl, sym, ◌∙◌, ap, subst, append-nil, append_assoc}
 use Rattle.iv_lex.specs.declared.kind.Kind.TheVariants as kind
 use Rattle.iv_lex.specs.Words.{Word, name, plain}
-use Rattle.iv_expr.specs.declared.tree.Side.{Side}
-use Rattle.iv_expr.specs.declared.tree.Side.TheVariants as side
-use Rattle.iv_syntax.specs.declared.trigger.ActionTime.{ActionTime}
-use Rattle.iv_syntax.specs.declared.trigger.ActionTime.TheVariants as action_time
-use Rattle.iv_syntax.specs.declared.trigger.TriggerEvent.{TriggerEvent}
-use Rattle.iv_syntax.specs.declared.trigger.TriggerEvent.TheVariants as event
-use Rattle.iv_syntax.specs.declared.trigger.Granularity.{Granularity}
-use Rattle.iv_syntax.specs.declared.tree.Condition.{Condition}
-use Rattle.iv_syntax.specs.declared.trigger.Granularity.TheVariants as granularity
-use Rattle.iv_syntax.specs.declared.trigger.TransitionName.TheVariants as transition
-use Rattle.iv_syntax.specs.declared.trigger.Referencing.{Referencing}
-use Rattle.iv_syntax.specs.declared.trigger.TriggerAction.{TriggerAction}
-use Rattle.iv_syntax.specs.declared.trigger.TriggerAction.TheVariants as action
+use Rattle.iv_parse.specs.Words.{Side, ActionTime, TriggerEvent, Granularity, Condition, Referencing, TriggerAction}
+use Rattle.iv_parse.specs.Words.side
+use Rattle.iv_parse.specs.Words.time as action_time
+use Rattle.iv_parse.specs.Words.event
+use Rattle.iv_parse.specs.Words.granularity
+use Rattle.iv_parse.specs.Words.transition
+use Rattle.iv_parse.specs.Words.action
 use Rattle.iv_parse_terms.specs.After.{after, if_some, then_read}
 use Rattle.iv_parse_data.specs.Series.{Sequence, Maybe, InParentheses, Optional}
 use Rattle.iv_parse_data.specs.readers.Series.{read_sequence}

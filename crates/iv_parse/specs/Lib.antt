@@ -1,3 +1,4 @@
+pub mod Words
 pub mod Triggers
 pub mod Statements
 pub mod Script

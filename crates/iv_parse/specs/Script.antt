@@ -4,7 +4,7 @@ use Rattle.iv_lex.specs.declared.kind.Kind.TheVariants as kind
 use Rattle.iv_lex.specs.declared.token.Token.{Token}
 use Rattle.iv_lex.specs.Words.{Word, plain, words}
 use Rattle.iv_lex.specs.Tokens.{tokens_of}
-use Rattle.iv_syntax.specs.declared.statement.Statement.{Statement}
+use Rattle.iv_parse.specs.Words.{Statement}
 use Rattle.iv_parse.specs.Statements.{Reads}
 
 -- the words are these statements, each with its semicolon

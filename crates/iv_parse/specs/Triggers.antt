@@ -3,21 +3,13 @@ use Rattle.std.specs.Prelude.{◌≡◌, ◌⊎◌, List, [], ◌∷◌, ◌++�
 use Rattle.iv_lex.specs.declared.kind.Kind.{Kind}
 use Rattle.iv_lex.specs.declared.kind.Kind.TheVariants as kind
 use Rattle.iv_lex.specs.Words.{Word, name, quoted, plain}
-use Rattle.iv_expr.specs.declared.tree.Side.{Side}
-use Rattle.iv_expr.specs.declared.tree.Side.TheVariants as side
-use Rattle.iv_syntax.specs.declared.tree.Condition.{Condition}
-use Rattle.iv_syntax.specs.declared.trigger.ActionTime.{ActionTime}
-use Rattle.iv_syntax.specs.declared.trigger.ActionTime.TheVariants as action_time
-use Rattle.iv_syntax.specs.declared.trigger.TriggerEvent.{TriggerEvent}
-use Rattle.iv_syntax.specs.declared.trigger.TriggerEvent.TheVariants as event
-use Rattle.iv_syntax.specs.declared.trigger.Granularity.{Granularity}
-use Rattle.iv_syntax.specs.declared.trigger.Granularity.TheVariants as granularity
-use Rattle.iv_syntax.specs.declared.trigger.TransitionName.{TransitionName}
-use Rattle.iv_syntax.specs.declared.trigger.TransitionName.TheVariants as transition
-use Rattle.iv_syntax.specs.declared.trigger.Referencing.{Referencing}
-use Rattle.iv_syntax.specs.declared.trigger.TriggerAction.{TriggerAction}
-use Rattle.iv_syntax.specs.declared.trigger.TriggerAction.TheVariants as action
-use Rattle.iv_syntax.specs.declared.trigger.TriggerDefinition.{TriggerDefinition}
+use Rattle.iv_parse.specs.Words.{Side, Condition, ActionTime, TriggerEvent, Granularity, TransitionName, Referencing, TriggerAction, TriggerDefinition}
+use Rattle.iv_parse.specs.Words.side
+use Rattle.iv_parse.specs.Words.time as action_time
+use Rattle.iv_parse.specs.Words.event
+use Rattle.iv_parse.specs.Words.granularity
+use Rattle.iv_parse.specs.Words.transition
+use Rattle.iv_parse.specs.Words.action
 use Rattle.iv_parse_data.specs.Series.{Sequence, Maybe, InParentheses, Optional}
 use Rattle.iv_parse_data.specs.Data.{IsShallow, IsShallowCondition, IsInsert, IsUpdate, IsDelete}
 

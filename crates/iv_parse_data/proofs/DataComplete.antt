@@ -4,13 +4,12 @@ use Rattle.std.specs.Prelude.{if◌then◌else◌}
 use Rattle.iv_lex.specs.declared.kind.Kind.{Kind}
 use Rattle.iv_lex.specs.declared.kind.Kind.TheVariants as kind
 use Rattle.iv_lex.specs.Words.{Word, name, plain}
-use Rattle.iv_syntax.specs.declared.tree.Expression.{Expression}
-use Rattle.iv_syntax.specs.declared.statement.ValueOrDefault.{ValueOrDefault}
-use Rattle.iv_syntax.specs.declared.statement.ValueOrDefault.TheVariants.{Value, Default}
-use Rattle.iv_syntax.specs.declared.statement.InsertSource.{InsertSource}
-use Rattle.iv_syntax.specs.declared.statement.InsertSource.TheVariants as source
-use Rattle.iv_syntax.specs.declared.statement.Insert.{Insert}
-use Rattle.iv_syntax.specs.declared.statement.Insert.TheVariants.{DefaultValues, Rows}
+use Rattle.iv_parse_data.specs.Words.{Expression, ValueOrDefault, InsertSource, Insert, Condition, RangeName, SelectList, Update, Delete, Select}
+use Rattle.iv_parse_data.specs.Words.given.{Value, Default}
+use Rattle.iv_parse_data.specs.Words.source
+use Rattle.iv_parse_data.specs.Words.insert.{DefaultValues, Rows}
+use Rattle.iv_parse_data.specs.Words.select_list
+use Rattle.iv_parse_data.specs.Words.select
 use Rattle.iv_parse_terms.specs.After.{after, if_some, then_read, same}
 use Rattle.iv_parse_terms.specs.Expressions.{EndsExpression, spelling, qualifier_spelling, sign_kind}
 use Rattle.iv_syntax.specs.Trees.{group, signed, product, sum}
@@ -19,14 +18,6 @@ use Rattle.iv_syntax.specs.declared.tree.Sign.TheVariants as sign
 use Rattle.iv_syntax.specs.declared.tree.Expression.TheVariants.{Number, Text, Null, Column}
 use Rattle.iv_parse_terms.proofs.Theorems.{expression_complete, condition_complete, from_complete}
 use Rattle.iv_parse_terms.specs.Conditions.{EndsCondition, EndsFrom, IsFrom, RangeSpelled}
-use Rattle.iv_syntax.specs.declared.tree.Condition.{Condition}
-use Rattle.iv_syntax.specs.declared.tree.RangeName.{RangeName}
-use Rattle.iv_syntax.specs.declared.statement.SelectList.{SelectList}
-use Rattle.iv_syntax.specs.declared.statement.SelectList.TheVariants as select_list
-use Rattle.iv_syntax.specs.declared.statement.Update.{Update}
-use Rattle.iv_syntax.specs.declared.statement.Delete.{Delete}
-use Rattle.iv_syntax.specs.declared.statement.Select.{Select}
-use Rattle.iv_syntax.specs.declared.statement.Select.TheVariants as select
 use Rattle.iv_parse_data.specs.Series.{Series, Maybe, InParentheses}
 use Rattle.iv_parse_data.specs.readers.Series.{read_series, close, read_closed}
 use Rattle.iv_parse_data.specs.Data.{IsName, Names, IsShallow, IsShallowCondition, IsValue, IsTuple, IsColumnList, IsShallowFrom, IsSelectList, IsSource, IsInsert, IsAssignment, IsWhere, IsUpdate, IsDelete, IsSelect}

@@ -2,24 +2,14 @@
 use Rattle.std.specs.Prelude.{◌≡◌, ◌≤◌, ℕ, Option, Some, None, List, [], ◌∷◌, ◌++◌}
 use Rattle.iv_lex.specs.declared.kind.Kind.TheVariants as kind
 use Rattle.iv_lex.specs.Words.{Word, name, plain}
-use Rattle.iv_syntax.specs.declared.tree.Expression.{Expression}
-use Rattle.iv_syntax.specs.declared.statement.ValueOrDefault.{ValueOrDefault}
-use Rattle.iv_syntax.specs.declared.statement.ValueOrDefault.TheVariants.{Value, Default}
-use Rattle.iv_syntax.specs.declared.statement.InsertSource.{InsertSource}
-use Rattle.iv_syntax.specs.declared.statement.InsertSource.TheVariants as source
-use Rattle.iv_syntax.specs.declared.statement.Insert.{Insert}
-use Rattle.iv_syntax.specs.declared.statement.Insert.TheVariants.{DefaultValues, Rows}
-use Rattle.iv_syntax.specs.declared.tree.Condition.{Condition}
+use Rattle.iv_parse_data.specs.Words.{Expression, ValueOrDefault, InsertSource, Insert, Condition, RangeName, SelectList, Assignment, Update, Delete, Select}
+use Rattle.iv_parse_data.specs.Words.given.{Value, Default}
+use Rattle.iv_parse_data.specs.Words.source
+use Rattle.iv_parse_data.specs.Words.insert.{DefaultValues, Rows}
+use Rattle.iv_parse_data.specs.Words.select_list
+use Rattle.iv_parse_data.specs.Words.select
 use Rattle.iv_parse_terms.specs.Expressions.{IsExpression}
 use Rattle.iv_syntax.specs.Trees.{depth, condition_depth}
-use Rattle.iv_syntax.specs.declared.tree.RangeName.{RangeName}
-use Rattle.iv_syntax.specs.declared.statement.SelectList.{SelectList}
-use Rattle.iv_syntax.specs.declared.statement.SelectList.TheVariants as select_list
-use Rattle.iv_syntax.specs.declared.statement.Assignment.{Assignment}
-use Rattle.iv_syntax.specs.declared.statement.Update.{Update}
-use Rattle.iv_syntax.specs.declared.statement.Delete.{Delete}
-use Rattle.iv_syntax.specs.declared.statement.Select.{Select}
-use Rattle.iv_syntax.specs.declared.statement.Select.TheVariants as select
 use Rattle.iv_parse_terms.specs.Conditions.{IsCondition, IsFrom}
 use Rattle.iv_parse_terms.specs.ItemDepth.{where_depth}
 use Rattle.iv_parse_terms.specs.declared.limits.TheConstants.{DEEPEST}

@@ -3,27 +3,15 @@ use Rattle.std.specs.Prelude.{◌≡◌, ◌⊎◌, ℕ, Bool, true, false, Opti
 use Rattle.iv_lex.specs.declared.kind.Kind.{Kind}
 use Rattle.iv_lex.specs.declared.kind.Kind.TheVariants as kind
 use Rattle.iv_lex.specs.Words.{Word, name, number, quoted, plain}
-use Rattle.iv_syntax.specs.declared.statement.ConstraintMode.{ConstraintMode}
-use Rattle.iv_syntax.specs.declared.statement.ConstraintMode.TheVariants.{Immediate, Deferred}
-use Rattle.iv_syntax.specs.declared.table.Literal.{Literal}
-use Rattle.iv_syntax.specs.declared.table.Literal.TheVariants as literal
-use Rattle.iv_syntax.specs.declared.table.ColumnType.{ColumnType}
-use Rattle.iv_syntax.specs.declared.table.ColumnType.TheVariants.{Integer, Varchar}
-use Rattle.iv_syntax.specs.declared.table.ConstraintTime.{ConstraintTime}
-use Rattle.iv_syntax.specs.declared.table.MatchType.{MatchType}
-use Rattle.iv_syntax.specs.declared.table.MatchType.TheVariants.{Simple, Full}
-use Rattle.iv_syntax.specs.declared.table.ReferentialAction.{ReferentialAction}
-use Rattle.iv_syntax.specs.declared.table.ReferentialAction.TheVariants.{NoAction, Restrict, Cascade, SetNull, SetDefault}
-use Rattle.iv_syntax.specs.declared.table.References.{References}
-use Rattle.iv_syntax.specs.declared.table.ColumnRule.{ColumnRule}
-use Rattle.iv_syntax.specs.declared.table.ColumnRule.TheVariants as column_rule
-use Rattle.iv_syntax.specs.declared.table.ColumnConstraint.{ColumnConstraint}
-use Rattle.iv_syntax.specs.declared.table.TableRule.{TableRule}
-use Rattle.iv_syntax.specs.declared.table.TableRule.TheVariants as table_rule
-use Rattle.iv_syntax.specs.declared.table.TableConstraint.{TableConstraint}
-use Rattle.iv_syntax.specs.declared.table.ColumnDefinition.{ColumnDefinition}
-use Rattle.iv_syntax.specs.declared.table.TableElement.{TableElement}
-use Rattle.iv_syntax.specs.declared.table.TableElement.TheVariants.{Column, Constraint}
+use Rattle.iv_parse_data.specs.Words.{ConstraintMode, Literal, ColumnType, ConstraintTime, MatchType, ReferentialAction, References, ColumnRule, ColumnConstraint, TableRule, TableConstraint, ColumnDefinition, TableElement}
+use Rattle.iv_parse_data.specs.Words.mode.{Immediate, Deferred}
+use Rattle.iv_parse_data.specs.Words.literal
+use Rattle.iv_parse_data.specs.Words.type.{Integer, Varchar}
+use Rattle.iv_parse_data.specs.Words.matching.{Simple, Full}
+use Rattle.iv_parse_data.specs.Words.referential_action.{NoAction, Restrict, Cascade, SetNull, SetDefault}
+use Rattle.iv_parse_data.specs.Words.column_rule
+use Rattle.iv_parse_data.specs.Words.table_rule
+use Rattle.iv_parse_data.specs.Words.element.{Column, Constraint}
 use Rattle.iv_parse_terms.specs.Expressions.{sign_kind}
 use Rattle.iv_parse_data.specs.Series.{Series, Sequence, Maybe, InParentheses, InEitherOrder}
 use Rattle.iv_parse_data.specs.Data.{Names, IsColumnList, IsShallowCondition}

@@ -4,14 +4,11 @@ use Rattle.std.specs.Prelude.{zero, suc, max}
 use Rattle.std.proofs.lemmas.Option.{none-some}
 use Rattle.iv_lex.specs.declared.kind.Kind.TheVariants as kind
 use Rattle.iv_lex.specs.Words.{Word}
-use Rattle.iv_syntax.specs.declared.tree.Sign.{Sign}
-use Rattle.iv_syntax.specs.declared.tree.Expression.{Expression}
+use Rattle.iv_parse_terms.specs.Words.{Sign, Expression, Condition, RangeName}
 use Rattle.iv_parse_terms.specs.declared.item.Item.{Item}
 use Rattle.iv_parse_terms.specs.declared.item.Item.TheVariants.{Value, Truth}
 use Rattle.iv_parse_terms.specs.declared.item.Connective.{Connective}
 use Rattle.iv_parse_terms.specs.declared.item.Connective.TheVariants.{And, Or}
-use Rattle.iv_syntax.specs.declared.tree.Condition.{Condition}
-use Rattle.iv_syntax.specs.declared.tree.RangeName.{RangeName}
 use Rattle.iv_parse_terms.specs.ItemDepth.{where_depth}
 use Rattle.iv_syntax.specs.Trees.{condition_depth}
 use Rattle.iv_parse_terms.proofs.Parts.{some_same}

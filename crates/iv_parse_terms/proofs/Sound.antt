@@ -5,9 +5,8 @@ use Rattle.std.proofs.lemmas.Bool.{leb-true}
 use Rattle.iv_lex.specs.declared.kind.Kind.{Kind}
 use Rattle.iv_lex.specs.declared.kind.Kind.TheVariants as kind
 use Rattle.iv_lex.specs.Words.{Word, name, number, quoted, plain}
-use Rattle.iv_syntax.specs.declared.tree.Sign.{Sign}
-use Rattle.iv_syntax.specs.declared.tree.Expression.{Expression}
-use Rattle.iv_syntax.specs.declared.tree.Expression.TheVariants.{Null}
+use Rattle.iv_parse_terms.specs.Words.{Sign, Expression}
+use Rattle.iv_parse_terms.specs.Words.expression.{Null}
 use Rattle.iv_syntax.specs.Trees.{group, signed, product, sum, depth}
 use Rattle.iv_parse_terms.specs.After.{same, after, after_name, then_read}
 use Rattle.iv_parse_terms.specs.Expressions.{Rule, expression, term, factor, primary, sign_kind, spelling, Formed}

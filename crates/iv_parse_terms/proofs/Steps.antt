@@ -3,8 +3,7 @@ use Rattle.std.proofs.Common.{◌≡◌, ◌≢◌, ℕ, ◌-◌, List, Some, No
 use Rattle.std.specs.Prelude.{zero, suc}
 use Rattle.iv_lex.specs.declared.kind.Kind.TheVariants as kind
 use Rattle.iv_lex.specs.Words.{Word}
-use Rattle.iv_syntax.specs.declared.tree.Sign.{Sign}
-use Rattle.iv_syntax.specs.declared.tree.Expression.{Expression}
+use Rattle.iv_parse_terms.specs.Words.{Sign, Expression}
 use Rattle.iv_syntax.specs.Trees.{product, sum}
 use Rattle.iv_parse_terms.specs.After.{after, if_some, then_read}
 use Rattle.iv_parse_terms.specs.readers.Expressions.{FoundExpression, fits, after_sign, simple, close_group, expression_over, more_factors, more_terms, read_primary, read_expression}

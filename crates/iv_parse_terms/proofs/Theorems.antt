@@ -3,9 +3,7 @@ use Rattle.std.specs.Prelude.{◌≡◌, ◌≤◌, max, Option, Some, None, Lis
 use Rattle.std.proofs.Common.{sym, ◌∙◌, ap, subst, arith}
 use Rattle.std.proofs.lemmas.Option.{none-some}
 use Rattle.iv_lex.specs.Words.{Word}
-use Rattle.iv_syntax.specs.declared.tree.Expression.{Expression}
-use Rattle.iv_syntax.specs.declared.tree.RangeName.{RangeName}
-use Rattle.iv_syntax.specs.declared.tree.Condition.{Condition}
+use Rattle.iv_parse_terms.specs.Words.{Expression, RangeName, Condition}
 use Rattle.iv_parse_terms.specs.declared.limits.TheConstants.{DEEPEST}
 use Rattle.iv_parse_terms.specs.declared.item.Item.TheVariants.{Value, Truth}
 use Rattle.iv_parse_terms.specs.After.{then_read}

@@ -1,13 +1,11 @@
 -- Which words are which search condition.
 use Rattle.std.specs.Prelude.{◌≡◌, ℕ, ◌⊎◌, Option, Some, None, List, [], ◌∷◌, ◌++◌}
-use Rattle.iv_expr.specs.declared.tree.Comparison.{Comparison}
-use Rattle.iv_expr.specs.declared.tree.Comparison.TheVariants as comparison
+use Rattle.iv_parse_terms.specs.Words.{Comparison, RangeName, Condition}
+use Rattle.iv_parse_terms.specs.Words.comparison
+use Rattle.iv_parse_terms.specs.Words.condition.{Compare, IsNull, IsNotNull, Exists}
 use Rattle.iv_lex.specs.declared.kind.Kind.{Kind}
 use Rattle.iv_lex.specs.declared.kind.Kind.TheVariants as kind
 use Rattle.iv_lex.specs.Words.{Word, name, plain}
-use Rattle.iv_syntax.specs.declared.tree.RangeName.{RangeName}
-use Rattle.iv_syntax.specs.declared.tree.Condition.{Condition}
-use Rattle.iv_syntax.specs.declared.tree.Condition.TheVariants.{Compare, IsNull, IsNotNull, Exists}
 use Rattle.iv_syntax.specs.Trees.{enclosed, negated, both, either, exists_where}
 use Rattle.iv_parse_terms.specs.After.{after, after_name}
 use Rattle.iv_parse_terms.specs.Expressions.{spelling, Formed, expression, EndsExpression}

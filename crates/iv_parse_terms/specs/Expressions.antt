@@ -3,10 +3,9 @@ use Rattle.std.specs.Prelude.{◌≡◌, ℕ, Option, Some, None, List, [], ◌�
 use Rattle.iv_lex.specs.declared.kind.Kind.{Kind}
 use Rattle.iv_lex.specs.declared.kind.Kind.TheVariants as kind
 use Rattle.iv_lex.specs.Words.{Word, name, number, quoted, plain}
-use Rattle.iv_syntax.specs.declared.tree.Sign.{Sign}
-use Rattle.iv_syntax.specs.declared.tree.Sign.TheVariants as sign
-use Rattle.iv_syntax.specs.declared.tree.Expression.{Expression}
-use Rattle.iv_syntax.specs.declared.tree.Expression.TheVariants.{Number, Text, Null, Column}
+use Rattle.iv_parse_terms.specs.Words.{Sign, Expression}
+use Rattle.iv_parse_terms.specs.Words.sign
+use Rattle.iv_parse_terms.specs.Words.expression.{Number, Text, Null, Column}
 use Rattle.iv_syntax.specs.Trees.{group, signed, product, sum}
 use Rattle.iv_parse_terms.specs.After.{after}
 

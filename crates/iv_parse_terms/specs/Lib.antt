@@ -1,3 +1,4 @@
+pub mod Words
 pub mod After
 pub mod Expressions
 pub mod Seen

@@ -1,8 +1,7 @@
 -- What the code's results of FROM are among the definitions.
 use Rattle.std.specs.Prelude.{ℕ, Option, Some, None, List}
 use Rattle.iv_lex.specs.Words.{Word, words}
-use Rattle.iv_syntax.specs.declared.tree.RangeName.{RangeName}
-use Rattle.iv_syntax.specs.declared.tree.Condition.{Condition}
+use Rattle.iv_parse_terms.specs.Words.{RangeName, Condition}
 use Rattle.iv_parse_terms.specs.declared.from_part.FromPart.{FromPart}
 
 abbrev pub from_found : List ℕ → Option FromPart → Option ((RangeName × Option Condition) × List Word)

@@ -1,7 +1,7 @@
 -- What the code's results of conditions are among the definitions.
 use Rattle.std.specs.Prelude.{ℕ, Option, Some, None, List}
 use Rattle.iv_lex.specs.Words.{Word, words}
-use Rattle.iv_syntax.specs.declared.tree.Condition.{Condition}
+use Rattle.iv_parse_terms.specs.Words.{Condition}
 use Rattle.iv_parse_terms.specs.declared.condition_part.ConditionPart.{ConditionPart}
 use Rattle.iv_parse_terms.specs.declared.item_part.ItemPart.{ItemPart}
 use Rattle.iv_parse_terms.specs.readers.Conditions.{FoundItem}

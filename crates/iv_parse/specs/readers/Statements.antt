@@ -2,11 +2,10 @@
 use Rattle.std.specs.Prelude.{Some, List}
 use Rattle.iv_lex.specs.declared.kind.Kind.TheVariants as kind
 use Rattle.iv_lex.specs.Words.{Word}
-use Rattle.iv_syntax.specs.declared.statement.Statement.{Statement}
-use Rattle.iv_syntax.specs.declared.statement.Statement.TheVariants.{DropTrigger, StartTransaction, Commit, Rollback, Savepoint, Release, RollbackTo, SetConstraints}
-use Rattle.iv_syntax.specs.declared.statement.Statement.TheVariants as statement
-use Rattle.iv_syntax.specs.declared.statement.ConstraintList.{ConstraintList}
-use Rattle.iv_syntax.specs.declared.statement.ConstraintList.TheVariants.{All, Named}
+use Rattle.iv_parse.specs.Words.{Statement, ConstraintList}
+use Rattle.iv_parse.specs.Words.statement.{DropTrigger, StartTransaction, Commit, Rollback, Savepoint, Release, RollbackTo, SetConstraints}
+use Rattle.iv_parse.specs.Words.statement
+use Rattle.iv_parse.specs.Words.constraints.{All, Named}
 use Rattle.iv_parse_terms.specs.After.{after, if_some, then_read}
 use Rattle.iv_parse_data.specs.readers.Series.{read_series, skip}
 use Rattle.iv_parse.specs.readers.Triggers.{read_trigger}

@@ -2,17 +2,11 @@
 use Rattle.std.specs.Prelude.{ℕ, Option, Some, None, List, [], ◌∷◌, length}
 use Rattle.iv_lex.specs.declared.kind.Kind.TheVariants as kind
 use Rattle.iv_lex.specs.Words.{Word}
-use Rattle.iv_syntax.specs.declared.tree.Condition.{Condition}
-use Rattle.iv_syntax.specs.declared.trigger.ActionTime.{ActionTime}
-use Rattle.iv_syntax.specs.declared.trigger.ActionTime.TheVariants as action_time
-use Rattle.iv_syntax.specs.declared.trigger.TriggerEvent.{TriggerEvent}
-use Rattle.iv_syntax.specs.declared.trigger.TriggerEvent.TheVariants as event
-use Rattle.iv_syntax.specs.declared.trigger.Granularity.{Granularity}
-use Rattle.iv_syntax.specs.declared.trigger.Granularity.TheVariants as granularity
-use Rattle.iv_syntax.specs.declared.trigger.Referencing.{Referencing}
-use Rattle.iv_syntax.specs.declared.trigger.TriggerAction.{TriggerAction}
-use Rattle.iv_syntax.specs.declared.trigger.TriggerAction.TheVariants as action
-use Rattle.iv_syntax.specs.declared.trigger.TriggerDefinition.{TriggerDefinition}
+use Rattle.iv_parse.specs.Words.{Condition, ActionTime, TriggerEvent, Granularity, Referencing, TriggerAction, TriggerDefinition}
+use Rattle.iv_parse.specs.Words.time as action_time
+use Rattle.iv_parse.specs.Words.event
+use Rattle.iv_parse.specs.Words.granularity
+use Rattle.iv_parse.specs.Words.action
 use Rattle.iv_parse_terms.specs.After.{after, if_some, then_read}
 use Rattle.iv_parse_data.specs.readers.Series.{read_sequence}
 use Rattle.iv_parse_data.specs.readers.Data.{FoundPart, then_word, read_name, read_shallow, read_check, read_insert, read_update, read_delete}

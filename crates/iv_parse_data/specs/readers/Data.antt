@@ -3,26 +3,16 @@ use Rattle.std.specs.Prelude.{ℕ, Option, Some, None, List}
 use Rattle.iv_lex.specs.declared.kind.Kind.{Kind}
 use Rattle.iv_lex.specs.declared.kind.Kind.TheVariants as kind
 use Rattle.iv_lex.specs.Words.{Word}
-use Rattle.iv_syntax.specs.declared.tree.Expression.{Expression}
-use Rattle.iv_syntax.specs.declared.statement.ValueOrDefault.{ValueOrDefault}
-use Rattle.iv_syntax.specs.declared.statement.ValueOrDefault.TheVariants.{Value, Default}
-use Rattle.iv_syntax.specs.declared.statement.InsertSource.{InsertSource}
-use Rattle.iv_syntax.specs.declared.statement.InsertSource.TheVariants as source
-use Rattle.iv_syntax.specs.declared.statement.Insert.{Insert}
-use Rattle.iv_syntax.specs.declared.statement.Insert.TheVariants.{DefaultValues, Rows}
+use Rattle.iv_parse_data.specs.Words.{Expression, ValueOrDefault, InsertSource, Insert, RangeName, SelectList, Assignment, Update, Delete, Select, Condition}
+use Rattle.iv_parse_data.specs.Words.given.{Value, Default}
+use Rattle.iv_parse_data.specs.Words.source
+use Rattle.iv_parse_data.specs.Words.insert.{DefaultValues, Rows}
+use Rattle.iv_parse_data.specs.Words.select_list
+use Rattle.iv_parse_data.specs.Words.select
 use Rattle.iv_parse_terms.specs.declared.limits.TheConstants.{DEEPEST}
 use Rattle.iv_parse_terms.specs.After.{after, after_name, if_some, then_read}
 use Rattle.iv_parse_terms.specs.readers.Expressions.{read_expression}
 use Rattle.iv_parse_terms.specs.readers.Conditions.{read_condition, read_from}
-use Rattle.iv_syntax.specs.declared.tree.RangeName.{RangeName}
-use Rattle.iv_syntax.specs.declared.statement.SelectList.{SelectList}
-use Rattle.iv_syntax.specs.declared.statement.SelectList.TheVariants as select_list
-use Rattle.iv_syntax.specs.declared.statement.Assignment.{Assignment}
-use Rattle.iv_syntax.specs.declared.statement.Update.{Update}
-use Rattle.iv_syntax.specs.declared.statement.Delete.{Delete}
-use Rattle.iv_syntax.specs.declared.statement.Select.{Select}
-use Rattle.iv_syntax.specs.declared.statement.Select.TheVariants as select
-use Rattle.iv_syntax.specs.declared.tree.Condition.{Condition}
 use Rattle.iv_parse_data.specs.readers.Series.{read_series, read_closed, read_enclosed}
 
 -- what was found, and the words after it

@@ -2,11 +2,9 @@
 use Rattle.std.specs.Prelude.{Option, Some, None, List}
 use Rattle.iv_lex.specs.declared.kind.Kind.TheVariants as kind
 use Rattle.iv_lex.specs.Words.{Word}
-use Rattle.iv_expr.specs.declared.tree.Side.{Side}
-use Rattle.iv_expr.specs.declared.tree.Side.TheVariants as side
-use Rattle.iv_syntax.specs.declared.trigger.TransitionName.{TransitionName}
-use Rattle.iv_syntax.specs.declared.trigger.TransitionName.TheVariants as transition
-use Rattle.iv_syntax.specs.declared.trigger.Referencing.{Referencing}
+use Rattle.iv_parse_data.specs.Words.{Side, TransitionName, Referencing}
+use Rattle.iv_parse_data.specs.Words.side
+use Rattle.iv_parse_data.specs.Words.transition
 use Rattle.iv_parse_terms.specs.After.{after, if_some, then_read}
 use Rattle.iv_parse_data.specs.readers.Series.{skip}
 use Rattle.iv_parse_data.specs.readers.Data.{FoundPart, read_name}

@@ -3,29 +3,16 @@ use Rattle.std.specs.Prelude.{ℕ, Bool, true, false, Option, Some, None, List, 
 use Rattle.iv_lex.specs.declared.kind.Kind.{Kind}
 use Rattle.iv_lex.specs.declared.kind.Kind.TheVariants as kind
 use Rattle.iv_lex.specs.Words.{Word, name, number, quoted, plain}
-use Rattle.iv_syntax.specs.declared.statement.ConstraintMode.{ConstraintMode}
-use Rattle.iv_syntax.specs.declared.statement.ConstraintMode.TheVariants.{Immediate, Deferred}
-use Rattle.iv_syntax.specs.declared.statement.Statement.{Statement}
-use Rattle.iv_syntax.specs.declared.statement.Statement.TheVariants as statement
-use Rattle.iv_syntax.specs.declared.table.Literal.{Literal}
-use Rattle.iv_syntax.specs.declared.table.Literal.TheVariants as literal
-use Rattle.iv_syntax.specs.declared.table.ColumnType.{ColumnType}
-use Rattle.iv_syntax.specs.declared.table.ColumnType.TheVariants.{Integer, Varchar}
-use Rattle.iv_syntax.specs.declared.table.ConstraintTime.{ConstraintTime}
-use Rattle.iv_syntax.specs.declared.table.MatchType.{MatchType}
-use Rattle.iv_syntax.specs.declared.table.MatchType.TheVariants.{Simple, Full}
-use Rattle.iv_syntax.specs.declared.table.ReferentialAction.{ReferentialAction}
-use Rattle.iv_syntax.specs.declared.table.ReferentialAction.TheVariants.{NoAction, Restrict, Cascade, SetNull, SetDefault}
-use Rattle.iv_syntax.specs.declared.table.References.{References}
-use Rattle.iv_syntax.specs.declared.table.ColumnRule.{ColumnRule}
-use Rattle.iv_syntax.specs.declared.table.ColumnRule.TheVariants as column_rule
-use Rattle.iv_syntax.specs.declared.table.ColumnConstraint.{ColumnConstraint}
-use Rattle.iv_syntax.specs.declared.table.TableRule.{TableRule}
-use Rattle.iv_syntax.specs.declared.table.TableRule.TheVariants as table_rule
-use Rattle.iv_syntax.specs.declared.table.TableConstraint.{TableConstraint}
-use Rattle.iv_syntax.specs.declared.table.ColumnDefinition.{ColumnDefinition}
-use Rattle.iv_syntax.specs.declared.table.TableElement.{TableElement}
-use Rattle.iv_syntax.specs.declared.table.TableElement.TheVariants.{Column, Constraint}
+use Rattle.iv_parse_data.specs.Words.{ConstraintMode, Statement, Literal, ColumnType, ConstraintTime, MatchType, ReferentialAction, References, ColumnRule, ColumnConstraint, TableRule, TableConstraint, ColumnDefinition, TableElement}
+use Rattle.iv_parse_data.specs.Words.mode.{Immediate, Deferred}
+use Rattle.iv_parse_data.specs.Words.statement
+use Rattle.iv_parse_data.specs.Words.literal
+use Rattle.iv_parse_data.specs.Words.type.{Integer, Varchar}
+use Rattle.iv_parse_data.specs.Words.matching.{Simple, Full}
+use Rattle.iv_parse_data.specs.Words.referential_action.{NoAction, Restrict, Cascade, SetNull, SetDefault}
+use Rattle.iv_parse_data.specs.Words.column_rule
+use Rattle.iv_parse_data.specs.Words.table_rule
+use Rattle.iv_parse_data.specs.Words.element.{Column, Constraint}
 use Rattle.iv_parse_terms.specs.After.{after, after_name, if_some, then_read}
 use Rattle.iv_parse_terms.specs.readers.Expressions.{after_sign}
 use Rattle.iv_parse_data.specs.readers.Series.{read_series, read_enclosed, read_sequence, read_either_order}

@@ -1,15 +1,12 @@
 -- The condition at the front of words, read with one word of look-ahead and no deeper than a limit. What parentheses hold is read once, into
 -- an item: a value or a condition that is whole.
 use Rattle.std.specs.Prelude.{ℕ, zero, suc, nat_le, if◌then◌else◌, Option, Some, None, List, ◌∷◌}
-use Rattle.iv_expr.specs.declared.tree.Comparison.{Comparison}
-use Rattle.iv_expr.specs.declared.tree.Comparison.TheVariants as comparison
+use Rattle.iv_parse_terms.specs.Words.{Comparison, RangeName, Expression, Condition}
+use Rattle.iv_parse_terms.specs.Words.comparison
+use Rattle.iv_parse_terms.specs.Words.condition.{Compare, IsNull, IsNotNull, Exists}
 use Rattle.iv_lex.specs.declared.kind.Kind.{Kind}
 use Rattle.iv_lex.specs.declared.kind.Kind.TheVariants as kind
 use Rattle.iv_lex.specs.Words.{Word, plain}
-use Rattle.iv_syntax.specs.declared.tree.RangeName.{RangeName}
-use Rattle.iv_syntax.specs.declared.tree.Expression.{Expression}
-use Rattle.iv_syntax.specs.declared.tree.Condition.{Condition}
-use Rattle.iv_syntax.specs.declared.tree.Condition.TheVariants.{Compare, IsNull, IsNotNull, Exists}
 use Rattle.iv_parse_terms.specs.declared.item.Item.{Item}
 use Rattle.iv_parse_terms.specs.declared.item.Item.TheVariants.{Value, Truth}
 use Rattle.iv_parse_terms.specs.declared.item.Connective.{Connective}
