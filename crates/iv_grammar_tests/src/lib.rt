@@ -2,10 +2,6 @@
 #![tactic(auto)]
 
 #[cfg(test)]
-mod conditions;
-#[cfg(test)]
-mod shown;
+mod laws;
 #[cfg(test)]
 mod texts;
-#[cfg(test)]
-mod triggers;

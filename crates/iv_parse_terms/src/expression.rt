@@ -64,7 +64,7 @@ fn make_signed<'a>(
     }))
 }
 
-// Two operands, the depth of their product or sum and the tokens after it, where it is not too deep.
+// Two operands, the depth of what joins them and the tokens after it, where it is not too deep.
 fn fitting<'a>(
     limit: u8,
     left: ExpressionPart<'a>,
