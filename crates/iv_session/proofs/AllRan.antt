@@ -1,9 +1,9 @@
 -- One statement after another, of which some may be refused memory.
-use Rattle.std.proofs.Common.{◌≡◌, ◌≢◌, Bool, true, false, not, if◌then◌else◌, cond, List, [], ◌∷◌, ◌++◌, filter, length, Option, Some, None, Result, refl, sym, ap, subst, ◌∙◌, append-nil, append_assoc, length-append, arith, MatchBool}
+use Rattle.std.proofs.Common.{◌≡◌, ◌≢◌, Bool, true, false, not, cond, List, [], ◌∷◌, ◌++◌, filter, length, Some, None, Result, refl, sym, ap, ◌∙◌, append-nil, append_assoc, length-append, arith, MatchBool}
 use Rattle.iv_session.specs.Words.{Statement, Refusal, Answer}
 use Rattle.iv_catalogue.specs.Refusals.{is_memory}
 use Rattle.iv_machine.specs.Databases.{first}
-use Rattle.iv_machine.specs.Machine.{State, Outcome, Starved}
+use Rattle.iv_machine.specs.Machine.{State, Starved}
 use Rattle.iv_run.specs.Step.{Executes, run, step}
 use Rattle.iv_session.specs.RunningAll.{IsRunOf, has_memory, supplied_statements}
 

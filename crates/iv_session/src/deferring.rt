@@ -72,7 +72,7 @@ fn first_immediate(faults: &[Fault], modes: &Modes) -> Option<Fault>
 impl<K: Keeper + Drop> Session<K> {
     // The first violation of a constraint that these modes make immediate, where they come of setting this
     // mode. To defer makes none immediate, so no row is read for it.
-    #[tactic(auto, using(crate::proofs::Deferred::made_immediate, crate::proofs::Deferred::none_made_immediate))]
+    #[tactic(auto, using(crate::proofs::Deferred::none_made_immediate))]
     fn first_made_immediate(
         &self,
         modes: &Modes,

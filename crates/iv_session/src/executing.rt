@@ -26,7 +26,7 @@ impl<K: Keeper + Drop> Session<K> {
 
     // ROLLBACK TO SAVEPOINT, refused outside a transaction.
     fn back_to_or_refuse(&mut self, name: &str) -> Outcome
-        ensures { Performs self.old.state
+        ensures performs { Performs self.old.state
             (outcome_unless self.old.state (transaction_cause (is_open self.old.state) inside)
             (rollback_to_outcome self.old.state
             (savepoint_named name.now self.old.state.savepoints))) result self.new }

@@ -1,6 +1,6 @@
-use Rattle.std.proofs.Common.{◌≡◌, ◌+◌, ◌∷◌, [], rules, arith, length, refl, sym, ap, subst}
+use Rattle.std.proofs.Common.{◌≡◌, ◌+◌, ◌∷◌, rules, arith, length, sym, subst}
 use Rattle.std.proofs.lemmas.Grind.{common_steps}
-use Rattle.iv_session.proofs.AllRan.{Ran, ran_none, ran_more, ran_all}
+use Rattle.iv_session.proofs.AllRan.{Ran, ran_none, ran_more}
 use Rattle.iv_session.proofs.session.Session.run_all.Goals as goal
 
 pub loop-statement-init : goal.loop-statement-init

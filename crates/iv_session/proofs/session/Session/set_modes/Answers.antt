@@ -1,13 +1,27 @@
-use Rattle.std.proofs.Common.{◌≡◌, ◌∙◌, ap, refl, map, List, Option}
+use Rattle.std.proofs.Common.{◌≡◌, ◌∙◌, ap, sym, subst, refl, true, map, Option, Some}
 use Rattle.iv_session.specs.Words.{Fault}
 use Rattle.iv_session.specs.Words.cause.{NotDeferrable, Violation}
 use Rattle.iv_session.specs.Words.answer.{Done}
-use Rattle.iv_machine.specs.Machine.{State, accept, first_made_immediate, no_work, refuse_first, set_constraints_outcome}
+use Rattle.iv_machine.specs.Machine.{State, accept, first_made_immediate, is_open, no_work, refuse_first, set_constraints_outcome}
 use Rattle.iv_modes.specs.ModeMaps.{ModeMap}
-use Rattle.iv_session.specs.Kept.{Parts, parts, Seen, state_of}
+use Rattle.iv_session.specs.Kept.{IsOpen, Parts, parts, Seen, StandsAs, state_of}
 use Rattle.iv_session.proofs.Deferred.{set_refused, set_seen}
+use Rattle.iv_session.proofs.Saves.{open_is}
 use Rattle.iv_session.proofs.Performed.{accept_performs, refuse_performs}
 use Rattle.iv_session.proofs.session.Session.set_modes.Goals as goal
+
+pub invariant_of-self-in-None : goal.invariant_of-self-in-None
+invariant_of-self-in-None g c =
+    let h : Parts = parts g.K.Kin.view c.self.inside in
+    let a : h.active ≡ true = open_is h.active h.store (ap (λ x. is_open x.state) c.self.view_is ∙ c.requires) in
+    let o : IsOpen h = subst (λ b. StandsAs b h) a c.self.invariant.stands in
+    let m : c.set.new.self.deferrable ≡ map (λ k. k.deferrable) h.schema.constraints =
+    ap (λ (x : ModeMap). x.deferrable) (c.in-Ok.ensures.set) ∙ ap (λ (x : ModeMap). x.deferrable) c.in_ok-modes.ensures ∙ c.modes.ensures.settable in
+    record {
+      store = c.self.invariant.store;
+      initial = c.self.invariant.initial;
+      stands = subst (λ b. StandsAs b (record h { changed = Some c.set.new.self })) (sym a) (record { marks = o.marks; modes = m; saved = o.saved; fit = o.fit });
+    }
 
 pub returns-in-Err : goal.returns-in-Err
 returns-in-Err g c =
@@ -28,12 +42,12 @@ returns-in-Some g c =
     let v : state_of h ≡ s = ap (λ x. x.state) c.self.view_is in
     let x : Seen = record { state = state_of h; work = record { changes = c.none-self-inside.result.changes; undone = c.none-self-inside.result.undone }; lookups = c.none-self-inside.result.lookups; looked = g.K.Kin.lookups c.self.inside.store } in
     let w : x.work ≡ no_work = ap (λ w. record { changes = w.changes; undone = w.undone }) c.none-self-inside.ensures in
-    let seen : set_constraints_outcome s c.args.ids.now c.args.mode ≡ refuse_first s Violation c.in_ok-self.value (accept (record s { modes = c.set.new.self.modes }) Done) =
-    set_seen s c.args.ids.now c.args.mode c.in_ok-modes.modes c.set.new.self c.in_ok-self.value
+    let seen : set_constraints_outcome s c.args.ids.now c.args.mode ≡ refuse_first s Violation c.in_ok-fault.field-0 (accept (record s { modes = c.set.new.self.modes }) Done) =
+    set_seen s c.args.ids.now c.args.mode c.in_ok-modes.modes c.set.new.self c.in_ok-fault.field-0
     (ap (λ (x : ModeMap). x.modes) c.in_ok-modes.ensures ∙ c.modes.ensures.modes ∙ ap (λ (y : State). y.modes) v)
     (ap (λ (x : ModeMap). x.deferrable) c.in_ok-modes.ensures ∙ c.modes.ensures.settable ∙ ap (λ (y : State). map (λ k. k.deferrable) y.schema.constraints) v)
     c.in-Ok.ensures.accepted c.in-Ok.ensures.set
-    (c.in_ok-self.ensures ∙ ap (λ (y : State). first_made_immediate y c.set.new.self.modes) v) in
+    (c.in_ok-fault.ensures ∙ ap (λ (y : State). first_made_immediate y c.set.new.self.modes) v) in
     refuse_performs s (set_constraints_outcome s c.args.ids.now c.args.mode) (Violation c.in-Some.fault) c.refuse-in-Some.result x
     (seen ∙ ap (λ (o : Option Fault). refuse_first s Violation o (accept (record s { modes = c.set.new.self.modes }) Done)) c.in-Some.is) refl c.refuse-in-Some.ensures v w
 
@@ -44,12 +58,12 @@ returns-in-None g c =
     let v : state_of h ≡ s = ap (λ x. x.state) c.self.view_is in
     let x : Seen = record { state = state_of h; work = record { changes = c.none-self-inside.result.changes; undone = c.none-self-inside.result.undone }; lookups = c.none-self-inside.result.lookups; looked = g.K.Kin.lookups c.self.inside.store } in
     let w : x.work ≡ no_work = ap (λ w. record { changes = w.changes; undone = w.undone }) c.none-self-inside.ensures in
-    let seen : set_constraints_outcome s c.args.ids.now c.args.mode ≡ refuse_first s Violation c.in_ok-self.value (accept (record s { modes = c.set.new.self.modes }) Done) =
-    set_seen s c.args.ids.now c.args.mode c.in_ok-modes.modes c.set.new.self c.in_ok-self.value
+    let seen : set_constraints_outcome s c.args.ids.now c.args.mode ≡ refuse_first s Violation c.in_ok-fault.field-0 (accept (record s { modes = c.set.new.self.modes }) Done) =
+    set_seen s c.args.ids.now c.args.mode c.in_ok-modes.modes c.set.new.self c.in_ok-fault.field-0
     (ap (λ (x : ModeMap). x.modes) c.in_ok-modes.ensures ∙ c.modes.ensures.modes ∙ ap (λ (y : State). y.modes) v)
     (ap (λ (x : ModeMap). x.deferrable) c.in_ok-modes.ensures ∙ c.modes.ensures.settable ∙ ap (λ (y : State). map (λ k. k.deferrable) y.schema.constraints) v)
     c.in-Ok.ensures.accepted c.in-Ok.ensures.set
-    (c.in_ok-self.ensures ∙ ap (λ (y : State). first_made_immediate y c.set.new.self.modes) v) in
+    (c.in_ok-fault.ensures ∙ ap (λ (y : State). first_made_immediate y c.set.new.self.modes) v) in
     accept_performs s (set_constraints_outcome s c.args.ids.now c.args.mode) (record s { modes = c.set.new.self.modes }) Done
     (record x { state = record (state_of h) { modes = c.set.new.self.modes } })
     (seen ∙ ap (λ (o : Option Fault). refuse_first s Violation o (accept (record s { modes = c.set.new.self.modes }) Done)) c.in-None.is)
