@@ -1,9 +1,10 @@
 //! Sessions between the statements of scripts: work, what is pending, and the calls that no statement makes.
-use iv_catalogue::{Cause, Refusal};
+use iv_catalogue::Cause;
 use iv_machine::{Answer, Limits};
 use iv_parse::script;
 use iv_session::{Outcome, Session, Work};
 use iv_store::PlainStore;
+use iv_syntax::Statement;
 use std::alloc::{AllocError, Global};
 use std::test::Fail;
 
@@ -42,15 +43,18 @@ fn work(changes: u64, undone: u64) -> Work {
     }
 }
 
-// The session after the whole script, in which triggers nest 16 deep.
-fn after(alloc: Global, text: &str, changes: u32) -> Result<Option<Session<PlainStore>>, Fail> {
+// The work of the last statement of a script, in which triggers nest 16 deep.
+fn work_after(alloc: Global, text: &str, changes: u32) -> Result<Option<Work>, Fail> {
     let Some(limits) = Limits::new(16, changes) else {
         return Ok(None);
     };
     let parsed = script(alloc, text)?;
     let mut session = Session::<PlainStore>::new(alloc, limits)?;
-    let _ = session.run_all(parsed.statements.as_slice())?;
-    Ok(Some(session))
+    let ran = session.run_all(parsed.statements.as_slice());
+    let last = session.work();
+    drop(session);
+    drop(ran?);
+    Ok(Some(last))
 }
 
 #[test]
@@ -64,41 +68,51 @@ fn work_is_that_of_the_last_statement(rt: HostRuntime) -> Result<(), Fail> {
         (NO_ROWS, 65_536, 1, 0),
         ("", 65_536, 0, 0),
     ] {
-        if let Some(session) = after(rt.alloc(), text, limit)? {
-            assert_eq!(rt; session.work(), work(changes, undone), "{text} {limit}");
-        }
+        let last = work_after(rt.alloc(), text, limit)?;
+        assert_eq!(rt; last, Some(work(changes, undone)), "{text} {limit}");
     }
     Ok(())
 }
 
 // The constraint's place and the row of each violation that is pending, and how many there are.
-fn tell_pending(session: &Session<PlainStore>, told: &mut String) -> Result<(), AllocError> {
+fn show_pending(session: &Session<PlainStore>, shown: &mut String) -> Result<(), AllocError> {
     let pending = session.pending()?;
     for fault in pending.as_slice() {
-        write!(told, "{} row {}, ", fault.constraint.place(), fault.row)?;
+        write!(shown, "{} row {}, ", fault.constraint.place(), fault.row)?;
     }
-    write!(told, "{}; ", session.pending_count())?;
+    write!(shown, "{}; ", session.pending_count())?;
     Ok(())
 }
 
 // What is pending after each statement.
+fn show_each_pending(
+    session: &mut Session<PlainStore>,
+    statements: &[Statement],
+    shown: &mut String,
+) -> Result<(), AllocError> {
+    for statement in statements {
+        let _ = session.execute(statement);
+        show_pending(session, shown)?;
+    }
+    Ok(())
+}
+
 fn pending_in(alloc: Global, text: &str) -> Result<String, Fail> {
-    let mut told = String::new(alloc);
+    let mut shown = String::new(alloc);
     let Some(limits) = Limits::new(16, 65_536) else {
-        return Ok(told);
+        return Ok(shown);
     };
     let parsed = script(alloc, text)?;
     let mut session = Session::<PlainStore>::new(alloc, limits)?;
-    for statement in parsed.statements.as_slice() {
-        let _ = session.execute(statement);
-        tell_pending(&session, &mut told)?;
-    }
-    Ok(told)
+    let done = show_each_pending(&mut session, parsed.statements.as_slice(), &mut shown);
+    drop(session);
+    done?;
+    Ok(shown)
 }
 
 // P's key is the constraint at place 0, and FK the one at place 1.
 #[test]
-fn pending_is_told_after_each_statement(rt: HostRuntime) -> Result<(), Fail> {
+fn pending_is_shown_after_each_statement(rt: HostRuntime) -> Result<(), Fail> {
     for (text, wanted) in [
         (MENDED, "0; 0; 1 row 1, 1; 0; 0; "),
         (AFTER_A_REFUSED_COMMIT, "0; 0; 1 row 1, 1; 0; 0; 0; "),
@@ -107,67 +121,120 @@ fn pending_is_told_after_each_statement(rt: HostRuntime) -> Result<(), Fail> {
             "0; 0; 0; 0; 0; 1 row 1, 1; 1 row 1, 1; 0; 0; 1 row 1, 1; 1 row 1, 1 row 2, 2; 1 row 1, 1; 1 row 1, 1; 1 row 1, 1; 1 row 1, 1; 0; ",
         ),
     ] {
-        let told = pending_in(rt.alloc(), text)?;
-        assert_eq!(rt; told.as_str(), wanted, "{text}");
+        let shown = pending_in(rt.alloc(), text)?;
+        assert_eq!(rt; shown.as_str(), wanted, "{text}");
     }
     Ok(())
 }
 
-fn tell(outcome: &Outcome, told: &mut String) -> Result<(), AllocError> {
+fn show(outcome: &Outcome, shown: &mut String) -> Result<(), AllocError> {
     match outcome {
-        Ok(Answer::Done) => write!(told, "done; ")?,
-        Ok(Answer::Changed(count)) => write!(told, "changed {count}; ")?,
-        Ok(Answer::Rows(rows)) => write!(told, "rows {}; ", rows.as_slice().len())?,
-        Err(
-            Refusal {
-                cause: Cause::CommitRefused(fault),
-                trigger: None,
-            },
-        ) => write!(
-            told,
-            "commit refused {} row {}; ",
-            fault.constraint.place(),
-            fault.row
-        )?,
-        Err(_) => write!(told, "another refusal; ")?,
+        Ok(Answer::Done) => write!(shown, "done; ")?,
+        Ok(Answer::Changed(count)) => write!(shown, "changed {count}; ")?,
+        Ok(Answer::Rows(rows)) => write!(shown, "rows {}; ", rows.as_slice().len())?,
+        Err(refusal) => show_cause(&refusal.cause, shown)?,
     }
     Ok(())
+}
+
+fn show_cause(cause: &Cause, shown: &mut String) -> Result<(), AllocError> {
+    match cause {
+        Cause::CommitRefused(fault) => {
+            let place = fault.constraint.place();
+            write!(shown, "commit refused {place} row {}; ", fault.row)?
+        }
+        Cause::UnknownSavepoint => write!(shown, "unknown savepoint; ")?,
+        Cause::NoTransaction => write!(shown, "no transaction; ")?,
+        _ => write!(shown, "another refusal; ")?,
+    }
+    Ok(())
+}
+
+fn show_whole_run(
+    session: &mut Session<PlainStore>,
+    statements: &[Statement],
+    shown: &mut String,
+) -> Result<(), AllocError> {
+    let outcomes = session.run_all(statements)?;
+    for outcome in outcomes.as_slice() {
+        show(outcome, shown)?;
+    }
+    show_state(session, shown)?;
+    write!(shown, "{} tables", session.catalogue().tables().len())?;
+    Ok(())
+}
+
+// How many violations are pending, whether a transaction is open, and the work of the last call.
+fn show_state(session: &Session<PlainStore>, shown: &mut String) -> Result<(), AllocError> {
+    let pending = session.pending_count();
+    let work = session.work();
+    let open = if session.in_transaction() {
+        "open"
+    } else {
+        "closed"
+    };
+    write!(shown, "{pending} {open} {} {}; ", work.changes, work.undone)?;
+    Ok(())
+}
+
+fn show_rollback_to(
+    session: &mut Session<PlainStore>,
+    name: &str,
+    shown: &mut String,
+) -> Result<(), AllocError> {
+    let outcome = session.rollback_to(name);
+    let done = show(&outcome, shown);
+    drop(outcome);
+    done?;
+    show_state(session, shown)
+}
+
+fn show_ways_back(
+    session: &mut Session<PlainStore>,
+    statements: &[Statement],
+    shown: &mut String,
+) -> Result<(), AllocError> {
+    drop(session.run_all(statements)?);
+    show_state(session, shown)?;
+    show_rollback_to(session, "S", shown)?;
+    show_rollback_to(session, "T", shown)?;
+    session.rollback();
+    show_state(session, shown)?;
+    show_rollback_to(session, "S", shown)
+}
+
+// What a script's statements and the calls after them do.
+fn shown_of(alloc: Global, text: &str, ways_back: bool) -> Result<String, Fail> {
+    let mut shown = String::new(alloc);
+    let Some(limits) = Limits::new(16, 65_536) else {
+        return Ok(shown);
+    };
+    let parsed = script(alloc, text)?;
+    let mut session = Session::<PlainStore>::new(alloc, limits)?;
+    let done = if ways_back {
+        show_ways_back(&mut session, parsed.statements.as_slice(), &mut shown)
+    } else {
+        show_whole_run(&mut session, parsed.statements.as_slice(), &mut shown)
+    };
+    drop(session);
+    done?;
+    Ok(shown)
 }
 
 #[test]
 fn statements_are_run_all_together(rt: HostRuntime) -> Result<(), Fail> {
-    let parsed = script(rt.alloc(), AFTER_A_REFUSED_COMMIT)?;
-    if let Some(limits) = Limits::new(16, 65_536) {
-        let mut session = Session::<PlainStore>::new(rt.alloc(), limits)?;
-        let outcomes = session.run_all(parsed.statements.as_slice())?;
-        let mut told = String::new(rt.alloc());
-        for outcome in outcomes.as_slice() {
-            tell(outcome, &mut told)?;
-        }
-        let wanted = "done; done; changed 1; commit refused 1 row 1; rows 0; done; ";
-        assert_eq!(rt; told.as_str(), wanted);
-        assert_eq!(rt; session.in_transaction(), true);
-        assert_eq!(rt; session.catalogue().tables().len(), 2);
-        assert_eq!(rt; session.pending_count(), 0);
-    }
+    let shown = shown_of(rt.alloc(), AFTER_A_REFUSED_COMMIT, false)?;
+    let wanted =
+        "done; done; changed 1; commit refused 1 row 1; rows 0; done; 0 open 0 0; 2 tables";
+    assert_eq!(rt; shown.as_str(), wanted);
     Ok(())
 }
 
 #[test]
 fn rollback_to_restores_modes(rt: HostRuntime) -> Result<(), Fail> {
-    if let Some(mut session) = after(rt.alloc(), TWO_SAVEPOINTS, 65_536)? {
-        assert_eq!(rt; session.pending_count(), 0);
-        assert_eq!(rt; session.rollback_to("S").is_ok(), true);
-        assert_eq!(rt; session.work(), work(0, 1));
-        assert_eq!(rt; session.pending_count(), 1);
-        let unknown = Some(Refusal::of(Cause::UnknownSavepoint));
-        assert_eq!(rt; session.rollback_to("T").err(), unknown);
-        assert_eq!(rt; session.in_transaction(), true);
-        session.rollback();
-        assert_eq!(rt; session.work(), work(0, 1));
-        assert_eq!(rt; session.in_transaction(), false);
-        let outside = Some(Refusal::of(Cause::NoTransaction));
-        assert_eq!(rt; session.rollback_to("S").err(), outside);
-    }
+    let shown = shown_of(rt.alloc(), TWO_SAVEPOINTS, true)?;
+    let wanted =
+        "0 open 0 0; done; 1 open 0 1; unknown savepoint; 1 open 0 0; 0 closed 0 1; no transaction; 0 closed 0 0; ";
+    assert_eq!(rt; shown.as_str(), wanted);
     Ok(())
 }
