@@ -98,24 +98,24 @@ effects_of_acting schema lost acts (k ∷ ks) before after idle = where_acts (ac
     some : List Reference → List Reference
     some l = filter (keeps_reference before after) l
 
-    told : List Reference → List (ℕ × Effect)
-    told l = flat_map (effects_with schema lost before) l
+    followed : List Reference → List (ℕ × Effect)
+    followed l = flat_map (effects_with schema lost before) l
 
-    both : (kept : Bool) → told (some ks) ≡ told (some (filter acts ks))
-        → told (if kept then k ∷ some ks else some ks) ≡ told (if kept then k ∷ some (filter acts ks) else some (filter acts ks))
+    both : (kept : Bool) → followed (some ks) ≡ followed (some (filter acts ks))
+        → followed (if kept then k ∷ some ks else some ks) ≡ followed (if kept then k ∷ some (filter acts ks) else some (filter acts ks))
     both true rest = ap (λ l. effects_with schema lost before k ++ l) rest
     both false rest = rest
 
-    one : acts k ≡ false → (kept : Bool) → told (some ks) ≡ told (some (filter acts ks))
-        → told (if kept then k ∷ some ks else some ks) ≡ told (some (filter acts ks))
+    one : acts k ≡ false → (kept : Bool) → followed (some ks) ≡ followed (some (filter acts ks))
+        → followed (if kept then k ∷ some ks else some ks) ≡ followed (some (filter acts ks))
     one e true rest =
-        ap (λ l. map (λ effect. (k.id, effect)) l ++ told (some ks))
+        ap (λ l. map (λ effect. (k.id, effect)) l ++ followed (some ks))
         (does_nothing schema k (lost_reference lost k.key before) (λ loss f. idle k e (key_of k.key.columns before.values) loss (lost_key lost k before loss f)))
         ∙ rest
     one e false rest = rest
 
-    where_acts : (b : Bool) → acts k ≡ b → told (some ks) ≡ told (some (filter acts ks))
-        → told (some (k ∷ ks)) ≡ told (some (if b then k ∷ filter acts ks else filter acts ks))
+    where_acts : (b : Bool) → acts k ≡ b → followed (some ks) ≡ followed (some (filter acts ks))
+        → followed (some (k ∷ ks)) ≡ followed (some (if b then k ∷ filter acts ks else filter acts ks))
     where_acts true e rest = both (keeps_reference before after k) rest
     where_acts false e rest = one e (keeps_reference before after k) rest
 

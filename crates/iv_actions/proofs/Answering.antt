@@ -17,7 +17,7 @@ use Rattle.iv_action_laws.proofs.Followed.{waves_follow_row_by_row}
 use Rattle.iv_actions.specs.Losing.{Losing, under_wave, acts_in, losing_where, losing_from}
 use Rattle.iv_actions.specs.Finding.{found}
 use Rattle.iv_actions.specs.Following.{answer_among}
-use Rattle.iv_actions.specs.Answers.{Tells}
+use Rattle.iv_actions.specs.Answers.{AnswersWave}
 use Rattle.iv_actions.proofs.Matching.{losing_is, answer_is}
 use Rattle.iv_actions.proofs.Found.{idle, finds_rows}
 
@@ -45,11 +45,11 @@ answer_follows context before s changes xs numbers are up all same led =
 pub answered : (catalogue : Schema) (s s2 : StoreState) (changes : List Change) (xs : List Losing) (numbers : List ℕ) (answer : Result Wave Refusal)
     → s2 ≡ s → xs ≡ losing_from changes 0 catalogue.constraints → RisingNumbers 0 numbers
     → ((number : ℕ) → is_among numbers number ≡ is_among (found s xs changes) number)
-    → Tells answer (answer_among catalogue xs changes s2.base numbers)
+    → AnswersWave answer (answer_among catalogue xs changes s2.base numbers)
     → (before : Database) (context : Context) → context.schema ≡ catalogue → s.constraints ≡ catalogue.constraints → LedTo before changes s.base
-    → Tells answer (following_wave context before s.base)
+    → AnswersWave answer (following_wave context before s.base)
 answered catalogue s s2 changes xs numbers answer kept are up all tells before context e same led =
-    subst (Tells answer)
+    subst (AnswersWave answer)
     ((λ i. answer_among (sym e i) xs changes (kept i).base numbers)
     ∙ answer_follows context before s changes xs numbers (are ∙ ap (λ c. losing_from changes 0 c.constraints) (sym e)) up all
     (same ∙ ap (λ c. c.constraints) (sym e)) led) tells

@@ -178,15 +178,15 @@ module _ (changes : List Change) where
             ∙ ap (λ b. b && acts (action_for k.key c)) (eq-eqb c.row c.row refl)
             ∙ does
 
-        told : found_by s x c ≡ children_of s k.id key
-        told =
+        so_far : found_by s x c ≡ children_of s k.id key
+        so_far =
             ap (λ o. elim o [ Some taken ↦ if leads x c taken then children_of s k.id taken else [] | None ↦ [] ]) (taken_is k.key key c member.1)
             ∙ ap (λ b. if b then children_of s k.id key else []) leading
 
         among : In row.number by_keys
         among =
             in_flat_map (λ y. flat_map (found_by s y) changes) row.number x (map (under_wave changes) ks) (in_map (under_wave changes) k ks i)
-            (in_flat_map (found_by s x) row.number c changes member.0 (subst (In row.number) (sym told) child))
+            (in_flat_map (found_by s x) row.number c changes member.0 (subst (In row.number) (sym so_far) child))
 
     idle_there : (k : Reference) → In k ks → IsIdleElsewhere lost s.base.rows numbers k
     idle_there k i row loss there table apart e = by (none_null (key_of k.key.columns row.values)) refl e

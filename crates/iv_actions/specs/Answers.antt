@@ -6,10 +6,10 @@ use Rattle.iv_catalogue.specs.Refusals.{is_memory}
 use Rattle.iv_machine.specs.Context.{Failure}
 
 -- a refusal as it is answered, without the count of row changes
-abbrev pub told : Result Wave Failure → Result Wave Refusal
-told (Ok wave) = Ok wave
-told (Err failure) = Err (record { cause = failure.cause; trigger = failure.trigger })
+abbrev pub uncounted : Result Wave Failure → Result Wave Refusal
+uncounted (Ok wave) = Ok wave
+uncounted (Err failure) = Err (record { cause = failure.cause; trigger = failure.trigger })
 
 -- The program answers what the definition gives, or that memory was refused.
-abbrev pub Tells : Result Wave Refusal → Result Wave Failure → Type 0
-Tells answer given = MatchBool (is_memory answer) (Unit {0}) (answer ≡ told given)
+abbrev pub AnswersWave : Result Wave Refusal → Result Wave Failure → Type 0
+AnswersWave answer given = MatchBool (is_memory answer) (Unit {0}) (answer ≡ uncounted given)

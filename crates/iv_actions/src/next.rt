@@ -8,7 +8,7 @@ ghost use Rattle.iv_machine.specs.ReferentialActions.{following_wave};
 ghost use Rattle.iv_store.specs.Stores.{RisingNumbers};
 ghost use Rattle.iv_action_laws.specs.RowByRow.{earlier, least, LedTo};
 ghost use Rattle.iv_actions.specs.Following.{restricted_at, effects_at, conflict_at, change_at, answer_among};
-ghost use Rattle.iv_actions.specs.Answers.{Tells};
+ghost use Rattle.iv_actions.specs.Answers.{AnswersWave};
 
 use crate::by_table::{ByTable, losing_by_table};
 use crate::change::change_by;
@@ -172,7 +172,7 @@ fn push_change<K: Kin>(
 ) -> Result<(), AllocError>
     requires rising { RisingChanges changes.now }
     requires above { last_row next.old.changes < number }
-    ensures told { OnOk result (next.new.changes ≡ next.old.changes ++ cons_option (change_at
+    ensures pushed { OnOk result (next.new.changes ≡ next.old.changes ++ cons_option (change_at
         catalogue.now losings.now changes.now (K.view store.now).base.rows number) []) }
     ensures last { OnOk result (last_row next.new.changes ≤ number) }
 {
@@ -221,7 +221,7 @@ fn answer_among<K: Kin>(
 ) -> Result<Wave, Refusal>
     requires rising { RisingChanges changes.now }
     requires numbers { RisingNumbers 0 numbers.now }
-    ensures { Tells result (answer_among
+    ensures { AnswersWave result (answer_among
         catalogue.now losings.now changes.now (K.view store.now).base numbers.now) }
 {
     if losings.is_empty() {
@@ -243,7 +243,7 @@ pub fn next_wave<K: Kin>(store: &mut K, catalogue: &Catalogue, wave: &Wave) -> R
         → context.schema ≡ catalogue.now
         → (K.view store.old).constraints ≡ catalogue.now.constraints
         → LedTo before wave.now.changes (K.view store.old).base
-        → Tells result (following_wave context before (K.view store.old).base) }
+        → AnswersWave result (following_wave context before (K.view store.old).base) }
     ensures looked { K.lookups store.new ≤ K.lookups store.old
         + length catalogue.now.constraints * length wave.now.changes }
     ensures kept { K.view store.new ≡ K.view store.old }

@@ -51,53 +51,53 @@ one_refused run x at r f h =
 -- ---- the loops
 
 -- one more trigger of the list
-pub triggers_told : (run : Runs) (d : DataStatement) (parts : List (List Change)) (ts : List Trigger) (i : ℕ) (t : Trigger) (at mid : Standing) (all : Result Standing Failure)
+pub triggers_so_far : (run : Runs) (d : DataStatement) (parts : List (List Change)) (ts : List Trigger) (i : ℕ) (t : Trigger) (at mid : Standing) (all : Result Standing Failure)
     → slice_get ts i ≡ Some t → firings_run run (after_firings d parts t) at ≡ Ok mid → firings_run run (all_firings d parts (drop i ts)) at ≡ all
     → firings_run run (all_firings d parts (drop (i + 1) ts)) mid ≡ all
-triggers_told run d parts ts i t at mid all e fired told =
+triggers_so_far run d parts ts i t at mid all e fired so_far =
     sym (both_fired run (after_firings d parts t) (all_firings d parts (drop (i + 1) ts)) at mid _ fired refl)
-    ∙ ap (λ l. firings_run run (all_firings d parts l) at) (sym (from_place ts i t e)) ∙ told
+    ∙ ap (λ l. firings_run run (all_firings d parts l) at) (sym (from_place ts i t e)) ∙ so_far
 
 pub triggers_refused : (memory : Bool) (run : Runs) (d : DataStatement) (parts : List (List Change)) (ts : List Trigger) (i : ℕ) (t : Trigger) (at : Standing) (f : Failure) (all : Result Standing Failure)
     → slice_get ts i ≡ Some t → firings_run run (all_firings d parts (drop i ts)) at ≡ all
     → MatchBool memory (Unit {0}) (firings_run run (after_firings d parts t) at ≡ Err f) → MatchBool memory (Unit {0}) (all ≡ Err f)
-triggers_refused memory run d parts ts i t at f all e told h =
+triggers_refused memory run d parts ts i t at f all e so_far h =
     unless_memory memory (firings_run run (after_firings d parts t) at ≡ Err f) (all ≡ Err f)
-    (λ x. sym told ∙ ap (λ l. firings_run run (all_firings d parts l) at) (from_place ts i t e)
+    (λ x. sym so_far ∙ ap (λ l. firings_run run (all_firings d parts l) at) (from_place ts i t e)
     ∙ both_in_turn (firing_run run) (after_firings d parts t) (all_firings d parts (drop (i + 1) ts)) at
     ∙ ap (λ y. and_then y (firings_run run (all_firings d parts (drop (i + 1) ts)))) x) h
 
 -- one more transition of a row trigger
-pub rows_told : (run : Runs) (t : Trigger) (transitions : List Change) (i : ℕ) (frame : Frame) (at mid : Standing) (all : Result Standing Failure)
+pub rows_so_far : (run : Runs) (t : Trigger) (transitions : List Change) (i : ℕ) (frame : Frame) (at mid : Standing) (all : Result Standing Failure)
     → FiresAt t transitions i frame → firing_run run (record { trigger = t; frame = frame }) at ≡ Ok mid
     → firings_run run (map (row_firing t transitions) (drop i transitions)) at ≡ all
     → firings_run run (map (row_firing t transitions) (drop (i + 1) transitions)) mid ≡ all
-rows_told run t transitions i frame at mid all h fired told =
+rows_so_far run t transitions i frame at mid all h fired so_far =
     let here : firing_run run (row_firing t transitions h.0) at ≡ Ok mid = ap (λ f. firing_run run (record { trigger = t; frame = f }) at) (sym h.2) ∙ fired in
     ap (λ r. and_then r (firings_run run (map (row_firing t transitions) (drop (i + 1) transitions)))) (sym here)
-    ∙ ap (λ l. firings_run run (map (row_firing t transitions) l) at) (sym (from_place transitions i h.0 h.1)) ∙ told
+    ∙ ap (λ l. firings_run run (map (row_firing t transitions) l) at) (sym (from_place transitions i h.0 h.1)) ∙ so_far
 
 pub rows_refused : (memory : Bool) (run : Runs) (t : Trigger) (transitions : List Change) (i : ℕ) (frame : Frame) (at : Standing) (f : Failure) (all : Result Standing Failure)
     → FiresAt t transitions i frame → firings_run run (map (row_firing t transitions) (drop i transitions)) at ≡ all
     → MatchBool memory (Unit {0}) (firing_run run (record { trigger = t; frame = frame }) at ≡ Err f) → MatchBool memory (Unit {0}) (all ≡ Err f)
-rows_refused memory run t transitions i frame at f all h told m =
+rows_refused memory run t transitions i frame at f all h so_far m =
     unless_memory memory (firing_run run (record { trigger = t; frame = frame }) at ≡ Err f) (all ≡ Err f)
-    (λ x. sym told ∙ ap (λ l. firings_run run (map (row_firing t transitions) l) at) (from_place transitions i h.0 h.1)
+    (λ x. sym so_far ∙ ap (λ l. firings_run run (map (row_firing t transitions) l) at) (from_place transitions i h.0 h.1)
     ∙ ap (λ r. and_then r (firings_run run (map (row_firing t transitions) (drop (i + 1) transitions))))
     (ap (λ y. firing_run run (record { trigger = t; frame = y }) at) (sym h.2) ∙ x)) m
 
 -- one more statement of a body
-pub statements_told : (run : Runs) (x : Firing) (statements : List BodyStatement) (place i : ℕ) (s : BodyStatement) (at mid : Standing) (all : Result Standing Failure)
+pub statements_so_far : (run : Runs) (x : Firing) (statements : List BodyStatement) (place i : ℕ) (s : BodyStatement) (at mid : Standing) (all : Result Standing Failure)
     → slice_get statements i ≡ Some s → statement_run run x place s at ≡ Ok mid
     → body_run run x (enumerate_from place (drop i statements)) at ≡ all → body_run run x (enumerate_from (place + 1) (drop (i + 1) statements)) mid ≡ all
-statements_told run x statements place i s at mid all e ran told =
+statements_so_far run x statements place i s at mid all e ran so_far =
     ap (λ r. and_then r (body_run run x (enumerate_from (place + 1) (drop (i + 1) statements)))) (sym ran)
-    ∙ ap (λ l. body_run run x (enumerate_from place l) at) (sym (from_place statements i s e)) ∙ told
+    ∙ ap (λ l. body_run run x (enumerate_from place l) at) (sym (from_place statements i s e)) ∙ so_far
 
 pub statements_refused : (memory : Bool) (run : Runs) (x : Firing) (statements : List BodyStatement) (place i : ℕ) (s : BodyStatement) (at : Standing) (f : Failure) (all : Result Standing Failure)
     → slice_get statements i ≡ Some s → body_run run x (enumerate_from place (drop i statements)) at ≡ all
     → MatchBool memory (Unit {0}) (statement_run run x place s at ≡ Err f) → MatchBool memory (Unit {0}) (all ≡ Err f)
-statements_refused memory run x statements place i s at f all e told h =
+statements_refused memory run x statements place i s at f all e so_far h =
     unless_memory memory (statement_run run x place s at ≡ Err f) (all ≡ Err f)
-    (λ ran. sym told ∙ ap (λ l. body_run run x (enumerate_from place l) at) (from_place statements i s e)
+    (λ ran. sym so_far ∙ ap (λ l. body_run run x (enumerate_from place l) at) (from_place statements i s e)
     ∙ ap (λ r. and_then r (body_run run x (enumerate_from (place + 1) (drop (i + 1) statements)))) ran) h

@@ -44,5 +44,5 @@ waves_and_after run context statement db budget wave =
     Ok (record { database = at.database; rest = at.budget; size = size wave })))
 
 -- What a data statement of a script comes to: the database, and how many rows it changed itself.
-abbrev pub told : Result Finished Failure → Result (Database × ℕ) Failure
-told result = and_then result (λ done. Ok (done.database, done.size))
+abbrev pub database_and_size : Result Finished Failure → Result (Database × ℕ) Failure
+database_and_size result = and_then result (λ done. Ok (done.database, done.size))

@@ -14,7 +14,7 @@ ghost use Rattle.iv_waves.specs.Answers.{AnswersAt, UnlessMemory, with_database}
 ghost use Rattle.iv_waves.specs.Applying.{Proposes, StoreFits};
 ghost use Rattle.iv_waves.specs.Lookups.{LooksUp};
 ghost use Rattle.iv_exec.specs.Firing.{ActionFits, AreParts, AreTransitions, CanFire};
-ghost use Rattle.iv_exec.specs.Steps.{body_run_where_true, finished, innermost, standing, told, waves_and_after};
+ghost use Rattle.iv_exec.specs.Steps.{body_run_where_true, database_and_size, finished, innermost, standing, waves_and_after};
 
 use crate::lent::{are_transitions, row_frame, statement_at, statement_frame, trigger_at};
 use crate::start::{allowed, check, settle_waves, takes_effect};
@@ -485,7 +485,7 @@ pub fn change<K: Keeper>(
         (plain_shape catalogue.now.tables) statement.now ≡ true }
     ensures answer { AnswersAt (λ size. ((K.view store.new).base, size))
         (K.view store.new).base.count result
-        (told (level (limits.depth - 1)
+        (database_and_size (level (limits.depth - 1)
         (record { schema = catalogue.now; modes = modes.now.modes }) statement.now no_frame
         (K.view store.old).base limits.changes)) }
     ensures kept { K.view store.new ≡ with_database (K.view store.old) (K.view store.new).base }

@@ -1,6 +1,6 @@
 //! What data statements propose.
 use crate::schema::{add_table, fill, row};
-use crate::shown::told;
+use crate::shown::show_proposed;
 use crate::statements::{delete, insert_listed, insert_plus, insert_short, insert_star, update};
 use iv_catalogue::Catalogue;
 use iv_expr::{Change, Range, Side, TableId};
@@ -17,11 +17,11 @@ fn small_updates(
     catalogue: &Catalogue,
 ) -> Result<(), Fail> {
     assert!(rt; fill(store, alloc)?);
-    let shown = told(store, catalogue, alloc, update(alloc, 2)?.get(), &[])?;
+    let shown = show_proposed(store, catalogue, alloc, update(alloc, 2)?.get(), &[])?;
     assert_eq!(rt; shown.as_str(), "1 1 x; 3 x;4 3 xyz; 5 xyz;");
-    let shown = told(store, catalogue, alloc, update(alloc, i64::MAX)?.get(), &[])?;
+    let shown = show_proposed(store, catalogue, alloc, update(alloc, i64::MAX)?.get(), &[])?;
     assert_eq!(rt; shown.as_str(), "out of range");
-    let shown = told(store, catalogue, alloc, delete(alloc)?.get(), &[])?;
+    let shown = show_proposed(store, catalogue, alloc, delete(alloc)?.get(), &[])?;
     assert_eq!(rt; shown.as_str(), "1 1 x; none;");
     Ok(())
 }
@@ -45,7 +45,7 @@ fn small_inserts(
 ) -> Result<(), Fail> {
     for (characters, expected) in [("abc", "0 none; 7 k;0 none; 7 abc;"), ("abcd", "too long")] {
         let statement = insert_listed(alloc, characters)?;
-        let shown = told(store, catalogue, alloc, statement.get(), &[])?;
+        let shown = show_proposed(store, catalogue, alloc, statement.get(), &[])?;
         assert_eq!(rt; shown.as_str(), expected);
     }
     for (values, expected) in [
@@ -54,7 +54,7 @@ fn small_inserts(
         (3, "wrong shape"),
     ] {
         let statement = insert_short(alloc, values)?;
-        let shown = told(store, catalogue, alloc, statement.get(), &[])?;
+        let shown = show_proposed(store, catalogue, alloc, statement.get(), &[])?;
         assert_eq!(rt; shown.as_str(), expected);
     }
     Ok(())
@@ -96,10 +96,10 @@ fn inserts_of_queries(
         (Range::Transition(Side::New), ""),
     ] {
         let statement = insert_star(alloc, range)?;
-        let shown = told(store, catalogue, alloc, statement.get(), changes.as_slice())?;
+        let shown = show_proposed(store, catalogue, alloc, statement.get(), changes.as_slice())?;
         assert_eq!(rt; shown.as_str(), expected);
     }
-    let shown = told(store, catalogue, alloc, insert_plus(alloc)?.get(), &[])?;
+    let shown = show_proposed(store, catalogue, alloc, insert_plus(alloc)?.get(), &[])?;
     assert_eq!(rt; shown.as_str(), "0 none; 2 abc;0 none; 4 abc;");
     Ok(())
 }

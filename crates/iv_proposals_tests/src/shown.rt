@@ -52,7 +52,7 @@ pub fn show_rows(alloc: Global, rows: &[Row]) -> Result<String, AllocError> {
 }
 
 /// What a statement proposes, where there is one change of a transition; or its cause.
-pub fn told(
+pub fn show_proposed(
     store: &PlainStore,
     catalogue: &Catalogue,
     alloc: Global,

@@ -12,7 +12,7 @@ use Rattle.iv_session.specs.Changing.{Changes, outcome_said, said_of, size_said,
 use Rattle.iv_session.specs.Kept.{Parts, Seen, current, state_of}
 use Rattle.iv_session.specs.Performing.{Follows}
 use Rattle.iv_waves.specs.Answers.{AnswersAt, with_database}
-use Rattle.iv_exec.specs.Steps.{told}
+use Rattle.iv_exec.specs.Steps.{database_and_size}
 
 -- ---- undone
 
@@ -49,7 +49,7 @@ refused_changes begins s t u said r made e m h = by (is_memory_cause r.cause) h 
 -- ---- refused
 
 -- the machine's outcome is what is said
-pub level_said : (s : State) (l : Result Finished Failure) → level_outcome s l ≡ outcome_said s (told l)
+pub level_said : (s : State) (l : Result Finished Failure) → level_outcome s l ≡ outcome_said s (database_and_size l)
 level_said s (Ok done) = refl
 level_said s (Err f) = refl
 

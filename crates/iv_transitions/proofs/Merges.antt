@@ -14,7 +14,7 @@ pub merging_starts : (older newer out : List Change) → out ≡ [] → RisingCh
 merging_starts older newer out e r s = record {
   older_within = omega arith;
   newer_within = omega arith;
-  told = ap (λ l. l ++ merged older newer) e;
+  so_far = ap (λ l. l ++ merged older newer) e;
   older_rises = subst (λ l. RisingChangesFrom (last_row l) older) (sym e) r;
   newer_rises = subst (λ l. RisingChangesFrom (last_row l) newer) (sym e) s;
 }
@@ -74,10 +74,10 @@ module _ (older newer out more : List Change) (at to : ℕ) (c d : Change)
       record {
         older_within = omega (arith, at_less);
         newer_within = h.newer_within;
-        told = ap (λ l. l ++ merged (drop (at + 1) older) (drop to newer)) e ∙ append_assoc out (c ∷ []) (merged (drop (at + 1) older) (drop to newer))
+        so_far = ap (λ l. l ++ merged (drop (at + 1) older) (drop to newer)) e ∙ append_assoc out (c ∷ []) (merged (drop (at + 1) older) (drop to newer))
             ∙ ap (λ l. out ++ c ∷ merged (drop (at + 1) older) l) to_is
             ∙ ap (λ l. out ++ l) (sym (older_first c d (drop (at + 1) older) (drop (to + 1) newer) less))
-            ∙ ap (λ l. out ++ l) (sym heads) ∙ h.told;
+            ∙ ap (λ l. out ++ l) (sym heads) ∙ h.so_far;
         older_rises = subst (λ m. RisingChangesFrom m (drop (at + 1) older)) (sym last) c_rises.1;
         newer_rises = subst (λ m. RisingChangesFrom m (drop to newer)) (sym last) (subst (RisingChangesFrom c.row) (sym to_is) (less, d_rises.1));
       }
@@ -88,10 +88,10 @@ module _ (older newer out more : List Change) (at to : ℕ) (c d : Change)
       record {
         older_within = h.older_within;
         newer_within = omega (arith, to_less);
-        told = ap (λ l. l ++ merged (drop at older) (drop (to + 1) newer)) e ∙ append_assoc out (d ∷ []) (merged (drop at older) (drop (to + 1) newer))
+        so_far = ap (λ l. l ++ merged (drop at older) (drop (to + 1) newer)) e ∙ append_assoc out (d ∷ []) (merged (drop at older) (drop (to + 1) newer))
             ∙ ap (λ l. out ++ d ∷ merged l (drop (to + 1) newer)) at_is
             ∙ ap (λ l. out ++ l) (sym (newer_first c d (drop (at + 1) older) (drop (to + 1) newer) less))
-            ∙ ap (λ l. out ++ l) (sym heads) ∙ h.told;
+            ∙ ap (λ l. out ++ l) (sym heads) ∙ h.so_far;
         older_rises = subst (λ m. RisingChangesFrom m (drop at older)) (sym last) (subst (RisingChangesFrom d.row) (sym at_is) (less, c_rises.1));
         newer_rises = subst (λ m. RisingChangesFrom m (drop (to + 1) newer)) (sym last) d_rises.1;
       }
@@ -101,11 +101,11 @@ module _ (older newer out more : List Change) (at to : ℕ) (c d : Change)
       record {
         older_within = omega (arith, at_less);
         newer_within = omega (arith, to_less);
-        told = ap (λ l. l ++ merged (drop (at + 1) older) (drop (to + 1) newer)) e
+        so_far = ap (λ l. l ++ merged (drop (at + 1) older) (drop (to + 1) newer)) e
             ∙ append_assoc out (cons_option (joined c d) []) (merged (drop (at + 1) older) (drop (to + 1) newer))
             ∙ ap (λ l. out ++ l) (joins (joined c d) (merged (drop (at + 1) older) (drop (to + 1) newer)))
             ∙ ap (λ l. out ++ l) (sym (same_first c d (drop (at + 1) older) (drop (to + 1) newer) same))
-            ∙ ap (λ l. out ++ l) (sym heads) ∙ h.told;
+            ∙ ap (λ l. out ++ l) (sym heads) ∙ h.so_far;
         older_rises = rising_lower (last_row more) c.row (drop (at + 1) older) last c_rises.1;
         newer_rises = rising_lower (last_row more) d.row (drop (to + 1) newer) (omega (arith, last, same)) d_rises.1;
       }
@@ -127,11 +127,11 @@ drop_read xs i x is less = drop_more xs i x less ∙ ap (λ y. y ∷ drop (i + 1
 pub pushed_rises : (out more rest : List Change) (c : Change) → more ≡ out ++ c ∷ [] → RisingChangesFrom (last_row out) (c ∷ rest) → RisingChangesFrom (last_row more) rest
 pushed_rises out more rest c e r = subst (λ m. RisingChangesFrom m rest) (sym (ap last_row e ∙ last_row_push out c)) r.1
 
-pub pushed_told : (out more rest : List Change) (c : Change) → more ≡ out ++ c ∷ [] → more ++ rest ≡ out ++ c ∷ rest
-pushed_told out more rest c e = ap (λ l. l ++ rest) e ∙ append_assoc out (c ∷ []) rest
+pub pushed_so_far : (out more rest : List Change) (c : Change) → more ≡ out ++ c ∷ [] → more ++ rest ≡ out ++ c ∷ rest
+pushed_so_far out more rest c e = ap (λ l. l ++ rest) e ∙ append_assoc out (c ∷ []) rest
 
-pub kept_told : (out more rest : List Change) (c : Change) → more ≡ out ++ cons_option (kept c) [] → more ++ rest ≡ out ++ cons_option (kept c) rest
-kept_told out more rest c e = ap (λ l. l ++ rest) e ∙ append_assoc out (cons_option (kept c) []) rest ∙ ap (λ l. out ++ l) (joins (kept c) rest) where
+pub kept_so_far : (out more rest : List Change) (c : Change) → more ≡ out ++ cons_option (kept c) [] → more ++ rest ≡ out ++ cons_option (kept c) rest
+kept_so_far out more rest c e = ap (λ l. l ++ rest) e ∙ append_assoc out (cons_option (kept c) []) rest ∙ ap (λ l. out ++ l) (joins (kept c) rest) where
   joins : (o : Option Change) (l : List Change) → cons_option o [] ++ l ≡ cons_option o l
   joins None l = refl
   joins (Some x) l = refl
@@ -141,7 +141,7 @@ pub rest_older : (older newer out more : List Change) (at to : ℕ) → Merging 
     → more ≡ out ++ drop at older → more ≡ merged older newer
 rest_older older newer out more at to h (inl e) less is = absurd (omega (arith, e, less))
 rest_older older newer out more at to h (inr e) less is =
-    is ∙ ap (λ l. out ++ l) (sym (merged_nothing (drop at older))) ∙ ap (λ l. out ++ merged (drop at older) l) (sym (drop_all to newer (omega (arith, e)))) ∙ h.told
+    is ∙ ap (λ l. out ++ l) (sym (merged_nothing (drop at older))) ∙ ap (λ l. out ++ merged (drop at older) l) (sym (drop_all to newer (omega (arith, e)))) ∙ h.so_far
 
 pub on_ok : {A E : Type 0} (P Q : Type 0) (r : Result A E) → (P → Q) → OnOk r P → OnOk r Q
 on_ok P Q (Ok x) f h = f h

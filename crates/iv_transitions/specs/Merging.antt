@@ -28,6 +28,6 @@ merged (c ∷ older) newer = merged_with c (merged older) newer
 pub record Merging (older newer : List Change) (at to : ℕ) (out : List Change) : Type 0 where
   pub older_within : at ≤ length older
   pub newer_within : to ≤ length newer
-  pub told : out ++ merged (drop at older) (drop to newer) ≡ merged older newer
+  pub so_far : out ++ merged (drop at older) (drop to newer) ≡ merged older newer
   pub older_rises : RisingChangesFrom (last_row out) (drop at older)
   pub newer_rises : RisingChangesFrom (last_row out) (drop to newer)

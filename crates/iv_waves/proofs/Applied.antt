@@ -29,7 +29,7 @@ use Rattle.iv_waves.specs.Applying.{Applicable, IsNext}
 -- ---- what is still to be applied, and to what
 
 pub record Applying (tables : List Table) (start : Database) (changes : List Change) (now : Database) (rest : List Change) : Type 0 where
-  pub told : one_by_one now rest ≡ one_by_one start changes
+  pub so_far : one_by_one now rest ≡ one_by_one start changes
   pub distinct : Distinct rest
   pub current : Current now.rows rest
   pub positive : Positive rest
@@ -39,7 +39,7 @@ pub record Applying (tables : List Table) (start : Database) (changes : List Cha
 
 pub applying_starts : (tables : List Table) (db : Database) (changes : List Change) → Applicable tables db changes → Applying tables db changes db changes
 applying_starts tables db changes h = record {
-  told = refl;
+  so_far = refl;
   distinct = rising_distinct changes h.rising;
   current = h.current;
   positive = rising_positive changes h.rising;
@@ -125,7 +125,7 @@ next_of s start changes c rest h =
 pub applying_more : (tables : List Table) (start : Database) (changes : List Change) (now : Database) (c : Change) (rest : List Change)
     → Applying tables start changes now (c ∷ rest) → Applying tables start changes (after_changes now (c ∷ [])) rest
 applying_more tables start changes now c rest h = record {
-  told = h.told;
+  so_far = h.so_far;
   distinct = h.distinct.1;
   current = current_after now c rest h.distinct.0 h.current.1;
   positive = h.positive.1;
@@ -138,7 +138,7 @@ applying_more tables start changes now c rest h = record {
 
 pub applied_all : (tables : List Table) (start : Database) (changes : List Change) (now : Database) → Numbered start → Distinct changes
     → Applying tables start changes now [] → now ≡ database_after start (wave_of changes)
-applied_all tables start changes now h d a = a.told ∙ applied_one_by_one start changes (parts_of 0 start.rows start.next h).order d
+applied_all tables start changes now h d a = a.so_far ∙ applied_one_by_one start changes (parts_of 0 start.rows start.next h).order d
 
 -- ---- one more change, as the loop has it
 

@@ -16,7 +16,7 @@ use Rattle.iv_machine.specs.ReferentialActions.{conflicts, following_wave, lost_
 use Rattle.iv_machine.specs.Waves.{AppliedWave}
 use Rattle.iv_laws.proofs.NumberedRows.{parts_of}
 use Rattle.iv_action_laws.specs.RowByRow.{LedTo}
-use Rattle.iv_actions.specs.Answers.{Tells, told}
+use Rattle.iv_actions.specs.Answers.{AnswersWave, uncounted}
 use Rattle.iv_triggers.proofs.Answers.{unless_memory}
 use Rattle.iv_waves.specs.Applying.{Applicable}
 use Rattle.iv_waves.specs.Steps.{followed_by}
@@ -26,15 +26,15 @@ led tables db later changes h e = record { in_order = (parts_of 0 db.rows db.nex
 
 -- ---- what is shown of an answer
 
-ok_told : (next : Wave) (said : Result Wave Failure) → ◌≡◌ {A = Result Wave Refusal} (Ok next) (told said) → said ≡ Ok next
-ok_told next (Ok wave) e = cc
-ok_told next (Err f) e = cc
+ok_uncounted : (next : Wave) (said : Result Wave Failure) → ◌≡◌ {A = Result Wave Refusal} (Ok next) (uncounted said) → said ≡ Ok next
+ok_uncounted next (Ok wave) e = cc
+ok_uncounted next (Err f) e = cc
 
 -- a refusal that this comes to, with the count of row changes
-err_told : (r : Refusal) (count : ℕ) (said : Result Wave Failure) → ((f : Failure) → said ≡ Err f → f.count ≡ count) → Err r ≡ told said
+err_uncounted : (r : Refusal) (count : ℕ) (said : Result Wave Failure) → ((f : Failure) → said ≡ Err f → f.count ≡ count) → Err r ≡ uncounted said
     → said ≡ Err (record { cause = r.cause; trigger = r.trigger; count = count })
-err_told r count (Ok wave) h e = cc
-err_told r count (Err f) h e =
+err_uncounted r count (Ok wave) h e = cc
+err_uncounted r count (Err f) h e =
     let same : r ≡ record { cause = f.cause; trigger = f.trigger } = err_same r (record { cause = f.cause; trigger = f.trigger }) e in
     λ i. Err (record { cause = (sym same i).cause; trigger = (sym same i).trigger; count = h f refl i })
   where
@@ -65,14 +65,14 @@ following_count w db later =
 abbrev with_next : Wave → Result Wave Failure → Result AppliedWave Failure
 with_next wave r = and_then r (λ next. Ok (record { wave = wave; next = next }))
 
-pub followed_ok : (w : Context) (db later : Database) (wave next : Wave) → later ≡ database_after db wave → Tells (Ok next) (following_wave w db later)
+pub followed_ok : (w : Context) (db later : Database) (wave next : Wave) → later ≡ database_after db wave → AnswersWave (Ok next) (following_wave w db later)
     → followed_by w db wave ≡ Ok (record { wave = wave; next = next })
-followed_ok w db later wave next is tells = ap (with_next wave) (ap (following_wave w db) (sym is) ∙ ok_told next (following_wave w db later) tells)
+followed_ok w db later wave next is tells = ap (with_next wave) (ap (following_wave w db) (sym is) ∙ ok_uncounted next (following_wave w db later) tells)
 
 pub followed_refused : (w : Context) (db later : Database) (wave : Wave) (r : Refusal) (count : ℕ) → later ≡ database_after db wave → count ≡ later.count
-    → Tells (Err r) (following_wave w db later)
+    → AnswersWave (Err r) (following_wave w db later)
     → MatchBool (is_memory_cause r.cause) (Unit {0}) (followed_by w db wave ≡ Err (record { cause = r.cause; trigger = r.trigger; count = count }))
 followed_refused w db later wave r count is same tells =
-    unless_memory (is_memory_cause r.cause) (Err r ≡ told (following_wave w db later)) (followed_by w db wave ≡ Err (record { cause = r.cause; trigger = r.trigger; count = count }))
+    unless_memory (is_memory_cause r.cause) (Err r ≡ uncounted (following_wave w db later)) (followed_by w db wave ≡ Err (record { cause = r.cause; trigger = r.trigger; count = count }))
     (λ e. ap (with_next wave) (ap (following_wave w db) (sym is)
-    ∙ err_told r count (following_wave w db later) (λ f g. following_count w db later f g ∙ sym same) e)) tells
+    ∙ err_uncounted r count (following_wave w db later) (λ f g. following_count w db later f g ∙ sym same) e)) tells

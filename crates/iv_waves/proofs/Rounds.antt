@@ -64,9 +64,9 @@ pub settled_refused : (w : Context) (db : Database) (budget : ℕ) (changes : Li
     → 0 < length changes → after_waves done (settled_waves w db budget (wave_of changes)) ≡ all
     → MatchBool (is_memory_cause r.cause) (Unit {0}) (one_wave w db budget (wave_of changes) ≡ Err f)
     → MatchBool (is_memory_cause r.cause) (Unit {0}) (all ≡ Err f)
-settled_refused w db budget changes done all r f h told m =
+settled_refused w db budget changes done all r f h so_far m =
     unless_memory (is_memory_cause r.cause) (one_wave w db budget (wave_of changes) ≡ Err f) (all ≡ Err f)
-    (λ e. sym told ∙ ap (after_waves done) (settled_first w db budget changes h ∙ ap (λ x. and_then x (then_settled (settled_waves w) db budget)) e)) m
+    (λ e. sym so_far ∙ ap (after_waves done) (settled_first w db budget changes h ∙ ap (λ x. and_then x (then_settled (settled_waves w) db budget)) e)) m
 
 append_nothing : (l : List Wave) → l ++ [] ≡ l
 append_nothing [] = refl
@@ -129,12 +129,12 @@ pub none_left : (n m : ℕ) → true ≡ (n == 0) → n ≡ m → m ≡ 0
 none_left n m e h = grind (arith, nat_tests)
 
 -- one more wave, as the loop has it
-pub round_told : (w : Context) (s later : StoreState) (budget less : ℕ) (changes next : List Change) (done more : List Wave) (all : Result SettledWaves Failure) (one : AppliedWave)
+pub round_so_far : (w : Context) (s later : StoreState) (budget less : ℕ) (changes next : List Change) (done more : List Wave) (all : Result SettledWaves Failure) (one : AppliedWave)
     → 0 < length changes → after_waves done (settled_waves w s.base budget (wave_of changes)) ≡ all → one_wave w s.base budget (wave_of changes) ≡ Ok one
     → later.base ≡ database_after s.base one.wave → less ≡ budget - size one.wave → next ≡ one.next.changes → more ≡ done ++ one.wave ∷ []
     → after_waves more (settled_waves w later.base less (wave_of next)) ≡ all
-round_told w s later budget less changes next done more all one h told e is_later is_less is_next is_more =
-    (λ i. after_waves (is_more i) (settled_waves w (is_later i) (is_less i) (wave_of (is_next i)))) ∙ settled_step w s.base budget changes done one h e ∙ told
+round_so_far w s later budget less changes next done more all one h so_far e is_later is_less is_next is_more =
+    (λ i. after_waves (is_more i) (settled_waves w (is_later i) (is_less i) (wave_of (is_next i)))) ∙ settled_step w s.base budget changes done one h e ∙ so_far
 
 pub round_standing : (w : Context) (s later : StoreState) (budget : ℕ) (changes next : List Change) (one : AppliedWave) → Standing w s changes
     → one_wave w s.base budget (wave_of changes) ≡ Ok one → later.base ≡ database_after s.base one.wave → later ≡ with_database s later.base → next ≡ one.next.changes

@@ -20,7 +20,7 @@ status_of summary = if (summary.refused == 0) && is_none summary.fault then 0 el
 
 -- The transcript of these bytes under these limits was appended, for some choice of statements that were
 -- refused memory, and the status says whether all was accepted.
-pub record Told (bytes : List ℕ) (limits : Bounds) (status : ℕ) (before after : SinkState) : Type 0 where
+pub record WroteTranscript (bytes : List ℕ) (limits : Bounds) (status : ℕ) (before after : SinkState) : Type 0 where
   pub summary : Summary
   pub ran : RanScript bytes limits summary before after
   pub status_is : status ≡ status_of summary

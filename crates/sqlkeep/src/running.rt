@@ -3,7 +3,7 @@ ghost use Rattle.std.specs.Prelude.{◌≡◌, ◌<◌, ◌≤◌, IfErr, IfSome
 ghost use Rattle.iv_print.specs.Sinks.{FailsOnce, FailsNever};
 ghost use Rattle.iv_print.specs.Writing.{Writes};
 ghost use Rattle.iv_script.specs.Lengths.{Fits};
-ghost use Rattle.sqlkeep.specs.Statuses.{status_of, stop_line, Told, Stopped, WritesLine};
+ghost use Rattle.sqlkeep.specs.Statuses.{status_of, stop_line, Stopped, WritesLine, WroteTranscript};
 
 use iv_machine::Limits;
 use iv_print::write_all;
@@ -56,7 +56,7 @@ pub fn run_script<R: Source, W: Sink, E: Sink>(
 ) -> u8
     // What was written is the transcript, and the status is 0 where all was accepted and else 1.
     ensures transcript { result < 2 → IfSome (R.remaining reader.old) (λ bytes.
-        Told bytes limits result (W.state writer.old) (W.state writer.new)) }
+        WroteTranscript bytes limits result (W.state writer.old) (W.state writer.new)) }
     ensures fits { result < 2 → IfSome (R.remaining reader.old) (λ bytes. Fits LONGEST bytes) }
     ensures bound { result ≤ 2 }
     // A run that did not reach its end wrote nothing, unless a write failed.

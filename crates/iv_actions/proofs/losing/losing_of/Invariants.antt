@@ -5,5 +5,5 @@ use Rattle.iv_actions.proofs.losing.losing_of.Given as goal
 abbrev pub invariant-loop-constraint : goal.invariant-loop-constraint
 invariant-loop-constraint l = record {
   place : l.id ≡ l.constraint-index;
-  told : l.found.items ++ losing_from l.changes l.id (drop l.constraint-index l.constraints) ≡ losing_from l.changes 0 l.constraints;
+  so_far : l.found.items ++ losing_from l.changes l.id (drop l.constraint-index l.constraints) ≡ losing_from l.changes 0 l.constraints;
 }

@@ -1,6 +1,6 @@
 use Rattle.std.proofs.Common.{◌∙◌, sym, ap, Ok}
 use Rattle.iv_expr.specs.Changes.{wave_of}
-use Rattle.iv_actions.specs.Answers.{told}
+use Rattle.iv_actions.specs.Answers.{uncounted}
 use Rattle.iv_actions.specs.Following.{answer_among}
 use Rattle.iv_actions.proofs.Nothing.{none_there, nothing_follows}
 use Rattle.iv_actions.proofs.next.answer_among.Goals as goal
@@ -9,7 +9,7 @@ pub returns-then-is_empty : goal.returns-then-is_empty
 returns-then-is_empty g c =
     let later = (g.K.Kin.view c.args.store.now).base in
     ap (λ changes. Ok (wave_of changes)) c.new.ensures
-    ∙ ap told
+    ∙ ap uncounted
     (sym (nothing_follows c.args.catalogue.now c.args.changes.now later c.args.numbers.now)
     ∙ ap (λ xs. answer_among c.args.catalogue.now xs c.args.changes.now later c.args.numbers.now)
     (sym (none_there c.args.losings.now (sym c.is_empty.ensures ∙ c.if-is_empty.true))))

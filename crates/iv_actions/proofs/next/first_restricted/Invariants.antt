@@ -6,7 +6,7 @@ use Rattle.iv_actions.proofs.next.first_restricted.Given as goal
 abbrev pub invariant-loop-left : goal.invariant-loop-left
 invariant-loop-left g l = record {
   within : l.left ≤ length l.numbers;
-  told : l.first ≡ least (restricted_at l.losings l.changes (g.K.Kin.view l.store).base.rows) (drop l.left l.numbers);
+  so_far : l.first ≡ least (restricted_at l.losings l.changes (g.K.Kin.view l.store).base.rows) (drop l.left l.numbers);
 }
 
 abbrev pub decreases-loop-left : goal.decreases-loop-left

@@ -10,7 +10,7 @@ loop-number-preserved g c =
     let i = c.loop-number.number-index in
     record {
       above = rising_rest _ _ numbers i (omega arith) c.loop-number.invariant.above c.in_ok-push_change.ensures.last;
-      told =
-          ap (λ l. l ++ filter_map f (drop (i + 1) numbers)) c.in_ok-push_change.ensures.told
-          ∙ made_next f c.loop-number.next.changes numbers i (omega arith) ∙ c.loop-number.invariant.told;
+      so_far =
+          ap (λ l. l ++ filter_map f (drop (i + 1) numbers)) c.in_ok-push_change.ensures.pushed
+          ∙ made_next f c.loop-number.next.changes numbers i (omega arith) ∙ c.loop-number.invariant.so_far;
     }

@@ -3,7 +3,7 @@ use Rattle.iv_action_laws.specs.RowByRow.{is_among, LedTo}
 use Rattle.iv_store.specs.Stores.{RisingNumbers}
 use Rattle.iv_actions.specs.Losing.{losing_from}
 use Rattle.iv_actions.specs.Following.{answer_among}
-use Rattle.iv_actions.specs.Answers.{Tells}
+use Rattle.iv_actions.specs.Answers.{AnswersWave}
 use Rattle.iv_actions.proofs.Answering.{answered, looked_at_most}
 use Rattle.iv_actions.proofs.next.next_wave.Goals as goal
 
@@ -18,7 +18,7 @@ returns-clause-followed g c before context e same led =
     (c.as_slice.ensures ∙ c.in_ok-losings.ensures ∙ ap (losing_from changes 0) c.constraints.ensures.constraints)
     (subst (RisingNumbers 0) (sym c.as_slice-2.ensures.value) c.in_ok-numbers.ensures.rising)
     (λ n. ap (λ l. is_among l n) c.as_slice-2.ensures.value ∙ c.in_ok-numbers.ensures.same n)
-    (subst (λ l. Tells c.answer_among.result (answer_among c.args.catalogue.now l changes s2.base numbers)) (sym c.as_slice.ensures) c.answer_among.ensures)
+    (subst (λ l. AnswersWave c.answer_among.result (answer_among c.args.catalogue.now l changes s2.base numbers)) (sym c.as_slice.ensures) c.answer_among.ensures)
     before context e same (subst (λ l. LedTo before l s.base) (sym c.changes-changes.ensures.list) led)
 
 pub returns-in_err-numbers-clause-looked : goal.returns-in_err-numbers-clause-looked

@@ -3,7 +3,7 @@ use Rattle.iv_machine.specs.Levels.{Firing, nested_level}
 use Rattle.iv_exec.specs.Steps.{standing}
 use Rattle.iv_waves.proofs.Looking.{kept_both, looked_both, looked_refused}
 use Rattle.iv_exec.proofs.Levels.{finished_is, finished_refused, level_refused, nested_refused, waves_done, waves_refused}
-use Rattle.iv_exec.proofs.Turns.{rows_refused, rows_told, statements_refused, statements_told, triggers_refused, triggers_told}
+use Rattle.iv_exec.proofs.Turns.{rows_refused, rows_so_far, statements_refused, statements_so_far, triggers_refused, triggers_so_far}
 use Rattle.iv_exec.proofs.level.+level.Goals as goal
 
 pub finish-returns-in-Ok-fire_all-clause-answer : goal.finish-returns-in-Ok-fire_all-clause-answer
@@ -19,7 +19,7 @@ finish-returns-in-Err-fire_all-clause-answer g t c net h =
 pub fire_all-returns-in-Err-clause-answer : goal.fire_all-returns-in-Err-clause-answer
 fire_all-returns-in-Err-clause-answer g t c =
     triggers_refused _ (nested_level c.args.deeper c.args.context.now) c.args.statement.now c.args.transitions.now c.args.triggers.now c.loop-at.at c.trigger_at-trigger.result.now
-    (standing (g.K.Kin.view c.loop-at.store).base c.loop-at.budget) _ _ c.trigger_at-trigger.ensures.trigger c.loop-at.invariant.told c.in-Err.ensures.answer
+    (standing (g.K.Kin.view c.loop-at.store).base c.loop-at.budget) _ _ c.trigger_at-trigger.ensures.trigger c.loop-at.invariant.so_far c.in-Err.ensures.answer
 
 pub fire_all-returns-in-Err-clause-looked : goal.fire_all-returns-in-Err-clause-looked
 fire_all-returns-in-Err-clause-looked g t c =
@@ -33,8 +33,8 @@ fire_all-loop-at-preserved g t c =
     let later = g.K.Kin.view c.fire_trigger.new.store in
     record {
       within = omega arith;
-      told = triggers_told (nested_level c.args.deeper c.args.context.now) c.args.statement.now c.args.transitions.now c.args.triggers.now c.loop-at.at c.trigger_at-trigger.result.now
-          (standing now.base c.loop-at.budget) _ _ c.trigger_at-trigger.ensures.trigger c.in-Ok.ensures.answer c.loop-at.invariant.told;
+      so_far = triggers_so_far (nested_level c.args.deeper c.args.context.now) c.args.statement.now c.args.transitions.now c.args.triggers.now c.loop-at.at c.trigger_at-trigger.result.now
+          (standing now.base c.loop-at.budget) _ _ c.trigger_at-trigger.ensures.trigger c.in-Ok.ensures.answer c.loop-at.invariant.so_far;
       kept = kept_both old now later c.loop-at.invariant.kept c.in-Ok.ensures.kept;
       looked = looked_both old now later (g.K.Kin.lookups c.args.store.now) (g.K.Kin.lookups c.loop-at.store) (g.K.Kin.lookups c.fire_trigger.new.store)
           c.loop-at.invariant.kept c.loop-at.invariant.looked c.in-Ok.ensures.looked;
@@ -44,7 +44,7 @@ fire_all-loop-at-preserved g t c =
 pub fire_rows-returns-in-Err-clause-answer : goal.fire_rows-returns-in-Err-clause-answer
 fire_rows-returns-in-Err-clause-answer g t c =
     rows_refused _ (nested_level c.args.deeper c.args.context.now) c.args.trigger.now c.args.transitions.now c.loop-at.at c.row_frame-frame.result
-    (standing (g.K.Kin.view c.loop-at.store).base c.loop-at.budget) _ _ c.row_frame-frame.ensures.firing c.loop-at.invariant.told c.in-Err.ensures.answer
+    (standing (g.K.Kin.view c.loop-at.store).base c.loop-at.budget) _ _ c.row_frame-frame.ensures.firing c.loop-at.invariant.so_far c.in-Err.ensures.answer
 
 pub fire_rows-returns-in-Err-clause-looked : goal.fire_rows-returns-in-Err-clause-looked
 fire_rows-returns-in-Err-clause-looked g t c =
@@ -58,8 +58,8 @@ fire_rows-loop-at-preserved g t c =
     let later = g.K.Kin.view c.fire.new.store in
     record {
       within = omega arith;
-      told = rows_told (nested_level c.args.deeper c.args.context.now) c.args.trigger.now c.args.transitions.now c.loop-at.at c.row_frame-frame.result
-          (standing now.base c.loop-at.budget) _ _ c.row_frame-frame.ensures.firing c.in-Ok.ensures.answer c.loop-at.invariant.told;
+      so_far = rows_so_far (nested_level c.args.deeper c.args.context.now) c.args.trigger.now c.args.transitions.now c.loop-at.at c.row_frame-frame.result
+          (standing now.base c.loop-at.budget) _ _ c.row_frame-frame.ensures.firing c.in-Ok.ensures.answer c.loop-at.invariant.so_far;
       kept = kept_both old now later c.loop-at.invariant.kept c.in-Ok.ensures.kept;
       looked = looked_both old now later (g.K.Kin.lookups c.args.store.now) (g.K.Kin.lookups c.loop-at.store) (g.K.Kin.lookups c.fire.new.store)
           c.loop-at.invariant.kept c.loop-at.invariant.looked c.in-Ok.ensures.looked;
@@ -98,7 +98,7 @@ pub run_body-returns-in-Err-clause-answer : goal.run_body-returns-in-Err-clause-
 run_body-returns-in-Err-clause-answer g t c =
     let x : Firing = record { trigger = c.args.trigger.now; frame = c.args.frame.now } in
     statements_refused _ (nested_level c.args.deeper c.args.context.now) x c.as_slice-body.result.now c.loop-at.place c.loop-at.at c.statement_at-statement.result.now
-    (standing (g.K.Kin.view c.loop-at.store).base c.loop-at.budget) _ _ c.statement_at-statement.ensures.statement c.loop-at.invariant.told c.in-Err.ensures.answer
+    (standing (g.K.Kin.view c.loop-at.store).base c.loop-at.budget) _ _ c.statement_at-statement.ensures.statement c.loop-at.invariant.so_far c.in-Err.ensures.answer
 
 pub run_body-loop-at-preserved : goal.run_body-loop-at-preserved
 run_body-loop-at-preserved g t c =
@@ -109,8 +109,8 @@ run_body-loop-at-preserved g t c =
     record {
       within = omega arith;
       counted = omega (arith, c.loop-at.invariant.counted);
-      told = statements_told (nested_level c.args.deeper c.args.context.now) x c.as_slice-body.result.now c.loop-at.place c.loop-at.at c.statement_at-statement.result.now
-          (standing now.base c.loop-at.budget) _ _ c.statement_at-statement.ensures.statement c.in-Ok.ensures.answer c.loop-at.invariant.told;
+      so_far = statements_so_far (nested_level c.args.deeper c.args.context.now) x c.as_slice-body.result.now c.loop-at.place c.loop-at.at c.statement_at-statement.result.now
+          (standing now.base c.loop-at.budget) _ _ c.statement_at-statement.ensures.statement c.in-Ok.ensures.answer c.loop-at.invariant.so_far;
       kept = kept_both old now later c.loop-at.invariant.kept c.in-Ok.ensures.kept;
       looked = looked_both old now later (g.K.Kin.lookups c.args.store.now) (g.K.Kin.lookups c.loop-at.store) (g.K.Kin.lookups c.run_statement.new.store)
           c.loop-at.invariant.kept c.loop-at.invariant.looked c.in-Ok.ensures.looked;

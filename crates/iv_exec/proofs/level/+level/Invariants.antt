@@ -54,7 +54,7 @@ invariant-fire_all-loop-at g l =
     let now = g.K.Kin.view l.store in
     record {
       within : l.at ≤ length l.triggers;
-      told : firings_run run (all_firings l.statement l.transitions (drop l.at l.triggers)) (standing now.base l.budget)
+      so_far : firings_run run (all_firings l.statement l.transitions (drop l.at l.triggers)) (standing now.base l.budget)
           ≡ firings_run run (all_firings l.statement l.transitions l.triggers) (standing old.base l.initial.budget);
       kept : now ≡ with_database old now.base;
       looked : LooksUp old (g.K.Kin.lookups l.initial.store) now (g.K.Kin.lookups l.store);
@@ -68,7 +68,7 @@ invariant-fire_rows-loop-at g l =
     let now = g.K.Kin.view l.store in
     record {
       within : l.at ≤ length l.transitions;
-      told : firings_run run (map (row_firing l.trigger l.transitions) (drop l.at l.transitions)) (standing now.base l.budget)
+      so_far : firings_run run (map (row_firing l.trigger l.transitions) (drop l.at l.transitions)) (standing now.base l.budget)
           ≡ firings_run run (map (row_firing l.trigger l.transitions) l.transitions) (standing old.base l.initial.budget);
       kept : now ≡ with_database old now.base;
       looked : LooksUp old (g.K.Kin.lookups l.initial.store) now (g.K.Kin.lookups l.store);
@@ -84,7 +84,7 @@ invariant-run_body-loop-at g l =
     record {
       within : l.at ≤ length l.body;
       counted : l.place ≡ 1 + l.at;
-      told : body_run run x (enumerate_from l.place (drop l.at l.body)) (standing now.base l.budget)
+      so_far : body_run run x (enumerate_from l.place (drop l.at l.body)) (standing now.base l.budget)
           ≡ body_run run x (placed_statements l.trigger) (standing old.base l.initial.budget);
       kept : now ≡ with_database old now.base;
       looked : LooksUp old (g.K.Kin.lookups l.initial.store) now (g.K.Kin.lookups l.store);

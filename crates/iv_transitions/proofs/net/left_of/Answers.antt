@@ -3,7 +3,7 @@ use Rattle.std.specs.List.{cons_option}
 use Rattle.iv_expr.specs.Changes.{RisingChangesFrom, last_row}
 use Rattle.iv_transitions.specs.Merging.{kept}
 use Rattle.iv_transitions.proofs.ChangesAt.{rising_lower}
-use Rattle.iv_transitions.proofs.Merges.{drop_read, kept_told}
+use Rattle.iv_transitions.proofs.Merges.{drop_read, kept_so_far}
 use Rattle.iv_transitions.proofs.net.left_of.Goals as goal
 
 pub loop-change-preserved : goal.loop-change-preserved
@@ -16,6 +16,6 @@ loop-change-preserved c =
     let last : last_row c.push_kept.new.net.changes ≤ c.change-item.result.row = subst (λ x. last_row c.push_kept.new.net.changes ≤ x.row) copy c.in_ok-push_kept.ensures.last in
     let rises = subst (RisingChangesFrom (last_row c.loop-change.left.changes)) next c.loop-change.invariant.rises in
     record {
-      told = kept_told c.loop-change.left.changes c.push_kept.new.net.changes (filter_map kept (drop (c.loop-change.change-index + 1) c.args.wave.now)) c.change-item.result more ∙ ap (λ l. c.loop-change.left.changes ++ filter_map kept l) (sym next) ∙ c.loop-change.invariant.told;
+      so_far = kept_so_far c.loop-change.left.changes c.push_kept.new.net.changes (filter_map kept (drop (c.loop-change.change-index + 1) c.args.wave.now)) c.change-item.result more ∙ ap (λ l. c.loop-change.left.changes ++ filter_map kept l) (sym next) ∙ c.loop-change.invariant.so_far;
       rises = rising_lower _ _ _ last rises.1;
     }

@@ -5,6 +5,6 @@ use Rattle.iv_transitions.proofs.net.left_of.Given as goal
 
 abbrev pub invariant-loop-change : goal.invariant-loop-change
 invariant-loop-change l = record {
-  told : l.left.changes ++ filter_map kept (drop l.change-index l.wave) ≡ filter_map kept l.wave;
+  so_far : l.left.changes ++ filter_map kept (drop l.change-index l.wave) ≡ filter_map kept l.wave;
   rises : RisingChangesFrom (last_row l.left.changes) (drop l.change-index l.wave);
 }

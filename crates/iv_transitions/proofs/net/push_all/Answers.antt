@@ -1,6 +1,6 @@
 use Rattle.std.proofs.Common.{◌≡◌, ◌+◌, ◌∙◌, ◌++◌, [], ◌∷◌, drop, ap, sym, subst, arith}
 use Rattle.iv_expr.specs.Changes.{RisingChangesFrom, last_row}
-use Rattle.iv_transitions.proofs.Merges.{drop_read, pushed_rises, pushed_told}
+use Rattle.iv_transitions.proofs.Merges.{drop_read, pushed_rises, pushed_so_far}
 use Rattle.iv_transitions.proofs.net.push_all.Goals as goal
 
 pub loop-change-preserved : goal.loop-change-preserved
@@ -10,6 +10,6 @@ loop-change-preserved c =
     let copy : c.in_ok-copy.copy ≡ c.change-item.result = c.in_ok-copy.ensures in
     let more : c.push.new.self.changes ≡ c.loop-change.net.changes ++ c.change-item.result ∷ [] = c.in_ok-push.ensures.ok ∙ ap (λ x. c.loop-change.net.changes ++ x ∷ []) copy in
     record {
-      told = pushed_told _ _ _ _ more ∙ ap (λ l. c.loop-change.net.changes ++ l) (sym next) ∙ c.loop-change.invariant.told;
+      so_far = pushed_so_far _ _ _ _ more ∙ ap (λ l. c.loop-change.net.changes ++ l) (sym next) ∙ c.loop-change.invariant.so_far;
       rises = pushed_rises _ _ _ _ more (subst (RisingChangesFrom (last_row c.loop-change.net.changes)) next c.loop-change.invariant.rises);
     }

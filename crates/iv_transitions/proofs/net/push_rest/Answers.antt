@@ -4,5 +4,5 @@ use Rattle.iv_transitions.proofs.net.push_rest.Goals as goal
 
 pub returns-then-at-older : goal.returns-then-at-older
 returns-then-at-older c =
-    let told = simp take_rest at c.push_all.ensures in
-    on_ok _ _ c.push_all.result (rest_older c.args.older.now c.args.newer.now c.args.net.now.changes c.push_all.new.net.changes c.args.at c.args.to c.requires.merging c.requires.end c.if-at-older.true) told
+    let so_far = simp take_rest at c.push_all.ensures in
+    on_ok _ _ c.push_all.result (rest_older c.args.older.now c.args.newer.now c.args.net.now.changes c.push_all.new.net.changes c.args.at c.args.to c.requires.merging c.requires.end c.if-at-older.true) so_far

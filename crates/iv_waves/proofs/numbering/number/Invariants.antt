@@ -8,7 +8,7 @@ invariant-loop-at l = record {
   within : l.at ≤ length l.changes;
   same : length l.changes ≡ length l.initial.changes;
   next : l.next ≤ last_row_number + 1;
-  told : take l.at l.changes ++ with_numbers l.next (drop l.at l.changes) ≡ with_numbers l.initial.next l.initial.changes;
+  so_far : take l.at l.changes ++ with_numbers l.next (drop l.at l.changes) ≡ with_numbers l.initial.next l.initial.changes;
   small : is_beyond_last_row (take l.at l.changes) ≡ false;
 }
 

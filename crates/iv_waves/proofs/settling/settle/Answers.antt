@@ -4,7 +4,7 @@ use Rattle.iv_machine.specs.Databases.{size}
 use Rattle.iv_machine.specs.Waves.{AppliedWave, settled_waves}
 use Rattle.iv_laws.proofs.FittingWaves.{settled_fits}
 use Rattle.iv_waves.proofs.Looking.{kept_both, looked_both, looked_refused, none_looked}
-use Rattle.iv_waves.proofs.Rounds.{after_waves, first_round, more_than_none, next_round, none_before, none_left, round_standing, round_told, settled_nothing, settled_refused}
+use Rattle.iv_waves.proofs.Rounds.{after_waves, first_round, more_than_none, next_round, none_before, none_left, round_standing, round_so_far, settled_nothing, settled_refused}
 use Rattle.iv_waves.proofs.settling.settle.Goals as goal
 
 pub loop-store-init : goal.loop-store-init
@@ -12,7 +12,7 @@ loop-store-init g c =
     let s = g.K.Kin.view c.args.store.now in
     let all = settled_waves c.args.context.now s.base c.args.budget.now (wave_of c.args.changes.items) in
     record {
-      told = ap (λ done. after_waves done all) c.new-waves.ensures.items ∙ none_before all;
+      so_far = ap (λ done. after_waves done all) c.new-waves.ensures.items ∙ none_before all;
       standing = first_round c.args.context.now s c.args.changes.items c.requires.store c.next_row.ensures.rising c.requires.fit c.requires.proposed;
       kept = refl;
       looked = none_looked s (g.K.Kin.lookups c.args.store.now);
@@ -45,8 +45,8 @@ loop-store-preserved g c =
     let long = c.loop-store.changes.ok.0 in
     let more : 0 < length c.loop-store.changes.items = more_than_none _ _ test long in
     record {
-      told = round_told c.args.context.now s later c.loop-store.budget (c.loop-store.budget - length c.changes.result.now) c.loop-store.changes.items c.into_vec-changes.result.items
-          c.loop-store.waves.items c.add.new.waves.items _ one more c.loop-store.invariant.told c.in-Ok.ensures.answer c.in-Ok.ensures.applied less c.into_vec-changes.ensures c.in_ok-add-in-Ok.ensures;
+      so_far = round_so_far c.args.context.now s later c.loop-store.budget (c.loop-store.budget - length c.changes.result.now) c.loop-store.changes.items c.into_vec-changes.result.items
+          c.loop-store.waves.items c.add.new.waves.items _ one more c.loop-store.invariant.so_far c.in-Ok.ensures.answer c.in-Ok.ensures.applied less c.into_vec-changes.ensures c.in_ok-add-in-Ok.ensures;
       standing = round_standing c.args.context.now s later c.loop-store.budget c.loop-store.changes.items c.into_vec-changes.result.items one c.loop-store.invariant.standing
           c.in-Ok.ensures.answer c.in-Ok.ensures.applied c.in-Ok.ensures.kept c.into_vec-changes.ensures;
       kept = kept_both (g.K.Kin.view c.args.store.now) s later c.loop-store.invariant.kept c.in-Ok.ensures.kept;
@@ -60,7 +60,7 @@ returns-in-Err-clause-answer g c =
     let test = c.loop-store-test.ensures in
     let long = c.loop-store.changes.ok.0 in
     let more : 0 < length c.loop-store.changes.items = more_than_none _ _ test long in
-    settled_refused c.args.context.now s.base c.loop-store.budget c.loop-store.changes.items c.loop-store.waves.items _ c.in-Err.refusal _ more c.loop-store.invariant.told c.in-Err.ensures.answer
+    settled_refused c.args.context.now s.base c.loop-store.budget c.loop-store.changes.items c.loop-store.waves.items _ c.in-Err.refusal _ more c.loop-store.invariant.so_far c.in-Err.ensures.answer
 
 pub returns-in-Err-clause-looked : goal.returns-in-Err-clause-looked
 returns-in-Err-clause-looked g c =
@@ -72,7 +72,7 @@ pub returns-clause-answer : goal.returns-clause-answer
 returns-clause-answer g c =
     let s = g.K.Kin.view c.loop-store.store in
     let test = c.loop-store-test.ensures in
-    sym c.loop-store.invariant.told ∙ settled_nothing c.args.context.now s.base c.loop-store.budget c.loop-store.changes.items c.loop-store.waves.items (none_left _ _ test c.loop-store.changes.ok.0)
+    sym c.loop-store.invariant.so_far ∙ settled_nothing c.args.context.now s.base c.loop-store.budget c.loop-store.changes.items c.loop-store.waves.items (none_left _ _ test c.loop-store.changes.ok.0)
 
 pub returns-clause-chain : goal.returns-clause-chain
 returns-clause-chain g c =
@@ -80,5 +80,5 @@ returns-clause-chain g c =
     let s = g.K.Kin.view c.loop-store.store in
     let first = first_round c.args.context.now old c.args.changes.items c.requires.store c.next_row.ensures.rising c.requires.fit c.requires.proposed in
     let test = c.loop-store-test.ensures in
-    let told = sym c.loop-store.invariant.told ∙ settled_nothing c.args.context.now s.base c.loop-store.budget c.loop-store.changes.items c.loop-store.waves.items (none_left _ _ test c.loop-store.changes.ok.0) in
-    settled_fits c.args.context.now old.base c.args.budget.now (wave_of c.args.changes.items) _ told first.numbered first.ready
+    let so_far = sym c.loop-store.invariant.so_far ∙ settled_nothing c.args.context.now s.base c.loop-store.budget c.loop-store.changes.items c.loop-store.waves.items (none_left _ _ test c.loop-store.changes.ok.0) in
+    settled_fits c.args.context.now old.base c.args.budget.now (wave_of c.args.changes.items) _ so_far first.numbered first.ready

@@ -12,7 +12,7 @@ invariant-loop-store g l =
     let old = g.K.Kin.view l.initial.store in
     let now = g.K.Kin.view l.store in
     record {
-      told : after_waves l.waves.items (settled_waves l.context now.base l.budget (wave_of l.changes.items))
+      so_far : after_waves l.waves.items (settled_waves l.context now.base l.budget (wave_of l.changes.items))
           ≡ settled_waves l.context old.base l.initial.budget (wave_of l.initial.changes.items);
       standing : Standing l.context now l.changes.items;
       kept : now ≡ with_database old now.base;
