@@ -10,8 +10,6 @@ mod name_index;
 mod named_list;
 mod number;
 mod plan;
-#[cfg(test)]
-mod tests;
 
 pub use catalogue::{Catalogue, Column, Table};
 pub use cause::{Cause, Fault, Refusal};

@@ -1,5 +1,5 @@
 //! Data statements with all that follows from them.
-use crate::running::told;
+use crate::running::answers_to;
 use std::alloc::{AllocError, Global};
 use std::test::Fail;
 
@@ -56,7 +56,7 @@ const SCRIPTS: [(&str, &str); 9] = [
 fn otherwise(alloc: Global, scripts: &[(&str, &str)]) -> Result<String, AllocError> {
     let mut wrong = String::new(alloc);
     for (written, expected) in scripts {
-        let answers = told(alloc, written)?;
+        let answers = answers_to(alloc, written)?;
         if answers.as_str() != *expected {
             write!(wrong, "{written} {}\n", answers.as_str())?;
         }

@@ -6,6 +6,8 @@ mod answers;
 #[cfg(test)]
 mod levels;
 #[cfg(test)]
+mod net_rows;
+#[cfg(test)]
 mod nets;
 #[cfg(test)]
 mod running;

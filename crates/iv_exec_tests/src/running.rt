@@ -160,7 +160,7 @@ pub fn run(
 }
 
 /// What the data statements and queries of a script answer, on nothing.
-pub fn told(alloc: Global, written: &str) -> Result<String, AllocError> {
+pub fn answers_to(alloc: Global, written: &str) -> Result<String, AllocError> {
     let mut text = String::new(alloc);
     let mut store = PlainStore::new(alloc);
     let mut catalogue = Catalogue::new(alloc);

@@ -2,7 +2,5 @@
 #![tactic(auto)]
 
 mod laws;
-#[cfg(test)]
-mod tests;
 
 pub use laws::{plans_fit, proposals_meet_no_misfit, schemas_suit};

@@ -5,3 +5,5 @@
 mod laws;
 #[cfg(test)]
 mod texts;
+#[cfg(test)]
+mod tokens;

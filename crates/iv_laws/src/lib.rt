@@ -2,8 +2,6 @@
 #![tactic(auto)]
 
 mod laws;
-#[cfg(test)]
-mod tests;
 
 pub use laws::{
     a_change_is_local, any_order, budget_falls, changes_are_counted, deletion_closure,

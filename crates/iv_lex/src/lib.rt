@@ -8,8 +8,6 @@ mod limits;
 mod reserved;
 mod scan;
 mod spelling;
-#[cfg(test)]
-mod tests;
 mod token;
 
 pub use kind::Kind;

@@ -6,8 +6,6 @@ mod database;
 mod effect;
 mod limits;
 mod scan;
-#[cfg(test)]
-mod tests;
 mod wave;
 
 pub use answer::Answer;

@@ -2,7 +2,5 @@
 #![tactic(auto)]
 
 mod modes;
-#[cfg(test)]
-mod tests;
 
 pub use modes::{Modes, NotDeferrable};

@@ -2,4 +2,10 @@
 #![tactic(auto)]
 
 #[cfg(test)]
+mod catalogues;
+#[cfg(test)]
+mod key_sets;
+#[cfg(test)]
+mod names;
+#[cfg(test)]
 mod statements;

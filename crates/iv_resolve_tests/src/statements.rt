@@ -171,9 +171,9 @@ fn answer(
     let mut shown = String::new(alloc);
     match resolve(alloc, catalogue, statement) {
         Ok(plan) => {
-            let told = show(&plan, &mut shown);
+            let done = show(&plan, &mut shown);
             drop(plan);
-            told?;
+            done?;
         }
         Err(refusal) => write!(shown, "{}", cause(refusal.cause))?,
     }
@@ -319,9 +319,9 @@ const OTHERS: [(&str, &str); 24] = [
 
 fn tried(alloc: Global, texts: &[(&str, &str)]) -> Result<String, AllocError> {
     let catalogue = catalogue(alloc)?;
-    let told = meanings(alloc, &catalogue, texts);
+    let all = meanings(alloc, &catalogue, texts);
     drop(catalogue);
-    told
+    all
 }
 
 #[test]

@@ -2,8 +2,6 @@
 #![tactic(auto)]
 
 mod laws;
-#[cfg(test)]
-mod tests;
 
 pub use laws::{
     firings_fit, levels_keep_rows_fitting, levels_meet_no_misfit, proposals_fit, statements_fit,

@@ -3,8 +3,6 @@
 #![tactic(auto)]
 
 mod laws;
-#[cfg(test)]
-mod tests;
 
 pub use laws::{
     plans_keep_the_occasion, reached_states_are_sound, refusals_change_nothing, worked_scripts,

@@ -11,8 +11,6 @@ mod names;
 mod ranges;
 mod referencing;
 mod referencing_index;
-#[cfg(test)]
-mod tests;
 mod unknown;
 
 pub use binding::{bound_condition, bound_expression, bound_filter, integer_of};

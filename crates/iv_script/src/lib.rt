@@ -5,8 +5,6 @@ mod read;
 mod running;
 mod statements;
 mod summary;
-#[cfg(test)]
-mod tests;
 
 pub use iv_parse::SyntaxFault;
 pub use iv_print::{DeviceFault, Sink, Source, Std};

@@ -4,6 +4,10 @@
 #[cfg(test)]
 mod calls;
 #[cfg(test)]
+mod modes;
+#[cfg(test)]
+mod scans;
+#[cfg(test)]
 mod schema;
 #[cfg(test)]
 mod size;

@@ -10,8 +10,6 @@ mod keys;
 mod left;
 mod own;
 mod plan;
-#[cfg(test)]
-mod tests;
 mod written;
 
 pub use characteristics::is_contradictory;

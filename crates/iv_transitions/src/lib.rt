@@ -5,8 +5,6 @@ mod by_table;
 mod fire;
 mod laws;
 mod net;
-#[cfg(test)]
-mod tests;
 
 pub use by_table::{Transitions, transitions_of};
 pub use fire::{Fires, firings};

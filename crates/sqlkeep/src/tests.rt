@@ -96,25 +96,34 @@ fn scripts_that_ran_have_status_0_or_1(rt: HostRuntime) -> Result<(), Fail> {
     Ok(())
 }
 
+// The line on standard error of a script that could not be read: the status is 2, and nothing else is written.
+fn line_of_reader<R: Read + Drop>(alloc: Global, reader: R) -> Result<Option<Vec<u8>>, Fail> {
+    let (status, written, line) = ended(alloc, reader)?;
+    Ok((status == 2 && written.is_empty()).then_some(line))
+}
+
+// Whether a reader's fault has this line.
+fn is_line(line: &Option<Vec<u8>>, wanted: &str) -> bool {
+    match line {
+        Some(line) => line.as_slice() == wanted.as_bytes(),
+        None => false,
+    }
+}
+
 #[test]
 fn faults_of_reading_have_their_lines(rt: HostRuntime) -> Result<(), Fail> {
-    let (status, written, faults) = ended(rt.alloc(), Interrupted)?;
-    assert_eq!(rt; (status, written.len()), (2, 0));
+    let interrupted = line_of_reader(rt.alloc(), Interrupted)?;
     assert_eq!(rt;
-        faults.as_slice(),
-        b"sqlkeep: cannot read the script\n".as_slice()
+        is_line(&interrupted, "sqlkeep: cannot read the script\n"),
+        true
     );
-    let (status, written, faults) = ended(rt.alloc(), io::repeat(b' '))?;
-    assert_eq!(rt; (status, written.len()), (2, 0));
+    let endless = line_of_reader(rt.alloc(), io::repeat(b' '))?;
+    let wanted = "sqlkeep: the script is longer than 1048576 bytes\n";
+    assert_eq!(rt; is_line(&endless, wanted), true);
+    let no_text = line_of_reader(rt.alloc(), b"\xff".as_slice())?;
     assert_eq!(rt;
-        faults.as_slice(),
-        b"sqlkeep: the script is longer than 1048576 bytes\n".as_slice()
-    );
-    let (status, written, faults) = ended(rt.alloc(), b"\xff".as_slice())?;
-    assert_eq!(rt; (status, written.len()), (2, 0));
-    assert_eq!(rt;
-        faults.as_slice(),
-        b"sqlkeep: the script is not UTF-8\n".as_slice()
+        is_line(&no_text, "sqlkeep: the script is not UTF-8\n"),
+        true
     );
     Ok(())
 }
@@ -145,30 +154,20 @@ fn ended_by(alloc: Global, fault: RunFault) -> (u8, Vec<u8>) {
 
 #[test]
 fn each_fault_has_its_line(rt: HostRuntime) {
-    let (code, line) = ended_by(rt.alloc(), RunFault::Read);
-    assert_eq!(rt; code, 2);
-    assert_eq!(rt;
-        line.as_slice(),
-        b"sqlkeep: cannot read the script\n".as_slice()
-    );
-    let (code, line) = ended_by(rt.alloc(), RunFault::TooLong);
-    assert_eq!(rt; code, 2);
-    assert_eq!(rt;
-        line.as_slice(),
-        b"sqlkeep: the script is longer than 1048576 bytes\n".as_slice()
-    );
-    let (code, line) = ended_by(rt.alloc(), RunFault::NotUtf8);
-    assert_eq!(rt; code, 2);
-    assert_eq!(rt;
-        line.as_slice(),
-        b"sqlkeep: the script is not UTF-8\n".as_slice()
-    );
-    let (code, line) = ended_by(rt.alloc(), RunFault::Write);
-    assert_eq!(rt; code, 2);
-    assert_eq!(rt; line.as_slice(), b"sqlkeep: cannot write\n".as_slice());
-    let (code, line) = ended_by(rt.alloc(), RunFault::NoMemory);
-    assert_eq!(rt; code, 2);
-    assert_eq!(rt; line.as_slice(), b"sqlkeep: out of memory\n".as_slice());
+    for (fault, wanted) in [
+        (RunFault::Read, "sqlkeep: cannot read the script\n"),
+        (
+            RunFault::TooLong,
+            "sqlkeep: the script is longer than 1048576 bytes\n",
+        ),
+        (RunFault::NotUtf8, "sqlkeep: the script is not UTF-8\n"),
+        (RunFault::Write, "sqlkeep: cannot write\n"),
+        (RunFault::NoMemory, "sqlkeep: out of memory\n"),
+    ] {
+        let (code, line) = ended_by(rt.alloc(), fault);
+        assert_eq!(rt; code, 2, "{wanted}");
+        assert_eq!(rt; line.as_slice(), wanted.as_bytes());
+    }
 }
 
 #[test]
