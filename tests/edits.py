@@ -10,7 +10,7 @@ one. A round is made on a copy of the crate, over the work that a check kept, an
 edited function as refused. The last line is `N passed, N failed`.
 
 The file tests/edits/DIGESTS has a digest for each crate whose edits were all refused: of the edits, of the crate and of
-what it depends on, without comments and without the breaks of lines of code. Where it is still the same the edits aren't
+what it depends on, without tests, comments and the breaks of lines of code. Where it is still the same the edits aren't
 tried again, except with --all; where they are tried and all are refused it is written anew. A crate that is tried is
 proved first where its kept work is missing or old."""
 import argparse
@@ -20,7 +20,7 @@ import re
 import shutil
 import sys
 import tempfile
-from concurrent.futures import ThreadPoolExecutor
+from concurrent.futures import ThreadPoolExecutor, as_completed
 
 HERE = os.path.dirname(os.path.abspath(__file__))
 ROOT = os.path.dirname(HERE)
@@ -98,8 +98,9 @@ def below(crate):
 
 
 def bare(path):
-    """A file's text without the lines that hold a comment alone; of code also without the breaks of its lines, and without
-    the marks that the layout puts before the first case and after the last field of what it writes over several lines.
+    """A file's text without the lines that hold a comment alone; of code also without the breaks of its lines, without
+    the module of tests, and without the marks that the layout puts before the first case and after the last field of
+    what it writes over several lines.
 
     No proof depends on these."""
     suffix = os.path.splitext(path)[1]
@@ -107,19 +108,19 @@ def bare(path):
     lines = [line for line in read(path).splitlines() if mark is None or not line.lstrip().startswith(mark)]
     if suffix != ".rt":
         return "\n".join(lines)
-    text = " ".join(" ".join(lines).split())
+    text = " ".join(" ".join(lines).split()).replace("#[cfg(test)] mod tests;", "").replace("  ", " ")
     return re.sub(r"(\brecord \{[^{}]*); \}", r"\1 }", text.replace("[ | ", "[ "))
 
 
 def digest_of(crate):
-    """A digest of a crate's edits, of the crate, and of the sources and definitions that it depends on."""
+    """A digest of a crate's edits, of the crate, and of the sources and definitions that it depends on, without tests."""
     folders = [os.path.join(HERE, "edits", crate), os.path.join(ROOT, "crates", crate, "proofs")]
     folders += [os.path.join(ROOT, "crates", name, part) for name in below(crate) for part in ("src", "specs")]
     digest = hashlib.sha256()
     for folder in sorted(folders):
         for place, names, files in os.walk(folder):
-            names.sort()
-            for file in sorted(files):
+            names[:] = sorted(name for name in names if name != "tests")
+            for file in sorted(file for file in files if file != "tests.rt"):
                 path = os.path.join(place, file)
                 digest.update(os.path.relpath(path, ROOT).encode() + b"\0" + bare(path).encode() + b"\0")
     return digest.hexdigest()
@@ -211,9 +212,10 @@ def main():
         print(f"{passed} passed, {failed + 1} failed")
         return 1
     with tempfile.TemporaryDirectory(prefix="edits-", dir=rooms.place()) as room, ThreadPoolExecutor(words.jobs) as pool:
-        begun = [(crate, pool.submit(all_tried, crate, rounds[crate], os.path.join(room, crate))) for crate in rounds]
-        for crate, done in begun:
-            said = done.result()
+        longest_first = sorted(rounds, key=lambda crate: -sum(map(len, rounds[crate])))
+        begun = {pool.submit(all_tried, crate, rounds[crate], os.path.join(room, crate)): crate for crate in longest_first}
+        for done in as_completed(begun):
+            crate, said = begun[done], done.result()
             if not any(kept for _, kept, _, _ in said):
                 remember([crate])
             for number, (one, kept, output, used) in enumerate(said):
