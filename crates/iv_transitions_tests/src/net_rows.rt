@@ -1,4 +1,4 @@
-//! Each call that takes memory, with enough of it.
+//! The net changes of waves, and those of each table and event.
 use iv_expr::{Change, Row, TableId, Wave};
 use iv_syntax::TriggerEvent;
 use iv_transitions::{transitions, transitions_of};
@@ -113,6 +113,29 @@ fn net_changes_by_table_and_event(rt: HostRuntime) -> Result<(), Fail> {
     let deletions = shown(alloc, parts.of(TableId::new(2), TriggerEvent::Delete))?;
     assert_eq!(rt; deletions.as_str(), "2 5 50 0, ");
     assert!(rt; parts.of(TableId::new(1), TriggerEvent::Insert).is_empty());
+    Ok(())
+}
+
+// The row of the first table goes; then that of the second, while that of the third loses its reference; then that
+// one goes too.
+fn chain(alloc: Global) -> Result<Vec<Wave>, AllocError> {
+    let mut waves = Vec::new(alloc);
+    waves.push(wave(alloc, &[Step(0, 1, Some(10), None)])?)?;
+    waves.push(wave(
+        alloc,
+        &[Step(1, 2, Some(20), None), Step(2, 3, Some(30), Some(31))],
+    )?)?;
+    waves.push(wave(alloc, &[Step(2, 3, Some(31), None)])?)?;
+    Ok(waves)
+}
+
+#[test]
+fn each_row_of_a_chain_is_deleted_once(rt: HostRuntime) -> Result<(), Fail> {
+    let alloc = rt.alloc();
+    let waves = chain(alloc)?;
+    let net = transitions(alloc, waves.as_slice())?;
+    let found = shown(alloc, net.changes())?;
+    assert_eq!(rt; found.as_str(), "0 1 10 0, 1 2 20 0, 2 3 30 0, ");
     Ok(())
 }
 
