@@ -5,7 +5,7 @@ use iv_expr::Row;
 use iv_machine::Answer;
 use iv_parse::script;
 use iv_print::write_outcome;
-use iv_script::{DeviceFault, Std};
+use iv_script::{DeviceFault, Sink, Std};
 use iv_session::{Outcome, Session};
 use iv_store::PlainStore;
 use iv_value::{Value, text};
@@ -16,17 +16,24 @@ use std::test::Fail;
 const TWO_NAMES: &str =
     "CREATE TABLE t (a INT, CONSTRAINT pos CHECK (a > 0), CONSTRAINT big CHECK (a < 9)); CREATE TRIGGER guard BEFORE DELETE ON t SIGNAL 'it''s kept';";
 
-// A session that has the constraints POS and BIG, and the trigger GUARD.
-fn with_two_names(alloc: Global) -> Result<Option<Session<PlainStore>>, Fail> {
-    let parsed = script(alloc, TWO_NAMES)?;
+// Writes an outcome with the names of a session that has the constraints POS and BIG, and the trigger GUARD.
+fn write_with_names<W: Sink>(
+    alloc: Global,
+    sink: &mut W,
+    number: u64,
+    outcome: &Outcome,
+) -> Result<Result<(), DeviceFault>, Fail> {
     let Some(limits) = usual_limits() else {
-        return Ok(None);
+        return Ok(Err(DeviceFault));
     };
+    let parsed = script(alloc, TWO_NAMES)?;
     let mut session = Session::<PlainStore>::new(alloc, limits)?;
     for statement in parsed.statements.as_slice() {
         let _ = session.execute(statement);
     }
-    Ok(Some(session))
+    let done = write_outcome(sink, number, outcome, session.catalogue());
+    drop(session);
+    Ok(done)
 }
 
 // What is written of an outcome, and whether it was.
@@ -36,10 +43,7 @@ fn written(
     outcome: &Outcome,
 ) -> Result<(Result<(), DeviceFault>, Vec<u8>), Fail> {
     let mut sink = Std::new(Vec::new(alloc));
-    let Some(session) = with_two_names(alloc)? else {
-        return Ok((Err(DeviceFault), sink.into_inner()));
-    };
-    let done = write_outcome(&mut sink, number, outcome, session.catalogue());
+    let done = write_with_names(alloc, &mut sink, number, outcome)?;
     Ok((done, sink.into_inner()))
 }
 
@@ -175,17 +179,9 @@ fn refusals_tell_their_trigger(rt: HostRuntime) -> Result<(), Fail> {
 
 #[test]
 fn tells_a_write_of_a_line_that_fails(rt: HostRuntime) -> Result<(), Fail> {
-    let Some(session) = with_two_names(rt.alloc())? else {
-        return Ok(());
-    };
     // The line has 5 bytes, each of which is a write of its own.
     for (fails_at, wanted) in [(1u64, Err(DeviceFault)), (5, Err(DeviceFault)), (6, Ok(()))] {
-        let done = write_outcome(
-            &mut drops(fails_at),
-            1,
-            &Ok(Answer::Done),
-            session.catalogue(),
-        );
+        let done = write_with_names(rt.alloc(), &mut drops(fails_at), 1, &Ok(Answer::Done))?;
         assert_eq!(rt; done, wanted, "at {fails_at}");
     }
     Ok(())
