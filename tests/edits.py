@@ -10,7 +10,8 @@ one. A round is made on a copy of the crate, over the work that a check kept, an
 edited function as refused. The last line is `N passed, N failed`.
 
 The file tests/edits/DIGESTS has a digest for each crate whose edits were all refused: of the edits, of the crate and of
-what it depends on, without tests, comments and the breaks of lines of code. Where it is still the same the edits aren't
+what it depends on, without tests, comments and the breaks of lines of code; of the crates below also without the bodies
+of functions that have a contract, since a proof sees the contract alone. Where it is still the same the edits aren't
 tried again, except with --all; where they are tried and all are refused it is written anew. A crate that is tried is
 proved first where its kept work is missing or old."""
 import argparse
@@ -29,6 +30,8 @@ import crates as repository
 import rooms
 
 FUNCTION = re.compile(r"^( *)(?:pub(?:\([a-z]+\))? )?(?:const )?fn (\w+)", re.M)
+# The body of a function that has clauses: the layout has its braces on lines of their own.
+BODY = re.compile(r"^( *)\{\n.*?^\1\}\n", re.M | re.S)
 COMMENTS = {".rt": "//", ".antt": "--"}
 IMPLEMENTS = re.compile(r"^impl\b(?:<[^{]*?>)? *(?:[\w:<>, ]+ for )?(\w+)", re.M)
 
@@ -97,15 +100,16 @@ def below(crate):
     return repository.below([crate], repository.crates())
 
 
-def bare(path):
+def bare(path, from_above=False):
     """A file's text without the lines that hold a comment alone; of code also without the breaks of its lines, without
     the module of tests, and without the marks that the layout puts before the first case and after the last field of
-    what it writes over several lines.
+    what it writes over several lines; and, as a crate above sees it, without the bodies of functions that have clauses.
 
     No proof depends on these."""
     suffix = os.path.splitext(path)[1]
     mark = COMMENTS.get(suffix)
-    lines = [line for line in read(path).splitlines() if mark is None or not line.lstrip().startswith(mark)]
+    source = BODY.sub("", read(path)) if from_above and suffix == ".rt" else read(path)
+    lines = [line for line in source.splitlines() if mark is None or not line.lstrip().startswith(mark)]
     if suffix != ".rt":
         return "\n".join(lines)
     text = " ".join(" ".join(lines).split()).replace("#[cfg(test)] mod tests;", "").replace("  ", " ")
@@ -121,8 +125,9 @@ def digest_of(crate):
         for place, names, files in os.walk(folder):
             names[:] = sorted(name for name in names if name != "tests")
             for file in sorted(file for file in files if file != "tests.rt"):
-                path = os.path.join(place, file)
-                digest.update(os.path.relpath(path, ROOT).encode() + b"\0" + bare(path).encode() + b"\0")
+                path = os.path.relpath(os.path.join(place, file), ROOT)
+                from_above = not path.startswith((f"crates/{crate}/", f"tests/edits/{crate}/"))
+                digest.update(path.encode() + b"\0" + bare(os.path.join(ROOT, path), from_above).encode() + b"\0")
     return digest.hexdigest()
 
 

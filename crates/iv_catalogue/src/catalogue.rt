@@ -343,9 +343,8 @@ impl Catalogue {
     pub fn drop_trigger(&mut self, id: TriggerId)
         ensures { self.new ≡ after self.old (DropTrigger id) }
     {
-        match place_of_trigger(self.triggers.as_slice(), id) {
-            Some(place) => self.triggers.remove(place),
-            None => {}
+        if let Some(place) = place_of_trigger(self.triggers.as_slice(), id) {
+            self.triggers.remove(place);
         }
     }
 

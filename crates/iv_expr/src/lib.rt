@@ -7,8 +7,6 @@ mod number;
 mod operators;
 mod row;
 mod scope;
-#[cfg(test)]
-mod tests;
 mod tree;
 mod wave;
 mod worked;

@@ -62,25 +62,25 @@ drawn_filter_map R f h (x ∷ xs) = drawn_option R x xs (filter_map f xs) (f x) 
 
 -- the elements where a condition is true are some of all
 module _ {A : Type 0} (row_of : A → List Value) (s : Scope) (c : Cond) where
-  abbrev told : A → Result (A × Bool) Cause
-  told x = and_then (holds (within s (row_of x)) c) (λ b. Ok (x, b))
+  abbrev paired : A → Result (A × Bool) Cause
+  paired x = and_then (holds (within s (row_of x)) c) (λ b. Ok (x, b))
 
-  told_is : (x : A) (p : A × Bool) → told x ≡ Ok p → x ≡ p.0
-  told_is x p e = let one = step_of (holds (within s (row_of x)) c) _ p e in ap (λ q. q.0) (ok_same (x, one.0) p one.2)
+  paired_is : (x : A) (p : A × Bool) → paired x ≡ Ok p → x ≡ p.0
+  paired_is x p e = let one = step_of (holds (within s (row_of x)) c) _ p e in ap (λ q. q.0) (ok_same (x, one.0) p one.2)
 
-  among_kept : (xs : List A) (pairs : List (A × Bool)) → each told xs ≡ Ok pairs → Among xs (filter_map element_where_true pairs)
+  among_kept : (xs : List A) (pairs : List (A × Bool)) → each paired xs ≡ Ok pairs → Among xs (filter_map element_where_true pairs)
   among_kept [] pairs e = subst (λ ps. Among [] (filter_map element_where_true ps)) (ok_same [] pairs e) nothing
   among_kept (x ∷ xs) pairs e =
-      let one = step_of (told x) _ pairs e in
-      let more = step_of (each told xs) _ pairs one.2 in
+      let one = step_of (paired x) _ pairs e in
+      let more = step_of (each paired xs) _ pairs one.2 in
       let rest = among_kept xs more.0 more.1 in
       subst (λ ps. Among (x ∷ xs) (filter_map element_where_true ps)) (ok_same (one.0 ∷ more.0) pairs more.2)
       (elim one.0.1 as (λ b. Among (x ∷ xs) (cons_option (if b then Some one.0.0 else None) (filter_map element_where_true more.0))) [
-        | true ↦ taken x one.0.0 (told_is x one.0 one.1) rest
+        | true ↦ taken x one.0.0 (paired_is x one.0 one.1) rest
         | false ↦ passed x rest
       ])
 
   pub among_where_true : (xs ys : List A) → where_true row_of s c xs ≡ Ok ys → Among xs ys
   among_where_true xs ys e =
-      let pairs = step_of (each told xs) _ ys e in
+      let pairs = step_of (each paired xs) _ ys e in
       subst (Among xs) (ok_same (filter_map element_where_true pairs.0) ys pairs.2) (among_kept xs pairs.0 pairs.1)

@@ -4,8 +4,6 @@
 mod command;
 mod given;
 mod reading;
-#[cfg(test)]
-mod tests;
 
 pub use command::USUAL_DEPTH;
 pub use given::Options;

@@ -30,8 +30,8 @@ scanned f rs n p b h s =
 pub scanned_on : {B : Type 0} (f : Step B) (rs : List StoredRow) (n : ℕ) (p : ℕ × List Value) (b more : B) (said : Result B Cause)
     → Rises 0 rs → Some p ≡ option_map numbered (row_above n rs)
     → f p.0 p.1 b ≡ Ok more → along f (rows_above n rs) b ≡ said → along f (rows_above p.0 rs) more ≡ said
-scanned_on {B = B} f rs n p b more said h s e told =
-    sym (scanned f rs n p b h s ∙ ap (λ (x : Result B Cause). and_then x (along f (rows_above p.0 rs))) e) ∙ told
+scanned_on {B = B} f rs n p b more said h s e all =
+    sym (scanned f rs n p b h s ∙ ap (λ (x : Result B Cause). and_then x (along f (rows_above p.0 rs))) e) ∙ all
 
 -- the step at it was refused
 pub scanned_refused : {B : Type 0} (f : Step B) (rs : List StoredRow) (n : ℕ) (p : ℕ × List Value) (b : B) (cause : Cause) (said : Result B Cause)
@@ -39,11 +39,11 @@ pub scanned_refused : {B : Type 0} (f : Step B) (rs : List StoredRow) (n : ℕ) 
     → along f (rows_above n rs) b ≡ said
     → MatchBool (is_memory_cause cause) (Unit {0}) (f p.0 p.1 b ≡ Err cause)
     → MatchBool (is_memory_cause cause) (Unit {0}) (said ≡ Err cause)
-scanned_refused {B = B} f rs n p b cause said h s told refused =
+scanned_refused {B = B} f rs n p b cause said h s all refused =
     unless_memory (is_memory_cause cause) (f p.0 p.1 b ≡ Err cause) (said ≡ Err cause)
-    (λ e. sym told ∙ scanned f rs n p b h s ∙ ap (λ (x : Result B Cause). and_then x (along f (rows_above p.0 rs))) e) refused
+    (λ e. sym all ∙ scanned f rs n p b h s ∙ ap (λ (x : Result B Cause). and_then x (along f (rows_above p.0 rs))) e) refused
 
 -- no row is left
 pub scanned_all : {B : Type 0} (f : Step B) (rs : List StoredRow) (n : ℕ) (b : B) (said : Result B Cause) → None ≡ option_map numbered (row_above n rs)
     → along f (rows_above n rs) b ≡ said → said ≡ Ok b
-scanned_all f rs n b said s told = sym told ∙ ap (λ (rows : List StoredRow). along f rows b) (scan_none n rs s)
+scanned_all f rs n b said s all = sym all ∙ ap (λ (rows : List StoredRow). along f rows b) (scan_none n rs s)

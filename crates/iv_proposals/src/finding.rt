@@ -68,9 +68,8 @@ pub fn numbers_where<R: Rows>(
     (&*scope).known();
     while let Some((number, row)) = (&*scope).scan(table, after) {
         after = number;
-        match take_number(&*scope, filter, number, row, &mut found) {
-            Ok(()) => {}
-            Err(cause) => return Err(cause),
+        if let Err(cause) = take_number(&*scope, filter, number, row, &mut found) {
+            return Err(cause);
         }
     }
     Ok(found)

@@ -7,5 +7,3 @@ mod catalogues;
 mod key_sets;
 #[cfg(test)]
 mod names;
-#[cfg(test)]
-mod statements;

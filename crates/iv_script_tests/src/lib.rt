@@ -4,6 +4,8 @@
 #[cfg(test)]
 mod devices;
 #[cfg(test)]
+mod options;
+#[cfg(test)]
 mod outcomes;
 #[cfg(test)]
 mod sessions;

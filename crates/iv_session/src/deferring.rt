@@ -99,9 +99,8 @@ impl<K: Keeper + Drop> Session<K> {
     {
         self.work = Work::none();
         let mut modes = self.modes().copy()?;
-        match modes.set(ids, mode) {
-            Ok(()) => {}
-            Err(refused) => return refuse(Cause::NotDeferrable(refused.0)),
+        if let Err(refused) = modes.set(ids, mode) {
+            return refuse(Cause::NotDeferrable(refused.0));
         }
         match self.first_made_immediate(&modes, mode)? {
             Some(fault) => refuse(Cause::Violation(fault)),

@@ -166,9 +166,8 @@ impl<K: Keeper + Drop> Session<K> {
         ensures sure { takes_no_memory self.old.state statement.now ≡ true
             → is_memory result ≡ false }
     {
-        match self.transaction_cause(statement) {
-            Some(cause) => return self.refuse_now(cause),
-            None => {}
+        if let Some(cause) = self.transaction_cause(statement) {
+            return self.refuse_now(cause);
         }
         match statement {
             Statement::Commit => self.end(),

@@ -6,8 +6,6 @@ mod fitting;
 mod logic;
 mod order;
 mod shared_text;
-#[cfg(test)]
-mod tests;
 mod value;
 mod worked;
 

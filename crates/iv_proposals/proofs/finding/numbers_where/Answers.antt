@@ -21,7 +21,7 @@ loop-number-smaller g c =
 pub loop-number-preserved : goal.loop-number-preserved
 loop-number-preserved g c =
     scanned_on (number_taken c.args.scope.now c.args.filter.now) _ c.loop-number.after (c.in-Some.number, c.in-Some.row.now) _ _ _
-    (table_rises 0 c.args.table _ c.known.ensures) c.in-Some.ensures c.in-Ok.ensures c.loop-number.invariant
+    (table_rises 0 c.args.table _ c.known.ensures) c.in-Some.ensures c.in_default-take_number.ensures c.loop-number.invariant
 
 pub returns-in-Err : goal.returns-in-Err
 returns-in-Err g c =

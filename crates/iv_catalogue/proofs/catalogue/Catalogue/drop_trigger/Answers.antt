@@ -20,10 +20,10 @@ returns-in-Some c =
     (ap (λ triggers. parts i.tables i.constraints triggers i.created)
     (c.remove.ensures ∙ dropped_at 0 c.args.id i.triggers i.created c.in-Some.place c.self.invariant.0.numbers place))
 
-pub returns-in-None : goal.returns-in-None
-returns-in-None c =
+pub returns-in_default : goal.returns-in_default
+returns-in_default c =
     let i = c.self.inside in
     let place : position (λ t. nat_eq t.id c.args.id) i.triggers ≡ None =
-    ap (position (λ t. nat_eq t.id c.args.id)) (sym c.as_slice.ensures) ∙ sym c.in-None.ensures.place in
+    ap (position (λ t. nat_eq t.id c.args.id)) (sym c.as_slice.ensures) ∙ sym c.in_default.ensures.place in
     rw (← c.self.view_is)
     (ap (λ triggers. parts i.tables i.constraints triggers i.created) (dropped_none 0 c.args.id i.triggers i.created c.self.invariant.0.numbers place))

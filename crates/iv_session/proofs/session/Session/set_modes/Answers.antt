@@ -16,7 +16,7 @@ invariant_of-self-in-None g c =
     let a : h.active ≡ true = open_is h.active h.store (ap (λ x. is_open x.state) c.self.view_is ∙ c.requires) in
     let o : IsOpen h = subst (λ b. StandsAs b h) a c.self.invariant.stands in
     let m : c.set.new.self.deferrable ≡ map (λ k. k.deferrable) h.schema.constraints =
-    ap (λ (x : ModeMap). x.deferrable) (c.in-Ok.ensures.set) ∙ ap (λ (x : ModeMap). x.deferrable) c.in_ok-modes.ensures ∙ c.modes.ensures.settable in
+    ap (λ (x : ModeMap). x.deferrable) (c.in_default.ensures.set) ∙ ap (λ (x : ModeMap). x.deferrable) c.in_ok-modes.ensures ∙ c.modes.ensures.settable in
     record {
       store = c.self.invariant.store;
       initial = c.self.invariant.initial;
@@ -46,7 +46,7 @@ returns-in-Some g c =
     set_seen s c.args.ids.now c.args.mode c.in_ok-modes.modes c.set.new.self c.in_ok-fault.field-0
     (ap (λ (x : ModeMap). x.modes) c.in_ok-modes.ensures ∙ c.modes.ensures.modes ∙ ap (λ (y : State). y.modes) v)
     (ap (λ (x : ModeMap). x.deferrable) c.in_ok-modes.ensures ∙ c.modes.ensures.settable ∙ ap (λ (y : State). map (λ k. k.deferrable) y.schema.constraints) v)
-    c.in-Ok.ensures.accepted c.in-Ok.ensures.set
+    c.in_default.ensures.accepted c.in_default.ensures.set
     (c.in_ok-fault.ensures ∙ ap (λ (y : State). first_made_immediate y c.set.new.self.modes) v) in
     refuse_performs s (set_constraints_outcome s c.args.ids.now c.args.mode) (Violation c.in-Some.fault) c.refuse-in-Some.result x
     (seen ∙ ap (λ (o : Option Fault). refuse_first s Violation o (accept (record s { modes = c.set.new.self.modes }) Done)) c.in-Some.is) refl c.refuse-in-Some.ensures v w
@@ -62,7 +62,7 @@ returns-in-None g c =
     set_seen s c.args.ids.now c.args.mode c.in_ok-modes.modes c.set.new.self c.in_ok-fault.field-0
     (ap (λ (x : ModeMap). x.modes) c.in_ok-modes.ensures ∙ c.modes.ensures.modes ∙ ap (λ (y : State). y.modes) v)
     (ap (λ (x : ModeMap). x.deferrable) c.in_ok-modes.ensures ∙ c.modes.ensures.settable ∙ ap (λ (y : State). map (λ k. k.deferrable) y.schema.constraints) v)
-    c.in-Ok.ensures.accepted c.in-Ok.ensures.set
+    c.in_default.ensures.accepted c.in_default.ensures.set
     (c.in_ok-fault.ensures ∙ ap (λ (y : State). first_made_immediate y c.set.new.self.modes) v) in
     accept_performs s (set_constraints_outcome s c.args.ids.now c.args.mode) (record s { modes = c.set.new.self.modes }) Done
     (record x { state = record (state_of h) { modes = c.set.new.self.modes } })

@@ -1,6 +1,6 @@
-//! Words that are read.
-use crate::{USUAL_DEPTH, options};
+//! Words of the command line.
 use clap::error::ErrorKind;
+use iv_options::{USUAL_DEPTH, options};
 use std::alloc::Global;
 use std::test::Fail;
 

@@ -1,8 +1,7 @@
-//! Each public call once, at values from outside.
+//! Each public call of `iv_expr` once, at values from outside.
 ghost use Rattle.std.specs.Prelude.{◌≡◌, [], ◌∷◌, IfOk};
 
-use crate::condition::NoTables;
-use crate::{
+use iv_expr::{
     Change, Comparison, Cond, Expr, ExprFault, Frame, Range, Row, Rows, Scope, Side, TableId, Wave,
     check_truth, eval, eval_ref, truth, truth_at_row, worked_values,
 };
@@ -10,6 +9,20 @@ use iv_value::{Truth, Value, ValueRef, same, text};
 use sqlite_items::Boxed;
 use std::alloc::{AllocError, Global};
 use std::test::Fail;
+
+// No tables at all.
+#[derive(Drop)]
+struct NoTables {}
+
+impl Rows for NoTables {
+    ghost rows = { λ s. [] };
+
+    fn known(&self) {}
+
+    fn scan(&self, _table: TableId, _after: u64) -> Option<(u64, &[Value])> {
+        None
+    }
+}
 
 // Trees are made in boxes: a box drops its tree by a call, where a tree by value has the drop of each
 // variant written out, which takes long to prove.
@@ -129,21 +142,44 @@ fn column_to(alloc: Global, comparison: Comparison, value: i64) -> Result<Boxed<
     Boxed::new(alloc, cond)
 }
 
-#[test]
-fn checks_take_a_fault_for_false(rt: HostRuntime) -> Result<(), Fail> {
-    let alloc = rt.alloc();
+fn check_at(cond: &Cond, value: i64) -> Truth {
+    check_truth(cond, &[Value::Int(value)])
+}
+
+fn check_at_null(cond: &Cond) -> Truth {
+    check_truth(cond, &[Value::Null])
+}
+
+fn grows(alloc: Global) -> Result<Boxed<Cond>, AllocError> {
     let next = next(alloc)?;
-    let grows = Boxed::new(
+    Boxed::new(
         alloc,
         Cond::Compare(Comparison::Greater, next, Expr::Column(0, 0)),
-    )?;
-    assert_eq!(rt; check_truth(grows.get(), &[Value::Int(1)]), Truth::True);
-    assert_eq!(rt; check_truth(grows.get(), &[Value::Null]), Truth::Unknown);
-    assert_eq!(rt;
-        check_truth(grows.get(), &[Value::Int(i64::MAX)]),
-        Truth::False
-    );
-    for (comparison, truths) in [
+    )
+}
+
+#[test]
+fn checks_take_a_fault_for_false(rt: HostRuntime) -> Result<(), Fail> {
+    let cond = grows(rt.alloc())?;
+    assert_eq!(rt; check_at(cond.get(), 1), Truth::True);
+    assert_eq!(rt; check_at_null(cond.get()), Truth::Unknown);
+    assert_eq!(rt; check_at(cond.get(), i64::MAX), Truth::False);
+    Ok(())
+}
+
+// The truths of a check at 4, 5, 6 and NULL.
+fn truths_of(cond: &Cond) -> [Truth; 4] {
+    [
+        check_at(cond, 4),
+        check_at(cond, 5),
+        check_at(cond, 6),
+        check_at_null(cond),
+    ]
+}
+
+#[test]
+fn comparisons_compare(rt: HostRuntime) -> Result<(), Fail> {
+    for (comparison, [less, equal, greater]) in [
         (Comparison::Equal, [false, true, false]),
         (Comparison::NotEqual, [true, false, true]),
         (Comparison::Less, [true, false, false]),
@@ -151,12 +187,14 @@ fn checks_take_a_fault_for_false(rt: HostRuntime) -> Result<(), Fail> {
         (Comparison::Greater, [false, false, true]),
         (Comparison::GreaterEqual, [false, true, true]),
     ] {
-        let cond = column_to(alloc, comparison, 5)?;
-        let cond = cond.get();
-        assert_eq!(rt; check_truth(cond, &[Value::Int(4)]), Truth::of(truths[0]));
-        assert_eq!(rt; check_truth(cond, &[Value::Int(5)]), Truth::of(truths[1]));
-        assert_eq!(rt; check_truth(cond, &[Value::Int(6)]), Truth::of(truths[2]));
-        assert_eq!(rt; check_truth(cond, &[Value::Null]), Truth::Unknown);
+        let cond = column_to(rt.alloc(), comparison, 5)?;
+        let truths = [
+            Truth::of(less),
+            Truth::of(equal),
+            Truth::of(greater),
+            Truth::Unknown,
+        ];
+        assert!(rt; truths_of(cond.get()) == truths);
     }
     Ok(())
 }
@@ -337,35 +375,69 @@ fn updated(table: TableId, number: u64, old: Row, new: Row) -> Change
     }
 }
 
+// A wave of one change, from NULL to 7.
+fn wave_to_seven(alloc: Global) -> Result<Wave, AllocError> {
+    let mut wave = Wave::new(alloc);
+    let old = row(alloc, Value::Null)?;
+    let new = row(alloc, Value::Int(7))?;
+    wave.push(updated(TableId::new(0), 4, old, new))?;
+    Ok(wave)
+}
+
+// The truth of a condition in the frame of a change.
+fn truth_in_frame(changes: &[Change], change: &Change, cond: &Cond) -> Result<Truth, ExprFault> {
+    let tables = NoTables {};
+    let frame = Frame::at(changes, change);
+    truth(cond, &Scope::new(&tables, &frame))
+}
+
+fn value_in_frame(changes: &[Change], change: &Change, expr: &Expr) -> Result<Value, ExprFault> {
+    let tables = NoTables {};
+    let frame = Frame::at(changes, change);
+    eval(expr, &Scope::new(&tables, &frame))
+}
+
+// Whether a row of a transition table holds 7.
+fn has_seven(alloc: Global, side: Side) -> Result<Boxed<Cond>, AllocError> {
+    let is_seven = column_to(alloc, Comparison::Equal, 7)?;
+    exists(alloc, Range::Transition(side), is_seven)
+}
+
+fn sides_are_seen(alloc: Global, changes: &[Change], change: &Change) -> Result<bool, AllocError> {
+    let old = has_seven(alloc, Side::Old)?;
+    let new = has_seven(alloc, Side::New)?;
+    let was_null = Boxed::new(alloc, Cond::IsNull(Expr::Variable(Side::Old, 0)))?;
+    Ok(
+        truth_in_frame(changes, change, old.get()) == Ok(Truth::False)
+            && truth_in_frame(changes, change, new.get()) == Ok(Truth::True)
+            && truth_in_frame(changes, change, was_null.get()) == Ok(Truth::True),
+    )
+}
+
+fn variables_are_seen(
+    alloc: Global,
+    changes: &[Change],
+    change: &Change,
+) -> Result<bool, AllocError> {
+    let first = Boxed::new(alloc, Expr::Variable(Side::New, 0))?;
+    let second = Boxed::new(alloc, Expr::Variable(Side::New, 1))?;
+    Ok(
+        is_number(value_in_frame(changes, change, first.get()), 7)
+            && is_fault(
+                value_in_frame(changes, change, second.get()),
+                ExprFault::Misfit,
+            ),
+    )
+}
+
 #[test]
 fn transitions_are_the_sides_of_a_wave(rt: HostRuntime) -> Result<(), Fail> {
-    let alloc = rt.alloc();
-    let table = TableId::new(0);
-    let mut wave = Wave::new(alloc);
-    assert_eq!(rt; wave.last_row(), 0);
-    wave.push(updated(
-        table,
-        4,
-        row(alloc, Value::Null)?,
-        row(alloc, Value::Int(7))?,
-    ))?;
+    let wave = wave_to_seven(rt.alloc())?;
     assert_eq!(rt; wave.last_row(), 4);
-    let tables = NoTables {};
     assert!(rt; wave.changes().len() == 1);
     for change in wave.changes() {
-        let frame = Frame::at(wave.changes(), change);
-        let scope = Scope::new(&tables, &frame);
-        for (side, found) in [(Side::Old, Truth::False), (Side::New, Truth::True)] {
-            let is_seven = column_to(alloc, Comparison::Equal, 7)?;
-            let cond = exists(alloc, Range::Transition(side), is_seven)?;
-            assert!(rt; truth(cond.get(), &scope) == Ok(found));
-        }
-        let was_null = Boxed::new(alloc, Cond::IsNull(Expr::Variable(Side::Old, 0)))?;
-        assert!(rt; truth(was_null.get(), &scope) == Ok(Truth::True));
-        let first = Boxed::new(alloc, Expr::Variable(Side::New, 0))?;
-        assert!(rt; is_number(eval(first.get(), &scope), 7));
-        let second = Boxed::new(alloc, Expr::Variable(Side::New, 1))?;
-        assert!(rt; is_fault(eval(second.get(), &scope), ExprFault::Misfit));
+        assert!(rt; sides_are_seen(rt.alloc(), wave.changes(), change)?);
+        assert!(rt; variables_are_seen(rt.alloc(), wave.changes(), change)?);
     }
     Ok(())
 }

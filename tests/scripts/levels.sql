@@ -1,0 +1,87 @@
+-- Data statements with all that follows from them. Each case has tables of its own, and is rolled back.
+
+-- A row loses its reference in the wave in which another row goes, and goes itself in the next: on the whole it was deleted.
+CREATE TABLE a1 (k INT PRIMARY KEY);
+CREATE TABLE b1 (k INT PRIMARY KEY, ak INT REFERENCES a1 ON DELETE CASCADE);
+CREATE TABLE c1 (ak INT REFERENCES a1 ON DELETE SET NULL, bk INT REFERENCES b1 ON DELETE CASCADE);
+CREATE TABLE log1 (x INT, y INT);
+CREATE TRIGGER d1 AFTER DELETE ON c1 REFERENCING OLD AS o FOR EACH ROW INSERT INTO log1 VALUES (o.ak, o.bk);
+CREATE TRIGGER u1 AFTER UPDATE ON c1 INSERT INTO log1 VALUES (0, 0);
+INSERT INTO a1 VALUES (1);
+INSERT INTO b1 VALUES (2, 1);
+INSERT INTO c1 VALUES (1, 2);
+DELETE FROM a1;
+SELECT * FROM log1;
+SELECT COUNT(*) FROM b1;
+SELECT COUNT(*) FROM c1;
+ROLLBACK;
+
+-- Keys are compared after the whole statement.
+CREATE TABLE t2 (k INT UNIQUE);
+INSERT INTO t2 VALUES (1), (2), (3);
+UPDATE t2 SET k = k + 1;
+SELECT k FROM t2 WHERE k > 2;
+ROLLBACK;
+
+-- A cascade sees the wave as a whole.
+CREATE TABLE p3 (k INT PRIMARY KEY);
+CREATE TABLE c3 (x INT REFERENCES p3 ON UPDATE CASCADE);
+INSERT INTO p3 VALUES (1), (2);
+INSERT INTO c3 VALUES (1), (2);
+UPDATE p3 SET k = 3 - k;
+SELECT * FROM c3;
+ROLLBACK;
+
+-- RESTRICT protects a row that goes itself.
+CREATE TABLE t4 (k INT PRIMARY KEY, up INT CONSTRAINT f4 REFERENCES t4 ON DELETE RESTRICT);
+INSERT INTO t4 VALUES (1, NULL), (2, 1);
+DELETE FROM t4;
+ROLLBACK;
+
+-- The fourth row, of the second table, is refused inside of the trigger.
+CREATE TABLE t5 (a INT);
+CREATE TABLE u5 (a INT CONSTRAINT small5 CHECK (a < 3));
+CREATE TRIGGER ins5 AFTER INSERT ON t5 REFERENCING NEW AS n FOR EACH ROW INSERT INTO u5 VALUES (n.a);
+INSERT INTO t5 VALUES (2), (5);
+COMMIT;
+
+-- Constraints are checked before AFTER triggers fire.
+CREATE TABLE t6 (a INT CONSTRAINT nn6 NOT NULL DEFERRABLE);
+CREATE TRIGGER r6 AFTER INSERT ON t6 UPDATE t6 SET a = 9 WHERE a IS NULL;
+INSERT INTO t6 VALUES (NULL);
+
+-- A trigger that fires itself.
+CREATE TABLE t7 (a INT CHECK (a < 5));
+CREATE TRIGGER r7 AFTER INSERT ON t7 INSERT INTO t7 VALUES (1);
+INSERT INTO t7 VALUES (0);
+
+-- A statement trigger fires without rows, and a row trigger doesn't.
+CREATE TABLE t8 (a INT);
+CREATE TABLE log8 (m VARCHAR(20));
+CREATE TRIGGER s8 AFTER UPDATE ON t8 REFERENCING NEW TABLE AS nt WHEN (NOT EXISTS (SELECT * FROM nt)) INSERT INTO log8 VALUES ('empty');
+CREATE TRIGGER r8 AFTER UPDATE ON t8 FOR EACH ROW INSERT INTO log8 VALUES ('row');
+UPDATE t8 SET a = 1;
+SELECT * FROM log8;
+ROLLBACK;
+
+-- A transition table stays as it was when the statement ended.
+CREATE TABLE t9 (a INT);
+CREATE TABLE log9 (x INT);
+CREATE TRIGGER one9 AFTER INSERT ON t9 UPDATE t9 SET a = 5;
+CREATE TRIGGER two9 AFTER INSERT ON t9 REFERENCING NEW TABLE AS n INSERT INTO log9 SELECT * FROM n;
+INSERT INTO t9 VALUES (1);
+SELECT * FROM log9;
+SELECT * FROM t9;
+ROLLBACK;
+
+-- A SIGNAL stops a statement before it begins, with or without rows.
+CREATE TABLE t10 (a INT);
+CREATE TRIGGER guard10 BEFORE DELETE ON t10 SIGNAL 'keep';
+DELETE FROM t10;
+
+-- A row is filled before it is inserted.
+CREATE TABLE t11 (a INT NOT NULL);
+CREATE TRIGGER b11 BEFORE INSERT ON t11 REFERENCING NEW AS n FOR EACH ROW WHEN (n.a IS NULL) SET n.a = 9;
+INSERT INTO t11 VALUES (NULL), (3);
+SELECT * FROM t11;
+ROLLBACK;
