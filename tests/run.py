@@ -80,7 +80,7 @@ def scripts(program):
             script, want = stored(directory, name + '.sql'), stored(directory, name + '.out')
             err, status = read(directory, name + '.err'), read(directory, name + '.status')
             words = shlex.split((read(directory, name + '.args') or b'').decode())
-            # a fault of the command line is told in the words of the library that reads it
+            # a fault of the command line is written in the words of the library that reads it
             err = err or (None if words and status == b'2\n' else b'')
             why = judge(program, script, want, err, status, words)
             there = read(directory, name + '.nofile') is not None and os.path.exists(os.path.join(HERE, directory, words[-1]))

@@ -4,7 +4,7 @@
   tests/speed.py --program PATH [--only WORD].. [--sizes 256,512,1024] [--cut 60]
 
 For each kind it makes a script of each size, in units of 1,024 bytes, and prints the seconds of its run. A run that
-takes longer than --cut seconds is ended, and the larger sizes of its kind are left out. A run with status 2 is told as
+takes longer than --cut seconds is ended, and the larger sizes of its kind are left out. A run with status 2 is marked as
 such. The program and the computer's other work decide the figures: this is no test, and nothing fails."""
 import argparse
 import itertools
@@ -94,11 +94,11 @@ def main():
     for kind, make in makers.items():
         if words.only and not any(word in kind for word in words.only):
             continue
-        told = []
+        shown = []
         for size in sizes:
-            stopped = told and not told[-1].replace('.', '').isdigit()
-            told.append('' if stopped else seconds(words.program, make(size * 1024), words.cut))
-        print(kind.ljust(40) + ''.join(text.rjust(10) for text in told), flush=True)
+            stopped = shown and not shown[-1].replace('.', '').isdigit()
+            shown.append('' if stopped else seconds(words.program, make(size * 1024), words.cut))
+        print(kind.ljust(40) + ''.join(text.rjust(10) for text in shown), flush=True)
 
 
 if __name__ == '__main__':

@@ -96,9 +96,13 @@ def lay_out(crate):
 
 
 def are_refused(crate):
-    """Whether the crate's must-fail edits are refused."""
-    ran = subprocess.run(["rt", "must-fail", crate], cwd=ROOT, stdin=subprocess.DEVNULL, stdout=sys.stderr, check=False)
-    return ran.returncode == 0
+    """Whether the crate's edits are refused: those of must-fail one by one, those of tests/edits many in one check."""
+    commands = []
+    if os.path.isdir(os.path.join(folder(crate), "must-fail")):
+        commands.append(["rt", "must-fail", crate])
+    if os.path.isdir(os.path.join(ROOT, "tests", "edits", crate)):
+        commands.append([sys.executable, os.path.join(ROOT, "tests", "edits.py"), crate])
+    return all(subprocess.run(command, cwd=ROOT, stdin=subprocess.DEVNULL, stdout=sys.stderr, check=False).returncode == 0 for command in commands)
 
 
 def check(words):
