@@ -5,8 +5,8 @@
 The changes are those of definitions.edits beside this file. Each takes a quarter of a minute; `out/` of the crates
 below iv_machine has to be there, as `rt all check` leaves it. The last line is `N passed, N failed`.
 
-The file definitions.digest has a digest of the changes, and of the definitions and the worked scripts without comments,
-where all changes were noticed. While it is still the same they aren't tried again, except with --all or --only; where all are tried and
+The file definitions.digest has a digest of the changes, and of the definitions, the types that they name and the worked scripts without
+comments, where all changes were noticed. While it is still the same they aren't tried again, except with --all or --only; where all are tried and
 noticed it is written anew."""
 import argparse
 import hashlib
@@ -23,7 +23,7 @@ CRATES = os.path.join(HERE, '..', 'crates')
 BELOW = ['iv_value', 'iv_expr', 'iv_syntax', 'iv_catalogue']
 CHANGES = os.path.join(HERE, 'definitions.edits')
 DIGEST = os.path.join(HERE, 'definitions.digest')
-DIGESTED = ['iv_machine/specs', 'iv_machine/src', 'iv_worked/specs', 'iv_worked/proofs', 'iv_worked/src']
+DIGESTED = ['iv_machine/specs', 'iv_worked/specs', 'iv_worked/proofs', 'iv_worked/src']
 
 
 def changes():
@@ -42,9 +42,16 @@ def changes():
     return found
 
 
+def declared():
+    """The modules of iv_machine whose types the definitions and the worked scripts name."""
+    folders = [os.path.join(CRATES, name, 'specs') for name in ('iv_machine', 'iv_worked')]
+    texts = [read(os.path.join(folder, name)) for folder in folders for name in os.listdir(folder)]
+    return set(re.findall(r'Rattle\.iv_machine\.specs\.declared\.(\w+)\.', '\n'.join(texts)))
+
+
 def digest_of_sources():
     """A digest of the changes, and of the definitions and the worked scripts that they are tried over."""
-    paths = [CHANGES]
+    paths = [CHANGES] + [os.path.join(CRATES, 'iv_machine/src', name + '.rt') for name in declared()]
     for folder in DIGESTED:
         for place, _, files in os.walk(os.path.join(CRATES, folder)):
             paths += [os.path.join(place, file) for file in files if file != 'tests.rt']
@@ -63,8 +70,7 @@ def copied(room):
     machine, worked = os.path.join(room, 'crates/iv_machine'), os.path.join(room, 'crates/iv_worked')
     shutil.copytree(os.path.join(CRATES, 'iv_machine/specs'), machine + '/specs')
     shutil.copytree(os.path.join(CRATES, 'iv_worked'), worked, ignore=shutil.ignore_patterns('out'))
-    texts = [read(os.path.join(folder, name)) for folder in (machine + '/specs', worked + '/specs') for name in os.listdir(folder)]
-    modules = set(re.findall(r'Rattle\.iv_machine\.specs\.declared\.(\w+)\.', '\n'.join(texts)))
+    modules = declared()
     os.mkdir(machine + '/src')
     for name in modules:
         shutil.copy(os.path.join(CRATES, 'iv_machine/src', name + '.rt'), machine + '/src')

@@ -156,17 +156,24 @@ def small_memory():
 
 
 def devices(program):
-    """Runs that can't be finished: a directory in place of the script, a full device, and too little memory."""
-    with open('/dev/full', 'wb') as full:
-        directory = os.open(HERE, os.O_RDONLY)
-        for line, options in [
-                (b'cannot read the script', {'stdin': directory, 'stdout': subprocess.PIPE}),
-                (b'cannot write', {'input': b'COMMIT;', 'stdout': full}),
-                (b'out of memory', {'input': b'(' * 1000000, 'stdout': subprocess.PIPE, 'preexec_fn': small_memory})]:
-            done = subprocess.run([program], stderr=subprocess.PIPE, timeout=300, **options)
+    """Runs that can't be finished: a directory in place of the script, a full device, a pipe that nobody reads, and too
+    little memory. Where standard error is full too, the status is the same."""
+    directory, full = os.open(HERE, os.O_RDONLY), os.open('/dev/full', os.O_WRONLY)
+    reader, pipe = os.pipe()
+    os.close(reader)
+    cases = [
+        ('a directory', b'cannot read the script', {'stdin': directory, 'stdout': subprocess.PIPE}),
+        ('a full device', b'cannot write', {'input': b'COMMIT;', 'stdout': full}),
+        ('a full device, long', b'cannot write', {'input': b'COMMIT;' * 10000, 'stdout': full}),
+        ('a pipe that nobody reads', b'cannot write', {'input': b'COMMIT;', 'stdout': pipe}),
+        ('little memory', b'out of memory', {'input': b'(' * 1000000, 'stdout': subprocess.PIPE, 'preexec_fn': small_memory})]
+    for name, line, options in cases:
+        for errors, want in ((subprocess.PIPE, b'sqlkeep: %s\n' % line), (full, None)):
+            done = subprocess.run([program], stderr=errors, timeout=300, check=False, **options)
             got = (done.stdout or b'', done.stderr, done.returncode)
-            yield 'devices: ' + line.decode(), [] if got == (b'', b'sqlkeep: %s\n' % line, 2) else ['got %r' % (got,)]
-        os.close(directory)
+            yield 'devices: ' + name, [] if got == (b'', want, 2) else ['got %r' % (got,)]
+    for descriptor in (directory, full, pipe):
+        os.close(descriptor)
 
 
 def main():

@@ -23,6 +23,7 @@ KINDS = {
     'INSERT of a row, COMMIT after each': ('CREATE TABLE t (a INT);', lambda n: 'INSERT INTO t VALUES (%d); COMMIT;' % n),
     'INSERT of a row, one transaction': ('CREATE TABLE t (a INT);', lambda n: 'INSERT INTO t VALUES (%d);' % n),
     'INSERT beside 2,048 CHECKs of others': (OTHERS, lambda n: 'INSERT INTO t VALUES (%d);' % n),
+    'INSERT beside 2,048 CHECKs of rows of others': (OTHERS + ' ' + ' '.join('INSERT INTO u%d VALUES (1);' % n for n in range(32)) + ' COMMIT;', lambda n: 'INSERT INTO t VALUES (%d);' % n),
     'START, ROLLBACK beside them': (OTHERS, lambda n: 'START TRANSACTION; ROLLBACK;'),
     'INSERT of a row, with a key': ('CREATE TABLE t (a INT PRIMARY KEY);', lambda n: 'INSERT INTO t VALUES (%d); COMMIT;' % n),
     'INSERT of a row, with a deferred key': ('CREATE TABLE t (a INT PRIMARY KEY INITIALLY DEFERRED);', lambda n: 'INSERT INTO t VALUES (%d);' % n),

@@ -15,5 +15,5 @@ pub use limits::{
     FEWEST_CHANGES_IN_A_STATEMENT, GREATEST_DEPTH, LAST_ROW_NUMBER, LEAST_DEPTH, Limits,
     MOST_CHANGES_IN_A_STATEMENT, MOST_CHANGES_IN_A_TRANSACTION,
 };
-pub use scan::{count_faults, first_fault, list_faults, satisfies};
+pub use scan::{count_faults, first_fault_of, first_violating, list_faults, satisfies};
 pub use wave::database_after;

@@ -164,8 +164,8 @@ fn violates(rows: &[StoredRow], constraint: &Constraint, row: &StoredRow) -> boo
     row.table == constraint.table && !satisfies(rows, constraint, row)
 }
 
-// The number of the first row that violates the constraint.
-fn first_row(rows: &[StoredRow], constraint: &Constraint) -> Option<u64>
+/// The number of the first row that violates a constraint.
+pub fn first_violating(rows: &[StoredRow], constraint: &Constraint) -> Option<u64>
     ensures { result ≡
         option_map (λ r. r.number) (find (violates rows.now constraint.now) rows.now) }
 {
@@ -174,9 +174,9 @@ fn first_row(rows: &[StoredRow], constraint: &Constraint) -> Option<u64>
         .map(|row| row.number)
 }
 
-// The first violation of a constraint, where it is chosen.
+/// The first violation of a constraint, by row, where the constraint of this number is chosen.
 #[tactic(auto, using(crate::proofs::Firsts::first_of_violations))]
-fn first_of(
+pub fn first_fault_of(
     rows: &[StoredRow],
     modes: &[ConstraintMode],
     which: Which,
@@ -189,33 +189,13 @@ fn first_of(
     if !is_chosen(modes, which, id) {
         return None;
     }
-    match first_row(rows, constraint) {
+    match first_violating(rows, constraint) {
         Some(row) => Some(Fault {
             constraint: ConstraintId::new(id),
             row,
         }),
         None => None,
     }
-}
-
-/// The first violation that the scan finds, by the constraint's creation, then by row.
-pub fn first_fault(
-    rows: &[StoredRow],
-    constraints: &[Constraint],
-    modes: &[ConstraintMode],
-    which: Which,
-) -> Option<Fault>
-    requires { length constraints.now ≤ MOST_TABLES * MOST_CONSTRAINTS }
-    ensures { result ≡ first (scan rows.now constraints.now (is_chosen modes.now which)) }
-{
-    let mut id = 0u32;
-    for constraint in constraints {
-        if let Some(fault) = first_of(rows, modes, which, id, constraint) {
-            return Some(fault);
-        }
-        id += 1;
-    }
-    None
 }
 
 // How many rows violate the constraint.

@@ -2,3 +2,4 @@ pub mod Places
 pub mod OneChange
 pub mod KeyHolders
 pub mod Adding
+pub mod Suspects

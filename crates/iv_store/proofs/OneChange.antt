@@ -163,7 +163,7 @@ set_rises rows limit table number (Some values) h l m = rising_with 0 (record { 
 set_rises rows limit table number None h l m = rising_part 0 (is_other number) rows limit h
 
 -- the next number is not below the one before, and above the change's
-higher : (db : Database) (c : Change) → InBounds db → Rising 0 db.rows (max (c.row + 1) db.next)
+pub higher : (db : Database) (c : Change) → InBounds db → Rising 0 db.rows (max (c.row + 1) db.next)
 higher db c h = up_to_higher 0 db.rows db.next (max (c.row + 1) db.next) (omega arith) h.rising
 
 pub changed_is : (db : Database) (c : Change) → InBounds db

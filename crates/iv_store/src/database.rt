@@ -6,6 +6,7 @@ ghost use Rattle.iv_expr.specs.Scopes.{Rises, row_above, table_rows, numbered};
 ghost use Rattle.iv_machine.specs.Bounds.{last_row_number, most_changes_in_a_transaction};
 ghost use Rattle.iv_machine.specs.Databases.{no_rows, row_at, database_after};
 ghost use Rattle.iv_machine.specs.Invariants.{Rising};
+ghost use Rattle.iv_store.specs.PlainRows.{InBounds};
 
 use crate::place::{row_above, row_at, set_row};
 use iv_expr::{Change, StoredRow, TableId};
@@ -117,6 +118,7 @@ impl PlainDatabase {
         requires room { self.old.count < most_changes_in_a_transaction }
         ensures ok { OnOk result (self.new ≡ database_after self.old (wave_of (change ∷ []))) }
         ensures err { OnErr result (self.new ≡ self.old) }
+        ensures bounds { InBounds self.old }
     {
         let Change {
             table,

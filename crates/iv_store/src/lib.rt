@@ -10,6 +10,7 @@ mod mark;
 mod place;
 mod plain;
 mod referencing;
+mod touched;
 
 pub use fault::AddFault;
 pub use keeper::{Keeper, Kin};

@@ -1,8 +1,8 @@
 //! A store that keeps lists and copies, and scans.
-ghost use Rattle.std.specs.Prelude.{◌≡◌, ◌+◌, ◌*◌, ◌<◌, ◌≤◌, ◌++◌, ◌∷◌, [], find, length, option_map, IfOk, OnOk, OnErr};
+ghost use Rattle.std.specs.Prelude.{◌≡◌, ◌+◌, ◌*◌, ◌<◌, ◌≤◌, [], length, None, OnOk, OnErr};
+ghost use Rattle.iv_catalogue.specs.Catalogues.{AllOn};
 ghost use Rattle.iv_catalogue.specs.declared.limits.TheConstants.{MOST_CONSTRAINTS, MOST_TABLES};
-ghost use Rattle.iv_machine.specs.Databases.{violates};
-ghost use Rattle.iv_store.specs.Stores.{empty_store, store_with_table, store_with_constraint};
+ghost use Rattle.iv_store.specs.Stores.{store_with_table, store_with_constraint, first_violating_row};
 
 use crate::copy::{copy_constraint, copy_constraints, copy_table};
 use crate::database::PlainDatabase;
@@ -11,16 +11,17 @@ use crate::keeper::{Keeper, Kin};
 use crate::key::Key;
 use crate::mark::Mark;
 use crate::referencing::children;
+use crate::touched::{first_fault, settle_touched, touch, touch_new};
 use iv_catalogue::{Constraint, ConstraintId, Fault, Table};
 use iv_expr::{Change, Rows, StoredRow, TableId};
-use iv_machine::{Which, count_faults, first_fault, list_faults, satisfies};
+use iv_machine::{Which, count_faults, first_violating, list_faults};
 use iv_modes::Modes;
 use iv_value::Value;
 use std::alloc::{AllocError, Global};
 use std::marker::Model;
 
 /// A store as lists: the rows of all tables in one list by number, copies of it as marks, and faults by the scan
-/// of all rows.
+/// of all rows, for the constraints about tables that were changed.
 #[derive(Drop)]
 pub struct PlainStore {
     alloc: Global,
@@ -28,12 +29,13 @@ pub struct PlainStore {
     constraints: Vec<Constraint>,
     database: PlainDatabase,
     marks: Vec<PlainDatabase>,
+    // The tables that were changed since no constraint was violated.
+    touched: Vec<TableId>,
 }
 
 impl Model for PlainStore {
-    ghost use Rattle.std.specs.Prelude.{◌≤◌, ◌*◌, length};
-    ghost use Rattle.iv_catalogue.specs.declared.limits.TheConstants.{MOST_CONSTRAINTS, MOST_TABLES};
     ghost use Rattle.iv_store.specs.Stores.{StoreState};
+    ghost use Rattle.iv_store.specs.Suspects.{Watched};
     ghost use Rattle.iv_expr.specs.contracts.tree.Cond as cond;
     ghost use Rattle.std.specs.Coded.{codes};
 
@@ -48,24 +50,8 @@ impl Model for PlainStore {
       marks = s.marks.items;
     } };
 
-    ghost invariant = { λ s. length s.constraints.items ≤ MOST_TABLES * MOST_CONSTRAINTS };
-}
-
-// Whether a row is one of a constraint's table and violates it.
-fn violates(rows: &[StoredRow], constraint: &Constraint, row: &StoredRow) -> bool
-    ensures { result ≡ violates rows.now constraint.now row.now }
-{
-    row.table == constraint.table && !satisfies(rows, constraint, row)
-}
-
-// The number of the first row that violates a constraint.
-fn first_violating(rows: &[StoredRow], constraint: &Constraint) -> Option<u64>
-    ensures { result ≡
-        option_map (λ r. r.number) (find (violates rows.now constraint.now) rows.now) }
-{
-    rows.iter()
-        .find(|row| violates(rows, constraint, row))
-        .map(|row| row.number)
+    ghost invariant = { λ s.
+        Watched s.touched.items s.constraints.items s.database s.marks.items };
 }
 
 impl Rows for PlainStore {
@@ -136,7 +122,9 @@ impl PlainStore {
 
     // Adds copies of a table and of its constraints.
     fn push_table(&mut self, table: &Table, constraints: &[Constraint]) -> Result<(), AllocError>
-        requires { length self.old.constraints + length constraints.now
+        requires unmarked { self.old.marks ≡ [] }
+        requires own { AllOn (length self.old.tables) constraints.now }
+        requires few { length self.old.constraints + length constraints.now
             ≤ MOST_TABLES * MOST_CONSTRAINTS }
         ensures ok { OnOk result (self.new ≡ store_with_table self.old table.now constraints.now) }
         ensures err { OnErr result (self.new ≡ self.old) }
@@ -144,6 +132,11 @@ impl PlainStore {
         let table = copy_table(self.alloc, table)?;
         let mut constraints = copy_constraints(self.alloc, constraints)?;
         self.tables.reserve(1)?;
+        touch_new(
+            &mut self.touched,
+            self.database.rows(),
+            constraints.as_slice(),
+        )?;
         self.constraints.append(&mut constraints)?;
         match self.tables.push(table) {
             Ok(()) => Ok(()),
@@ -151,9 +144,11 @@ impl PlainStore {
         }
     }
 
-    // Adds a copy of a constraint.
+    // Adds a copy of a constraint that no row violates.
     fn push_constraint(&mut self, constraint: &Constraint) -> Result<(), AllocError>
-        requires { length self.old.constraints < MOST_TABLES * MOST_CONSTRAINTS }
+        requires unmarked { self.old.marks ≡ [] }
+        requires satisfied { first_violating_row self.old constraint.now ≡ None }
+        requires few { length self.old.constraints < MOST_TABLES * MOST_CONSTRAINTS }
         ensures ok { OnOk result (self.new ≡ store_with_constraint self.old constraint.now) }
         ensures err { OnErr result (self.new ≡ self.old) }
     {
@@ -175,6 +170,7 @@ impl Keeper for PlainStore {
             constraints: Vec::new(alloc),
             database: PlainDatabase::new(alloc),
             marks: Vec::new(alloc),
+            touched: Vec::new(alloc),
         }
     }
 
@@ -191,18 +187,20 @@ impl Keeper for PlainStore {
     }
 
     fn add_constraint(&mut self, constraint: &Constraint) -> Result<(), AddFault> {
-        if let Some(row) = first_violating(self.database.rows(), constraint) {
-            return Err(AddFault::Row(row));
+        match first_violating(self.database.rows(), constraint) {
+            Some(row) => Err(AddFault::Row(row)),
+            None => Ok(self.push_constraint(constraint)?),
         }
-        Ok(self.push_constraint(constraint)?)
     }
 
     fn change(&mut self, change: Change) -> Result<(), AllocError> {
+        touch(&mut self.touched, change.table)?;
         self.database.change(change)
     }
 
     fn first_fault(&self, modes: &Modes, which: Which) -> Option<Fault> {
         first_fault(
+            self.touched.as_slice(),
             self.database.rows(),
             self.constraints.as_slice(),
             modes.as_slice(),
@@ -256,5 +254,10 @@ impl Keeper for PlainStore {
     fn settle(&mut self) {
         self.marks.clear();
         self.database.settle();
+        settle_touched(
+            &mut self.touched,
+            self.database.rows(),
+            self.constraints.as_slice(),
+        );
     }
 }

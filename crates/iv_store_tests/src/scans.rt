@@ -4,7 +4,8 @@ ghost use Rattle.std.specs.Prelude.{◌≡◌};
 use iv_catalogue::{Constraint, Fault, ForeignKey, Rule};
 use iv_expr::{Change, Comparison, Cond, Expr, Row, StoredRow, TableId, Wave};
 use iv_machine::{
-    Database, Limits, Which, count_faults, database_after, first_fault, list_faults, satisfies,
+    Database, Limits, Which, count_faults, database_after, first_fault_of, first_violating,
+    list_faults, satisfies,
 };
 use iv_syntax::{ConstraintMode, MatchType, Name, ReferentialAction};
 use iv_value::{Text, Value};
@@ -101,20 +102,86 @@ fn constraint(alloc: Global, place: u32) -> Result<Constraint, AllocError> {
     })
 }
 
-// The rows that violate each of the six constraints, in their order.
-const VIOLATING: [&[u64]; 6] = [&[2], &[1, 3], &[1, 3], &[1, 2, 3], &[6], &[5, 6]];
+// The rows of a constraint's table that don't satisfy it.
+fn unsatisfied(
+    alloc: Global,
+    rows: &[StoredRow],
+    constraint: &Constraint,
+) -> Result<String, AllocError> {
+    let mut text = String::new(alloc);
+    for row in rows {
+        if row.table == constraint.table && !satisfies(rows, constraint, row) {
+            let number = format!(in alloc; "{}, ", row.number)?;
+            text.push_str(&number)?;
+        }
+    }
+    Ok(text)
+}
+
+// Those of the constraint of this place.
+fn unsatisfied_at(alloc: Global, place: u32) -> Result<String, AllocError> {
+    let rows = rows(alloc)?;
+    let constraint = constraint(alloc, place)?;
+    unsatisfied(alloc, &rows, &constraint)
+}
 
 #[test]
 fn rows_satisfy_what_they_should(rt: HostRuntime) -> Result<(), Fail> {
-    let rows = rows(rt.alloc())?;
-    for place in 0..6 {
-        let constraint = constraint(rt.alloc(), place)?;
-        for row in rows.iter() {
-            if row.table == constraint.table {
-                let violates = VIOLATING[place as usize].contains(&row.number);
-                assert_eq!(rt; satisfies(&rows, &constraint, row), !violates);
-            }
-        }
+    for (place, rows) in [
+        (0, "2, "),
+        (1, "1, 3, "),
+        (2, "1, 3, "),
+        (3, "1, 2, 3, "),
+        (4, "6, "),
+        (5, "5, 6, "),
+    ] {
+        assert_eq!(rt; unsatisfied_at(rt.alloc(), place)?.as_str(), rows);
+    }
+    Ok(())
+}
+
+const MODES: [ConstraintMode; 6] = [
+    ConstraintMode::Deferred,
+    ConstraintMode::Immediate,
+    ConstraintMode::Deferred,
+    ConstraintMode::Immediate,
+    ConstraintMode::Immediate,
+    ConstraintMode::Deferred,
+];
+
+// The first row that violates the constraint, and the fault that is found of it where it is chosen.
+fn first(
+    alloc: Global,
+    rows: &[StoredRow],
+    which: Which,
+    id: u32,
+    constraint: &Constraint,
+) -> Result<String, AllocError> {
+    let row = first_violating(rows, constraint).unwrap_or(0);
+    match first_fault_of(rows, &MODES, which, id, constraint) {
+        Some(fault) => format!(in alloc; "{row}: {} {}", fault.constraint.place(), fault.row),
+        None => format!(in alloc; "{row}: none"),
+    }
+}
+
+fn first_at(alloc: Global, which: Which, id: u32) -> Result<String, AllocError> {
+    let rows = rows(alloc)?;
+    let constraint = constraint(alloc, id)?;
+    first(alloc, &rows, which, id, &constraint)
+}
+
+#[test]
+fn the_first_violation_is_that_of_a_chosen_constraint(rt: HostRuntime) -> Result<(), Fail> {
+    for (which, id, found) in [
+        (Which::Immediate, 0, "2: none"),
+        (Which::Deferred, 0, "2: 0 2"),
+        (Which::Immediate, 1, "1: 1 1"),
+        (Which::Deferred, 1, "1: none"),
+        (Which::All, 2, "1: 2 1"),
+        (Which::All, 4, "6: 4 6"),
+        (Which::Deferred, 5, "5: 5 5"),
+    ] {
+        assert_eq!(rt; first_at(rt.alloc(), which, id)?.as_str(), found);
     }
     Ok(())
 }
@@ -129,52 +196,39 @@ fn listed(alloc: Global, faults: &[Fault]) -> Result<String, AllocError> {
     Ok(text)
 }
 
-fn first_told(alloc: Global, fault: Option<Fault>) -> Result<String, AllocError> {
-    match fault {
-        Some(fault) => format!(in alloc; "{} {}", fault.constraint.place(), fault.row),
-        None => format!(in alloc; "none"),
-    }
-}
-
-const MODES: [ConstraintMode; 6] = [
-    ConstraintMode::Deferred,
-    ConstraintMode::Immediate,
-    ConstraintMode::Deferred,
-    ConstraintMode::Immediate,
-    ConstraintMode::Immediate,
-    ConstraintMode::Deferred,
-];
-
-#[test]
-fn a_scan_takes_the_chosen_by_creation_then_row(rt: HostRuntime) -> Result<(), Fail> {
-    let alloc = rt.alloc();
-    let rows = rows(alloc)?;
-    let constraints = [
+fn constraints(alloc: Global) -> Result<[Constraint; 6], AllocError> {
+    Ok([
         constraint(alloc, 0)?,
         constraint(alloc, 1)?,
         constraint(alloc, 2)?,
         constraint(alloc, 3)?,
         constraint(alloc, 4)?,
         constraint(alloc, 5)?,
-    ];
-    for (which, first, count, all) in [
-        (Which::Immediate, "1 1", 6, "1 1, 1 3, 3 1, 3 2, 3 3, 4 6, "),
-        (Which::Deferred, "0 2", 5, "0 2, 2 1, 2 3, 5 5, 5 6, "),
+    ])
+}
+
+// All faults that the scan finds, after their number.
+fn scanned(alloc: Global, which: Which) -> Result<String, AllocError> {
+    let rows = rows(alloc)?;
+    let constraints = constraints(alloc)?;
+    let count = count_faults(&rows, &constraints, &MODES, which);
+    let faults = list_faults(alloc, &rows, &constraints, &MODES, which)?;
+    let all = listed(alloc, &faults)?;
+    format!(in alloc; "{count}: {}", all.as_str())
+}
+
+#[test]
+fn a_scan_takes_the_chosen_by_creation_then_row(rt: HostRuntime) -> Result<(), Fail> {
+    for (which, faults) in [
+        (Which::Immediate, "6: 1 1, 1 3, 3 1, 3 2, 3 3, 4 6, "),
+        (Which::Deferred, "5: 0 2, 2 1, 2 3, 5 5, 5 6, "),
         (
             Which::All,
-            "0 2",
-            11,
-            "0 2, 1 1, 1 3, 2 1, 2 3, 3 1, 3 2, 3 3, 4 6, 5 5, 5 6, ",
+            "11: 0 2, 1 1, 1 3, 2 1, 2 3, 3 1, 3 2, 3 3, 4 6, 5 5, 5 6, ",
         ),
     ] {
-        let found = first_told(alloc, first_fault(&rows, &constraints, &MODES, which))?;
-        assert_eq!(rt; found.as_str(), first);
-        assert_eq!(rt; count_faults(&rows, &constraints, &MODES, which), count);
-        let faults = list_faults(alloc, &rows, &constraints, &MODES, which)?;
-        assert_eq!(rt; listed(alloc, &faults)?.as_str(), all);
+        assert_eq!(rt; scanned(rt.alloc(), which)?.as_str(), faults);
     }
-    let none = first_told(alloc, first_fault(&[], &constraints, &MODES, Which::All))?;
-    assert_eq!(rt; none.as_str(), "none");
     Ok(())
 }
 
