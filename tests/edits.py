@@ -186,12 +186,40 @@ def tried(crate, copy, edits):
     return [edit for edit in edits if not refused(crate, edit, output)], output, used
 
 
-def all_tried(crate, rounds, room):
-    """Each round of a crate, with the edits of it that were not refused, what the check said and the processor seconds."""
-    copy = copied(crate, room)
-    said = [(one, *tried(crate, copy, one)) for one in rounds]
+def tried_apart(crate, edits, room):
+    """The same for a round in a room of its own."""
+    said = tried(crate, copied(crate, room), edits)
     shutil.rmtree(room)
     return said
+
+
+def report(crate, rounds, said, keep):
+    """Prints what the rounds of a crate came to, and gives the number of edits that were refused and of those that were not."""
+    passed = failed = 0
+    for number, one in enumerate(rounds):
+        kept, output, used = said[number]
+        passed, failed = passed + len(one) - len(kept), failed + len(kept)
+        print(f"{crate}: {len(one) - len(kept)} of {len(one)} refused in one check, {used / 60:.1f} processor minutes", flush=True)
+        for edit in kept:
+            print(f"FAILED: {crate}/{edit.name}: {edit.function} of {edit.file} was not refused")
+        if keep:
+            write(os.path.join(keep, f"{crate}-{number}.log"), output)
+        elif kept:
+            print("\n".join(output.splitlines()[:20]))
+    return passed, failed
+
+
+def stale(crates, known):
+    """The rounds of each crate whose digest isn't known, and how many edits the others have."""
+    rounds, refused_before = {}, 0
+    for crate in crates:
+        names = sorted(name for name in os.listdir(os.path.join(HERE, "edits", crate)) if name.endswith(".edit"))
+        if known.get(crate) == digest_of(crate):
+            print(f"{crate}: {len(names)} edits were refused over these sources already", flush=True)
+            refused_before += len(names)
+        else:
+            rounds[crate] = rounds_of([Edit(crate, os.path.join(HERE, "edits", crate, name)) for name in names])
+    return rounds, refused_before
 
 
 def main():
@@ -204,34 +232,23 @@ def main():
     folder = os.path.join(HERE, "edits")
     crates = words.crates or sorted(name for name in os.listdir(folder) if os.path.isdir(os.path.join(folder, name)))
     known = {} if words.all else digests()
-    passed = failed = 0
-    rounds = {}
-    for crate in crates:
-        names = sorted(name for name in os.listdir(os.path.join(folder, crate)) if name.endswith(".edit"))
-        if known.get(crate) == digest_of(crate):
-            print(f"{crate}: {len(names)} edits were refused over these sources already", flush=True)
-            passed += len(names)
-        else:
-            rounds[crate] = rounds_of([Edit(crate, os.path.join(folder, crate, name)) for name in names])
+    rounds, passed = stale(crates, known)
+    failed = 0
     if not repository.prove(repository.below(rounds, repository.crates()), repository.crates(), words.jobs):
         print(f"{passed} passed, {failed + 1} failed")
         return 1
     with tempfile.TemporaryDirectory(prefix="edits-", dir=rooms.place()) as room, ThreadPoolExecutor(words.jobs) as pool:
         longest_first = sorted(rounds, key=lambda crate: -sum(map(len, rounds[crate])))
-        begun = {pool.submit(all_tried, crate, rounds[crate], os.path.join(room, crate)): crate for crate in longest_first}
+        begun = {pool.submit(tried_apart, crate, one, os.path.join(room, f"{crate}-{number}")): (crate, number) for crate in longest_first for number, one in enumerate(rounds[crate])}
+        said = {crate: {} for crate in rounds}
         for done in as_completed(begun):
-            crate, said = begun[done], done.result()
-            if not any(kept for _, kept, _, _ in said):
-                remember([crate])
-            for number, (one, kept, output, used) in enumerate(said):
-                passed, failed = passed + len(one) - len(kept), failed + len(kept)
-                print(f"{crate}: {len(one) - len(kept)} of {len(one)} refused in one check, {used / 60:.1f} processor minutes", flush=True)
-                for edit in kept:
-                    print(f"FAILED: {crate}/{edit.name}: {edit.function} of {edit.file} was not refused")
-                if words.keep:
-                    write(os.path.join(words.keep, f"{crate}-{number}.log"), output)
-                elif kept:
-                    print("\n".join(output.splitlines()[:20]))
+            crate, number = begun[done]
+            said[crate][number] = done.result()
+            if len(said[crate]) == len(rounds[crate]):
+                refused_now, kept_now = report(crate, rounds[crate], said[crate], words.keep)
+                passed, failed = passed + refused_now, failed + kept_now
+                if not kept_now:
+                    remember([crate])
     print(f"{passed} passed, {failed} failed")
     return int(failed > 0)
 

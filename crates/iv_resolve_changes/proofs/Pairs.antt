@@ -1,37 +1,14 @@
 -- Two lists side by side, from a place on.
-use Rattle.std.proofs.Common.{◌≡◌, refl, ℕ, ◌+◌, ◌<◌, ◌≤◌, Bool, true, false, ◌||◌, List, [], ◌∷◌, ◌∙◌, sym, ap, inl, inr, length, drop, get_or, slice_get, Option, Some, None, option_map, zip}
-use Rattle.std.proofs.lemmas.Option.{slice_get_cases, slice_get_within, get_or_from_slice_get, slice_get-map}
+use Rattle.std.proofs.Common.{◌≡◌, refl, ℕ, ◌+◌, ◌<◌, ◌≤◌, false, ◌||◌, List, ◌∷◌, ◌∙◌, sym, ap, length, drop, get_or, slice_get, Option, Some, None, option_map, zip}
+use Rattle.std.proofs.lemmas.Option.{slice_get-map}
 use Rattle.std.specs.List.{list_any}
-use Rattle.iv_scope.proofs.Places.{next_of, none_left}
+use Rattle.iv_scope.proofs.Places.{next_of, none_left, next_got, some_not_none, none_at, no_pair}
 use Rattle.iv_syntax.specs.declared.table.ColumnType.{ColumnType}
 use Rattle.iv_syntax.specs.declared.tree.Expression.{Expression}
 use Rattle.iv_syntax.specs.declared.statement.ValueOrDefault.{ValueOrDefault}
 use Rattle.iv_catalogue.specs.declared.catalogue.Column.{Column}
 use Rattle.iv_resolution.specs.Scopes.{NamedColumn, NamedRange, named_columns, type_named}
 use Rattle.iv_resolution.specs.Changes.{clashes_with, kinds_clash, target_types, tuple_clashes, value_clashes, values_clash, columns_clash}
-
--- the first of an OR is true, or it is not
-pub or_true : (whole first more : Bool) → whole ≡ (first || more) → first ≡ true → true ≡ whole
-or_true whole first more h g = sym (h ∙ ap (λ b. b || more) g)
-
-pub or_false : (whole first more : Bool) → whole ≡ (first || more) → first ≡ false → whole ≡ more
-or_false whole first more h g = h ∙ ap (λ b. b || more) g
-
-pub next_got : {X : Type 0} (xs : List X) (i : ℕ) (x : X) → slice_get xs i ≡ Some x → drop i xs ≡ x ∷ drop (i + 1) xs
-next_got xs i x g = next_of xs i x (slice_get_within xs i x g) (sym (get_or_from_slice_get xs i x x g))
-
-some_not_none : {X : Type 0} (x : X) → Some x ≡ None → ⊥
-some_not_none x h = cc
-
-none_at : {X : Type 0} (xs : List X) (i : ℕ) → slice_get xs i ≡ None → drop i xs ≡ []
-none_at xs i h = elim ((slice_get_cases xs i).1) [
-  | inl within ↦ absurd (some_not_none within.0 (sym within.2 ∙ h))
-  | inr past ↦ none_left xs i past.0
-]
-
-no_pair : {X Y : Type 0} (xs : List X) (ys : List Y) → ys ≡ [] → zip xs ys ≡ []
-no_pair [] ys h = refl
-no_pair (x ∷ xs) ys h = rw h refl
 
 pub tuple_step : (types : List (Option ColumnType)) (ranges : List NamedRange) (tuple : List ValueOrDefault) (i : ℕ) (t : Option ColumnType) (v : ValueOrDefault)
     → slice_get types i ≡ Some t → i < length tuple → v ≡ get_or tuple i v

@@ -4,19 +4,18 @@ ghost use Rattle.iv_catalogue.specs.declared.plan.DataStatement.TheVariants as d
 ghost use Rattle.iv_catalogue.specs.declared.plan.InsertColumns.TheVariants as listing;
 ghost use Rattle.iv_catalogue.specs.declared.plan.InsertRows.TheVariants as rows;
 ghost use Rattle.iv_resolution.specs.Bound.{bound_assignment, bound_columns, bound_delete, bound_insert, bound_list, bound_select, bound_source, bound_tuple, bound_update, bound_value, default_at, table_id, target_place};
-ghost use Rattle.iv_resolution.specs.Constraints.{places_of};
 ghost use Rattle.iv_resolution.specs.Scopes.{named_columns};
 ghost use Rattle.iv_resolution.specs.Terms.{bound_expression};
-ghost use Rattle.iv_scope.specs.Seen.{columns_seen, names_seen, ranges_seen};
+ghost use Rattle.iv_scope.specs.Seen.{names_seen, ranges_seen};
 
-use crate::lists::stored_columns;
 use iv_catalogue::{
     Column, DataStatement, InsertColumns, InsertRows, MOST_TABLES, Outputs, QueryPlan, Setting,
 };
 use iv_expr::{Expr, TableId};
 use iv_resolution::Origin;
 use iv_scope::{
-    Columns, Names, Ranges, bound_expression, bound_filter, inside, source_range, table_place,
+    Columns, Names, Ranges, bound_expression, bound_filter, inside, places_of, source_range,
+    stored_columns, table_place,
 };
 use iv_syntax::{
     Assignment, Delete, Expression, Insert, InsertSource, Name, Select, SelectList, Update,
@@ -176,21 +175,6 @@ fn bound_source<'a>(
             })
         }
     }
-}
-
-/// The places of the columns of these names; 0 for a name that names none.
-pub fn places_of(
-    alloc: Global,
-    columns: &Columns<'_>,
-    names: &[Name],
-) -> Result<Items<u32>, AllocError>
-    ensures { IfOk result (λ ps. ps ≡ places_of (columns_seen columns.now) names.now) }
-{
-    let mut places = Items::new(alloc);
-    for name in names {
-        places.push(columns.place_of(name.as_str()))?;
-    }
-    Ok(places)
 }
 
 #[tactic(auto, unfolding(iv_resolution::specs::Bound::bound_columns))]

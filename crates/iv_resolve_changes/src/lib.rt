@@ -2,14 +2,12 @@
 #![tactic(auto)]
 
 mod binding;
-mod lists;
 mod misshaped;
 mod targets;
 mod twice;
 mod unknown;
 
-pub use binding::{bound_delete, bound_insert, bound_select, bound_update, places_of, table_id};
-pub use lists::{stored_columns, unknown_names};
+pub use binding::{bound_delete, bound_insert, bound_select, bound_update, table_id};
 pub use misshaped::{misshaped_delete, misshaped_insert, misshaped_select, misshaped_update};
 pub use targets::Targets;
 pub use twice::{duplicate_insert, duplicate_update};

@@ -8,12 +8,12 @@ ghost use Rattle.iv_resolution.specs.Terms.{misshaped_expression};
 ghost use Rattle.iv_scope.specs.Seen.{columns_seen, names_seen, ranges_seen};
 ghost use Rattle.iv_resolve_changes.specs.Targets.{targets_seen};
 
-use crate::lists::stored_columns;
 use crate::targets::{Targets, columns_clash, tuple_clashes, value_clashes, values_clash};
 use iv_catalogue::{Column, MOST_TABLES};
 use iv_resolution::Origin;
 use iv_scope::{
     Columns, Names, Ranges, inside, misshaped_expression, misshaped_filter, source_columns,
+    stored_columns,
 };
 use iv_syntax::{
     Assignment, Condition, Delete, Expression, Insert, InsertSource, Name, RangeName, Select,

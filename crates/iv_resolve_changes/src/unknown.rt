@@ -2,19 +2,19 @@
 //! the statement.
 ghost use Rattle.std.specs.Prelude.{◌≡◌, ◌≤◌, length};
 ghost use Rattle.std.specs.List.{list_any};
-ghost use Rattle.iv_resolution.specs.Changes.{is_table, unknown_assignment, unknown_delete, unknown_insert, unknown_list, unknown_query, unknown_select, unknown_source, unknown_update, unknown_value};
+ghost use Rattle.iv_resolution.specs.Changes.{is_table, unknown_assignment, unknown_delete, unknown_insert, unknown_list, unknown_listed, unknown_query, unknown_select, unknown_source, unknown_update, unknown_value};
 ghost use Rattle.iv_resolution.specs.Terms.{unknown_expression};
 ghost use Rattle.iv_scope.specs.Seen.{columns_seen, names_seen, ranges_seen};
 
-use crate::lists::{stored_columns, unknown_listed};
 use iv_catalogue::MOST_TABLES;
 use iv_resolution::Origin;
 use iv_scope::{
-    Columns, Names, Ranges, inside, is_source, table_place, unknown_expression, unknown_filter,
+    Columns, Names, Ranges, inside, is_source, stored_columns, table_place, unknown_expression,
+    unknown_filter, unknown_names,
 };
 use iv_syntax::{
-    Assignment, Condition, Delete, Expression, Insert, InsertSource, RangeName, Select, SelectList,
-    Update, ValueOrDefault,
+    Assignment, Condition, Delete, Expression, Insert, InsertSource, Name, RangeName, Select,
+    SelectList, Update, ValueOrDefault,
 };
 use sqlite_items::Items;
 
@@ -23,6 +23,15 @@ pub fn is_table(names: &Names<'_>, name: &str) -> bool
     ensures { result ≡ is_table (names_seen names.now) name.now }
 {
     table_place(names.tables, name).is_some()
+}
+
+fn unknown_listed(columns: &Columns<'_>, names: &Option<Items<Name>>) -> bool
+    ensures { result ≡ unknown_listed (columns_seen columns.now) names.now }
+{
+    match names {
+        Some(names) => unknown_names(columns, names.as_slice()),
+        None => false,
+    }
 }
 
 fn unknown_value<'a>(value: &'a ValueOrDefault, ranges: &'a Ranges<'a>) -> bool

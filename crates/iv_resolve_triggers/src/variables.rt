@@ -5,8 +5,7 @@ ghost use Rattle.iv_scope.specs.Seen.{columns_seen, items_seen, names_seen, rang
 
 use iv_catalogue::{Catalogue, MOST_TABLES};
 use iv_resolution::Origin;
-use iv_resolve_changes::stored_columns;
-use iv_scope::{Columns, Names, Ranges, ReferencingItems};
+use iv_scope::{Columns, Names, Ranges, ReferencingItems, stored_columns};
 use iv_syntax::{TransitionName, TriggerDefinition};
 
 /// The tables that a trigger may name, where its items of REFERENCING are given with an index or without.

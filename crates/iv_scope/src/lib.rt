@@ -6,6 +6,7 @@ mod binding;
 mod column_index;
 mod columns;
 mod kinds;
+mod lists;
 mod name_set;
 mod names;
 mod ranges;
@@ -20,10 +21,11 @@ pub use kinds::{
     clashes_with, has_exists, is_integer_type, is_text_type, kinds_clash, misshaped_condition,
     misshaped_expression, misshaped_filter,
 };
+pub use lists::{places_of, unknown_names};
 pub use name_set::{NameSet, comes_again, comes_twice};
 pub use names::{
     Created, Names, Source, inside, is_source, source_columns, source_named, source_range,
-    table_place,
+    stored_columns, table_place,
 };
 pub use ranges::{Found, Ranges, column_meant};
 pub use referencing::ReferencingItems;

@@ -8,7 +8,7 @@ ghost use Rattle.iv_scope.specs.Seen.{columns_seen, names_seen, ranges_seen, sou
 use crate::columns::Columns;
 use crate::ranges::Ranges;
 use crate::referencing::ReferencingItems;
-use iv_catalogue::{MOST_TABLES, Table};
+use iv_catalogue::{Column, MOST_TABLES, Table};
 use iv_expr::{Range, Side, TableId};
 use iv_resolution::Origin;
 use iv_syntax::{RangeName, TransitionName};
@@ -43,6 +43,19 @@ pub fn table_place(tables: &[Table], name: &str) -> Option<usize>
     ensures within { IfSome result (λ place. place < length tables.now) }
 {
     tables.iter().position(|table| name == table.name.as_str())
+}
+
+/// The columns of the table of that name; none where there is no such table.
+pub fn stored_columns<'a>(tables: &'a [Table], name: &str) -> &'a [Column]
+    ensures { result.now ≡ stored_columns tables.now name.now }
+{
+    match table_place(tables, name) {
+        Some(place) => match tables.get(place) {
+            Some(table) => table.columns.as_slice(),
+            None => &[],
+        },
+        None => &[],
+    }
 }
 
 fn stored_source<'a>(tables: &'a [Table], name: &str) -> Option<Source<'a>>

@@ -11,8 +11,7 @@ ghost use Rattle.iv_table_plans.specs.Seen.{names_of_own, own_seen, reference_se
 use crate::altered::table_at;
 use crate::traversal::{Question, asked_of_constraint, asked_of_table};
 use iv_catalogue::Catalogue;
-use iv_resolve_changes::unknown_names;
-use iv_scope::{Ranges, unknown_condition};
+use iv_scope::{Ranges, unknown_condition, unknown_names};
 use iv_syntax::{Condition, Name, References, TableConstraint, TableElement};
 use iv_table_plans::{Own, WrittenRule, own_columns, own_names, own_range, referenced};
 use sqlite_items::Items;

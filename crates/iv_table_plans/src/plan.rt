@@ -23,8 +23,7 @@ use iv_catalogue::{
     Catalogue, Constraint, Constraints, ForeignKey, Plan, Rule, SchemaPlan, Table, TransactionPlan,
 };
 use iv_expr::{Cond, TableId};
-use iv_resolve_changes::places_of;
-use iv_scope::{Ranges, bound_condition};
+use iv_scope::{Ranges, bound_condition, places_of};
 use iv_syntax::{
     Condition, MatchType, Name, References, ReferentialAction, TableConstraint, TableElement,
 };

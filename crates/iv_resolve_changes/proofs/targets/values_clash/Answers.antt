@@ -2,7 +2,8 @@ use Rattle.std.proofs.Common.{◌∙◌, sym, ◌+◌, drop}
 use Rattle.iv_scope.specs.Seen.{ranges_seen}
 use Rattle.iv_resolution.specs.Changes.{clashes_with, values_clash}
 use Rattle.iv_resolve_changes.specs.Targets.{targets_seen}
-use Rattle.iv_resolve_changes.proofs.Pairs.{or_true, or_false, values_step}
+use Rattle.iv_scope.proofs.Places.{or_true, or_false}
+use Rattle.iv_resolve_changes.proofs.Pairs.{values_step}
 use Rattle.iv_resolve_changes.proofs.targets.values_clash.Goals as goal
 
 pub returns-then-clashes_with : goal.returns-then-clashes_with

@@ -1,0 +1,85 @@
+#!/usr/bin/env python3
+"""Runs `rt ci` from nothing, and prints the processor minutes that each crate took in it, as a table for docs/proving.
+
+  tools/gate.py [COMMAND WORD..]
+
+Another command may be named in place of `rt ci --anew`. Twice a second it looks at the processes that name a crate, and adds their
+processor time by crate and by what they did: the proof, the proof of its tests, its must-fail edits, and compiling. Other work on the
+machine lengthens all of these, so let nothing else run. The output of the command goes to standard error. The status is the command's.
+"""
+import os
+import subprocess
+import sys
+import time
+
+TICKS = os.sysconf("SC_CLK_TCK")
+STEPS = ["proof", "tests", "edits", "builds"]
+
+
+def step_of(words, place):
+    """What a process does for its crate: one of STEPS."""
+    if words[1:2] != ["check"]:
+        return "builds"
+    if "--test" in words:
+        return "tests"
+    return "edits" if os.sep + "crates" + os.sep not in place else "proof"
+
+
+def seconds(process):
+    """When a process began, and the processor seconds that it took itself."""
+    with open(f"/proc/{process}/stat", encoding="utf-8", errors="replace") as file:
+        fields = file.read().rpartition(")")[2].split()
+    return fields[19], (int(fields[11]) + int(fields[12])) / TICKS
+
+
+def look(seen):
+    """Notes the time of each process that names a crate, under its number and beginning."""
+    for process in filter(str.isdigit, os.listdir("/proc")):
+        try:
+            began, took = seconds(process)
+            key = process, began
+            if key not in seen:
+                with open(f"/proc/{process}/cmdline", encoding="utf-8", errors="replace") as file:
+                    words = file.read().split("\0")
+                if "--crate-name" in words:
+                    crate = words[words.index("--crate-name") + 1]
+                    seen[key] = (crate, step_of(words, os.readlink(f"/proc/{process}/cwd"))), took
+                else:
+                    seen[key] = None, 0.0
+            seen[key] = seen[key][0], took
+        except (OSError, ValueError, IndexError):
+            # It has ended.
+            continue
+
+
+def table(seen):
+    """The lines of the table, the dearest crate first."""
+    sums = {}
+    for what, took in seen.values():
+        if what:
+            crate, step = what
+            sums.setdefault(crate, dict.fromkeys(STEPS, 0.0))[step] += took / 60
+    rows = sorted(sums.items(), key=lambda row: -sum(row[1].values()))
+    total = {step: sum(steps[step] for _, steps in rows) for step in STEPS}
+    yield "| Crate | " + " | ".join(step.capitalize() for step in STEPS) + " | In all |"
+    yield "|---" * (len(STEPS) + 2) + "|"
+    for crate, steps in [*rows, ("all", total)]:
+        yield f"| `{crate}` | " + " | ".join(f"{steps[step]:.1f}" for step in STEPS) + f" | {sum(steps.values()):.1f} |"
+
+
+def main():
+    words = sys.argv[1:] or ["rt", "ci", "--anew"]
+    began = time.monotonic()
+    seen = {}
+    with subprocess.Popen(words, stdin=subprocess.DEVNULL, stdout=sys.stderr) as command:
+        while command.poll() is None:
+            look(seen)
+            time.sleep(0.5)
+    print("\n".join(table(seen)))
+    used = os.times()
+    print(f"{(used.children_user + used.children_system) / 60:.1f} processor minutes and {(time.monotonic() - began) / 60:.1f} minutes by the clock")
+    return command.returncode
+
+
+if __name__ == "__main__":
+    sys.exit(main())
