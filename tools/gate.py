@@ -4,8 +4,8 @@
   tools/gate.py [COMMAND WORD..]
 
 Another command may be named in place of `rt ci --anew`. Twice a second it looks at the processes that name a crate, and adds their
-processor time by crate and by what they did: the proof, the proof of its tests, its must-fail edits, and compiling. Other work on the
-machine lengthens all of these, so let nothing else run. The output of the command goes to standard error. The status is the command's.
+processor time by crate and by what they did: the proof with the library or program that it makes, the same of its tests, and its
+must-fail edits. Other work on the machine lengthens all of these, so let nothing else run. The output of the command goes to standard error. The status is the command's.
 """
 import os
 import subprocess
@@ -13,13 +13,11 @@ import sys
 import time
 
 TICKS = os.sysconf("SC_CLK_TCK")
-STEPS = ["proof", "tests", "edits", "builds"]
+STEPS = ["proof", "tests", "edits"]
 
 
 def step_of(words, place):
     """What a process does for its crate: one of STEPS."""
-    if words[1:2] != ["check"]:
-        return "builds"
     if "--test" in words:
         return "tests"
     return "edits" if os.sep + "crates" + os.sep not in place else "proof"
@@ -71,6 +69,9 @@ def main():
     words = sys.argv[1:] or ["rt", "ci", "--anew"]
     began = time.monotonic()
     seen = {}
+    look(seen)
+    # What ran before is no part of this command.
+    seen = dict.fromkeys(seen, (None, 0.0))
     with subprocess.Popen(words, stdin=subprocess.DEVNULL, stdout=sys.stderr) as command:
         while command.poll() is None:
             look(seen)

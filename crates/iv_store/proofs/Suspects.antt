@@ -158,10 +158,10 @@ matched_same : (rows after : List StoredRow) (fk : ForeignKey) (m : MatchType) (
     → filter (λ (r : StoredRow). not (matches m after fk (key_of fk.columns r.values))) given ≡ filter (λ (r : StoredRow). not (matches m rows fk (key_of fk.columns r.values))) given
 matched_same rows after fk matching.Simple given e =
     ap (λ (l : List StoredRow). filter (λ (r : StoredRow). not (not (none_null (key_of fk.columns r.values))
-      || list_any (λ (q : StoredRow). all_same (key_of fk.key q.values) (key_of fk.columns r.values)) l)) given) e
+    || list_any (λ (q : StoredRow). all_same (key_of fk.key q.values) (key_of fk.columns r.values)) l)) given) e
 matched_same rows after fk matching.Full given e =
     ap (λ (l : List StoredRow). filter (λ (r : StoredRow). not (all_null (key_of fk.columns r.values)
-      || (none_null (key_of fk.columns r.values) && list_any (λ (q : StoredRow). all_same (key_of fk.key q.values) (key_of fk.columns r.values)) l))) given) e
+    || (none_null (key_of fk.columns r.values) && list_any (λ (q : StoredRow). all_same (key_of fk.key q.values) (key_of fk.columns r.values)) l))) given) e
 
 disobeying_same : (rows after : List StoredRow) (table : ℕ) (rl : Rule) → table_rows after table ≡ table_rows rows table → ReferencedStay rows after rl
     → disobeying after table rl ≡ disobeying rows table rl
@@ -316,9 +316,10 @@ no_items id (r ∷ rows) e = cc
 
 clean_from : (touched : List ℕ) (rows : List StoredRow) (id : ℕ) (cs : List Constraint) → scan_from rows (λ _. true) id cs ≡ [] → Clean touched rows cs
 clean_from touched rows id [] e = tt
-clean_from touched rows id (c ∷ cs) e =
-    ((λ _. no_items id (violating rows c) (left_empty (violations rows id c) (scan_from rows (λ _. true) (id + 1) cs) e)),
-      clean_from touched rows (id + 1) cs (right_empty (violations rows id c) (scan_from rows (λ _. true) (id + 1) cs) e))
+clean_from touched rows id (c ∷ cs) e = (
+  (λ _. no_items id (violating rows c) (left_empty (violations rows id c) (scan_from rows (λ _. true) (id + 1) cs) e)),
+  clean_from touched rows (id + 1) cs (right_empty (violations rows id c) (scan_from rows (λ _. true) (id + 1) cs) e),
+)
 
 -- Where the scan of all constraints finds none, none is violated.
 pub none_violated : (touched : List ℕ) (rows : List StoredRow) (cs : List Constraint) → first (scan rows cs (λ _. true)) ≡ None → Clean touched rows cs

@@ -19,9 +19,9 @@ invariant_of-self-2 c =
     let change = c.args.change in
     let touched = with_table change.table s.touched.items in
     let own : IfSome (row_at s.database.rows change.row) (λ (r : StoredRow). r.table ≡ change.table) =
-        subst (λ (v : StoreState). IfSome (row_at v.base.rows change.row) (λ (r : StoredRow). r.table ≡ change.table)) (sym c.self.view_is) c.requires.own in
+    subst (λ (v : StoreState). IfSome (row_at v.base.rows change.row) (λ (r : StoredRow). r.table ≡ change.table)) (sym c.self.view_is) c.requires.own in
     subst (λ t. Watched t s.constraints.items c.change.new.self s.marks.items) (sym c.in_ok-touch.ensures.ok)
     (either (λ (db : Database). Watched touched s.constraints.items db s.marks.items) c.change.result c.change.new.self
-      (database_after s.database (wave_of (change ∷ []))) s.database c.change.ensures.ok c.change.ensures.err
-      (watched_after s.touched.items s.constraints.items s.database s.marks.items change c.self.invariant c.change.ensures.bounds own)
-      (watched_touched change.table s.touched.items s.constraints.items s.database s.marks.items c.self.invariant))
+    (database_after s.database (wave_of (change ∷ []))) s.database c.change.ensures.ok c.change.ensures.err
+    (watched_after s.touched.items s.constraints.items s.database s.marks.items change c.self.invariant c.change.ensures.bounds own)
+    (watched_touched change.table s.touched.items s.constraints.items s.database s.marks.items c.self.invariant))
