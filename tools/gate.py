@@ -3,9 +3,10 @@
 
   tools/gate.py [COMMAND WORD..]
 
-Another command may be named in place of `rt ci --anew`. Twice a second it looks at the processes that name a crate, and adds their
-processor time by crate and by what they did: the proof with the library or program that it makes, the same of its tests, and its
-must-fail edits. Other work on the machine lengthens all of these, so let nothing else run. The output of the command goes to standard error. The status is the command's.
+Another command may be named in place of `rt ci --anew`. Twice a second it looks at the command's processes that name a crate, and adds
+their processor time by crate and by what they did: the proof with the library or program that it makes, the same of its tests, and its
+must-fail edits. Other work on the machine lengthens all of these, so let nothing else run. The output of the command goes to standard
+error. The status is the command's.
 """
 import os
 import subprocess
@@ -24,17 +25,19 @@ def step_of(words, place):
 
 
 def seconds(process):
-    """When a process began, and the processor seconds that it took itself."""
+    """The session of a process, when it began, and the processor seconds that it took itself."""
     with open(f"/proc/{process}/stat", encoding="utf-8", errors="replace") as file:
         fields = file.read().rpartition(")")[2].split()
-    return fields[19], (int(fields[11]) + int(fields[12])) / TICKS
+    return int(fields[3]), fields[19], (int(fields[11]) + int(fields[12])) / TICKS
 
 
-def look(seen):
-    """Notes the time of each process that names a crate, under its number and beginning."""
+def look(session, seen):
+    """Notes the time of each process of a session that names a crate, under its number and beginning."""
     for process in filter(str.isdigit, os.listdir("/proc")):
         try:
-            began, took = seconds(process)
+            its_session, began, took = seconds(process)
+            if its_session != session:
+                continue
             key = process, began
             if key not in seen:
                 with open(f"/proc/{process}/cmdline", encoding="utf-8", errors="replace") as file:
@@ -69,12 +72,9 @@ def main():
     words = sys.argv[1:] or ["rt", "ci", "--anew"]
     began = time.monotonic()
     seen = {}
-    look(seen)
-    # What ran before is no part of this command.
-    seen = dict.fromkeys(seen, (None, 0.0))
-    with subprocess.Popen(words, stdin=subprocess.DEVNULL, stdout=sys.stderr) as command:
+    with subprocess.Popen(words, stdin=subprocess.DEVNULL, stdout=sys.stderr, start_new_session=True) as command:
         while command.poll() is None:
-            look(seen)
+            look(command.pid, seen)
             time.sleep(0.5)
     print("\n".join(table(seen)))
     used = os.times()
