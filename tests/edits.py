@@ -10,10 +10,10 @@ one. A round is made on a copy of the crate, over the work that a check kept, an
 edited function as refused. The last line is `N passed, N failed`.
 
 The file tests/edits/DIGESTS has a digest for each crate whose edits were all refused: of the edits, of the crate and of
-what it depends on, without tests, comments and the breaks of lines of code; of the crates below also without the bodies
-of functions that have a contract, since a proof sees the contract alone. Where it is still the same the edits aren't
-tried again, except with --all; where they are tried and all are refused it is written anew. A crate that is tried is
-proved first where its kept work is missing or old."""
+what it depends on, without tests, comments and the breaks of lines of code; of the crates below also without private
+functions, tactics and the bodies of functions that have a contract, and without imports for these, since a proof above
+sees the contracts of public functions alone. Where it is still the same the edits aren't tried again, except with --all; where they are tried and all
+are refused it is written anew. A crate that is tried is proved first where its kept work is missing or old."""
 import argparse
 import hashlib
 import os
@@ -32,6 +32,10 @@ import rooms
 FUNCTION = re.compile(r"^( *)(?:pub(?:\([a-z]+\))? )?(?:const )?fn (\w+)", re.M)
 # The body of a function that has clauses: the layout has its braces on lines of their own.
 BODY = re.compile(r"^( *)\{\n.*?^\1\}\n", re.M | re.S)
+# A function outside of every `impl` that no other crate can call, and how a function is to be proved.
+PRIVATE = re.compile(r"^(?:pub\([a-z]+\) )?(?:const )?fn .*?(?:^| )\{\n.*?^\}\n", re.M | re.S)
+TACTIC = re.compile(r"^ *#!?\[tactic\(.*?\)\]\n", re.M | re.S)
+IMPORT = re.compile(r"^ *(?:ghost )?use ([^;{]*)(?:\{([^}]*)\})?;\n", re.M)
 COMMENTS = {".rt": "//", ".antt": "--"}
 IMPLEMENTS = re.compile(r"^impl\b(?:<[^{]*?>)? *(?:[\w:<>, ]+ for )?(\w+)", re.M)
 
@@ -100,15 +104,30 @@ def below(crate):
     return repository.below([crate], repository.crates())
 
 
+def with_used_imports(source):
+    """A file's text with those of its imports alone that the rest of it names, one a line."""
+    rest = IMPORT.sub("", source)
+
+    def is_named(name):
+        signs = [part for part in name.split(" as ")[-1].split("◌") if part]
+        return all(re.search(rf"\b{part}\b", rest) if re.fullmatch(r"\w+", part) else part in rest for part in signs)
+
+    imports = [(path, name.strip()) for path, names in IMPORT.findall(source) for name in (names or re.split(r"::|\.", path)[-1]).split(",")]
+    return "".join(f"{path} {name}\n" for path, name in imports if is_named(name)) + rest
+
+
 def bare(path, from_above=False):
     """A file's text without the lines that hold a comment alone; of code also without the breaks of its lines, without
     the module of tests, and without the marks that the layout puts before the first case and after the last field of
-    what it writes over several lines; and, as a crate above sees it, without the bodies of functions that have clauses.
+    what it writes over several lines; and, as a crate above sees it, without private functions, tactics, the bodies of
+    functions that have clauses, and imports for these.
 
     No proof depends on these."""
     suffix = os.path.splitext(path)[1]
     mark = COMMENTS.get(suffix)
-    source = BODY.sub("", read(path)) if from_above and suffix == ".rt" else read(path)
+    source = read(path)
+    if from_above and suffix == ".rt":
+        source = with_used_imports(BODY.sub("", PRIVATE.sub("", TACTIC.sub("", source))))
     lines = [line for line in source.splitlines() if mark is None or not line.lstrip().startswith(mark)]
     if suffix != ".rt":
         return "\n".join(lines)

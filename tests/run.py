@@ -156,13 +156,14 @@ def small_memory():
 
 
 def devices(program):
-    """Runs that can't be finished: a directory in place of the script, a full device, a pipe that nobody reads, and too
-    little memory. Where standard error is full too, the status is the same."""
-    directory, full = os.open(HERE, os.O_RDONLY), os.open('/dev/full', os.O_WRONLY)
+    """Runs that can't be finished: a directory in place of the script, a script without end, a full device, a pipe that
+    nobody reads, and too little memory. Where standard error is full too, the status is the same."""
+    directory, zeros, full = os.open(HERE, os.O_RDONLY), os.open('/dev/zero', os.O_RDONLY), os.open('/dev/full', os.O_WRONLY)
     reader, pipe = os.pipe()
     os.close(reader)
     cases = [
         ('a directory', b'cannot read the script', {'stdin': directory, 'stdout': subprocess.PIPE}),
+        ('a script without end', b'the script is longer than 1048576 bytes', {'stdin': zeros, 'stdout': subprocess.PIPE}),
         ('a full device', b'cannot write', {'input': b'COMMIT;', 'stdout': full}),
         ('a full device, long', b'cannot write', {'input': b'COMMIT;' * 10000, 'stdout': full}),
         ('a pipe that nobody reads', b'cannot write', {'input': b'COMMIT;', 'stdout': pipe}),
@@ -172,7 +173,7 @@ def devices(program):
             done = subprocess.run([program], stderr=errors, timeout=300, check=False, **options)
             got = (done.stdout or b'', done.stderr, done.returncode)
             yield 'devices: ' + name, [] if got == (b'', want, 2) else ['got %r' % (got,)]
-    for descriptor in (directory, full, pipe):
+    for descriptor in (directory, zeros, full, pipe):
         os.close(descriptor)
 
 

@@ -1,17 +1,20 @@
 #!/usr/bin/env python3
-"""Runs `rt ci` from nothing, and prints the processor minutes that each crate took in it, as a table for docs/proving.
+"""Runs `rt ci` from nothing, and prints the minutes that each crate took in it, as a table for docs/proving.
 
   tools/gate.py [COMMAND WORD..]
 
 Another command may be named in place of `rt ci --anew`. Twice a second it looks at the command's processes that name a crate, and adds
 their processor time by crate and by what they did: the proof with the library or program that it makes, the same of its tests, and its
-must-fail edits. Other work on the machine lengthens all of these, so let nothing else run. The output of the command goes to standard
-error. The status is the command's.
+must-fail edits. It also takes how long each crate's proof took by the clock, where a proof may have had several processors, and prints the
+longest path: a chain of crates of which each depends on the one before it. Other work on the machine lengthens all of these, so let nothing
+else run. The output of the command goes to standard error. The status is the command's.
 """
 import os
 import subprocess
 import sys
 import time
+
+import crates as repository
 
 TICKS = os.sysconf("SC_CLK_TCK")
 STEPS = ["proof", "tests", "edits"]
@@ -31,8 +34,9 @@ def seconds(process):
     return int(fields[3]), fields[19], (int(fields[11]) + int(fields[12])) / TICKS
 
 
-def look(session, seen):
-    """Notes the time of each process of a session that names a crate, under its number and beginning."""
+def look(session, seen, clock):
+    """Notes the time of each process of a session that names a crate, under its number and beginning, and when a crate's step was first
+    and last seen."""
     for process in filter(str.isdigit, os.listdir("/proc")):
         try:
             its_session, began, took = seconds(process)
@@ -47,7 +51,11 @@ def look(session, seen):
                     seen[key] = (crate, step_of(words, os.readlink(f"/proc/{process}/cwd"))), took
                 else:
                     seen[key] = None, 0.0
-            seen[key] = seen[key][0], took
+            what = seen[key][0]
+            seen[key] = what, took
+            if what:
+                now = time.monotonic()
+                clock[what] = clock.get(what, (now, now))[0], now
         except (OSError, ValueError, IndexError):
             # It has ended.
             continue
@@ -68,15 +76,37 @@ def table(seen):
         yield f"| `{crate}` | " + " | ".join(f"{steps[step]:.1f}" for step in STEPS) + f" | {sum(steps.values()):.1f} |"
 
 
+def longest_path(clock):
+    """The chain of crates whose proofs took longest by the clock, one after the other, with the minutes of each; the last one's tests
+    may take the place of its proof."""
+    named = repository.crates()
+    took = {what: (last - first) / 60 for what, (first, last) in clock.items()}
+    best = {}
+
+    def chain(crate):
+        if crate not in best:
+            under = max(map(chain, named[crate]), key=minutes, default=[])
+            best[crate] = [*under, (crate, took.get((crate, "proof"), 0.0))]
+        return best[crate]
+
+    def minutes(links):
+        return sum(link for _, link in links)
+
+    ends = [[*chain(crate)[:-1], (crate, max(took.get((crate, step), 0.0) for step in ("proof", "tests")))] for crate in named]
+    return max(ends, key=minutes)
+
+
 def main():
     words = sys.argv[1:] or ["rt", "ci", "--anew"]
     began = time.monotonic()
-    seen = {}
+    seen, clock = {}, {}
     with subprocess.Popen(words, stdin=subprocess.DEVNULL, stdout=sys.stderr, start_new_session=True) as command:
         while command.poll() is None:
-            look(command.pid, seen)
+            look(command.pid, seen, clock)
             time.sleep(0.5)
     print("\n".join(table(seen)))
+    path = longest_path(clock)
+    print("Longest path by the clock: " + ", ".join(f"{crate} {took:.1f}" for crate, took in path) + f"; {sum(took for _, took in path):.1f} minutes")
     used = os.times()
     print(f"{(used.children_user + used.children_system) / 60:.1f} processor minutes and {(time.monotonic() - began) / 60:.1f} minutes by the clock")
     return command.returncode

@@ -1,6 +1,28 @@
 //! Each law is a call that returns.
 
 #[test]
+fn laws_of_values_are_called(rt: HostRuntime) {
+    iv_value::worked_values();
+    iv_expr::worked_values();
+}
+
+#[test]
+fn laws_of_tokens_are_called(rt: HostRuntime) {
+    iv_lex::laws::tokens_of_a_text();
+    iv_lex::laws::characters_of_tokens();
+}
+
+#[test]
+fn laws_of_the_grammar_are_called(rt: HostRuntime) {
+    iv_parse_terms::expression_laws();
+    iv_parse_terms::condition_laws();
+    iv_parse_terms::from_laws();
+    iv_parse::laws::one_statement();
+    iv_parse::laws::no_other_begins();
+    iv_parse::laws::one_script();
+}
+
+#[test]
 fn laws_of_names_are_called(rt: HostRuntime) {
     iv_naming::names_are_found();
 }

@@ -1,7 +1,7 @@
 //! What value expressions and search conditions mean, once every name in them is known to name something. Each function takes memory
 //! for the tree that it makes alone.
-ghost use Rattle.std.specs.Prelude.{◌≡◌, ◌≤◌, IfOk, length, option_map};
-ghost use Rattle.iv_expr.specs.Trees.{and_c, exists_c, not_c, or_c};
+ghost use Rattle.std.specs.Prelude.{◌≡◌, ◌≤◌, IfOk, Ok, length, option_map};
+ghost use Rattle.iv_expr.specs.Trees.{and_c, exists_c, not_c, or_c, times};
 ghost use Rattle.iv_resolution.specs.Terms.{bound_column, bound_condition, bound_expression, bound_filter, bound_sign, bound_sum, integer_of};
 ghost use Rattle.iv_scope.specs.Seen.{found_seen, names_seen, ranges_seen};
 
@@ -35,6 +35,33 @@ fn bound_column(found: Option<Found>) -> Expr
     }
 }
 
+// Both in boxes. Here and below a generic function owns what falls where memory is refused, so that it is dropped by a call: the drop of a
+// tree by value is written out for each variant, and takes long to prove.
+fn boxes<T: Drop>(alloc: Global, a: T, b: T) -> Result<(Boxed<T>, Boxed<T>), AllocError>
+    ensures { IfOk result (λ p. (p.0 ≡ a) × (p.1 ≡ b)) }
+{
+    match Boxed::new(alloc, a) {
+        Ok(a) => Ok((a, Boxed::new(alloc, b)?)),
+        Err(refused) => {
+            drop(b);
+            Err(refused)
+        }
+    }
+}
+
+// Both, where the second is there.
+fn pair<T: Drop>(a: T, b: Result<T, AllocError>) -> Result<(T, T), AllocError>
+    ensures { IfOk result (λ p. (p.0 ≡ a) × (b ≡ Ok p.1)) }
+{
+    match b {
+        Ok(b) => Ok((a, b)),
+        Err(refused) => {
+            drop(a);
+            Err(refused)
+        }
+    }
+}
+
 // Unary minus is 0 minus the operand.
 #[tactic(auto, using(iv_expr::proofs::Trees::minus_is))]
 fn bound_sign(alloc: Global, sign: Sign, a: Expr) -> Result<Expr, AllocError>
@@ -43,8 +70,8 @@ fn bound_sign(alloc: Global, sign: Sign, a: Expr) -> Result<Expr, AllocError>
     match sign {
         Sign::Plus => Ok(a),
         Sign::Minus => {
-            let zero = Boxed::new(alloc, Expr::Literal(Value::Int(0)))?;
-            Ok(Expr::Minus(zero, Boxed::new(alloc, a)?))
+            let (zero, a) = boxes(alloc, Expr::Literal(Value::Int(0)), a)?;
+            Ok(Expr::Minus(zero, a))
         }
     }
 }
@@ -53,16 +80,23 @@ fn bound_sign(alloc: Global, sign: Sign, a: Expr) -> Result<Expr, AllocError>
 fn bound_sum(alloc: Global, sign: Sign, a: Expr, b: Expr) -> Result<Expr, AllocError>
     ensures { IfOk result (λ e. e ≡ bound_sum sign a b) }
 {
-    let a = Boxed::new(alloc, a)?;
-    let b = Boxed::new(alloc, b)?;
+    let (a, b) = boxes(alloc, a, b)?;
     match sign {
         Sign::Plus => Ok(Expr::Plus(a, b)),
         Sign::Minus => Ok(Expr::Minus(a, b)),
     }
 }
 
+#[tactic(auto, using(iv_expr::proofs::Trees::times_is))]
+fn bound_product(alloc: Global, a: Expr, b: Expr) -> Result<Expr, AllocError>
+    ensures { IfOk result (λ e. e ≡ times a b) }
+{
+    let (a, b) = boxes(alloc, a, b)?;
+    Ok(Expr::Times(a, b))
+}
+
 /// What an expression means.
-#[tactic(auto, using(crate::proofs::Steps::bound_expression_steps, iv_expr::proofs::Trees::times_is))]
+#[tactic(auto, using(crate::proofs::Steps::bound_expression_steps))]
 pub fn bound_expression<'a>(
     expression: &'a Expression,
     alloc: Global,
@@ -82,12 +116,12 @@ pub fn bound_expression<'a>(
         }
         Expression::Product(a, b) => {
             let a = bound_expression(a.get(), alloc, &*ranges)?;
-            let b = bound_expression(b.get(), alloc, &*ranges)?;
-            Ok(Expr::Times(Boxed::new(alloc, a)?, Boxed::new(alloc, b)?))
+            let (a, b) = pair(a, bound_expression(b.get(), alloc, &*ranges))?;
+            bound_product(alloc, a, b)
         }
         Expression::Sum(sign, a, b) => {
             let a = bound_expression(a.get(), alloc, &*ranges)?;
-            let b = bound_expression(b.get(), alloc, &*ranges)?;
+            let (a, b) = pair(a, bound_expression(b.get(), alloc, &*ranges))?;
             bound_sum(alloc, *sign, a, b)
         }
     }
@@ -104,16 +138,16 @@ fn negated(alloc: Global, a: Cond) -> Result<Cond, AllocError>
 fn both(alloc: Global, a: Cond, b: Cond) -> Result<Cond, AllocError>
     ensures { IfOk result (λ c. c ≡ and_c a b) }
 {
-    let a = Boxed::new(alloc, a)?;
-    Ok(Cond::And(a, Boxed::new(alloc, b)?))
+    let (a, b) = boxes(alloc, a, b)?;
+    Ok(Cond::And(a, b))
 }
 
 #[tactic(auto, using(iv_expr::proofs::Trees::or_is))]
 fn either(alloc: Global, a: Cond, b: Cond) -> Result<Cond, AllocError>
     ensures { IfOk result (λ c. c ≡ or_c a b) }
 {
-    let a = Boxed::new(alloc, a)?;
-    Ok(Cond::Or(a, Boxed::new(alloc, b)?))
+    let (a, b) = boxes(alloc, a, b)?;
+    Ok(Cond::Or(a, b))
 }
 
 #[tactic(auto, using(iv_expr::proofs::Trees::exists_is))]
@@ -138,7 +172,7 @@ pub fn bound_condition<'a>(
     match condition {
         Condition::Compare(op, a, b) => {
             let a = bound_expression(a, alloc, &*ranges)?;
-            let b = bound_expression(b, alloc, &*ranges)?;
+            let (a, b) = pair(a, bound_expression(b, alloc, &*ranges))?;
             Ok(Cond::Compare(*op, a, b))
         }
         Condition::IsNull(a) => Ok(Cond::IsNull(bound_expression(a, alloc, &*ranges)?)),
@@ -163,12 +197,12 @@ pub fn bound_condition<'a>(
         }
         Condition::And(a, b) => {
             let a = bound_condition(a.get(), alloc, &*names, &*ranges)?;
-            let b = bound_condition(b.get(), alloc, &*names, &*ranges)?;
+            let (a, b) = pair(a, bound_condition(b.get(), alloc, &*names, &*ranges))?;
             both(alloc, a, b)
         }
         Condition::Or(a, b) => {
             let a = bound_condition(a.get(), alloc, &*names, &*ranges)?;
-            let b = bound_condition(b.get(), alloc, &*names, &*ranges)?;
+            let (a, b) = pair(a, bound_condition(b.get(), alloc, &*names, &*ranges))?;
             either(alloc, a, b)
         }
     }

@@ -1,5 +1,5 @@
 //! Scripts: read from a device, run in a new session, and answered as a transcript.
-#![tactic(auto, using(iv_print::proofs::WriteLemmas::writes_then))]
+#![tactic(auto)]
 
 mod read;
 mod running;

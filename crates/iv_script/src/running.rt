@@ -23,6 +23,7 @@ use std::alloc::Global;
 use std::str::from_utf8;
 
 // Writes the line of a fault after so many statements.
+#[tactic(auto, using(iv_print::proofs::WriteLemmas::writes_then))]
 fn write_fault<W: Sink>(
     writer: &mut W,
     count: u64,
@@ -55,6 +56,7 @@ fn write_end<W: Sink>(writer: &mut W, is_open: bool) -> Result<(), DeviceFault>
 }
 
 // Runs the statements, and writes their lines and those of the script's end.
+#[tactic(auto, using(iv_print::proofs::WriteLemmas::writes_then))]
 fn run_parsed<W: Sink>(
     session: &mut Session<PlainStore>,
     statements: &[Statement],
@@ -74,6 +76,7 @@ fn run_parsed<W: Sink>(
 }
 
 // The same with a buffer in front of the writer, which is empty again at the end.
+#[tactic(auto, using(iv_print::proofs::WriteLemmas::writes_then))]
 fn run_buffered<W: Sink>(
     session: &mut Session<PlainStore>,
     statements: &[Statement],

@@ -66,7 +66,7 @@ fn chunks(text: &[u8], fails_at: u64) -> ChunkedSource<'_> {
 
 // A sink that takes one byte at a call, and fails at one of its calls.
 #[derive(Drop)]
-pub struct ByteSink {
+struct ByteSink {
     fails_at: u64,
     calls: u64,
     failed: u64,
@@ -88,7 +88,7 @@ impl Sink for ByteSink {
     }
 }
 
-pub fn drops(fails_at: u64) -> ByteSink {
+fn drops(fails_at: u64) -> ByteSink {
     ByteSink {
         fails_at,
         calls: 0,
@@ -152,7 +152,7 @@ impl Write for InTurn {
     }
 }
 
-pub fn usual_limits() -> Option<Limits> {
+fn usual_limits() -> Option<Limits> {
     Limits::new(16, 65_536)
 }
 
@@ -216,22 +216,6 @@ fn device_fails_where_the_one_under_it_does(rt: HostRuntime) {
 }
 
 #[test]
-fn stops_a_reader_without_end(rt: HostRuntime) -> Result<(), Fail> {
-    let (done, text) = ran(rt.alloc(), &mut Std::new(io::repeat(b' ')))?;
-    assert_eq!(rt; done, Err(RunFault::TooLong));
-    assert_eq!(rt; text.len(), 0);
-    Ok(())
-}
-
-#[test]
-fn refuses_what_is_not_utf8(rt: HostRuntime) -> Result<(), Fail> {
-    let (done, text) = ran(rt.alloc(), &mut Std::new(b"\xff".as_slice()))?;
-    assert_eq!(rt; done, Err(RunFault::NotUtf8));
-    assert_eq!(rt; text.len(), 0);
-    Ok(())
-}
-
-#[test]
 fn tells_each_write_that_fails(rt: HostRuntime) -> Result<(), Fail> {
     // The transcript has 30 bytes, each of which is a write of its own.
     let Some(limits) = usual_limits() else {
@@ -263,18 +247,4 @@ fn writes_are_few(rt: HostRuntime) -> Result<(), Fail> {
         assert_eq!(rt; (sink.calls, sink.bytes), (calls, bytes), "{statements}");
     }
     Ok(())
-}
-
-#[test]
-fn limits_end_where_they_should(rt: HostRuntime) {
-    for (depth, changes) in [(1u8, 1u32), (32, 65_536)] {
-        let shown = Limits::new(depth, changes).map(|limits| (limits.depth(), limits.changes()));
-        assert_eq!(rt; shown, Some((depth, changes)));
-    }
-    for (depth, changes) in [(0u8, 1u32), (33, 1), (1, 0), (1, 65_537)] {
-        assert!(rt;
-            Limits::new(depth, changes).is_none(),
-            "{depth} and {changes}"
-        );
-    }
 }

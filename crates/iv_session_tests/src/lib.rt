@@ -1,0 +1,5 @@
+//! Tests of the calls of `iv_session`. A crate's own tests have the whole crate proved once more.
+#![tactic(auto)]
+
+#[cfg(test)]
+mod sessions;

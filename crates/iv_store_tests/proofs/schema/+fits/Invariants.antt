@@ -1,5 +1,0 @@
-use Rattle.std.proofs.Common.{length}
-use Rattle.iv_store_tests.proofs.schema.+fits.Given as goal
-
-abbrev pub decreases-fits : goal.decreases-fits
-decreases-fits l = length l.columns.now

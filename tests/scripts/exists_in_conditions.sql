@@ -1,0 +1,39 @@
+-- EXISTS is true where a row of its table satisfies its condition, and false otherwise; the condition is evaluated at every row.
+CREATE TABLE one (b INT);
+CREATE TABLE t (a INT);
+CREATE TABLE none (a INT);
+INSERT INTO one VALUES (0);
+INSERT INTO t VALUES (1), (9223372036854775807);
+SELECT COUNT(*) FROM one WHERE EXISTS (SELECT * FROM t WHERE a = 1);
+SELECT COUNT(*) FROM one WHERE EXISTS (SELECT * FROM t WHERE a = 9223372036854775807);
+SELECT COUNT(*) FROM one WHERE EXISTS (SELECT * FROM t WHERE a = 2);
+SELECT COUNT(*) FROM one WHERE NOT EXISTS (SELECT * FROM t WHERE a = 2);
+SELECT COUNT(*) FROM one WHERE EXISTS (SELECT * FROM t WHERE a = NULL);
+SELECT COUNT(*) FROM one WHERE NOT EXISTS (SELECT * FROM t WHERE a = NULL);
+SELECT COUNT(*) FROM one WHERE EXISTS (SELECT * FROM t);
+SELECT COUNT(*) FROM one WHERE EXISTS (SELECT * FROM none);
+SELECT COUNT(*) FROM one WHERE NOT EXISTS (SELECT * FROM none WHERE a = 1);
+
+-- a row that satisfies it comes first, and a fault after it; without rows there is no fault
+SELECT COUNT(*) FROM one WHERE EXISTS (SELECT * FROM t WHERE a + 1 = 2);
+SELECT COUNT(*) FROM one WHERE EXISTS (SELECT * FROM none WHERE a + 1 = 2);
+
+-- inside it the outer table's columns are seen: a row without a greater one, and a row without an equal one
+SELECT COUNT(*) FROM one WHERE EXISTS (SELECT * FROM t WHERE NOT EXISTS (SELECT * FROM t AS x WHERE x.a > t.a));
+SELECT COUNT(*) FROM one WHERE EXISTS (SELECT * FROM t WHERE NOT EXISTS (SELECT * FROM t AS x WHERE x.a = t.a));
+SELECT a FROM t WHERE EXISTS (SELECT * FROM t AS x WHERE x.a > t.a);
+COMMIT;
+
+-- over the old and the new rows of a statement, and by the names of one row
+CREATE TABLE w (a INT);
+CREATE TABLE log (who VARCHAR(9));
+CREATE TRIGGER tables AFTER UPDATE ON w REFERENCING OLD TABLE AS ot NEW TABLE AS nt WHEN (EXISTS (SELECT * FROM nt WHERE a = 7) AND NOT EXISTS (SELECT * FROM ot WHERE a = 7)) INSERT INTO log VALUES ('tables');
+CREATE TRIGGER turned AFTER UPDATE ON w REFERENCING OLD TABLE AS ot NEW TABLE AS nt WHEN (EXISTS (SELECT * FROM ot WHERE a = 7) AND NOT EXISTS (SELECT * FROM nt WHERE a = 7)) INSERT INTO log VALUES ('turned');
+CREATE TRIGGER rows AFTER UPDATE ON w REFERENCING OLD AS o NEW AS n FOR EACH ROW WHEN (o.a IS NULL AND n.a = 7) INSERT INTO log VALUES ('rows');
+INSERT INTO w VALUES (NULL), (7);
+UPDATE w SET a = 7 WHERE a IS NULL;
+SELECT * FROM log;
+DELETE FROM log;
+UPDATE w SET a = NULL;
+SELECT * FROM log;
+ROLLBACK;
