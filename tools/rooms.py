@@ -3,7 +3,10 @@
 A check locks the folders of its crate and of all below it, so two checks in one checkout wait for each other. A room
 is a folder with a copy of a crate and of those below it. The work kept for those below is shared by hard links; that of
 the crate itself moves into the room, and back when the check has ended. The libraries of the crates below that the
-check had to build go to the checkout too, so that each is built once."""
+check had to build go to the checkout too, so that each is built once. A crate that was proved here is proved again only
+where its sources, those of a crate below it or the kit have changed."""
+import functools
+import hashlib
 import os
 import shutil
 import subprocess
@@ -17,6 +20,9 @@ ROOT = os.path.dirname(os.path.dirname(os.path.realpath(__file__)))
 # What a check makes anew for its own crate alone, so that rooms share that of the crates below: compiled modules, and
 # the files of libraries.
 MODULE, LIBRARY = ".oantt", os.path.join("out", "rlib")
+
+# Holds the mark of what a crate was proved over, in the folder of its kept work.
+PROVED = os.path.join("out", "proved")
 
 HANDING_OVER = threading.Lock()
 
@@ -72,6 +78,34 @@ def hand_over(room, names):
                 shutil.move(os.path.join(there, LIBRARY), os.path.join(here, LIBRARY))
 
 
+@functools.lru_cache(maxsize=None)
+def kit():
+    """The kit's version."""
+    return subprocess.run(["rt", "version"], capture_output=True, check=True).stdout
+
+
+def mark(names, named):
+    """A digest of the sources of these crates, and of the kit."""
+    digest = hashlib.sha256(kit())
+    for name in sorted(names):
+        digest.update(f"{name}: {named[name]}\n".encode())
+        for place, folders, files in os.walk(folder(name)):
+            folders[:] = sorted(part for part in folders if part in ("src", "specs", "proofs") or place != folder(name))
+            for file in sorted(file for file in files if file.endswith((".rt", ".antt"))):
+                with open(os.path.join(place, file), "rb") as source:
+                    digest.update(os.path.join(place, file)[len(ROOT) :].encode() + b"\0" + source.read() + b"\0")
+    return digest.hexdigest()
+
+
+def was_proved(crate, its_mark):
+    """Whether a check proved the crate over these sources and its work is kept."""
+    try:
+        with open(os.path.join(folder(crate), PROVED), encoding="utf-8") as file:
+            return file.read() == its_mark
+    except FileNotFoundError:
+        return False
+
+
 def weights(wanted, named):
     """For each crate the bytes of its files and of those of the heaviest chain of crates above it."""
 
@@ -119,8 +153,11 @@ def check(room, crate, names, jobs):
 
 def prove(wanted, named, below, jobs, say):
     """Proves the crates, so many at a time, each after those below it and the heaviest chain first; whether all are proved."""
-    heavy = weights(wanted, named)
-    left, done, running = set(wanted), set(), {}
+    heavy, marks = weights(wanted, named), {crate: mark(below([crate], named), named) for crate in wanted}
+    done, running = {crate for crate in wanted if was_proved(crate, marks[crate])}, {}
+    left = set(wanted) - done
+    if done:
+        say(f"{len(done)} of {len(wanted)} crates are proved over these sources already")
     proved = True
     with tempfile.TemporaryDirectory(prefix="rooms-", dir=place()) as rooms, ThreadPoolExecutor(jobs) as pool:
         while left or running:
@@ -138,6 +175,8 @@ def prove(wanted, named, below, jobs, say):
                 status, output, seconds, used = ended.result()
                 if status == 0:
                     done.add(crate)
+                    with open(os.path.join(folder(crate), PROVED), "w", encoding="utf-8") as file:
+                        file.write(marks[crate])
                     say(f"{crate}: proved, {seconds:.0f} s, {used / 60:.1f} processor minutes; {len(left) + len(running)} to go")
                 else:
                     proved = False

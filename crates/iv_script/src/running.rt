@@ -117,7 +117,9 @@ fn run_text<W: Sink>(
 {
     let Parsed { statements, fault } = script(alloc, text)?;
     let mut session = Session::<PlainStore>::new(alloc, limits)?;
-    match run_buffered(&mut session, statements.as_slice(), fault, writer) {
+    let done = run_buffered(&mut session, statements.as_slice(), fault, writer);
+    drop(session);
+    match done {
         Ok(tally) => Ok(Summary {
             accepted: tally.accepted,
             refused: tally.refused,

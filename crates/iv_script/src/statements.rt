@@ -71,8 +71,11 @@ fn run_one<W: Sink>(
         (λ _. FailsOnce (W.state writer.old) (W.state writer.new)) }
 {
     let outcome = session.execute(statement);
-    write_outcome(writer, number, &outcome, session.catalogue())?;
-    Ok(with(tally, &outcome))
+    let written = write_outcome(writer, number, &outcome, session.catalogue());
+    let counted = with(tally, &outcome);
+    drop(outcome);
+    written?;
+    Ok(counted)
 }
 
 /// Runs the statements and writes their lines.

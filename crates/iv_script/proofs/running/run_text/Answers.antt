@@ -7,7 +7,7 @@ use Rattle.iv_script.proofs.running.run_text.Goals as goal
 pub returns-in-Ok-clause-fed : goal.returns-in-Ok-clause-fed
 returns-in-Ok-clause-fed g c = λ none.
     let before = g.W.Sink.state c.args.writer.now in
-    let after = g.W.Sink.state c.run_buffered.new.writer in
+    let after = g.W.Sink.state c.run_buffered-done.new.writer in
     let fault = c.in_ok-statements.field-0.fault in
     let place = option_map (λ f. f.at) fault in
     let tally = c.in-Ok.tally in
