@@ -56,7 +56,6 @@ fn write_end<W: Sink>(writer: &mut W, is_open: bool) -> Result<(), DeviceFault>
 }
 
 // Runs the statements, and writes their lines and those of the script's end.
-#[tactic(auto, using(iv_print::proofs::WriteLemmas::writes_then))]
 fn run_parsed<W: Sink>(
     session: &mut Session<PlainStore>,
     statements: &[Statement],
@@ -76,7 +75,6 @@ fn run_parsed<W: Sink>(
 }
 
 // The same with a buffer in front of the writer, which is empty again at the end.
-#[tactic(auto, using(iv_print::proofs::WriteLemmas::writes_then))]
 fn run_buffered<W: Sink>(
     session: &mut Session<PlainStore>,
     statements: &[Statement],
@@ -96,7 +94,6 @@ fn run_buffered<W: Sink>(
 }
 
 // Runs the script that this text is.
-#[tactic(auto, using(crate::proofs::Scripts::ran_script, crate::proofs::Scripts::ran_fed))]
 fn run_text<W: Sink>(
     alloc: Global,
     text: &str,

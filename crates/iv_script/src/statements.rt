@@ -54,7 +54,6 @@ fn with(tally: Tally, outcome: &Outcome) -> Tally
 }
 
 // Runs one statement and writes its lines.
-#[tactic(auto, using(crate::proofs::Runs::ran_one))]
 fn run_one<W: Sink>(
     session: &mut Session<PlainStore>,
     number: u64,
