@@ -1,5 +1,6 @@
 //! The marks of a store, which the program doesn't count, and its look-ups.
-use iv_store::{Keeper, Kin, Mark, PlainStore};
+use iv_plain_store::PlainStore;
+use iv_store::{Keeper, Kin, Mark};
 use std::alloc::AllocError;
 use std::test::Fail;
 

@@ -1,15 +1,15 @@
 //! The plan of a CREATE TRIGGER.
-ghost use Rattle.std.specs.Prelude.{◌≡◌, ◌≤◌, IfOk, length, map};
+ghost use Rattle.std.specs.Prelude.{◌≡◌, ◌≤◌, IfOk, Ok, length, map};
 ghost use Rattle.iv_resolution.specs.Bound.{bound_action, bound_trigger, table_id};
 ghost use Rattle.iv_resolution.specs.Tables.{table_names};
 ghost use Rattle.iv_scope.specs.Seen.{names_seen, ranges_seen};
 
-use crate::variables::{trigger_names, variables};
 use iv_catalogue::{BodyStatement, Catalogue, MOST_TABLES, Setting, Trigger, TriggerId};
 use iv_expr::TableId;
 use iv_resolve_changes::{bound_delete, bound_insert, bound_update};
 use iv_scope::{Names, Ranges, bound_expression, bound_filter, table_place};
 use iv_syntax::{TriggerAction, TriggerDefinition};
+use iv_trigger_rules::{trigger_names, variables};
 use sqlite_items::Items;
 use std::alloc::{AllocError, Global};
 
@@ -68,6 +68,19 @@ fn subject_id(catalogue: &Catalogue, name: &str) -> TableId
     }
 }
 
+// Two results as one.
+fn both<A: Drop, B: Drop>(
+    first: Result<A, AllocError>,
+    second: Result<B, AllocError>,
+) -> Result<(A, B), AllocError>
+    ensures { IfOk result (λ p. (first ≡ Ok p.0) × (second ≡ Ok p.1)) }
+{
+    match (first, second) {
+        (Ok(a), Ok(b)) => Ok((a, b)),
+        _ => Err(AllocError),
+    }
+}
+
 /// The plan of a CREATE TRIGGER, with the number that the trigger gets. It takes memory for the plan alone.
 pub fn bound_trigger<'a>(
     trigger: &'a TriggerDefinition,
@@ -80,11 +93,12 @@ pub fn bound_trigger<'a>(
 {
     let names = trigger_names(trigger, catalogue);
     let ranges = variables(&names);
-    let when = bound_filter(&trigger.when, alloc, &names, &ranges)?;
-    let body = bound_body(trigger.body.as_slice(), alloc, &names, &ranges)?;
+    let name = trigger.name.clone()?;
+    let body = bound_body(trigger.body.as_slice(), alloc, &names, &ranges);
+    let (when, body) = both(bound_filter(&trigger.when, alloc, &names, &ranges), body)?;
     Ok(Trigger {
         id: TriggerId::new(created),
-        name: trigger.name.clone()?,
+        name,
         table: subject_id(catalogue, trigger.table.as_str()),
         time: trigger.time,
         event: trigger.event,

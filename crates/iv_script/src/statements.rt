@@ -7,9 +7,9 @@ ghost use Rattle.iv_script.specs.Running.{RanOne, RanAll};
 
 use iv_catalogue::{Cause, Refusal};
 use iv_machine::Answer;
+use iv_plain_store::PlainStore;
 use iv_print::{DeviceFault, Sink, write_outcome};
 use iv_session::{Outcome, Session};
-use iv_store::PlainStore;
 use iv_syntax::Statement;
 
 /// How many statements were accepted and refused, and how many of the refused had cause 22.

@@ -1,128 +1,18 @@
 //! Statements that change the schema.
-ghost use Rattle.std.specs.Prelude.{◌≡◌, ◌+◌, ◌*◌, ◌<◌, ◌≤◌, [], ◌∷◌, true, length, IfOk, OnOk, OnErr};
-ghost use Rattle.iv_catalogue.specs.Catalogues.{AllOn, with_constraint, with_table, with_trigger, without_trigger};
-ghost use Rattle.iv_catalogue.specs.declared.limits.TheConstants.{MOST_CONSTRAINTS, MOST_TABLES};
+ghost use Rattle.std.specs.Prelude.{◌≡◌};
+ghost use Rattle.iv_catalogue.specs.Catalogues.{with_table, with_trigger, without_trigger};
 ghost use Rattle.iv_catalogue.specs.declared.plan.SchemaPlan.TheVariants.{AddConstraint, CreateTable, CreateTrigger, DropTrigger};
 ghost use Rattle.iv_machine.specs.declared.answer.Answer.TheVariants.{Done};
 ghost use Rattle.iv_machine.specs.Machine.{accept, add_constraint_outcome, with_schema};
-ghost use Rattle.iv_modes.specs.ModeMaps.{initial_map};
-ghost use Rattle.iv_store.specs.Stores.{AnswersAdding, first_violating_row, has_keys, store_with_constraint, store_with_table};
-ghost use Rattle.iv_fitting.specs.ConstraintShapes.{ConstraintFits, TableFits};
 ghost use Rattle.iv_session.specs.Fits.{SchemaFits, adding_refusal};
 ghost use Rattle.iv_session.specs.Performing.{Performs};
 
 use crate::session::{Outcome, Session, Work};
-use iv_catalogue::{Catalogue, Cause, Constraint, Constraints, Refusal, Table, Trigger, TriggerId};
+use iv_additions::{add_constraint, add_table};
+use iv_catalogue::{Cause, Constraint, Constraints, Refusal, Table, Trigger, TriggerId};
 use iv_machine::Answer;
-use iv_modes::Modes;
 use iv_store::{AddFault, Keeper};
 use std::alloc::AllocError;
-
-// Copies a table of the catalogue, and its constraints from a place on, to the store; the modes of all
-// constraints as they are initially.
-fn copy_table<K: Keeper>(
-    store: &mut K,
-    catalogue: &Catalogue,
-    table: &Table,
-    constraints: &[Constraint],
-) -> Result<Modes, AllocError>
-    requires unmarked { (K.view store.old).marks ≡ [] }
-    requires own { AllOn (length (K.view store.old).tables) constraints.now }
-    requires keys { has_keys (K.view store.old) constraints.now ≡ true }
-    requires few { length
-        (K.view store.old).constraints + length constraints.now ≤ MOST_TABLES * MOST_CONSTRAINTS }
-    ensures modes { IfOk result (λ modes. modes ≡ initial_map catalogue.now.constraints) }
-    ensures ok { OnOk result (K.view store.new
-        ≡ store_with_table (K.view store.old) table.now constraints.now) }
-    ensures err { OnErr result (K.view store.new ≡ K.view store.old) }
-{
-    let modes = Modes::initial(store.allocator(), catalogue)?;
-    store.add_table(table, constraints)?;
-    Ok(modes)
-}
-
-// Adds a table and its constraints to the catalogue and to the store, or to neither; the modes of all
-// constraints as they are initially.
-fn add_table<K: Keeper>(
-    store: &mut K,
-    catalogue: &mut Catalogue,
-    table: Table,
-    constraints: Constraints,
-) -> Result<Modes, AllocError>
-    requires unmarked { (K.view store.old).marks ≡ [] }
-    requires tables { (K.view store.old).tables ≡ catalogue.old.tables }
-    requires constraints { (K.view store.old).constraints ≡ catalogue.old.constraints }
-    requires fits { TableFits catalogue.old table constraints }
-    ensures modes { IfOk result (λ modes. modes ≡ initial_map catalogue.new.constraints) }
-    ensures catalogue { OnOk result (catalogue.new ≡ with_table catalogue.old table constraints) }
-    ensures store { OnOk result (K.view store.new
-        ≡ store_with_table (K.view store.old) table constraints) }
-    ensures same { OnErr result (catalogue.new ≡ catalogue.old) }
-    ensures kept { OnErr result (K.view store.new ≡ K.view store.old) }
-{
-    let place = catalogue.tables().len();
-    let first = catalogue.constraints().len();
-    catalogue.add_table(table, constraints)?;
-    let added = &catalogue.tables()[place];
-    let others = &catalogue.constraints()[first..];
-    match copy_table(store, &*catalogue, added, others) {
-        Ok(modes) => Ok(modes),
-        Err(error) => {
-            catalogue.take_table();
-            Err(error)
-        }
-    }
-}
-
-// Copies a constraint of the catalogue to the store; the modes of all constraints as they are initially.
-fn copy_constraint<K: Keeper>(
-    store: &mut K,
-    catalogue: &Catalogue,
-    constraint: &Constraint,
-) -> Result<Modes, AddFault>
-    requires unmarked { (K.view store.old).marks ≡ [] }
-    requires keys { has_keys (K.view store.old) (constraint.now ∷ []) ≡ true }
-    requires few { length (K.view store.old).constraints < MOST_TABLES * MOST_CONSTRAINTS }
-    ensures answer { AnswersAdding (first_violating_row (K.view store.old) constraint.now) result }
-    ensures modes { IfOk result (λ modes. modes ≡ initial_map catalogue.now.constraints) }
-    ensures ok { OnOk result (K.view store.new
-        ≡ store_with_constraint (K.view store.old) constraint.now) }
-    ensures err { OnErr result (K.view store.new ≡ K.view store.old) }
-{
-    let modes = Modes::initial(store.allocator(), catalogue)?;
-    store.add_constraint(constraint)?;
-    Ok(modes)
-}
-
-// Adds a constraint to the catalogue and to the store, or to neither; the modes of all constraints as they
-// are initially.
-fn add_constraint<K: Keeper>(
-    store: &mut K,
-    catalogue: &mut Catalogue,
-    constraint: Constraint,
-) -> Result<Modes, AddFault>
-    requires unmarked { (K.view store.old).marks ≡ [] }
-    requires constraints { (K.view store.old).constraints ≡ catalogue.old.constraints }
-    requires fits { ConstraintFits catalogue.old constraint }
-    ensures answer { AnswersAdding (first_violating_row (K.view store.old) constraint) result }
-    ensures modes { IfOk result (λ modes. modes ≡ initial_map catalogue.new.constraints) }
-    ensures catalogue { OnOk result (catalogue.new ≡ with_constraint catalogue.old constraint) }
-    ensures store { OnOk result (K.view store.new
-        ≡ store_with_constraint (K.view store.old) constraint) }
-    ensures same { OnErr result (catalogue.new ≡ catalogue.old) }
-    ensures kept { OnErr result (K.view store.new ≡ K.view store.old) }
-{
-    let place = catalogue.constraints().len();
-    catalogue.add_constraint(constraint)?;
-    let added = &catalogue.constraints()[place];
-    match copy_constraint(store, &*catalogue, added) {
-        Ok(modes) => Ok(modes),
-        Err(fault) => {
-            catalogue.take_constraint();
-            Err(fault)
-        }
-    }
-}
 
 // The refusal of a constraint that isn't added.
 fn adding_refusal(fault: AddFault) -> Refusal

@@ -2,8 +2,8 @@
 use iv_catalogue::Cause;
 use iv_machine::{Answer, Limits};
 use iv_parse::script;
+use iv_plain_store::PlainStore;
 use iv_session::{Outcome, Session, Work};
-use iv_store::PlainStore;
 use iv_syntax::Statement;
 use std::alloc::{AllocError, Global};
 use std::test::Fail;

@@ -5,8 +5,8 @@ use Rattle.iv_catalogue.specs.Catalogues.{Schema}
 use Rattle.iv_resolution.specs.Scopes.{Names}
 use Rattle.iv_resolution.specs.Constraints.{Altered, WrittenConstraint}
 use Rattle.iv_resolution.specs.Tables.{created_table, creating, misshaped_rule, unknown_rule}
-use Rattle.iv_table_plans.specs.Seen.{names_of_own, own_seen}
-use Rattle.iv_table_plans.specs.declared.own.Own.{Own}
+use Rattle.iv_table_constraints.specs.Seen.{names_of_own, own_seen}
+use Rattle.iv_table_constraints.specs.declared.own.Own.{Own}
 use Rattle.iv_table_causes.specs.declared.traversal.Question.{Question}
 use Rattle.iv_table_causes.specs.declared.traversal.Question.TheVariants.{Unknown, Misshaped}
 

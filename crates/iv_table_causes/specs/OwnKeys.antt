@@ -2,8 +2,8 @@
 use Rattle.std.specs.Prelude.{◌≡◌, ⊤, List, option_map}
 use Rattle.std.specs.List.{list_any}
 use Rattle.iv_resolution.specs.Constraints.{Key, is_reliable, primary_key_of}
-use Rattle.iv_table_plans.specs.Keys.{key_seen}
-use Rattle.iv_table_plans.specs.KeySets.{Finds}
+use Rattle.iv_table_constraints.specs.Keys.{key_seen}
+use Rattle.iv_table_constraints.specs.KeySets.{Finds}
 use Rattle.iv_table_causes.specs.declared.own_keys.OwnKeys.{OwnKeys}
 use Rattle.iv_table_causes.specs.declared.own_keys.OwnKeys.TheVariants.{Searched, Found}
 

@@ -9,14 +9,14 @@ ghost use Rattle.iv_catalogue.specs.Names.{generated_name, is_among};
 ghost use Rattle.iv_resolution.specs.Constraints.{comes_twice, constraint_names, constraints_of, table_constraint, written_columns, written_constraints};
 ghost use Rattle.iv_resolution.specs.Resolution.{of_altered};
 ghost use Rattle.iv_resolution.specs.Tables.{added_name, duplicate_rule, duplicate_table};
-ghost use Rattle.iv_table_plans.specs.Left.{left_seen};
+ghost use Rattle.iv_table_constraints.specs.Left.{left_seen};
 ghost use Rattle.iv_scope.specs.Sets.{comes_again};
-ghost use Rattle.iv_table_plans.specs.Seen.{rule_seen};
+ghost use Rattle.iv_table_constraints.specs.Seen.{rule_seen};
 
 use iv_catalogue::{Catalogue, Constraint, Table};
 use iv_scope::{NameSet, comes_again, comes_twice, table_place};
 use iv_syntax::{Name, TableConstraint, TableElement};
-use iv_table_plans::{
+use iv_table_constraints::{
     Left, WrittenRule, are_same, count_constraints, count_stored, generated, is_generated,
     is_named, table_constraint,
 };

@@ -7,8 +7,8 @@ ghost use Rattle.iv_resolution.specs.Constraints.{faulty_reference, foreign_key,
 ghost use Rattle.iv_resolution.specs.Resolution.{of_altered};
 ghost use Rattle.iv_resolution.specs.Tables.{created_table, faulty_addition, faulty_constraint, faulty_rule, faulty_table};
 ghost use Rattle.iv_table_causes.specs.OwnKeys.{Knows};
-ghost use Rattle.iv_table_plans.specs.KeySets.{Finds};
-ghost use Rattle.iv_table_plans.specs.Seen.{constraint_seen, own_seen, reference_seen, rule_seen};
+ghost use Rattle.iv_table_constraints.specs.KeySets.{Finds};
+ghost use Rattle.iv_table_constraints.specs.Seen.{constraint_seen, own_seen, reference_seen, rule_seen};
 
 use crate::altered::table_at;
 use crate::defaults::has_unfit_default;
@@ -18,7 +18,7 @@ use crate::references::faulty_reference;
 use iv_catalogue::Catalogue;
 use iv_scope::{ColumnIndex, Columns, has_exists};
 use iv_syntax::{Name, References, TableConstraint, TableElement};
-use iv_table_plans::{
+use iv_table_constraints::{
     KeySets, Left, Own, WrittenConstraint, WrittenRule, is_contradictory, own_columns, own_name,
     primary_key, referenced, reliable_sets, table_constraint,
 };

@@ -6,14 +6,14 @@ ghost use Rattle.iv_catalogue.specs.declared.limits.TheConstants.{MOST_CONSTRAIN
 ghost use Rattle.iv_resolution.specs.Constraints.{column_constraint, element_constraints, table_constraint, written_columns, written_constraints};
 ghost use Rattle.iv_resolution.specs.Resolution.{of_altered};
 ghost use Rattle.iv_resolution.specs.Tables.{addition_beyond_limits, altered_at, long_key, table_beyond_limits, type_beyond_limits};
-ghost use Rattle.iv_table_plans.specs.Seen.{constraint_seen, own_seen, rule_seen};
+ghost use Rattle.iv_table_constraints.specs.Seen.{constraint_seen, own_seen, rule_seen};
 
 use iv_catalogue::{
     Catalogue, MOST_CHARACTERS, MOST_COLUMNS, MOST_CONSTRAINTS, MOST_KEY_COLUMNS, MOST_TABLES,
 };
 use iv_scope::{Columns, table_place};
 use iv_syntax::{ColumnConstraint, ColumnType, Name, TableConstraint, TableElement};
-use iv_table_plans::{
+use iv_table_constraints::{
     Own, WrittenConstraint, WrittenRule, column_constraint, count_element, count_stored,
     table_constraint,
 };
@@ -63,7 +63,7 @@ fn element_has_long_key(element: &TableElement) -> bool
     }
 }
 
-#[tactic(auto, using(iv_table_plans::proofs::Elements::any_next))]
+#[tactic(auto, using(iv_table_constraints::proofs::Elements::any_next))]
 fn has_long_key(elements: &[TableElement]) -> bool
     ensures { result ≡ list_any (λ k. long_key k.rule) (written_constraints elements.now) }
 {
@@ -88,7 +88,7 @@ fn has_type_beyond_limits(elements: &[TableElement]) -> bool
     false
 }
 
-#[tactic(auto, using(iv_table_plans::proofs::Elements::count_next))]
+#[tactic(auto, using(iv_table_constraints::proofs::Elements::count_next))]
 fn many_constraints(elements: &[TableElement]) -> bool
     ensures { result ≡ nat_lt MOST_CONSTRAINTS (length (written_constraints elements.now)) }
 {

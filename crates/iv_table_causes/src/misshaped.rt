@@ -5,14 +5,14 @@ ghost use Rattle.iv_resolution.specs.Resolution.{of_altered};
 ghost use Rattle.iv_resolution.specs.Tables.{check_ranges, misshaped_rule, misshaped_table, table_names};
 ghost use Rattle.iv_resolution.specs.Terms.{misshaped_condition};
 ghost use Rattle.iv_scope.specs.Seen.{ranges_seen};
-ghost use Rattle.iv_table_plans.specs.Seen.{names_of_own, own_seen, rule_seen};
+ghost use Rattle.iv_table_constraints.specs.Seen.{names_of_own, own_seen, rule_seen};
 
 use crate::altered::table_at;
 use crate::traversal::{Question, asked_of_constraint, asked_of_table};
 use iv_catalogue::Catalogue;
 use iv_scope::{Ranges, misshaped_condition};
 use iv_syntax::{Condition, TableConstraint, TableElement};
-use iv_table_plans::{Own, WrittenRule, own_names, own_range};
+use iv_table_constraints::{Own, WrittenRule, own_names, own_range};
 use std::alloc::Global;
 
 fn misshaped_check<'a>(

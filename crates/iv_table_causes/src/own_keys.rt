@@ -2,13 +2,13 @@
 ghost use Rattle.std.specs.Prelude.{◌≡◌, option_map};
 ghost use Rattle.std.specs.List.{list_any};
 ghost use Rattle.iv_resolution.specs.Constraints.{is_reliable, primary_key_of};
-ghost use Rattle.iv_table_plans.specs.Keys.{key_seen};
-ghost use Rattle.iv_table_plans.specs.Seen.{own_seen};
+ghost use Rattle.iv_table_constraints.specs.Keys.{key_seen};
+ghost use Rattle.iv_table_constraints.specs.Seen.{own_seen};
 ghost use Rattle.iv_table_causes.specs.OwnKeys.{Knows};
 
 use iv_catalogue::Catalogue;
 use iv_syntax::Name;
-use iv_table_plans::{KeySets, Own, TableKey, has_reliable_key, has_set, primary_key};
+use iv_table_constraints::{KeySets, Own, TableKey, has_reliable_key, has_set, primary_key};
 use std::alloc::Global;
 
 /// They are searched one after another; or the primary key is known, and the sets of columns of those that are NOT DEFERRABLE.

@@ -2,10 +2,10 @@
 ghost use Rattle.std.specs.Prelude.{◌≡◌, filter, length, map, min};
 ghost use Rattle.iv_resolution.specs.Constraints.{column_constraint, element_constraints, rule_of_column, rule_of_table, written_constraints};
 ghost use Rattle.iv_resolution.specs.Tables.{is_primary_rule, two_primary_keys};
-ghost use Rattle.iv_table_plans.specs.Seen.{rule_seen};
+ghost use Rattle.iv_table_constraints.specs.Seen.{rule_seen};
 
 use iv_syntax::{ColumnConstraint, ColumnRule, Name, TableElement, TableRule};
-use iv_table_plans::WrittenRule;
+use iv_table_constraints::WrittenRule;
 
 /// Whether it is a primary key.
 pub fn is_primary_rule(rule: &WrittenRule<'_>) -> bool

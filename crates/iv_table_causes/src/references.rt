@@ -2,16 +2,16 @@
 ghost use Rattle.std.specs.Prelude.{◌≡◌, None, Some, zip};
 ghost use Rattle.iv_resolution.specs.Constraints.{faulty_reference, pairs_differ, same_type, types_differ};
 ghost use Rattle.iv_scope.specs.Seen.{columns_seen};
-ghost use Rattle.iv_table_plans.specs.Keys.{key_names};
+ghost use Rattle.iv_table_constraints.specs.Keys.{key_names};
 ghost use Rattle.iv_table_causes.specs.OwnKeys.{Knows};
 ghost use Rattle.iv_table_causes.specs.Pairs.{some_pair_differs};
-ghost use Rattle.iv_table_plans.specs.Seen.{own_seen, reference_seen};
+ghost use Rattle.iv_table_constraints.specs.Seen.{own_seen, reference_seen};
 
 use crate::own_keys::{OwnKeys, has_known_key, known_primary};
 use iv_catalogue::Catalogue;
 use iv_scope::Columns;
 use iv_syntax::{ColumnType, Name};
-use iv_table_plans::{KeyColumns, Own, own_columns};
+use iv_table_constraints::{KeyColumns, Own, own_columns};
 use sqlite_items::Items;
 
 fn same_type(a: ColumnType, b: ColumnType) -> bool

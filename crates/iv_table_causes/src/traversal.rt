@@ -3,7 +3,7 @@ ghost use Rattle.std.specs.Prelude.{◌≡◌, [], map};
 ghost use Rattle.std.specs.List.{list_any};
 ghost use Rattle.iv_resolution.specs.Constraints.{column_constraint, element_constraints, table_constraint, written_constraints};
 ghost use Rattle.iv_scope.specs.Seen.{ranges_seen};
-ghost use Rattle.iv_table_plans.specs.Seen.{constraint_seen};
+ghost use Rattle.iv_table_constraints.specs.Seen.{constraint_seen};
 ghost use Rattle.iv_table_causes.specs.Asked.{asked, asked_of_new};
 
 use crate::misshaped::misshaped_rule;
@@ -11,7 +11,7 @@ use crate::unknown::unknown_rule;
 use iv_catalogue::Catalogue;
 use iv_scope::{ColumnIndex, Ranges};
 use iv_syntax::{ColumnConstraint, Name, TableConstraint, TableElement};
-use iv_table_plans::{Own, WrittenConstraint, column_constraint, table_constraint};
+use iv_table_constraints::{Own, WrittenConstraint, column_constraint, table_constraint};
 use std::alloc::Global;
 
 /// The cause that a constraint is asked for.

@@ -6,14 +6,14 @@ ghost use Rattle.iv_resolution.specs.Resolution.{is_there, of_altered};
 ghost use Rattle.iv_resolution.specs.Tables.{check_ranges, table_names, unknown_reference, unknown_rule, unknown_table};
 ghost use Rattle.iv_resolution.specs.Terms.{unknown_condition};
 ghost use Rattle.iv_scope.specs.Seen.{ranges_seen};
-ghost use Rattle.iv_table_plans.specs.Seen.{names_of_own, own_seen, reference_seen, rule_seen};
+ghost use Rattle.iv_table_constraints.specs.Seen.{names_of_own, own_seen, reference_seen, rule_seen};
 
 use crate::altered::table_at;
 use crate::traversal::{Question, asked_of_constraint, asked_of_table};
 use iv_catalogue::Catalogue;
 use iv_scope::{Ranges, unknown_condition, unknown_names};
 use iv_syntax::{Condition, Name, References, TableConstraint, TableElement};
-use iv_table_plans::{Own, WrittenRule, own_columns, own_names, own_range, referenced};
+use iv_table_constraints::{Own, WrittenRule, own_columns, own_names, own_range, referenced};
 use sqlite_items::Items;
 use std::alloc::Global;
 

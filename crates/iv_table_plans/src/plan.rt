@@ -8,17 +8,10 @@ ghost use Rattle.iv_resolution.specs.Tables.{altered_at, check_ranges, created_t
 ghost use Rattle.iv_resolution.specs.Terms.{bound_condition};
 ghost use Rattle.iv_resolution.specs.Bound.{bound_addition, bound_alteration, bound_constraint, bound_place, bound_rule, bound_table, key_places};
 ghost use Rattle.iv_resolution.specs.Constraints.{foreign_key, places_of, table_constraint, written_constraints};
-ghost use Rattle.iv_table_plans.specs.Keys as seen;
-ghost use Rattle.iv_table_plans.specs.Seen.{constraint_seen, names_of_own, own_seen, reference_seen, rule_seen};
+ghost use Rattle.iv_table_constraints.specs.Keys as seen;
+ghost use Rattle.iv_table_constraints.specs.Seen.{constraint_seen, names_of_own, own_seen, reference_seen, rule_seen};
 
-use crate::characteristics::{initial_mode, is_deferrable};
 use crate::columns_bound::bound_columns;
-use crate::constraint_names::constraint_name;
-use crate::finding::primary_key;
-use crate::keys::KeyColumns;
-use crate::left::Left;
-use crate::own::{Own, count_stored, own_columns, own_names, own_range, referenced};
-use crate::written::{WrittenConstraint, WrittenRule, table_constraint};
 use iv_catalogue::{
     Catalogue, Constraint, Constraints, ForeignKey, Plan, Rule, SchemaPlan, Table, TransactionPlan,
 };
@@ -26,6 +19,11 @@ use iv_expr::{Cond, TableId};
 use iv_scope::{Ranges, bound_condition, places_of};
 use iv_syntax::{
     Condition, MatchType, Name, References, ReferentialAction, TableConstraint, TableElement,
+};
+use iv_table_constraints::{
+    KeyColumns, Left, Own, WrittenConstraint, WrittenRule, constraint_name, count_stored,
+    initial_mode, is_deferrable, own_columns, own_names, own_range, primary_key, referenced,
+    table_constraint,
 };
 use sqlite_items::Items;
 use std::alloc::{AllocError, Global};

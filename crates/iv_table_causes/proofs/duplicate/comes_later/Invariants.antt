@@ -1,7 +1,7 @@
 use Rattle.std.proofs.Common.{◌≡◌, ◌+◌, length, unwrap_or}
 use Rattle.iv_catalogue.specs.Names.{generated_name, is_among}
 use Rattle.iv_resolution.specs.Constraints.{constraint_names}
-use Rattle.iv_table_plans.specs.Left.{left_seen}
+use Rattle.iv_table_constraints.specs.Left.{left_seen}
 use Rattle.iv_table_causes.proofs.duplicate.comes_later.Given as goal
 
 abbrev pub invariant-loop-constraint : goal.invariant-loop-constraint

@@ -1,6 +1,6 @@
 use Rattle.std.proofs.Common.{◌≡◌, ◌+◌, length}
 use Rattle.iv_resolution.specs.Constraints.{comes_twice, constraint_names, written_constraints}
-use Rattle.iv_table_plans.specs.Left.{left_seen}
+use Rattle.iv_table_constraints.specs.Left.{left_seen}
 use Rattle.iv_table_causes.proofs.duplicate.repeats_constraint_in_place.Given as goal
 
 abbrev pub invariant-loop-constraint : goal.invariant-loop-constraint

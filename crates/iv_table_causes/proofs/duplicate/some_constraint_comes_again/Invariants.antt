@@ -1,6 +1,6 @@
 use Rattle.std.proofs.Common.{◌≡◌, ◌+◌, length}
 use Rattle.iv_resolution.specs.Constraints.{constraint_names, written_constraints}
-use Rattle.iv_table_plans.specs.Left.{left_seen}
+use Rattle.iv_table_constraints.specs.Left.{left_seen}
 use Rattle.iv_scope.specs.Sets.{comes_again}
 use Rattle.iv_table_causes.proofs.duplicate.some_constraint_comes_again.Given as goal
 

@@ -2,7 +2,7 @@ use Rattle.std.proofs.Common.{◌≡◌, ◌+◌, length}
 use Rattle.std.specs.List.{list_any}
 use Rattle.iv_catalogue.specs.Catalogues.{has_constraint}
 use Rattle.iv_resolution.specs.Constraints.{constraint_names, written_constraints}
-use Rattle.iv_table_plans.specs.Left.{left_seen}
+use Rattle.iv_table_constraints.specs.Left.{left_seen}
 use Rattle.iv_table_causes.proofs.duplicate.some_name_is_used.Given as goal
 
 abbrev pub invariant-loop-constraint : goal.invariant-loop-constraint

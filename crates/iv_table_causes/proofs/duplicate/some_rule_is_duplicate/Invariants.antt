@@ -2,7 +2,7 @@ use Rattle.std.proofs.Common.{◌≡◌, length}
 use Rattle.std.specs.List.{list_any}
 use Rattle.iv_resolution.specs.Constraints.{written_constraints}
 use Rattle.iv_resolution.specs.Tables.{duplicate_rule}
-use Rattle.iv_table_plans.specs.Left.{left_seen}
+use Rattle.iv_table_constraints.specs.Left.{left_seen}
 use Rattle.iv_table_causes.proofs.duplicate.some_rule_is_duplicate.Given as goal
 
 abbrev pub invariant-loop-constraint : goal.invariant-loop-constraint

@@ -1,6 +1,6 @@
 use Rattle.iv_resolution.specs.Constraints.{written_constraints}
-use Rattle.iv_table_plans.specs.Seen.{own_seen}
-use Rattle.iv_table_plans.proofs.SameSets.{finds_keys}
+use Rattle.iv_table_constraints.specs.Seen.{own_seen}
+use Rattle.iv_table_constraints.proofs.SameSets.{finds_keys}
 use Rattle.iv_table_causes.proofs.faulty.some_is_faulty_of.Goals as goal
 
 pub some_is_faulty_among-requires : goal.some_is_faulty_among-requires

@@ -4,7 +4,7 @@ use Rattle.iv_resolution.specs.Constraints.{types_differ}
 use Rattle.iv_resolution.specs.Scopes.{type_named}
 use Rattle.iv_scope.specs.Seen.{columns_seen}
 use Rattle.iv_scope.proofs.Places.{or_true, or_false}
-use Rattle.iv_table_plans.specs.Keys.{key_names}
+use Rattle.iv_table_constraints.specs.Keys.{key_names}
 use Rattle.iv_table_causes.specs.Pairs.{some_pair_differs}
 use Rattle.iv_table_causes.proofs.ReferencePairs.{pair_step}
 use Rattle.iv_table_causes.proofs.references.some_pair_differs.Goals as goal

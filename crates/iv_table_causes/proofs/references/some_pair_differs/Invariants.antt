@@ -1,6 +1,6 @@
 use Rattle.std.proofs.Common.{◌≡◌, drop, zip}
 use Rattle.iv_scope.specs.Seen.{columns_seen}
-use Rattle.iv_table_plans.specs.Keys.{key_names}
+use Rattle.iv_table_constraints.specs.Keys.{key_names}
 use Rattle.iv_table_causes.specs.Pairs.{some_pair_differs}
 use Rattle.iv_table_causes.proofs.references.some_pair_differs.Given as goal
 

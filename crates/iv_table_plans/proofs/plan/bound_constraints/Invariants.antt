@@ -3,7 +3,7 @@ use Rattle.std.specs.List.{enumerate_from}
 use Rattle.iv_resolution.specs.Bound.{bound_place}
 use Rattle.iv_resolution.specs.Constraints.{written_constraints}
 use Rattle.iv_resolution.specs.Tables.{created_table}
-use Rattle.iv_table_plans.specs.Left.{left_seen}
+use Rattle.iv_table_constraints.specs.Left.{left_seen}
 use Rattle.iv_table_plans.proofs.plan.bound_constraints.Given as goal
 
 abbrev pub invariant-loop-constraint : goal.invariant-loop-constraint

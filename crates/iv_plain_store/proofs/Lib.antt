@@ -1,0 +1,4 @@
+pub mod Places
+pub mod OneChange
+pub mod KeyHolders
+pub mod Suspects

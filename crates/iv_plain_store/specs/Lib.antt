@@ -1,0 +1,2 @@
+pub mod PlainRows
+pub mod Suspects

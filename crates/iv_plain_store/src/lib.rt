@@ -1,0 +1,11 @@
+//! A store of rows that keeps lists, copies and scans.
+#![tactic(auto)]
+
+mod copy;
+mod database;
+mod place;
+mod plain;
+mod referencing;
+mod touched;
+
+pub use plain::PlainStore;

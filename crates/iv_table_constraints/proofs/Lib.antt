@@ -1,0 +1,4 @@
+pub mod Elements
+pub mod KeysOfTable
+pub mod Counts
+pub mod SameSets
