@@ -75,10 +75,9 @@ fn both<A: Drop, B: Drop>(
 ) -> Result<(A, B), AllocError>
     ensures { IfOk result (λ p. (first ≡ Ok p.0) × (second ≡ Ok p.1)) }
 {
-    match (first, second) {
-        (Ok(a), Ok(b)) => Ok((a, b)),
-        _ => Err(AllocError),
-    }
+    let a = first?;
+    let b = second?;
+    Ok((a, b))
 }
 
 /// The plan of a CREATE TRIGGER, with the number that the trigger gets. It takes memory for the plan alone.
