@@ -16,9 +16,10 @@ CRATES = os.path.join(os.path.dirname(os.path.abspath(__file__)), '..', 'crates'
 EXCEPTIONS = [
     ('iv_expr/src/expression.rt', 'copy', 'NoMemory', 'the copy of a text, which answers an AllocError or none'),
     ('iv_triggers/src/values.rt', 'cause_of', 'OutOfMemory', 'the evaluation was refused memory, which is a fault of its own'),
-    ('iv_session/src/schema.rt', 'adding_refusal', 'AllocError', 'the store was refused memory, which is a fault of its own'),
+    ('iv_state/src/schema.rt', 'adding_refusal', 'AllocError', 'the store was refused memory, which is a fault of its own'),
     ('sqlkeep/src/main.rt', 'words', 'NoMemory', 'std tells by a kind of its error that memory for the words was refused'),
-    ('sqlkeep/src/main.rt', 'go', 'NoMemory', 'clap tells by a kind of its error that memory was refused'),
+    ('sqlkeep/src/main.rt', 'refuse_words', 'NoMemory', 'memory was refused for the options, which iv_options says by an error of its own'),
+    ('iv_options/src/reading.rt', 'words_error', 'NoMemory', 'clap tells by a kind of its error that memory was refused'),
     ('iv_print/src/device.rt', 'read', 'DeviceFault', 'the reader under the device failed'),
     ('iv_print/src/device.rt', 'write', 'DeviceFault', 'the writer under the device failed, or took none of some bytes'),
 ]

@@ -42,7 +42,3 @@ waves_and_after run context statement db budget wave =
     and_then (settled_waves context db budget wave) (λ s.
     and_then (finished run context statement (net_wave db.rows s.last.rows s.waves) (standing s.last s.rest)) (λ at.
     Ok (record { database = at.database; rest = at.budget; size = size wave })))
-
--- What a data statement of a script comes to: the database, and how many rows it changed itself.
-abbrev pub database_and_size : Result Finished Failure → Result (Database × ℕ) Failure
-database_and_size result = and_then result (λ done. Ok (done.database, done.size))

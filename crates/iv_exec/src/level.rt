@@ -10,11 +10,11 @@ ghost use Rattle.iv_machine.specs.BeforeTriggers.{for_each_row, placed_statement
 ghost use Rattle.iv_machine.specs.Levels.{body_run, firing_run, firings_run, level, nested_level, row_firing, statement_firing, statement_run};
 ghost use Rattle.iv_row_laws.specs.RowFits.{BodyFits, StatementFits, changes_fit};
 ghost use Rattle.iv_transitions.specs.ByTable.{ByTableAndEvent, after_firings, all_firings};
-ghost use Rattle.iv_waves.specs.Answers.{AnswersAt, UnlessMemory, with_database};
-ghost use Rattle.iv_waves.specs.Applying.{Proposes, StoreFits};
+ghost use Rattle.iv_row_laws.specs.Changing.{AnswersAt, StoreFits, UnlessMemory, database_and_size, with_database};
+ghost use Rattle.iv_waves.specs.Applying.{Proposes};
 ghost use Rattle.iv_waves.specs.Lookups.{LooksUp};
 ghost use Rattle.iv_exec.specs.Firing.{ActionFits, AreParts, AreTransitions, CanFire};
-ghost use Rattle.iv_exec.specs.Steps.{body_run_where_true, database_and_size, finished, innermost, standing, waves_and_after};
+ghost use Rattle.iv_exec.specs.Steps.{body_run_where_true, finished, innermost, standing, waves_and_after};
 
 use crate::lent::{are_transitions, row_frame, statement_at, statement_frame, trigger_at};
 use crate::start::{allowed, check, settle_waves, takes_effect};

@@ -1,6 +1,7 @@
 //! What a command line gives.
 
 use iv_machine::Limits;
+use std::alloc::AllocError;
 
 /// What the words of a command line say.
 #[derive(Clone, Copy, Debug)]
@@ -8,4 +9,21 @@ pub struct Options<'a> {
     pub limits: Limits,
     /// The file of the script; standard input where there is none.
     pub file: Option<&'a str>,
+}
+
+/// Why the words of a command line give no options.
+#[derive(Debug, Drop)]
+pub enum WordsError {
+    /// Memory was refused.
+    NoMemory,
+    /// They ask for the help, which is this text.
+    Help(String),
+    /// They are refused: the text that says why.
+    Refused(String),
+}
+
+impl From<AllocError> for WordsError {
+    fn from(_: AllocError) -> Self {
+        WordsError::NoMemory
+    }
 }

@@ -6,5 +6,5 @@ mod given;
 mod reading;
 
 pub use command::USUAL_DEPTH;
-pub use given::Options;
+pub use given::{Options, WordsError};
 pub use reading::options;

@@ -6,11 +6,11 @@ ghost use Rattle.iv_options.specs.declared.command.TheConstants.{USUAL_DEPTH};
 ghost use Rattle.iv_options.specs.CommandLine.{command_line, file_of, limits_of, number_or};
 
 use crate::command::{USUAL_DEPTH, command};
-use crate::given::Options;
+use crate::given::{Options, WordsError};
 use clap::error::ErrorKind;
 use clap::{ArgMatches, Error};
 use iv_machine::{Limits, MOST_CHANGES_IN_A_STATEMENT};
-use std::alloc::Global;
+use std::alloc::{AllocError, Global};
 use std::convert::AsStr;
 use std::num::ParseIntError;
 
@@ -41,9 +41,8 @@ fn limits_of(matches: &ArgMatches<'_>) -> Option<Limits>
     Limits::new(depth, changes)
 }
 
-/// Reads the words of a command line, of which the first is the program's name. `--help` is an error whose text is the
-/// help.
-pub fn options<'a, S: AsStr>(alloc: Global, words: &'a [S]) -> Result<Options<'a>, Error>
+// The options that the words give, or the error of `clap`.
+fn read_words<'a, S: AsStr>(alloc: Global, words: &'a [S]) -> Result<Options<'a>, Error>
     ensures limits { IfOk result (λ o. o.limits
         ≡ limits_of (matches_of command_line (map S.text words.entry.now))) }
     ensures file { IfOk result (λ o. option_map (λ s. s.now) o.file
@@ -57,5 +56,31 @@ pub fn options<'a, S: AsStr>(alloc: Global, words: &'a [S]) -> Result<Options<'a
             file: matches.get_str("file"),
         }),
         None => Err(command.error(ErrorKind::ValueValidation, "a limit is out of its range")?),
+    }
+}
+
+// Why there are no options, by the error of `clap`.
+fn words_error(alloc: Global, error: &Error) -> Result<WordsError, AllocError> {
+    if error.kind() == ErrorKind::OutOfMemory {
+        return Ok(WordsError::NoMemory);
+    }
+    let text = format!(in alloc; "{error}")?;
+    if error.use_stderr() {
+        Ok(WordsError::Refused(text))
+    } else {
+        Ok(WordsError::Help(text))
+    }
+}
+
+/// Reads the words of a command line, of which the first is the program's name.
+pub fn options<'a, S: AsStr>(alloc: Global, words: &'a [S]) -> Result<Options<'a>, WordsError>
+    ensures limits { IfOk result (λ o. o.limits
+        ≡ limits_of (matches_of command_line (map S.text words.entry.now))) }
+    ensures file { IfOk result (λ o. option_map (λ s. s.now) o.file
+        ≡ file_of (matches_of command_line (map S.text words.entry.now))) }
+{
+    match read_words(alloc, words) {
+        Ok(options) => Ok(options),
+        Err(error) => Err(words_error(alloc, &error)?),
     }
 }

@@ -1,9 +1,11 @@
-//! What statements answer by their resolution, one after another: `step` and `run` of the definitions, and laws of
-//! the states that runs reach, as contracts of functions that do nothing.
+//! What statements answer by their resolution, one after another: `step` and `run` of the definitions, what executes
+//! statements so, and laws of the states that runs reach, as contracts of functions that do nothing.
 #![tactic(auto)]
 
+mod executor;
 mod laws;
 
+pub use executor::{Executor, Outcome};
 pub use laws::{
     plans_keep_the_occasion, reached_states_are_sound, refusals_change_nothing, worked_scripts,
 };

@@ -1,8 +1,6 @@
 //! A script's run.
-ghost use Rattle.std.specs.Prelude.{◌≡◌, ◌≢◌, ℕ, ◌+◌, ◌<◌, ◌≤◌, ◌^◌, length, max, is_some, option_map, MatchResult, IfErr, IfOk, IfSome, IsErrOf, OnOk, OnErr};
+ghost use Rattle.std.specs.Prelude.{◌≡◌, ◌≢◌, ◌+◌, ◌<◌, ◌≤◌, ◌^◌, length, max, option_map, MatchResult, IfErr, IfOk, IfSome, IsErrOf, OnOk};
 ghost use Rattle.std.specs.Str.{IsUtf8};
-ghost use Rattle.iv_machine.specs.Machine.{empty_state};
-ghost use Rattle.iv_parse.specs.Script.{IsScript};
 ghost use Rattle.iv_print.specs.Counts.{counted};
 ghost use Rattle.iv_print.specs.Sinks.{FailsOnce, FailsNever};
 ghost use Rattle.iv_print.specs.Writing.{Writes};
@@ -15,9 +13,8 @@ use crate::statements::{Tally, run_statements};
 use crate::summary::{RunFault, Summary};
 use iv_machine::Limits;
 use iv_parse::{Parsed, SyntaxFault, script};
-use iv_plain_store::PlainStore;
 use iv_print::{Buffered, DeviceFault, Sink, Source, write_all, write_number};
-use iv_session::Session;
+use iv_run::Executor;
 use iv_syntax::Statement;
 use std::alloc::Global;
 use std::str::from_utf8;
@@ -56,15 +53,15 @@ fn write_end<W: Sink>(writer: &mut W, is_open: bool) -> Result<(), DeviceFault>
 }
 
 // Runs the statements, and writes their lines and those of the script's end.
-fn run_parsed<W: Sink>(
-    session: &mut Session<PlainStore>,
+fn run_parsed<S: Executor, W: Sink>(
+    session: &mut S,
     statements: &[Statement],
     fault: Option<SyntaxFault>,
     writer: &mut W,
 ) -> Result<Tally, DeviceFault>
     requires { length statements.now < 2 ^ 63 }
     ensures { MatchResult result
-        (λ t. RanParsed session.old.state statements.now (option_map (λ f. f.at) fault) t
+        (λ t. RanParsed (S.state session.old) statements.now (option_map (λ f. f.at) fault) t
         (W.state writer.old) (W.state writer.new))
         (λ _. FailsOnce (W.state writer.old) (W.state writer.new)) }
 {
@@ -75,15 +72,15 @@ fn run_parsed<W: Sink>(
 }
 
 // The same with a buffer in front of the writer, which is empty again at the end.
-fn run_buffered<W: Sink>(
-    session: &mut Session<PlainStore>,
+fn run_buffered<S: Executor, W: Sink>(
+    session: &mut S,
     statements: &[Statement],
     fault: Option<SyntaxFault>,
     writer: &mut W,
 ) -> Result<Tally, DeviceFault>
     requires { length statements.now < 2 ^ 63 }
     ensures { MatchResult result
-        (λ t. RanParsed session.old.state statements.now (option_map (λ f. f.at) fault) t
+        (λ t. RanParsed (S.state session.old) statements.now (option_map (λ f. f.at) fault) t
         (W.state writer.old) (W.state writer.new))
         (λ _. FailsOnce (W.state writer.old) (W.state writer.new)) }
 {
@@ -94,7 +91,7 @@ fn run_buffered<W: Sink>(
 }
 
 // Runs the script that this text is.
-fn run_text<W: Sink>(
+fn run_text<S: Executor + Drop, W: Sink>(
     alloc: Global,
     text: &str,
     writer: &mut W,
@@ -113,7 +110,7 @@ fn run_text<W: Sink>(
     ensures works { OnOk result (FailsNever (W.state writer.old) (W.state writer.new)) }
 {
     let Parsed { statements, fault } = script(alloc, text)?;
-    let mut session = Session::<PlainStore>::new(alloc, limits)?;
+    let mut session = S::new(alloc, limits)?;
     let done = run_buffered(&mut session, statements.as_slice(), fault, writer);
     drop(session);
     match done {
@@ -128,7 +125,7 @@ fn run_text<W: Sink>(
 }
 
 // Runs the script that these bytes are.
-fn run_bytes<W: Sink>(
+fn run_bytes<S: Executor + Drop, W: Sink>(
     alloc: Global,
     bytes: &[u8],
     writer: &mut W,
@@ -149,13 +146,13 @@ fn run_bytes<W: Sink>(
     ensures works { OnOk result (FailsNever (W.state writer.old) (W.state writer.new)) }
 {
     match from_utf8(bytes) {
-        Ok(text) => run_text(alloc, text, writer, limits),
+        Ok(text) => run_text::<S, W>(alloc, text, writer, limits),
         Err(_) => Err(RunFault::NotUtf8),
     }
 }
 
-/// Reads a whole script, runs it in a new session and writes its transcript. Until the script is
-/// read and parsed and the session is made nothing is run or written. Beside what each statement
+/// Reads a whole script, runs it in a new database and writes its transcript. Until the script is
+/// read and parsed and the database is made nothing is run or written. Beside what each statement
 /// takes it takes time in proportion to the script and its transcript.
 ///
 /// The lines go through a buffer: where each write takes all that it is given, there is one for
@@ -164,7 +161,7 @@ fn run_bytes<W: Sink>(
 /// A statement that is refused memory has an outcome of its own, with cause 22; the
 /// summary's `starved` counts these, and `refused` counts them too. After `RunFault::Write` nothing
 /// is said of how much was written.
-pub fn run<R: Source, W: Sink>(
+pub fn run<S: Executor + Drop, R: Source, W: Sink>(
     alloc: Global,
     reader: &mut R,
     writer: &mut W,
@@ -209,5 +206,5 @@ pub fn run<R: Source, W: Sink>(
     ensures ended_once { R.ends reader.new ≤ R.ends reader.old + 1 }
 {
     let bytes = read_script(alloc, reader)?;
-    run_bytes(alloc, bytes.as_slice(), writer, limits)
+    run_bytes::<S, W>(alloc, bytes.as_slice(), writer, limits)
 }

@@ -1,15 +1,13 @@
 //! The statements of a script, run one after the other, with the lines of their outcomes.
-ghost use Rattle.std.specs.Prelude.{◌≡◌, ℕ, ◌+◌, ◌<◌, ◌^◌, length, MatchResult, if◌then◌else◌};
+ghost use Rattle.std.specs.Prelude.{◌≡◌, ◌+◌, ◌<◌, ◌^◌, MatchResult, if◌then◌else◌};
 ghost use Rattle.iv_catalogue.specs.Refusals.{is_memory};
 ghost use Rattle.iv_print.specs.Sinks.{FailsOnce};
 ghost use Rattle.iv_script.specs.Transcript.{accepted_of, refused_of};
 ghost use Rattle.iv_script.specs.Running.{RanOne, RanAll};
 
-use iv_catalogue::{Cause, Refusal};
-use iv_machine::Answer;
-use iv_plain_store::PlainStore;
+use iv_catalogue::Cause;
 use iv_print::{DeviceFault, Sink, write_outcome};
-use iv_session::{Outcome, Session};
+use iv_run::{Executor, Outcome};
 use iv_syntax::Statement;
 
 /// How many statements were accepted and refused, and how many of the refused had cause 22.
@@ -54,8 +52,8 @@ fn with(tally: Tally, outcome: &Outcome) -> Tally
 }
 
 // Runs one statement and writes its lines.
-fn run_one<W: Sink>(
-    session: &mut Session<PlainStore>,
+fn run_one<S: Executor, W: Sink>(
+    session: &mut S,
     number: u64,
     statement: &Statement,
     writer: &mut W,
@@ -65,7 +63,7 @@ fn run_one<W: Sink>(
     requires refused { tally.refused < 2 ^ 63 }
     requires starved { tally.starved < 2 ^ 63 }
     ensures { MatchResult result
-        (λ t. RanOne number session.old.state session.new.state statement.now tally t
+        (λ t. RanOne number (S.state session.old) (S.state session.new) statement.now tally t
         (W.state writer.old) (W.state writer.new))
         (λ _. FailsOnce (W.state writer.old) (W.state writer.new)) }
 {
@@ -78,13 +76,13 @@ fn run_one<W: Sink>(
 }
 
 /// Runs the statements and writes their lines.
-pub fn run_statements<W: Sink>(
-    session: &mut Session<PlainStore>,
+pub fn run_statements<S: Executor, W: Sink>(
+    session: &mut S,
     statements: &[Statement],
     writer: &mut W,
 ) -> Result<Tally, DeviceFault>
     ensures { MatchResult result
-        (λ t. RanAll session.old.state session.new.state statements.now t
+        (λ t. RanAll (S.state session.old) (S.state session.new) statements.now t
         (W.state writer.old) (W.state writer.new))
         (λ _. FailsOnce (W.state writer.old) (W.state writer.new)) }
 {

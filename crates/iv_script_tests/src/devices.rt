@@ -1,6 +1,8 @@
 //! Runs over devices that fail.
 use iv_machine::Limits;
+use iv_plain_store::PlainStore;
 use iv_script::{DeviceFault, RunFault, Sink, Source, Std, Summary, run};
+use iv_session::Session;
 use std::alloc::Global;
 use std::io;
 use std::io::{ErrorKind, Read, Write};
@@ -156,6 +158,16 @@ fn usual_limits() -> Option<Limits> {
     Limits::new(16, 65_536)
 }
 
+// A run in a session.
+fn run_session<R: Source, W: Sink>(
+    alloc: Global,
+    source: &mut R,
+    sink: &mut W,
+    limits: Limits,
+) -> Result<Summary, RunFault> {
+    run::<Session<PlainStore>, R, W>(alloc, source, sink, limits)
+}
+
 // What a run over this source answers and writes.
 fn ran<R: Source>(
     alloc: Global,
@@ -165,7 +177,7 @@ fn ran<R: Source>(
     let Some(limits) = usual_limits() else {
         return Ok((Err(RunFault::NoMemory), sink.into_inner()));
     };
-    let done = run(alloc, source, &mut sink, limits);
+    let done = run_session(alloc, source, &mut sink, limits);
     Ok((done, sink.into_inner()))
 }
 
@@ -223,11 +235,11 @@ fn tells_each_write_that_fails(rt: HostRuntime) -> Result<(), Fail> {
     };
     for fails_at in 1..31u64 {
         let mut source = Std::new(ONE_CHECK.as_bytes());
-        let done = run(rt.alloc(), &mut source, &mut drops(fails_at), limits);
+        let done = run_session(rt.alloc(), &mut source, &mut drops(fails_at), limits);
         assert_eq!(rt; done, Err(RunFault::Write), "at {fails_at}");
     }
     let mut source = Std::new(ONE_CHECK.as_bytes());
-    let done = run(rt.alloc(), &mut source, &mut drops(31), limits);
+    let done = run_session(rt.alloc(), &mut source, &mut drops(31), limits);
     assert_eq!(rt; done.is_ok(), true);
     Ok(())
 }
@@ -242,7 +254,7 @@ fn writes_are_few(rt: HostRuntime) -> Result<(), Fail> {
         let text = "COMMIT;".repeat(rt.alloc(), statements)?;
         let mut source = Std::new(text.as_bytes());
         let mut sink = CountingSink { calls: 0, bytes: 0 };
-        let done = run(rt.alloc(), &mut source, &mut sink, limits);
+        let done = run_session(rt.alloc(), &mut source, &mut sink, limits);
         assert_eq!(rt; done.is_ok(), true, "{statements}");
         assert_eq!(rt; (sink.calls, sink.bytes), (calls, bytes), "{statements}");
     }

@@ -1,8 +1,7 @@
 -- One statement after another, of which some may be refused memory.
-use Rattle.std.proofs.Common.{◌≡◌, ◌≢◌, Bool, true, false, not, cond, List, [], ◌∷◌, ◌++◌, filter, length, Some, None, Result, refl, sym, ap, ◌∙◌, append-nil, append_assoc, length-append, arith, MatchBool}
+use Rattle.std.proofs.Common.{◌≡◌, Bool, true, false, not, cond, List, [], ◌∷◌, ◌++◌, filter, length, Result, refl, sym, ap, ◌∙◌, append-nil, append_assoc, length-append, arith, MatchBool}
 use Rattle.iv_session.specs.Words.{Statement, Refusal, Answer}
 use Rattle.iv_catalogue.specs.Refusals.{is_memory}
-use Rattle.iv_machine.specs.Databases.{first}
 use Rattle.iv_machine.specs.Machine.{State, Starved}
 use Rattle.iv_run.specs.Step.{Executes, run, step}
 use Rattle.iv_session.specs.RunningAll.{IsRunOf, has_memory, supplied_statements}
@@ -97,13 +96,3 @@ ran_all old now all rest outcomes w e =
       answers = w.answers ∙ ap (λ l. (run old (supplied_statements l outcomes)).0) whole;
       state = w.state ∙ ap (λ l. (run old (supplied_statements l outcomes)).1) whole;
     }
-
--- ---- the first of a list
-
-pub none_first : {A : Type 0} (xs : List A) → first xs ≡ None → xs ≡ []
-none_first [] h = refl
-none_first (x ∷ xs) h = cc
-
-pub some_first : {A : Type 0} (xs : List A) (x : A) → first xs ≡ Some x → xs ≢ []
-some_first [] x h = cc
-some_first (y ∷ xs) x h = λ e. cc

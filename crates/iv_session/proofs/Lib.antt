@@ -1,9 +1,1 @@
-pub mod TakenOut
-pub mod Saves
-pub mod Releasing
-pub mod Changed
-pub mod Deferred
-pub mod Performed
-pub mod Fitting
-pub mod Defined
 pub mod AllRan

@@ -1,41 +1,49 @@
 //! Whole statements.
-ghost use Rattle.std.specs.Prelude.{◌≡◌, ◌-◌, true, false, IfOk, OnErr, MatchBool};
+ghost use Rattle.std.specs.Prelude.{◌≡◌, ◌-◌, true, false, None, IfOk, OnErr, MatchBool};
 ghost use Rattle.iv_catalogue.specs.Refusals.{is_memory};
-ghost use Rattle.iv_machine.specs.Machine.{inside, is_open, outcome_unless, rollback_to_outcome, savepoint_named, transaction_cause};
-ghost use Rattle.iv_session.specs.Performing.{Performs};
-ghost use Rattle.iv_session.specs.RunningAll.{IsRunOf};
+ghost use Rattle.iv_machine.specs.Machine.{is_open, occasion_of, resolution_outcome, transaction_cause};
+ghost use Rattle.iv_resolution.specs.Resolution.{resolution};
 ghost use Rattle.iv_run.specs.Step.{Executes, step, takes_no_memory};
+ghost use Rattle.iv_state.specs.Performing.{Runs};
+ghost use Rattle.iv_session.specs.RunningAll.{IsRunOf};
 
-use crate::session::{Outcome, Session};
-use iv_catalogue::Cause;
+use crate::levels::Levels;
+use crate::session::Session;
+use iv_resolve::resolve;
+use iv_run::Outcome;
 use iv_store::Keeper;
 use iv_syntax::Statement;
 use std::alloc::AllocError;
 
 impl<K: Keeper + Drop> Session<K> {
-    // Says how many keys were looked up since there were so many.
-    fn count_lookups(&mut self, looked: u64)
-        ensures state { self.new.state ≡ self.old.state }
-        ensures work { self.new.work ≡ self.old.work }
-        ensures lookups { self.new.lookups ≡ self.old.looked - looked }
-        ensures unlooked { ((store : K) → K.lookups store ≡ 0) → self.new.lookups ≡ 0 }
-        ensures looked { self.new.looked ≡ self.old.looked }
+    // Resolves a statement and does what it means.
+    fn resolve_and_perform(&mut self, statement: &Statement) -> Outcome
+        requires { transaction_cause (is_open self.old.state) (occasion_of statement.now) ≡ None }
+        ensures { Runs self.old.state statement.now
+            (resolution_outcome self.old.state (resolution self.old.state.schema statement.now))
+            result self.new }
     {
-        self.work.lookups = self.store.looked().saturating_sub(looked);
+        self.state.clear_work();
+        match resolve(self.state.allocator(), self.state.catalogue(), statement) {
+            Ok(plan) => self.state.perform::<Levels>(plan),
+            Err(refusal) => Err(refusal),
+        }
     }
 
-    // ROLLBACK TO SAVEPOINT, refused outside a transaction.
-    fn back_to_or_refuse(&mut self, name: &str) -> Outcome
-        ensures performs { Performs self.old.state
-            (outcome_unless self.old.state (transaction_cause (is_open self.old.state) inside)
-            (rollback_to_outcome self.old.state
-            (savepoint_named name.now self.old.state.savepoints))) result self.new }
-        ensures sure { is_open self.old.state ≡ false → is_memory result ≡ false }
+    // What a statement does, but for the count of look-ups.
+    fn run(&mut self, statement: &Statement) -> Outcome
+        ensures runs { Runs self.old.state statement.now
+            (step self.old.state statement.now) result self.new }
+        ensures sure { takes_no_memory self.old.state statement.now ≡ true
+            → is_memory result ≡ false }
     {
-        if self.in_transaction() {
-            self.back_to(name)
-        } else {
-            self.refuse_now(Cause::NoTransaction)
+        if let Some(cause) = self.state.transaction_cause(statement) {
+            return self.state.refuse_now(cause);
+        }
+        match statement {
+            Statement::Commit => self.state.commit_statement(),
+            Statement::Rollback => self.state.rollback_statement(),
+            _ => self.resolve_and_perform(statement),
         }
     }
 
@@ -51,9 +59,9 @@ impl<K: Keeper + Drop> Session<K> {
         // a store that counts no look-up
         ensures unlooked { ((store : K) → K.lookups store ≡ 0) → self.new.lookups ≡ 0 }
     {
-        let looked = self.looked();
+        let looked = self.state.looked();
         let answer = self.run(statement);
-        self.count_lookups(looked);
+        self.state.count_lookups(looked);
         answer
     }
 
@@ -64,30 +72,12 @@ impl<K: Keeper + Drop> Session<K> {
             IsRunOf self.old.state statements.now outcomes.items self.new.state) }
         ensures none { OnErr result (self.new ≡ self.old) }
     {
-        let mut outcomes = Vec::with_capacity(self.store.allocator(), statements.len())?;
+        let mut outcomes = Vec::with_capacity(self.state.allocator(), statements.len())?;
         let mut rest = statements;
         while let Some((statement, others)) = rest.split_first() {
             outcomes.push_reserved(self.execute(statement));
             rest = others;
         }
         Ok(outcomes)
-    }
-
-    /// ROLLBACK TO SAVEPOINT as a call: the answer, the state after it and the changes that were undone are
-    /// those of the machine, or memory was refused and the state is as before. Outside a transaction it takes
-    /// no memory.
-    pub fn rollback_to(&mut self, name: &str) -> Outcome
-        ensures lookups { self.new.lookups ≡ self.new.looked - self.old.looked }
-        ensures unlooked { ((store : K) → K.lookups store ≡ 0) → self.new.lookups ≡ 0 }
-        ensures sure { is_open self.old.state ≡ false → is_memory result ≡ false }
-        ensures performs { Performs self.old.state
-            (outcome_unless self.old.state (transaction_cause (is_open self.old.state) inside)
-            (rollback_to_outcome self.old.state
-            (savepoint_named name.now self.old.state.savepoints))) result self.new }
-    {
-        let looked = self.looked();
-        let answer = self.back_to_or_refuse(name);
-        self.count_lookups(looked);
-        answer
     }
 }

@@ -1,15 +1,12 @@
-//! A session: one database in memory, its catalogue, and the transaction that is open.
+//! A session: statements are resolved, and do what they mean to the session's state.
 #![tactic(auto)]
 
-mod changes;
-mod deferring;
 mod executing;
-mod performing;
-mod queries;
-mod savepoints;
-mod schema;
+mod executor;
+mod levels;
 mod session;
-mod transactions;
 
 pub use iv_machine::{Answer, Limits};
-pub use session::{Outcome, Session, Work};
+pub use iv_run::Outcome;
+pub use iv_state::Work;
+pub use session::Session;

@@ -1,70 +1,28 @@
-//! The parts of a session.
-ghost use Rattle.std.specs.Prelude.{◌≡◌, ℕ, IfOk, is_some, length, min, ◌^◌, ◌-◌};
-ghost use Rattle.iv_machine.specs.declared.database.Which.TheVariants.{Deferred};
-ghost use Rattle.iv_machine.specs.Databases.{scan, is_chosen};
-ghost use Rattle.iv_machine.specs.Machine.{empty_state, no_work, first_violation};
-ghost use Rattle.iv_session.specs.Kept.{current};
+//! The calls that need no resolution.
+ghost use Rattle.std.specs.Prelude.{◌≡◌, ◌≢◌, ◌-◌, ◌^◌, [], length, min, true, false, is_some, IfOk, OnErr, OnOk};
+ghost use Rattle.iv_catalogue.specs.Refusals.{is_memory};
+ghost use Rattle.iv_machine.specs.declared.database.Which.TheVariants.{All, Deferred};
+ghost use Rattle.iv_machine.specs.Databases.{is_chosen, scan};
+ghost use Rattle.iv_machine.specs.Machine.{commit_outcome, empty_state, inside, is_open, no_work, outcome_unless, rollback_outcome, rollback_to_outcome, savepoint_named, transaction_cause};
+ghost use Rattle.iv_state.specs.Ending.{commit_answer};
+ghost use Rattle.iv_state.specs.Performing.{Performs};
 
-use iv_catalogue::{Catalogue, Fault, Refusal};
-use iv_machine::{Answer, Limits, Which};
-use iv_modes::Modes;
+use iv_catalogue::{Catalogue, Fault};
+use iv_machine::Limits;
+use iv_run::Outcome;
+use iv_state::{SessionState, Work};
 use iv_store::Keeper;
-use iv_syntax::Name;
 use std::alloc::{AllocError, Global};
 use std::marker::Model;
 
-/// What a statement answers.
-pub type Outcome = Result<Answer, Refusal>;
-
-/// What the last statement or call did: how many row changes it made at all levels, how many it undid, and
-/// how many keys it looked up.
-#[derive(Clone, Copy, Debug, PartialEq, Eq)]
-pub struct Work {
-    pub changes: u64,
-    pub undone: u64,
-    pub lookups: u64,
-}
-
-impl Work {
-    // Nothing was done.
-    pub(crate) fn none() -> Work
-        ensures { result ≡ record { changes = 0; undone = 0; lookups = 0 } }
-    {
-        Work {
-            changes: 0,
-            undone: 0,
-            lookups: 0,
-        }
-    }
-}
-
-// A savepoint: its name, and the modes that it has where SET CONSTRAINTS had changed them.
-#[derive(Drop)]
-pub(crate) struct Saved {
-    pub(crate) name: Name,
-    pub(crate) modes: Option<Modes>,
-}
-
 /// A session: the state of the machine, which contracts see, with the work of the last call.
-///
-/// The start of the transaction is the first mark of the store, and each savepoint of it has the next one.
 #[derive(Drop)]
 pub struct Session<K: Keeper + Drop> {
-    pub(crate) limits: Limits,
-    pub(crate) catalogue: Catalogue,
-    pub(crate) store: K,
-    // The modes at the start of a transaction.
-    pub(crate) initial: Modes,
-    // The modes after SET CONSTRAINTS.
-    pub(crate) changed: Option<Modes>,
-    pub(crate) active: bool,
-    // The savepoints, the oldest first.
-    pub(crate) saves: Vec<Saved>,
-    pub(crate) work: Work,
+    pub(crate) state: SessionState<K>,
 }
 
 impl<K: Keeper + Drop> Model for Session<K> {
-    ghost use Rattle.iv_session.specs.Kept.{Seen, Kept, parts, seen};
+    ghost use Rattle.iv_state.specs.Kept.{Seen};
     ghost use Rattle.iv_expr.specs.contracts.tree.Cond as cond;
     ghost use Rattle.iv_expr.specs.contracts.tree.Expr as expr;
     ghost use Rattle.std.specs.Coded.{codes};
@@ -73,9 +31,7 @@ impl<K: Keeper + Drop> Model for Session<K> {
 
     ghost coded = { Prim.hlevel (codes, cond.the_row.coded, expr.the_row.coded) };
 
-    ghost view = { λ s. seen K.view K.lookups s };
-
-    ghost invariant = { λ s. Kept (parts K.view s) };
+    ghost view = { λ s. s.state };
 }
 
 impl<K: Keeper + Drop> Session<K> {
@@ -84,23 +40,8 @@ impl<K: Keeper + Drop> Session<K> {
         ensures { IfOk result (λ s. s
             ≡ record { state = empty_state limits; work = no_work; lookups = 0; looked = 0 }) }
     {
-        let catalogue = Catalogue::new(alloc);
-        let initial = match Modes::initial(alloc, &catalogue) {
-            Ok(modes) => modes,
-            Err(error) => {
-                drop(catalogue);
-                return Err(error);
-            }
-        };
         Ok(Session {
-            limits,
-            catalogue,
-            store: K::new(alloc),
-            initial,
-            changed: None,
-            active: false,
-            saves: Vec::new(alloc),
-            work: Work::none(),
+            state: SessionState::new(alloc, limits)?,
         })
     }
 
@@ -108,14 +49,14 @@ impl<K: Keeper + Drop> Session<K> {
     pub fn catalogue(&self) -> &Catalogue
         ensures { result.now ≡ self.now.state.schema }
     {
-        &self.catalogue
+        self.state.catalogue()
     }
 
     /// Whether a transaction is open.
     pub fn in_transaction(&self) -> bool
         ensures { result ≡ is_some self.now.state.start }
     {
-        self.active
+        self.state.in_transaction()
     }
 
     /// What the last statement or call did.
@@ -123,10 +64,70 @@ impl<K: Keeper + Drop> Session<K> {
         ensures work { record { changes = result.changes; undone = result.undone } ≡ self.now.work }
         ensures lookups { result.lookups ≡ self.now.lookups }
     {
-        Work {
-            changes: self.work.changes,
-            undone: self.work.undone,
-            lookups: self.work.lookups,
-        }
+        self.state.work()
+    }
+
+    /// The violations of deferred constraints, by the constraint's creation, then by row.
+    pub fn pending(&self) -> Result<Vec<Fault>, AllocError>
+        ensures { IfOk result (λ faults. faults.items ≡
+            scan self.now.state.database.rows self.now.state.schema.constraints
+            (is_chosen self.now.state.modes Deferred)) }
+    {
+        self.state.pending()
+    }
+
+    /// How many violations of deferred constraints there are; the count stays at 2^64 - 1 once it is
+    /// there. It takes no memory.
+    pub fn pending_count(&self) -> u64
+        ensures { result ≡ min (length (scan self.now.state.database.rows
+            self.now.state.schema.constraints (is_chosen self.now.state.modes Deferred)))
+            (2 ^ 64 - 1) }
+    {
+        self.state.pending_count()
+    }
+
+    /// Ends the transaction, and brings back the database from its start. Outside a transaction it does
+    /// nothing. It takes no memory.
+    pub fn rollback(&mut self)
+        ensures state { self.new.state ≡ (rollback_outcome self.old.state).state }
+        ensures work { self.new.work ≡ (rollback_outcome self.old.state).work }
+        ensures lookups { self.new.lookups ≡ self.new.looked - self.old.looked }
+        ensures unlooked { ((store : K) → K.lookups store ≡ 0) → self.new.lookups ≡ 0 }
+    {
+        self.state.rollback();
+    }
+
+    /// Ends the transaction: the database stays where no constraint is violated, and is otherwise the one
+    /// at the transaction's start. Outside a transaction it does nothing. It takes no memory.
+    pub fn commit(&mut self) -> Result<(), Fault>
+        ensures answer { commit_answer result ≡ (commit_outcome self.old.state).answer }
+        ensures state { self.new.state ≡ (commit_outcome self.old.state).state }
+        ensures work { self.new.work ≡ (commit_outcome self.old.state).work }
+        ensures lookups { self.new.lookups ≡ self.new.looked - self.old.looked }
+        ensures unlooked { ((store : K) → K.lookups store ≡ 0) → self.new.lookups ≡ 0 }
+        // Inside a transaction it is accepted exactly where the scan of all constraints is empty.
+        ensures accepted { OnOk result (is_open self.old.state ≡ true →
+            scan self.old.state.database.rows self.old.state.schema.constraints
+            (is_chosen self.old.state.modes All) ≡ []) }
+        ensures refused { OnErr result
+            (scan self.old.state.database.rows self.old.state.schema.constraints
+            (is_chosen self.old.state.modes All) ≢ []) }
+    {
+        self.state.commit()
+    }
+
+    /// ROLLBACK TO SAVEPOINT as a call: the answer, the state after it and the changes that were undone are
+    /// those of the machine, or memory was refused and the state is as before. Outside a transaction it takes
+    /// no memory.
+    pub fn rollback_to(&mut self, name: &str) -> Outcome
+        ensures lookups { self.new.lookups ≡ self.new.looked - self.old.looked }
+        ensures unlooked { ((store : K) → K.lookups store ≡ 0) → self.new.lookups ≡ 0 }
+        ensures sure { is_open self.old.state ≡ false → is_memory result ≡ false }
+        ensures performs { Performs self.old.state
+            (outcome_unless self.old.state (transaction_cause (is_open self.old.state) inside)
+            (rollback_to_outcome self.old.state
+            (savepoint_named name.now self.old.state.savepoints))) result self.new }
+    {
+        self.state.rollback_to(name)
     }
 }

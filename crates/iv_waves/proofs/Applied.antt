@@ -23,7 +23,7 @@ use Rattle.iv_laws.proofs.AppliedRows.{news, row_at_rows_after}
 use Rattle.iv_laws.proofs.NumberedRows.{Positive, parts_of}
 use Rattle.iv_laws.proofs.FittingWaves.{rising_distinct, rising_positive}
 use Rattle.iv_row_laws.specs.RowFits.{side_fits, change_fits, changes_fit}
-use Rattle.iv_waves.specs.Answers.{with_database}
+use Rattle.iv_row_laws.specs.Changing.{with_database}
 use Rattle.iv_waves.specs.Applying.{Applicable, IsNext}
 
 -- ---- what is still to be applied, and to what

@@ -23,7 +23,7 @@ use Rattle.iv_laws.proofs.FittingWaves.{applied_fits}
 use Rattle.iv_triggers.specs.Answering.{AnswersRefusal}
 use Rattle.iv_triggers.proofs.Answers.{unless_memory}
 use Rattle.iv_row_laws.specs.RowFits.{changes_fit}
-use Rattle.iv_waves.specs.Answers.{AnswersAt}
+use Rattle.iv_row_laws.specs.Changing.{AnswersAt}
 use Rattle.iv_waves.specs.Applying.{Applicable}
 use Rattle.iv_waves.specs.Standing.{Standing}
 use Rattle.iv_waves.proofs.Applied.{least}

@@ -20,8 +20,8 @@ use Rattle.iv_row_laws.specs.RowFits.{changes_fit}
 use Rattle.std.specs.Bool.{◌==◌}
 use Rattle.std.proofs.lemmas.Bool.Decides.{nat_tests}
 use Rattle.iv_triggers.proofs.Answers.{unless_memory}
-use Rattle.iv_waves.specs.Answers.{with_database}
-use Rattle.iv_waves.specs.Applying.{Proposes, StoreFits}
+use Rattle.iv_row_laws.specs.Changing.{StoreFits, with_database}
+use Rattle.iv_waves.specs.Applying.{Proposes}
 use Rattle.iv_waves.specs.Standing.{Standing}
 use Rattle.iv_waves.proofs.Entered.{enters}
 use Rattle.iv_row_laws.proofs.FittingChanges.{rows_after_fit}

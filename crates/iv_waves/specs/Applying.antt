@@ -1,9 +1,8 @@
--- When a store takes the changes of a wave one after another, and what holds before each wave of a data statement.
+-- When a store takes the changes of a wave one after another, and what a statement proposes.
 use Rattle.std.specs.Prelude.{◌≡◌, ◌+◌, ◌<◌, ◌≤◌, true, false, List, length, IfSome, Ok}
 use Rattle.iv_expr.specs.declared.row.Change.{Change}
 use Rattle.iv_expr.specs.Changes.{RisingChanges}
 use Rattle.iv_expr.specs.Scopes.{Frame}
-use Rattle.iv_catalogue.specs.Catalogues.{Schema}
 use Rattle.iv_catalogue.specs.declared.catalogue.Table.{Table}
 use Rattle.iv_catalogue.specs.declared.plan.DataStatement.{DataStatement}
 use Rattle.iv_machine.specs.declared.database.Database.{Database}
@@ -13,9 +12,8 @@ use Rattle.iv_machine.specs.Databases.{row_at}
 use Rattle.iv_machine.specs.Proposals.{proposed_changes}
 use Rattle.iv_machine.specs.Waves.{values_at, is_beyond_last_row}
 use Rattle.iv_store.specs.Stores.{StoreState, fits_table}
-use Rattle.iv_fitting.specs.ConstraintShapes.{SchemaSuits}
 use Rattle.iv_laws.specs.FittingWaves.{Current, Numbered}
-use Rattle.iv_row_laws.specs.RowFits.{changes_fit, rows_fit}
+use Rattle.iv_row_laws.specs.RowFits.{changes_fit}
 
 -- a change that the store takes
 pub record IsNext (s : StoreState) (c : Change) : Type 0 where
@@ -36,13 +34,6 @@ pub record Applicable (tables : List Table) (db : Database) (changes : List Chan
   pub small : is_beyond_last_row changes ≡ false
   pub room : db.count + length changes ≤ most_changes_in_a_transaction
   pub fit : changes_fit tables changes ≡ true
-
--- A store is one of a schema whose definitions suit its tables: its tables and constraints are the schema's, and its rows fit.
-pub record StoreFits (schema : Schema) (s : StoreState) : Type 0 where
-  pub tables : s.tables ≡ schema.tables
-  pub constraints : s.constraints ≡ schema.constraints
-  pub suits : SchemaSuits schema
-  pub rows : rows_fit schema.tables s.base.rows ≡ true
 
 -- the changes are what a statement proposes
 pub record Proposes (context : Context) (db : Database) (changes : List Change) : Type 0 where

@@ -1,4 +1,3 @@
-pub mod Answers
 pub mod Applying
 pub mod Lookups
 pub mod Standing

@@ -6,7 +6,7 @@ use Rattle.iv_store.specs.Stores.{StoreState}
 use Rattle.iv_laws.specs.FittingWaves.{Numbered}
 use Rattle.iv_laws.proofs.Readying.{Ready}
 use Rattle.iv_row_laws.specs.RowFits.{changes_fit}
-use Rattle.iv_waves.specs.Applying.{StoreFits}
+use Rattle.iv_row_laws.specs.Changing.{StoreFits}
 
 -- The store fits, and its rows are numbered. The changes, whose new rows have no numbers yet, fit too, and say what the rows hold.
 pub record Standing (context : Context) (s : StoreState) (changes : List Change) : Type 0 where

@@ -3,7 +3,7 @@ ghost use Rattle.std.specs.Prelude.{◌≡◌, ◌+◌, ◌*◌, ◌≤◌, leng
 ghost use Rattle.iv_expr.specs.Changes.{wave_of};
 ghost use Rattle.iv_machine.specs.Databases.{database_after};
 ghost use Rattle.iv_store.specs.Stores.{most_lookups, store_after};
-ghost use Rattle.iv_waves.specs.Answers.{with_database};
+ghost use Rattle.iv_row_laws.specs.Changing.{with_database};
 ghost use Rattle.iv_waves.specs.Applying.{Applicable, IsNext};
 
 use iv_expr::Change;

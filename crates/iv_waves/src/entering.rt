@@ -2,7 +2,7 @@
 ghost use Rattle.std.specs.Prelude.{◌≡◌, length};
 ghost use Rattle.iv_expr.specs.Changes.{wave_of};
 ghost use Rattle.iv_machine.specs.Waves.{wave_as_applied};
-ghost use Rattle.iv_waves.specs.Answers.{AnswersAt};
+ghost use Rattle.iv_row_laws.specs.Changing.{AnswersAt};
 ghost use Rattle.iv_waves.specs.Standing.{Standing};
 
 use crate::numbering::number;

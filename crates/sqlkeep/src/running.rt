@@ -6,8 +6,10 @@ ghost use Rattle.iv_script.specs.Lengths.{Fits};
 ghost use Rattle.sqlkeep.specs.Statuses.{status_of, stop_line, Stopped, WritesLine, WroteTranscript};
 
 use iv_machine::Limits;
+use iv_plain_store::PlainStore;
 use iv_print::write_all;
 use iv_script::{DeviceFault, LONGEST, RunFault, Sink, Source, Summary, run};
+use iv_session::Session;
 use std::alloc::Global;
 
 // Writes the line of a fault.
@@ -73,6 +75,6 @@ pub fn run_script<R: Source, W: Sink, E: Sink>(
         × WritesLine fault (E.state faults.old) (E.state faults.new) }
     ensures quiet { result < 2 → faults.new ≡ faults.old }
 {
-    let done = run(alloc, reader, writer, limits);
+    let done = run::<Session<PlainStore>, R, W>(alloc, reader, writer, limits);
     status(faults, done)
 }

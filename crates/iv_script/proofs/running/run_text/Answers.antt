@@ -1,4 +1,4 @@
-use Rattle.std.proofs.Common.{ap, option_map, subst}
+use Rattle.std.proofs.Common.{option_map, subst}
 use Rattle.iv_machine.specs.Machine.{empty_state}
 use Rattle.iv_script.specs.Running.{RanParsed}
 use Rattle.iv_script.proofs.Scripts.{summary_of, ran_script, ran_fed}
@@ -12,7 +12,7 @@ returns-in-Ok-clause-fed g c = λ none.
     let place = option_map (λ f. f.at) fault in
     let tally = c.in-Ok.tally in
     let from_empty : RanParsed (empty_state c.args.limits) c.as_slice.result.now place tally before after
-    = subst (λ s. RanParsed s c.as_slice.result.now place tally before after) (ap (λ x. x.state) c.in_ok-session.ensures) c.in-Ok.ensures in
+    = subst (λ s. RanParsed s c.as_slice.result.now place tally before after) c.in_ok-session.ensures c.in-Ok.ensures in
     let of_script : RanParsed (empty_state c.args.limits) c.in_ok-statements.field-0.statements place tally before after
     = subst (λ l. RanParsed (empty_state c.args.limits) l place tally before after) c.as_slice.ensures from_empty in
     ran_fed c.args.text.now c.args.limits (summary_of tally fault) before after

@@ -9,14 +9,14 @@ loop-statement-init g c = record {
   accepted_few = omega arith;
   refused_few = omega arith;
   starved_few = omega arith;
-  onward = onward_start c.args.session.now.state c.args.statements.now _ (g.W.Sink.state c.args.writer.now) refl refl refl;
+  onward = onward_start (g.S.Executor.state c.args.session.now) c.args.statements.now _ (g.W.Sink.state c.args.writer.now) refl refl refl;
 }
 
 pub loop-statement-preserved : goal.loop-statement-preserved
 loop-statement-preserved g c =
     let e : c.loop-statement.rest.now ≡ c.in-Some.statement.now ∷ c.in-Some.others.now = search rules in
     let n : length c.loop-statement.rest.now ≡ length c.in-Some.others.now + 1 = grind (arith, common_steps, e) in
-    let few = few_more (c.loop-statement.number + 1) c.loop-statement.number c.loop-statement.session.state c.run_one.new.session.state c.in-Some.statement.now c.loop-statement.tally c.in_ok-tally.tally
+    let few = few_more (c.loop-statement.number + 1) c.loop-statement.number (g.S.Executor.state c.loop-statement.session) (g.S.Executor.state c.run_one.new.session) c.in-Some.statement.now c.loop-statement.tally c.in_ok-tally.tally
     (g.W.Sink.state c.loop-statement.writer) (g.W.Sink.state c.run_one.new.writer)
     c.in_ok-tally.ensures c.loop-statement.invariant.accepted_few c.loop-statement.invariant.refused_few c.loop-statement.invariant.starved_few in
     record {
@@ -24,7 +24,7 @@ loop-statement-preserved g c =
       accepted_few = few.0;
       refused_few = few.1;
       starved_few = few.2;
-      onward = onward_more c.args.session.now.state c.loop-statement.session.state c.run_one.new.session.state c.args.statements.now c.loop-statement.rest.now c.in-Some.others.now c.in-Some.statement.now
+      onward = onward_more (g.S.Executor.state c.args.session.now) (g.S.Executor.state c.loop-statement.session) (g.S.Executor.state c.run_one.new.session) c.args.statements.now c.loop-statement.rest.now c.in-Some.others.now c.in-Some.statement.now
           c.loop-statement.number c.loop-statement.tally c.in_ok-tally.tally
           (g.W.Sink.state c.args.writer.now) (g.W.Sink.state c.loop-statement.writer) (g.W.Sink.state c.run_one.new.writer)
           c.loop-statement.invariant.onward e c.in_ok-tally.ensures;
@@ -33,6 +33,6 @@ loop-statement-preserved g c =
 pub returns : goal.returns
 returns g c =
     let e : c.loop-statement.rest.now ≡ [] = grind (arith, common_steps, c.in_default.ensures.cases) in
-    onward_end c.args.session.now.state c.loop-statement.session.state c.args.statements.now c.loop-statement.rest.now c.loop-statement.number c.loop-statement.tally
+    onward_end (g.S.Executor.state c.args.session.now) (g.S.Executor.state c.loop-statement.session) c.args.statements.now c.loop-statement.rest.now c.loop-statement.number c.loop-statement.tally
     (g.W.Sink.state c.args.writer.now) (g.W.Sink.state c.loop-statement.writer)
     c.loop-statement.invariant.onward e (omega (arith, c.loop-statement.invariant.counted, ap length e))

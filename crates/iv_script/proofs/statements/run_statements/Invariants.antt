@@ -8,7 +8,7 @@ invariant-loop-statement g l = record {
   accepted_few : l.tally.accepted ≤ l.number;
   refused_few : l.tally.refused ≤ l.number;
   starved_few : l.tally.starved ≤ l.number;
-  onward : Onward l.initial.session.state l.session.state l.statements l.rest l.number l.tally (g.W.Sink.state l.initial.writer) (g.W.Sink.state l.writer);
+  onward : Onward (g.S.Executor.state l.initial.session) (g.S.Executor.state l.session) l.statements l.rest l.number l.tally (g.W.Sink.state l.initial.writer) (g.W.Sink.state l.writer);
 }
 
 abbrev pub decreases-loop-statement : goal.decreases-loop-statement

@@ -1,6 +1,6 @@
 use Rattle.std.proofs.Common.{◌≡◌, ◌≤◌, ◌+◌, ◌*◌, drop, length}
 use Rattle.iv_store.specs.Stores.{most_lookups}
-use Rattle.iv_waves.specs.Answers.{with_database}
+use Rattle.iv_row_laws.specs.Changing.{with_database}
 use Rattle.iv_waves.proofs.Applied.{Applying}
 use Rattle.iv_waves.proofs.applying.apply_all.Given as goal
 

@@ -1,7 +1,7 @@
 use Rattle.std.proofs.Common.{◌≡◌}
 use Rattle.iv_expr.specs.Changes.{wave_of}
 use Rattle.iv_machine.specs.Waves.{settled_waves}
-use Rattle.iv_waves.specs.Answers.{with_database}
+use Rattle.iv_row_laws.specs.Changing.{with_database}
 use Rattle.iv_waves.specs.Lookups.{LooksUp}
 use Rattle.iv_waves.specs.Standing.{Standing}
 use Rattle.iv_waves.proofs.Rounds.{after_waves}

@@ -1,0 +1,29 @@
+//! A session as what executes the statements of a script.
+
+use crate::session::Session;
+use iv_catalogue::Catalogue;
+use iv_machine::Limits;
+use iv_run::{Executor, Outcome};
+use iv_store::Keeper;
+use iv_syntax::Statement;
+use std::alloc::{AllocError, Global};
+
+impl<K: Keeper + Drop> Executor for Session<K> {
+    ghost state = { λ s. s.state };
+
+    fn new(alloc: Global, limits: Limits) -> Result<Self, AllocError> {
+        Session::<K>::new(alloc, limits)
+    }
+
+    fn catalogue(&self) -> &Catalogue {
+        self.catalogue()
+    }
+
+    fn in_transaction(&self) -> bool {
+        self.in_transaction()
+    }
+
+    fn execute(&mut self, statement: &Statement) -> Outcome {
+        self.execute(statement)
+    }
+}

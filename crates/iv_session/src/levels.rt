@@ -1,0 +1,23 @@
+//! INSERT, UPDATE and DELETE as levels.
+
+use iv_catalogue::{Catalogue, DataStatement, Refusal};
+use iv_exec::change;
+use iv_machine::Limits;
+use iv_modes::Modes;
+use iv_state::DataStatements;
+use iv_store::Keeper;
+
+// A data statement of a script is a level.
+pub(crate) struct Levels;
+
+impl DataStatements for Levels {
+    fn change<K: Keeper>(
+        store: &mut K,
+        statement: &DataStatement,
+        catalogue: &Catalogue,
+        modes: &Modes,
+        limits: Limits,
+    ) -> Result<u64, Refusal> {
+        change(store, statement, catalogue, modes, limits)
+    }
+}

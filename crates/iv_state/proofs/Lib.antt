@@ -1,0 +1,9 @@
+pub mod TakenOut
+pub mod Saves
+pub mod Releasing
+pub mod Changed
+pub mod Deferred
+pub mod Performed
+pub mod Firsts
+pub mod Fitting
+pub mod Defined

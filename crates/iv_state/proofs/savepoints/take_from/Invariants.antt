@@ -1,0 +1,15 @@
+use Rattle.std.proofs.Common.{◌≡◌, ◌+◌, ◌-◌, ◌≤◌, length, take}
+use Rattle.iv_state.specs.Saving.{with_marks}
+use Rattle.iv_state.proofs.savepoints.take_from.Given as goal
+
+abbrev pub invariant-loop-left : goal.invariant-loop-left
+invariant-loop-left g l = record {
+  above : l.place ≤ l.left;
+  below : l.left ≤ length l.initial.saves.items;
+  saves : l.saves.items ≡ take l.left l.initial.saves.items;
+  store : g.K.Kin.view l.store ≡ with_marks (g.K.Kin.view l.initial.store) (take (l.left + 1) (g.K.Kin.view l.initial.store).marks);
+  unlooked : g.K.Kin.lookups l.store ≡ g.K.Kin.lookups l.initial.store;
+}
+
+abbrev pub decreases-loop-left : goal.decreases-loop-left
+decreases-loop-left g l = l.left - l.place

@@ -1,0 +1,70 @@
+use Rattle.std.proofs.Common.{◌≡◌, ◌∙◌, ap, sym, subst, refl, true, map, Option, Some}
+use Rattle.iv_state.specs.Words.{Fault}
+use Rattle.iv_state.specs.Words.cause.{NotDeferrable, Violation}
+use Rattle.iv_state.specs.Words.answer.{Done}
+use Rattle.iv_machine.specs.Machine.{State, accept, first_made_immediate, is_open, no_work, refuse_first, set_constraints_outcome}
+use Rattle.iv_modes.specs.ModeMaps.{ModeMap}
+use Rattle.iv_state.specs.Kept.{IsOpen, Parts, parts, Seen, StandsAs, state_of}
+use Rattle.iv_state.proofs.Deferred.{set_refused, set_seen}
+use Rattle.iv_state.proofs.Saves.{open_is}
+use Rattle.iv_state.proofs.Performed.{accept_performs, refuse_performs}
+use Rattle.iv_state.proofs.session_state.SessionState.set_modes.Goals as goal
+
+pub invariant_of-self-in-None : goal.invariant_of-self-in-None
+invariant_of-self-in-None g c =
+    let h : Parts = parts g.K.Kin.view c.self.inside in
+    let a : h.active ≡ true = open_is h.active h.store (ap (λ x. is_open x.state) c.self.view_is ∙ c.requires) in
+    let o : IsOpen h = subst (λ b. StandsAs b h) a c.self.invariant.stands in
+    let m : c.set.new.self.deferrable ≡ map (λ k. k.deferrable) h.schema.constraints =
+    ap (λ (x : ModeMap). x.deferrable) (c.in_default.ensures.set) ∙ ap (λ (x : ModeMap). x.deferrable) c.in_ok-modes.ensures ∙ c.modes.ensures.settable in
+    record {
+      store = c.self.invariant.store;
+      initial = c.self.invariant.initial;
+      stands = subst (λ b. StandsAs b (record h { changed = Some c.set.new.self })) (sym a) (record { marks = o.marks; modes = m; saved = o.saved; fit = o.fit });
+    }
+
+pub returns-in-Err : goal.returns-in-Err
+returns-in-Err g c =
+    let h : Parts = parts g.K.Kin.view c.self.inside in
+    let s : State = c.args.self.now.state in
+    let v : state_of h ≡ s = ap (λ x. x.state) c.self.view_is in
+    let x : Seen = record { state = state_of h; work = record { changes = c.none-self-inside.result.changes; undone = c.none-self-inside.result.undone }; lookups = c.none-self-inside.result.lookups; looked = g.K.Kin.lookups c.self.inside.store } in
+    let w : x.work ≡ no_work = ap (λ w. record { changes = w.changes; undone = w.undone }) c.none-self-inside.ensures in
+    refuse_performs s (set_constraints_outcome s c.args.ids.now c.args.mode) (NotDeferrable c.in-Err.refused.0) c.refuse.result x
+    (set_refused s c.args.ids.now c.args.mode c.in_ok-modes.modes c.in-Err.refused.0
+    (ap (λ (x : ModeMap). x.deferrable) c.in_ok-modes.ensures ∙ c.modes.ensures.settable ∙ ap (λ (y : State). map (λ k. k.deferrable) y.schema.constraints) v) c.in-Err.ensures.refused)
+    refl c.refuse.ensures v w
+
+pub returns-in-Some : goal.returns-in-Some
+returns-in-Some g c =
+    let h : Parts = parts g.K.Kin.view c.self.inside in
+    let s : State = c.args.self.now.state in
+    let v : state_of h ≡ s = ap (λ x. x.state) c.self.view_is in
+    let x : Seen = record { state = state_of h; work = record { changes = c.none-self-inside.result.changes; undone = c.none-self-inside.result.undone }; lookups = c.none-self-inside.result.lookups; looked = g.K.Kin.lookups c.self.inside.store } in
+    let w : x.work ≡ no_work = ap (λ w. record { changes = w.changes; undone = w.undone }) c.none-self-inside.ensures in
+    let seen : set_constraints_outcome s c.args.ids.now c.args.mode ≡ refuse_first s Violation c.in_ok-fault.field-0 (accept (record s { modes = c.set.new.self.modes }) Done) =
+    set_seen s c.args.ids.now c.args.mode c.in_ok-modes.modes c.set.new.self c.in_ok-fault.field-0
+    (ap (λ (x : ModeMap). x.modes) c.in_ok-modes.ensures ∙ c.modes.ensures.modes ∙ ap (λ (y : State). y.modes) v)
+    (ap (λ (x : ModeMap). x.deferrable) c.in_ok-modes.ensures ∙ c.modes.ensures.settable ∙ ap (λ (y : State). map (λ k. k.deferrable) y.schema.constraints) v)
+    c.in_default.ensures.accepted c.in_default.ensures.set
+    (c.in_ok-fault.ensures ∙ ap (λ (y : State). first_made_immediate y c.set.new.self.modes) v) in
+    refuse_performs s (set_constraints_outcome s c.args.ids.now c.args.mode) (Violation c.in-Some.fault) c.refuse-in-Some.result x
+    (seen ∙ ap (λ (o : Option Fault). refuse_first s Violation o (accept (record s { modes = c.set.new.self.modes }) Done)) c.in-Some.is) refl c.refuse-in-Some.ensures v w
+
+pub returns-in-None : goal.returns-in-None
+returns-in-None g c =
+    let h : Parts = parts g.K.Kin.view c.self.inside in
+    let s : State = c.args.self.now.state in
+    let v : state_of h ≡ s = ap (λ x. x.state) c.self.view_is in
+    let x : Seen = record { state = state_of h; work = record { changes = c.none-self-inside.result.changes; undone = c.none-self-inside.result.undone }; lookups = c.none-self-inside.result.lookups; looked = g.K.Kin.lookups c.self.inside.store } in
+    let w : x.work ≡ no_work = ap (λ w. record { changes = w.changes; undone = w.undone }) c.none-self-inside.ensures in
+    let seen : set_constraints_outcome s c.args.ids.now c.args.mode ≡ refuse_first s Violation c.in_ok-fault.field-0 (accept (record s { modes = c.set.new.self.modes }) Done) =
+    set_seen s c.args.ids.now c.args.mode c.in_ok-modes.modes c.set.new.self c.in_ok-fault.field-0
+    (ap (λ (x : ModeMap). x.modes) c.in_ok-modes.ensures ∙ c.modes.ensures.modes ∙ ap (λ (y : State). y.modes) v)
+    (ap (λ (x : ModeMap). x.deferrable) c.in_ok-modes.ensures ∙ c.modes.ensures.settable ∙ ap (λ (y : State). map (λ k. k.deferrable) y.schema.constraints) v)
+    c.in_default.ensures.accepted c.in_default.ensures.set
+    (c.in_ok-fault.ensures ∙ ap (λ (y : State). first_made_immediate y c.set.new.self.modes) v) in
+    accept_performs s (set_constraints_outcome s c.args.ids.now c.args.mode) (record s { modes = c.set.new.self.modes }) Done
+    (record x { state = record (state_of h) { modes = c.set.new.self.modes } })
+    (seen ∙ ap (λ (o : Option Fault). refuse_first s Violation o (accept (record s { modes = c.set.new.self.modes }) Done)) c.in-None.is)
+    (ap (λ (y : State). record y { modes = c.set.new.self.modes }) v) w

@@ -1,0 +1,126 @@
+-- What a session is seen as, and what holds of its parts.
+use Rattle.std.specs.Prelude.{◌≡◌, ℕ, ◌+◌, Bool, true, false, List, [], ◌∷◌, ◌++◌, map, length, Option, Some, None, IfSome}
+use Rattle.std.specs.List.{list_all}
+use Rattle.iv_catalogue.specs.Catalogues.{Schema}
+use Rattle.iv_state.specs.Words.{Table, Constraint, Database}
+use Rattle.iv_machine.specs.Bounds.{Bounds}
+use Rattle.iv_machine.specs.Machine.{Savepoint, State, Work}
+use Rattle.iv_modes.specs.ModeMaps.{ModeMap, initial_map}
+use Rattle.iv_store.specs.Stores.{StoreState, marked_database}
+use Rattle.iv_state.specs.declared.session_state.Saved.{Saved}
+use Rattle.iv_state.specs.declared.session_state.SessionState.TheInside.{Inside}
+use Rattle.iv_row_laws.specs.Changing.{StoreFits}
+use Rattle.iv_row_laws.specs.RowFits.{rows_fit}
+
+-- A session: the state of the machine; the row changes that the last call made and undid, and the keys that it looked up; and the keys
+-- that were looked up so far.
+pub record Seen : Type 0 where
+  pub state : State
+  pub work : Work
+  pub lookups : ℕ
+  pub looked : ℕ
+
+-- ---- the parts
+
+-- The parts of a session that its state is made of. The savepoints are those of the open transaction, the oldest first.
+pub record Parts : Type 0 where
+  pub schema : Schema
+  pub limits : Bounds
+  pub store : StoreState
+  pub initial : ModeMap
+  pub changed : Option ModeMap
+  pub active : Bool
+  pub saves : List Saved
+
+-- the modes where SET CONSTRAINTS changed them, or the initial ones
+abbrev pub current : ModeMap → Option ModeMap → ModeMap
+current initial None = initial
+current initial (Some modes) = modes
+
+-- the transaction began at the first mark
+abbrev pub started : Bool → StoreState → Option Database
+started true s = Some (marked_database s 0)
+started false s = None
+
+-- the marks of the savepoints are those after the first
+abbrev pub later : List Database → List Database
+later [] = []
+later (db ∷ dbs) = dbs
+
+abbrev pub savepoint_at : ModeMap → Saved → Database → Savepoint
+savepoint_at initial s db = record { name = s.name; database = db; modes = (current initial s.modes).modes }
+
+-- each savepoint with the database of its mark, the newest first
+abbrev pub savepoints_of : ModeMap → List Saved → List Database → List Savepoint
+savepoints_of initial [] dbs = []
+savepoints_of initial (s ∷ saves) [] = []
+savepoints_of initial (s ∷ saves) (db ∷ dbs) = savepoints_of initial saves dbs ++ savepoint_at initial s db ∷ []
+
+abbrev pub state_of : Parts → State
+state_of h = record {
+  schema = h.schema;
+  limits = h.limits;
+  database = h.store.base;
+  modes = (current h.initial h.changed).modes;
+  start = started h.active h.store;
+  savepoints = savepoints_of h.initial h.saves (later h.store.marks);
+}
+
+-- the parts of a session, by what its store is seen as
+abbrev pub parts : {K : Type 0} → (K → StoreState) → Inside K → Parts
+parts view s = record {
+  schema = s.catalogue;
+  limits = s.limits;
+  store = view s.store;
+  initial = s.initial;
+  changed = s.changed;
+  active = s.active;
+  saves = s.saves.items;
+}
+
+-- what a session is seen as, by what its store is seen as and the keys that were looked up in it
+abbrev pub seen : {K : Type 0} → (K → StoreState) → (K → ℕ) → Inside K → Seen
+seen view lookups s = record {
+  state = state_of (parts view s);
+  work = record { changes = s.work.changes; undone = s.work.undone };
+  lookups = s.work.lookups;
+  looked = lookups s.store;
+}
+
+-- ---- what holds of them
+
+-- the rows of each marked database fit the tables
+abbrev pub all_fit : List Table → List Database → Bool
+all_fit tables dbs = list_all (λ db. rows_fit tables db.rows) dbs
+
+-- of each constraint it says whether its mode may be set
+abbrev pub AreModes : List Constraint → ModeMap → Type 0
+AreModes constraints m = m.deferrable ≡ map (λ c. c.deferrable) constraints
+
+abbrev pub AllModes : List Constraint → List Saved → Type 0
+AllModes constraints [] = Unit {0}
+AllModes constraints (s ∷ saves) = IfSome s.modes (AreModes constraints) × AllModes constraints saves
+
+-- Outside a transaction there is no mark and no savepoint, modes are initial, and no change is counted.
+pub record IsCalm (h : Parts) : Type 0 where
+  pub marks : h.store.marks ≡ []
+  pub saves : h.saves ≡ []
+  pub modes : h.changed ≡ None
+  pub count : h.store.base.count ≡ 0
+
+-- Inside one there is a mark for its start and one for each savepoint.
+pub record IsOpen (h : Parts) : Type 0 where
+  pub marks : length h.store.marks ≡ length h.saves + 1
+  pub modes : IfSome h.changed (AreModes h.schema.constraints)
+  pub saved : AllModes h.schema.constraints h.saves
+  pub fit : all_fit h.schema.tables h.store.marks ≡ true
+
+abbrev pub StandsAs : Bool → Parts → Type 0
+StandsAs true h = IsOpen h
+StandsAs false h = IsCalm h
+
+-- What holds of every session.
+pub record Kept (h : Parts) : Type 0 where
+  pub store : StoreFits h.schema h.store
+  pub initial : h.initial ≡ initial_map h.schema.constraints
+  pub stands : StandsAs h.active h

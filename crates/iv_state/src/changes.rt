@@ -1,0 +1,138 @@
+//! INSERT, UPDATE and DELETE.
+ghost use Rattle.std.specs.Prelude.{◌≡◌, true, false, OnOk};
+ghost use Rattle.iv_catalogue.specs.Refusals.{is_memory_cause, out_of_memory};
+ghost use Rattle.iv_fitting.specs.PlanShapes.{data_suits, plain_shape};
+ghost use Rattle.iv_machine.specs.Machine.{change_outcome};
+ghost use Rattle.iv_state.specs.Changing.{Changes, said_of};
+ghost use Rattle.iv_state.specs.Kept.{current};
+ghost use Rattle.iv_state.specs.Performing.{Follows};
+ghost use Rattle.iv_row_laws.specs.Changing.{AnswersAt, StoreFits, with_database};
+
+use crate::session_state::{SessionState, Work};
+use iv_catalogue::{Catalogue, Cause, DataStatement, Refusal};
+use iv_machine::{Answer, Limits};
+use iv_modes::Modes;
+use iv_run::Outcome;
+use iv_store::Keeper;
+
+/// How data statements change a store.
+pub trait DataStatements {
+    /// INSERT, UPDATE or DELETE of a script, with all that follows from it, and how many rows it changed itself
+    /// ("Insert statement", "Update statement: searched", "Delete statement: searched"). Where it is refused,
+    /// the store is left with what it changed so far, so that the count of its changes is exact; the caller
+    /// undoes it to a mark that it made before.
+    fn change<K: Keeper>(
+        store: &mut K,
+        statement: &DataStatement,
+        catalogue: &Catalogue,
+        modes: &Modes,
+        limits: Limits,
+    ) -> Result<u64, Refusal>
+        requires store { StoreFits catalogue.now (K.view store.old) }
+        requires statement { data_suits catalogue.now.tables
+            (plain_shape catalogue.now.tables) statement.now ≡ true }
+        ensures answer { AnswersAt (λ size. ((K.view store.new).base, size))
+            (K.view store.new).base.count result
+            (said_of catalogue.now modes.now.modes limits statement.now (K.view store.old).base) }
+        ensures kept { K.view store.new ≡ with_database (K.view store.old) (K.view store.new).base }
+        ensures store { OnOk result (StoreFits catalogue.now (K.view store.new)) };
+}
+
+// The modes of the constraints.
+fn modes_now<'a>(initial: &'a Modes, changed: &'a Option<Modes>) -> &'a Modes
+    ensures { result.now ≡ current initial.entry.now changed.entry.now }
+{
+    match changed {
+        Some(modes) => modes,
+        None => initial,
+    }
+}
+
+// Runs a data statement whole, or not at all. Where it begins a transaction, its mark stays.
+fn run_change<D: DataStatements, K: Keeper>(
+    store: &mut K,
+    work: &mut Work,
+    statement: &DataStatement,
+    catalogue: &Catalogue,
+    modes: &Modes,
+    limits: Limits,
+    begins: bool,
+) -> Result<u64, Refusal>
+    requires store { StoreFits catalogue.now (K.view store.old) }
+    requires statement { data_suits catalogue.now.tables
+        (plain_shape catalogue.now.tables) statement.now ≡ true }
+    ensures changes { Changes begins (K.view store.old)
+        (said_of catalogue.now modes.now.modes limits statement.now (K.view store.old).base)
+        result (K.view store.new)
+        (record { changes = work.new.changes; undone = work.new.undone }) }
+    ensures store { StoreFits catalogue.now (K.view store.new) }
+{
+    let before = store.standing();
+    let mark = store.mark()?;
+    match D::change(store, statement, catalogue, modes, limits) {
+        Ok(size) => {
+            work.changes = store.standing().saturating_sub(before);
+            work.undone = 0;
+            if !begins {
+                store.forget(mark);
+            }
+            Ok(size)
+        }
+        Err(refusal) => {
+            let made = store.standing().saturating_sub(before);
+            work.changes = made;
+            work.undone = made;
+            store.undo(mark);
+            Err(refusal)
+        }
+    }
+}
+
+// A refusal as it is; where memory was refused, and there is no trigger, outside of every trigger.
+fn outside_triggers(refusal: Refusal, untriggered: bool) -> Refusal
+    ensures other { is_memory_cause refusal.cause ≡ false → result ≡ refusal }
+    ensures memory { is_memory_cause refusal.cause ≡ true → is_memory_cause result.cause ≡ true }
+    ensures outside { untriggered ≡ true → is_memory_cause refusal.cause ≡ true
+        → result ≡ out_of_memory }
+{
+    match refusal.cause {
+        Cause::OutOfMemory => {
+            if untriggered {
+                Refusal::of(refusal.cause)
+            } else {
+                refusal
+            }
+        }
+        _ => refusal,
+    }
+}
+
+impl<K: Keeper + Drop> SessionState<K> {
+    // INSERT, UPDATE and DELETE.
+    pub(crate) fn change<D: DataStatements>(&mut self, statement: &DataStatement) -> Outcome
+        requires { data_suits self.old.state.schema.tables
+            (plain_shape self.old.state.schema.tables) statement.now ≡ true }
+        ensures { Follows self.old.state
+            (change_outcome self.old.state statement.now) result self.new }
+    {
+        let begins = !self.active;
+        match run_change::<D, K>(
+            &mut self.store,
+            &mut self.work,
+            statement,
+            &self.catalogue,
+            modes_now(&self.initial, &self.changed),
+            self.limits,
+            begins,
+        ) {
+            Ok(size) => {
+                self.active = true;
+                Ok(Answer::Changed(size))
+            }
+            Err(refusal) => {
+                let untriggered = self.catalogue.triggers().is_empty();
+                Err(outside_triggers(refusal, untriggered))
+            }
+        }
+    }
+}

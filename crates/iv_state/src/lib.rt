@@ -1,0 +1,14 @@
+//! The state of a session: one database in memory, its catalogue, and the transaction that is open.
+#![tactic(auto)]
+
+mod changes;
+mod deferring;
+mod performing;
+mod queries;
+mod savepoints;
+mod schema;
+mod session_state;
+mod transactions;
+
+pub use changes::DataStatements;
+pub use session_state::{SessionState, Work};

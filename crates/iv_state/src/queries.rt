@@ -1,0 +1,23 @@
+//! SELECT.
+ghost use Rattle.iv_machine.specs.Machine.{query_outcome};
+ghost use Rattle.iv_state.specs.Performing.{Performs};
+
+use crate::session_state::{SessionState, Work};
+use iv_catalogue::{QueryPlan, Refusal};
+use iv_machine::Answer;
+use iv_proposals::select;
+use iv_run::Outcome;
+use iv_store::Keeper;
+
+impl<K: Keeper + Drop> SessionState<K> {
+    // SELECT.
+    pub(crate) fn query(&mut self, plan: &QueryPlan) -> Outcome
+        ensures { Performs self.old.state (query_outcome self.old.state plan.now) result self.new }
+    {
+        self.work = Work::none();
+        match select(&self.store, plan) {
+            Ok(rows) => Ok(Answer::Rows(rows)),
+            Err(cause) => Err(Refusal::of(cause)),
+        }
+    }
+}

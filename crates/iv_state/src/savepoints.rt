@@ -1,0 +1,204 @@
+//! Savepoints.
+ghost use Rattle.std.specs.Prelude.{◌≡◌, ◌+◌, ◌-◌, ◌<◌, ◌≤◌, length, take, true, false, IfOk, IfSome, Ok, Err, Some, if◌then◌else◌};
+ghost use Rattle.std.specs.List.{remove};
+ghost use Rattle.std.specs.Vec.{vec_capacity};
+ghost use Rattle.iv_catalogue.specs.declared.cause.Cause.TheVariants.{UnknownSavepoint};
+ghost use Rattle.iv_catalogue.specs.Refusals.{is_memory, refusal_answer};
+ghost use Rattle.iv_machine.specs.declared.answer.Answer.TheVariants.{Done};
+ghost use Rattle.iv_machine.specs.Machine.{accept, inside, is_open, outcome_unless, with_transaction, state_with_savepoint, release_outcome, rollback_to_outcome, savepoint_named, transaction_cause};
+ghost use Rattle.iv_store.specs.Stores.{store_without_mark};
+ghost use Rattle.iv_state.specs.Performing.{Performs};
+ghost use Rattle.iv_state.specs.Saving.{IsWithout, last_named, with_marks};
+
+use crate::session_state::{Saved, SessionState, Work};
+use iv_catalogue::{Cause, Refusal};
+use iv_machine::Answer;
+use iv_modes::Modes;
+use iv_run::Outcome;
+use iv_store::{Keeper, Mark};
+use iv_syntax::Name;
+use std::alloc::AllocError;
+
+// The same modes again, where they were changed.
+fn copied(modes: &Option<Modes>) -> Result<Option<Modes>, AllocError>
+    ensures { IfOk result (λ copy. copy ≡ modes.now) }
+{
+    match modes {
+        Some(modes) => Ok(Some(modes.copy()?)),
+        None => Ok(None),
+    }
+}
+
+// The place where the test holds, or what was found before it.
+fn place_or(holds: bool, place: usize, found: Option<usize>) -> Option<usize>
+    ensures place { result ≡ (if holds then Some place else found) }
+{
+    if holds { Some(place) } else { found }
+}
+
+// The place of the newest savepoint of this name.
+fn last_named(saves: &[Saved], name: &str) -> Option<usize>
+    ensures place { result ≡ last_named name.now saves.now }
+    ensures within { IfSome result (λ place. place < length saves.now) }
+{
+    let mut found = None;
+    let mut at = 0usize;
+    for save in saves {
+        found = place_or(name == save.name.as_str(), at, found);
+        at += 1;
+    }
+    found
+}
+
+// Takes a savepoint out, with its mark.
+fn take_out<K: Keeper>(store: &mut K, saves: &mut Vec<Saved>, place: usize)
+    requires there { place < length saves.old.items }
+    requires room { length saves.old.items < length (K.view store.old).marks }
+    ensures saves { saves.new.items ≡ remove saves.old.items place }
+    ensures store { K.view store.new ≡ store_without_mark (K.view store.old) (place + 1) }
+    ensures capacity { vec_capacity saves.new ≡ vec_capacity saves.old }
+    ensures unlooked { K.lookups store.new ≡ K.lookups store.old }
+{
+    store.forget(Mark::new(place + 1));
+    drop(saves.remove(place));
+}
+
+// Takes the savepoints of a name out, with their marks.
+fn take_named<K: Keeper>(store: &mut K, saves: &mut Vec<Saved>, name: &str)
+    requires { length saves.old.items < length (K.view store.old).marks }
+    ensures without { IsWithout name.now saves.old.items (K.view store.old) saves.new.items
+        (K.view store.new) }
+    ensures fewer { length saves.new.items ≤ length saves.old.items }
+    ensures capacity { vec_capacity saves.new ≡ vec_capacity saves.old }
+    ensures unlooked { K.lookups store.new ≡ K.lookups store.old }
+{
+    while let Some(place) = last_named(saves.as_slice(), name) {
+        take_out(store, saves, place);
+    }
+}
+
+// Takes the savepoints from this place on out, with their marks.
+fn take_from<K: Keeper>(store: &mut K, saves: &mut Vec<Saved>, place: usize)
+    requires there { place ≤ length saves.old.items }
+    requires room { length (K.view store.old).marks ≡ length saves.old.items + 1 }
+    ensures saves { saves.new.items ≡ take place saves.old.items }
+    ensures store { K.view store.new
+        ≡ with_marks (K.view store.old) (take (place + 1) (K.view store.old).marks) }
+    ensures unlooked { K.lookups store.new ≡ K.lookups store.old }
+{
+    let mut left = saves.len();
+    while place < left {
+        left -= 1;
+        take_out(store, saves, left);
+    }
+}
+
+pub(crate) fn refuse<T>(cause: Cause) -> Result<T, Refusal>
+    ensures { result ≡ refusal_answer cause }
+{
+    Err(Refusal::of(cause))
+}
+
+impl<K: Keeper + Drop> SessionState<K> {
+    // START TRANSACTION, and what a data statement begins.
+    pub(crate) fn start(&mut self) -> Outcome
+        requires { is_open self.old.state ≡ false }
+        ensures { Performs self.old.state
+            (accept (with_transaction self.old.state) Done) result self.new }
+    {
+        let _ = self.store.mark()?;
+        self.active = true;
+        self.work = Work::none();
+        Ok(Answer::Done)
+    }
+
+    // SAVEPOINT.
+    pub(crate) fn savepoint(&mut self, name: &Name) -> Outcome
+        requires { is_open self.old.state ≡ true }
+        ensures { Performs self.old.state
+            (accept (state_with_savepoint self.old.state name.now) Done) result self.new }
+    {
+        let own = name.clone()?;
+        let modes = copied(&self.changed)?;
+        self.saves.reserve(1)?;
+        let _ = self.store.mark()?;
+        take_named(&mut self.store, &mut self.saves, name.as_str());
+        match self.saves.push(Saved { name: own, modes }) {
+            Ok(()) => {}
+            Err(_) => unreachable!(),
+        }
+        self.work = Work::none();
+        Ok(Answer::Done)
+    }
+
+    // RELEASE SAVEPOINT.
+    pub(crate) fn release(&mut self, name: &Name) -> Outcome
+        requires { is_open self.old.state ≡ true }
+        ensures { Performs self.old.state
+            (release_outcome self.old.state (savepoint_named name.now self.old.state.savepoints))
+            result self.new }
+    {
+        self.work = Work::none();
+        match last_named(self.saves.as_slice(), name.as_str()) {
+            Some(place) => {
+                take_from(&mut self.store, &mut self.saves, place);
+                Ok(Answer::Done)
+            }
+            None => refuse(Cause::UnknownSavepoint),
+        }
+    }
+
+    // ROLLBACK TO SAVEPOINT.
+    pub(crate) fn back_to(&mut self, name: &str) -> Outcome
+        requires { is_open self.old.state ≡ true }
+        ensures { Performs self.old.state
+            (rollback_to_outcome self.old.state
+            (savepoint_named name.now self.old.state.savepoints)) result self.new }
+    {
+        self.work = Work::none();
+        let place = match last_named(self.saves.as_slice(), name) {
+            Some(place) => place,
+            None => return refuse(Cause::UnknownSavepoint),
+        };
+        let modes = copied(&self.saves[place].modes)?;
+        let standing = self.store.standing();
+        self.store.undo_to(Mark::new(place + 1))?;
+        self.saves.truncate(place + 1);
+        self.changed = modes;
+        self.work.undone = standing.saturating_sub(self.store.standing());
+        Ok(Answer::Done)
+    }
+
+    // ROLLBACK TO SAVEPOINT, refused outside a transaction.
+    fn back_to_or_refuse(&mut self, name: &str) -> Outcome
+        ensures performs { Performs self.old.state
+            (outcome_unless self.old.state (transaction_cause (is_open self.old.state) inside)
+            (rollback_to_outcome self.old.state
+            (savepoint_named name.now self.old.state.savepoints))) result self.new }
+        ensures sure { is_open self.old.state ≡ false → is_memory result ≡ false }
+    {
+        if self.in_transaction() {
+            self.back_to(name)
+        } else {
+            self.refuse_now(Cause::NoTransaction)
+        }
+    }
+
+    /// ROLLBACK TO SAVEPOINT as a call: the answer, the state after it and the changes that were undone are
+    /// those of the machine, or memory was refused and the state is as before. Outside a transaction it takes
+    /// no memory.
+    pub fn rollback_to(&mut self, name: &str) -> Outcome
+        ensures lookups { self.new.lookups ≡ self.new.looked - self.old.looked }
+        ensures unlooked { ((store : K) → K.lookups store ≡ 0) → self.new.lookups ≡ 0 }
+        ensures sure { is_open self.old.state ≡ false → is_memory result ≡ false }
+        ensures performs { Performs self.old.state
+            (outcome_unless self.old.state (transaction_cause (is_open self.old.state) inside)
+            (rollback_to_outcome self.old.state
+            (savepoint_named name.now self.old.state.savepoints))) result self.new }
+    {
+        let looked = self.looked();
+        let answer = self.back_to_or_refuse(name);
+        self.count_lookups(looked);
+        answer
+    }
+}
