@@ -3,11 +3,11 @@
 
   tools/gate.py [COMMAND WORD..]
 
-Another command may be named in place of `rt ci --anew`. Twice a second it looks at the command's processes that name a crate, and adds
-their processor time by crate and by what they did: the proof with the library or program that it makes, the same of its tests, and its
-must-fail edits. It also takes how long each crate's proof took by the clock, where a proof may have had several processors, and prints the
-longest path: a chain of crates of which each depends on the one before it. Other work on the machine lengthens all of these, so let nothing
-else run. The output of the command goes to standard error. The status is the command's.
+Another command may be named in place of `rt ci`, or `rt ci --anew` where the kit keeps what earlier runs proved. Twice a second it looks
+at the command's processes that name a crate, and adds their processor time by crate and by what they did: the proof with the library or
+program that it makes, the same of its tests, and its must-fail edits. It also takes how long each crate's proof took by the clock, where a
+proof may have had several processors, and prints the longest path: a chain of crates of which each depends on the one before it. Other work
+on the machine lengthens all of these, so let nothing else run. The output of the command goes to standard error. The status is the command's.
 """
 import os
 import subprocess
@@ -96,8 +96,14 @@ def longest_path(clock):
     return max(ends, key=minutes)
 
 
+def whole_gate():
+    """The command that runs the gate from nothing with this kit."""
+    says = subprocess.run(["rt", "help"], stdout=subprocess.PIPE, stderr=subprocess.STDOUT, text=True, check=False).stdout
+    return ["rt", "ci", "--anew"] if "--anew" in says else ["rt", "ci"]
+
+
 def main():
-    words = sys.argv[1:] or ["rt", "ci", "--anew"]
+    words = sys.argv[1:] or whole_gate()
     began = time.monotonic()
     seen, clock = {}, {}
     with subprocess.Popen(words, stdin=subprocess.DEVNULL, stdout=sys.stderr, start_new_session=True) as command:
