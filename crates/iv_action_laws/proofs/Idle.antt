@@ -8,7 +8,8 @@ use Rattle.iv_expr.specs.declared.row.StoredRow.{StoredRow}
 use Rattle.iv_syntax.specs.declared.table.ReferentialAction.TheVariants as action
 use Rattle.iv_catalogue.specs.Catalogues.{Schema}
 use Rattle.iv_machine.specs.declared.effect.Effect.{Effect}
-use Rattle.iv_machine.specs.Databases.{row_at, key_of, none_null, fault_at}
+use Rattle.iv_key.specs.Keys.{key_of, none_null}
+use Rattle.iv_machine.specs.Databases.{row_at, fault_at}
 use Rattle.iv_machine.specs.ReferentialActions.{Reference, Loss, LostKeys, lost_reference, action_on, is_restrict, effects_of_action, effects_of_loss, keeps_reference}
 use Rattle.iv_laws.proofs.Keys.{and_first}
 use Rattle.iv_laws.proofs.RowNumbers.{some_none}

@@ -13,7 +13,8 @@ use Rattle.iv_syntax.specs.declared.table.ReferentialAction.{ReferentialAction}
 use Rattle.iv_syntax.specs.declared.table.ReferentialAction.TheVariants as action
 use Rattle.iv_catalogue.specs.declared.constraint.Constraint.{Constraint}
 use Rattle.iv_catalogue.specs.declared.constraint.ForeignKey.{ForeignKey}
-use Rattle.iv_machine.specs.Databases.{row_at, key_of, none_null, holds_key, has_change}
+use Rattle.iv_key.specs.Keys.{key_of, none_null, holds_key}
+use Rattle.iv_machine.specs.Databases.{row_at, has_change}
 use Rattle.iv_machine.specs.ReferentialActions.{Reference, foreign_key, reference, references, Loss, LostKeys, action_on}
 use Rattle.iv_store.specs.Stores.{StoreState, RisingNumbers, reference_at, numbers_by, children_of}
 use Rattle.iv_laws.specs.Holders.{loses_key, loss_of_new, keys_lost_by}

@@ -7,7 +7,7 @@ use Rattle.std.proofs.lemmas.List.Elements.{filter_map-append}
 use Rattle.iv_value.specs.Values.{all_same}
 use Rattle.iv_expr.specs.declared.row.StoredRow.{StoredRow}
 use Rattle.iv_catalogue.specs.Catalogues.{Schema}
-use Rattle.iv_machine.specs.Databases.{key_of}
+use Rattle.iv_key.specs.Keys.{key_of}
 use Rattle.iv_machine.specs.ReferentialActions.{is_restrict, keeps_reference}
 use Rattle.iv_actions.specs.Losing.{Losing, action_for, change_losing}
 use Rattle.iv_actions.specs.ByTable.{on_table, at_places}

@@ -1,4 +1,3 @@
-pub mod KeyOrders
 pub mod Taking
 pub mod Halving
 pub mod Numbers

@@ -15,7 +15,8 @@ use Rattle.iv_catalogue.specs.declared.constraint.ForeignKey.{ForeignKey}
 use Rattle.iv_machine.specs.declared.database.Database.{Database}
 use Rattle.iv_machine.specs.declared.effect.Effect.{Effect}
 use Rattle.iv_machine.specs.Context.{Failure, fails}
-use Rattle.iv_machine.specs.Databases.{row_at, fault_at, key_of, none_null}
+use Rattle.iv_key.specs.Keys.{key_of, none_null}
+use Rattle.iv_machine.specs.Databases.{row_at, fault_at}
 use Rattle.iv_machine.specs.ReferentialActions.{Reference, reference, Loss, LostKeys, lost_reference, action_on, is_restrict, effects_of_loss, keeps_reference, change_by}
 use Rattle.iv_laws.specs.Holders.{loss_of_new, loses_key, keys_lost_by, row_before}
 use Rattle.iv_action_laws.specs.RowByRow as laws

@@ -1,4 +1,3 @@
-pub mod KeyOrder
 pub mod Losing
 pub mod ByTable
 pub mod Following

@@ -9,7 +9,7 @@ use Rattle.iv_syntax.specs.declared.table.ReferentialAction.{ReferentialAction}
 use Rattle.iv_syntax.specs.declared.table.ReferentialAction.TheVariants as action
 use Rattle.iv_catalogue.specs.declared.constraint.Constraint.{Constraint}
 use Rattle.iv_catalogue.specs.declared.constraint.ForeignKey.{ForeignKey}
-use Rattle.iv_machine.specs.Databases.{key_of, none_null}
+use Rattle.iv_key.specs.Keys.{key_of, none_null}
 use Rattle.iv_machine.specs.ReferentialActions.{Reference, reference, LostKeys, action_on}
 use Rattle.iv_laws.specs.Holders.{leaves_key, loses_key, loss_of_new, keys_lost_by}
 

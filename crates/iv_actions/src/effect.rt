@@ -3,7 +3,7 @@ ghost use Rattle.std.specs.Prelude.{◌≡◌, ◌==◌, ◌&&◌, ◌++◌, Lis
 ghost use Rattle.iv_value.specs.declared.value.Value.TheVariants.{Null};
 ghost use Rattle.iv_value.specs.Values.{all_same};
 ghost use Rattle.iv_machine.specs.declared.effect.Effect.TheVariants.{SetColumns};
-ghost use Rattle.iv_machine.specs.Databases.{value_at, key_of};
+ghost use Rattle.iv_key.specs.Keys.{value_at, key_of};
 ghost use Rattle.iv_machine.specs.Proposals.{defaults_of};
 ghost use Rattle.iv_machine.specs.ReferentialActions.{cascade, keeps_reference};
 ghost use Rattle.iv_laws.specs.Holders.{loss_of_new};
@@ -11,14 +11,13 @@ ghost use Rattle.iv_actions.specs.ByTable.{at_places};
 ghost use Rattle.iv_actions.specs.Following.{effects_for, effects_by, effects_among, one_or_none};
 
 use crate::by_table::ByTable;
-use crate::key_order::value_at;
 use crate::losing::{Losing, action_for};
 use crate::restrict::change_losing;
 use crate::row::LentRow;
 use iv_catalogue::{Catalogue, Column, ForeignKey};
 use iv_expr::{Change, TableId};
+use iv_key::{Key, value_at};
 use iv_machine::Effect;
-use iv_store::Key;
 use iv_syntax::ReferentialAction;
 use iv_value::Value;
 use sqlite_items::Items;

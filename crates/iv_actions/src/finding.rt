@@ -6,15 +6,15 @@ ghost use Rattle.iv_store.specs.Stores.{RisingNumbers};
 ghost use Rattle.iv_action_laws.specs.RowByRow.{is_among};
 ghost use Rattle.iv_actions.specs.Finding.{leads, found_by, found_by_all, found};
 
-use crate::key_order::OrderedKey;
 use crate::losing::{Losing, action_for, acts, key_taken};
 use iv_catalogue::ConstraintId;
 use iv_expr::Change;
+use iv_key::Key;
 use iv_store::Kin;
 use std::alloc::{AllocError, Global};
 
 // Whether a change is the first that takes a key away, and the foreign key does something then.
-fn leads(losing: &Losing<'_>, change: &Change, key: &OrderedKey<'_>) -> bool
+fn leads(losing: &Losing<'_>, change: &Change, key: &Key<'_>) -> bool
     ensures { result ≡ leads losing.now change.now key.now }
 {
     match losing.change_taking(key) {
@@ -44,7 +44,7 @@ fn push_found<K: Kin>(
             if !leads(losing, change, &key) {
                 return Ok(());
             }
-            let mut children = store.children(ConstraintId::new(losing.id()), &key.key())?;
+            let mut children = store.children(ConstraintId::new(losing.id()), &key)?;
             numbers.append(&mut children)
         }
     }

@@ -6,7 +6,6 @@ mod change;
 mod conflict;
 mod effect;
 mod finding;
-mod key_order;
 mod losing;
 mod next;
 mod restrict;

@@ -7,13 +7,12 @@ ghost use Rattle.iv_value.specs.declared.value.Value.{Value as Cell};
 ghost use Rattle.iv_machine.specs.ReferentialActions.{reference};
 ghost use Rattle.iv_laws.specs.Holders.{leaves_key};
 ghost use Rattle.iv_action_laws.specs.RowByRow.{is_among};
-ghost use Rattle.iv_actions.specs.KeyOrder.{key_cmp};
+ghost use Rattle.iv_key.specs.KeyOrder.{key_cmp};
 ghost use Rattle.iv_actions.specs.Losing.{key_taken, first_taking, acts, action_for, acts_on, under_wave, losing_where, losing_from, change_taking};
 
-use crate::key_order::OrderedKey;
 use iv_catalogue::{Constraint, ForeignKey, Rule};
 use iv_expr::{Change, Row, TableId};
-use iv_store::Key;
+use iv_key::Key;
 use iv_syntax::ReferentialAction;
 use iv_value::Value;
 use std::alloc::{AllocError, Global};
@@ -28,14 +27,14 @@ pub struct Losing<'a> {
     table: TableId,
     key: &'a ForeignKey,
     changes: &'a [Change],
-    firsts: BTreeMap<OrderedKey<'a>, usize>,
+    firsts: BTreeMap<Key<'a>, usize>,
 }
 
 impl<'a> Model for Losing<'a> {
     ghost use Rattle.std.specs.Prelude.{◌≡◌, List};
     ghost use Rattle.std.specs.BTreeMap.{get};
     ghost use Rattle.iv_value.specs.declared.value.Value.{Value as Cell};
-    ghost use Rattle.iv_actions.specs.KeyOrder.{key_cmp};
+    ghost use Rattle.iv_key.specs.KeyOrder.{key_cmp};
     ghost use Rattle.iv_actions.specs.Losing.{Losing as Seen, first_taking};
 
     ghost Value = { Seen };
@@ -63,7 +62,7 @@ fn leaves_key(key: &ForeignKey, old: &[Value], new: &Option<Row>) -> bool
 }
 
 /// The referenced key that a change takes away.
-pub fn key_taken<'a>(key: &'a ForeignKey, change: &'a Change) -> Option<OrderedKey<'a>>
+pub fn key_taken<'a>(key: &'a ForeignKey, change: &'a Change) -> Option<Key<'a>>
     ensures { result ≡ key_taken key.entry.now change.entry.now }
 {
     if change.table != key.referenced {
@@ -72,8 +71,8 @@ pub fn key_taken<'a>(key: &'a ForeignKey, change: &'a Change) -> Option<OrderedK
     match &change.old {
         None => None,
         Some(old) => {
-            let taken = OrderedKey::new(key.key.as_slice(), old.values());
-            if taken.key().none_null() && leaves_key(key, old.values(), &change.new) {
+            let taken = Key::new(key.key.as_slice(), old.values());
+            if taken.none_null() && leaves_key(key, old.values(), &change.new) {
                 Some(taken)
             } else {
                 None
@@ -153,7 +152,7 @@ fn acts_in(key: &ForeignKey, changes: &[Change], tables: &[u32]) -> bool
 
 // Notes the place of a change before those that come after it.
 fn note<'a>(
-    firsts: &mut BTreeMap<OrderedKey<'a>, usize>,
+    firsts: &mut BTreeMap<Key<'a>, usize>,
     key: &'a ForeignKey,
     changes: &'a [Change],
     place: usize,
@@ -176,7 +175,7 @@ fn firsts<'a>(
     alloc: Global,
     key: &'a ForeignKey,
     changes: &'a [Change],
-) -> Result<BTreeMap<OrderedKey<'a>, usize>, AllocError>
+) -> Result<BTreeMap<Key<'a>, usize>, AllocError>
     ensures { IfOk result (λ m. (k : List Cell)
         → get key_cmp m k ≡ first_taking key.entry.now k 0 changes.entry.now) }
 {
@@ -284,7 +283,7 @@ impl<'a> Losing<'a> {
 
     /// The first change that takes a key away.
     #[tactic(auto, using(crate::proofs::Taking::change_found))]
-    pub fn change_taking(&self, key: &OrderedKey<'_>) -> Option<&'a Change>
+    pub fn change_taking(&self, key: &Key<'_>) -> Option<&'a Change>
         ensures { option_copied result ≡ change_taking self.now key.now }
     {
         match self.firsts.get(key.sought()) {

@@ -6,19 +6,19 @@ ghost use Rattle.iv_actions.specs.ByTable.{at_places};
 ghost use Rattle.iv_actions.specs.Following.{restricts, restricted_fault};
 
 use crate::by_table::ByTable;
-use crate::key_order::OrderedKey;
 use crate::losing::{Losing, action_for};
 use crate::row::LentRow;
 use iv_catalogue::{ConstraintId, Fault};
 use iv_expr::Change;
+use iv_key::Key;
 use iv_syntax::ReferentialAction;
 
 /// The first change that took away the key which a row refers to.
 pub fn change_losing<'a>(losing: &Losing<'a>, row: &LentRow<'_>) -> Option<&'a Change>
     ensures { option_copied result ≡ change_losing losing.now row.now }
 {
-    let key = OrderedKey::new(losing.key().columns.as_slice(), row.values());
-    if key.key().none_null() {
+    let key = Key::new(losing.key().columns.as_slice(), row.values());
+    if key.none_null() {
         losing.change_taking(&key)
     } else {
         None

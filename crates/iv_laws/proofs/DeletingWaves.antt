@@ -7,7 +7,8 @@ use Rattle.iv_laws.specs.Words.referential_action as action
 use Rattle.iv_value.specs.Values.{all_same}
 use Rattle.iv_expr.specs.Scopes.{table_rows}
 use Rattle.iv_catalogue.specs.Catalogues.{Schema}
-use Rattle.iv_machine.specs.Databases.{row_at, key_of, none_null, holds_key, has_change}
+use Rattle.iv_key.specs.Keys.{key_of, none_null, holds_key}
+use Rattle.iv_machine.specs.Databases.{row_at, has_change}
 use Rattle.iv_machine.specs.declared.effect.Effect.TheVariants.{DeleteRow}
 use Rattle.iv_machine.specs.ReferentialActions.{Reference, Loss, deleted, updated, loss_of_row, lost_keys, lost_reference, action_on, effects_of_action, effects_of_loss}
 use Rattle.iv_laws.specs.Reorderings.{after_changes}

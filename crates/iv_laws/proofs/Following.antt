@@ -8,7 +8,8 @@ use Rattle.iv_laws.specs.Words.{StoredRow, Constraint, ForeignKey, Database, Eff
 use Rattle.iv_laws.specs.Words.cause.{Restrict, ActionConflict}
 use Rattle.iv_expr.specs.Changes.{Wave, wave_of, RisingChanges}
 use Rattle.iv_catalogue.specs.Catalogues.{Schema}
-use Rattle.iv_machine.specs.Databases.{row_at, key_of, none_null, fault_at, database_after}
+use Rattle.iv_key.specs.Keys.{key_of, none_null}
+use Rattle.iv_machine.specs.Databases.{row_at, fault_at, database_after}
 use Rattle.iv_machine.specs.Context.{Context, unless_first}
 use Rattle.iv_machine.specs.ReferentialActions.{Reference, references, LostKeys, lost_keys, lost_reference, is_restricted, restricted_rows, effects_of_loss, keeps_reference, effects_on, change_by, next_wave, has_conflict, conflicts, following_wave}
 use Rattle.iv_laws.specs.RisingRows.{InOrder}

@@ -8,7 +8,8 @@ use Rattle.std.proofs.lemmas.Bool.{eqb-true}
 use Rattle.iv_laws.specs.Words.{Value, StoredRow, Change, Database}
 use Rattle.iv_expr.specs.Changes.{Wave}
 use Rattle.iv_expr.specs.Scopes.{table_rows}
-use Rattle.iv_machine.specs.Databases.{row_at, holds_key, has_change, in_order, database_after}
+use Rattle.iv_key.specs.Keys.{holds_key}
+use Rattle.iv_machine.specs.Databases.{row_at, has_change, in_order, database_after}
 use Rattle.iv_laws.specs.RisingRows.{InOrder}
 use Rattle.iv_laws.specs.Reorderings.{Distinct, after_changes}
 use Rattle.iv_laws.specs.FittingWaves.{old_row, Current}

@@ -9,7 +9,8 @@ use Rattle.iv_value.specs.Values.{all_same}
 use Rattle.iv_expr.specs.Scopes.{table_rows}
 use Rattle.iv_syntax.specs.declared.table.MatchType.{MatchType}
 use Rattle.iv_syntax.specs.declared.table.MatchType.TheVariants.{Simple, Full}
-use Rattle.iv_machine.specs.Databases.{row_at, key_of, none_null, all_null, holds_key, is_unique, has_referenced, matches, obeys, satisfies}
+use Rattle.iv_key.specs.Keys.{key_of, none_null, all_null, holds_key}
+use Rattle.iv_machine.specs.Databases.{row_at, is_unique, has_referenced, matches, obeys, satisfies}
 use Rattle.iv_laws.specs.Reorderings.{after_changes}
 use Rattle.iv_laws.specs.RisingRows.{InOrder}
 use Rattle.iv_laws.specs.FittingWaves.{old_row}

@@ -7,7 +7,8 @@ use Rattle.std.proofs.lemmas.Bool.{eqb-true, eq-eqb}
 use Rattle.iv_laws.specs.Words.{Value, StoredRow, Change, ForeignKey, Database}
 use Rattle.iv_value.specs.Values.{all_same}
 use Rattle.iv_expr.specs.Changes.{Wave, RisingChangesFrom, RisingChanges}
-use Rattle.iv_machine.specs.Databases.{row_at, key_of, holds_key, has_change, in_order, first, rows_after, database_after}
+use Rattle.iv_key.specs.Keys.{key_of, holds_key}
+use Rattle.iv_machine.specs.Databases.{row_at, has_change, in_order, first, rows_after, database_after}
 use Rattle.iv_machine.specs.ReferentialActions.{Loss, deleted, updated, loss_of_row, lost_keys}
 use Rattle.iv_laws.specs.RisingRows.{Above, InOrder}
 use Rattle.iv_laws.specs.Reorderings.{Distinct, after_changes}

@@ -9,7 +9,8 @@ use Rattle.iv_expr.specs.Changes.{Wave, wave_of}
 use Rattle.iv_expr.specs.Scopes.{Frame, scope_of, table_rows}
 use Rattle.iv_catalogue.specs.Catalogues.{Schema}
 use Rattle.iv_machine.specs.declared.effect.Effect.TheVariants.{DeleteRow}
-use Rattle.iv_machine.specs.Databases.{row_at, key_of, has_change, database_after}
+use Rattle.iv_key.specs.Keys.{key_of}
+use Rattle.iv_machine.specs.Databases.{row_at, has_change, database_after}
 use Rattle.iv_machine.specs.Context.{Context}
 use Rattle.iv_machine.specs.Proposals.{matching_rows, deletion, proposed_changes, with_columns}
 use Rattle.iv_machine.specs.ReferentialActions.{Reference, references, lost_keys, keeps_reference, effects_on, is_deletion, columns_set, change_by, next_wave, following_wave}

@@ -6,7 +6,8 @@ use Rattle.iv_laws.specs.Words.referential_action as action
 use Rattle.iv_laws.specs.Words.data_statement.{Delete}
 use Rattle.iv_expr.specs.Changes.{Wave}
 use Rattle.iv_expr.specs.Scopes.{Frame}
-use Rattle.iv_machine.specs.Databases.{row_at, key_of, holds_key, has_change}
+use Rattle.iv_key.specs.Keys.{key_of, holds_key}
+use Rattle.iv_machine.specs.Databases.{row_at, has_change}
 use Rattle.iv_machine.specs.Context.{Context}
 use Rattle.iv_machine.specs.Proposals.{proposed_wave}
 use Rattle.iv_machine.specs.ReferentialActions.{references}

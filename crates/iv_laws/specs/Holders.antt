@@ -9,7 +9,8 @@ use Rattle.iv_value.specs.Values.{all_same}
 use Rattle.iv_expr.specs.Changes.{Wave, wave_of, RisingChanges}
 use Rattle.iv_expr.specs.Scopes.{table_rows}
 use Rattle.iv_catalogue.specs.Catalogues.{Schema}
-use Rattle.iv_machine.specs.Databases.{row_at, key_of, holds_key, has_change, in_order, fault_at, database_after}
+use Rattle.iv_key.specs.Keys.{key_of, holds_key}
+use Rattle.iv_machine.specs.Databases.{row_at, has_change, in_order, fault_at, database_after}
 use Rattle.iv_machine.specs.Context.{Context, Failure, unless_first}
 use Rattle.iv_machine.specs.ReferentialActions.{Reference, references, Loss, deleted, updated, LostKeys, lost_keys, lost_reference, is_restricted, restricted_rows, effects_on, change_by, next_wave, has_conflict, conflicts, following_wave}
 use Rattle.iv_laws.specs.RisingRows.{InOrder}

@@ -2,7 +2,8 @@
 use Rattle.std.specs.Prelude.{◌≡◌, ℕ, Bool, false, ◌&&◌, ◌||◌, not, ◌==◌, List, [], ◌∷◌, filter, Option, Some, None}
 use Rattle.iv_laws.specs.Words.{Value, StoredRow, Change, Constraint, Rule, Database}
 use Rattle.iv_laws.specs.Words.rule
-use Rattle.iv_machine.specs.Databases.{row_at, key_of, holds_key, satisfies, violates}
+use Rattle.iv_key.specs.Keys.{key_of, holds_key}
+use Rattle.iv_machine.specs.Databases.{row_at, satisfies, violates}
 use Rattle.iv_laws.specs.RisingRows.{InOrder}
 use Rattle.iv_laws.specs.Reorderings.{after_changes}
 use Rattle.iv_laws.specs.FittingWaves.{old_row}

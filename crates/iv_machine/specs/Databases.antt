@@ -10,6 +10,7 @@ use Rattle.iv_machine.specs.Words.rule
 use Rattle.iv_machine.specs.Words.which.{Immediate, Deferred, All}
 use Rattle.iv_value.specs.Truths.{is_false}
 use Rattle.iv_value.specs.Values.{is_null, all_same}
+use Rattle.iv_key.specs.Keys.{value_at, key_of, none_null, all_null, holds_key}
 use Rattle.iv_expr.specs.Changes.{Wave}
 use Rattle.iv_expr.specs.Evaluation.{check_truth}
 use Rattle.iv_expr.specs.Scopes.{table_rows}
@@ -21,26 +22,6 @@ no_rows = record { rows = []; next = 1; count = 0 }
 -- the row of this number, where there is one
 abbrev pub row_at : List StoredRow → ℕ → Option StoredRow
 row_at rows number = find (λ r. r.number == number) rows
-
--- ---- keys
-
--- the value of a column by its place
-abbrev pub value_at : List Value → ℕ → Value
-value_at row column = elim (slice_get row column) [ Some v ↦ v | None ↦ Null ]
-
--- the values of some columns of a row
-abbrev pub key_of : List ℕ → List Value → List Value
-key_of columns row = map (value_at row) columns
-
-abbrev pub none_null : List Value → Bool
-none_null key = list_all (λ v. not (is_null v)) key
-
-abbrev pub all_null : List Value → Bool
-all_null key = list_all is_null key
-
--- a row holds a key where its columns are all non-null and equal the key
-abbrev pub holds_key : List ℕ → List Value → List Value → Bool
-holds_key columns key row = none_null (key_of columns row) && all_same (key_of columns row) key
 
 -- ---- what a constraint asks of a row of its table
 

@@ -12,7 +12,8 @@ use Rattle.iv_value.specs.Values.{is_same, all_same}
 use Rattle.iv_expr.specs.Changes.{Wave, wave_of}
 use Rattle.iv_expr.specs.Scopes.{table_rows}
 use Rattle.iv_catalogue.specs.Catalogues.{Schema}
-use Rattle.iv_machine.specs.Databases.{row_at, value_at, key_of, none_null, holds_key, fault_at, first}
+use Rattle.iv_key.specs.Keys.{value_at, key_of, none_null, holds_key}
+use Rattle.iv_machine.specs.Databases.{row_at, fault_at, first}
 use Rattle.iv_machine.specs.Context.{Context, Failure, unless_first}
 use Rattle.iv_machine.specs.Proposals.{with_columns, defaults_of}
 

@@ -4,74 +4,30 @@
 //! NOT NULL to the rows alone.
 ghost use Rattle.std.specs.Prelude.{◌≡◌, ◌++◌, ◌≤◌, ◌+◌, ◌*◌, ◌-◌, ◌^◌, ◌&&◌, ◌||◌, ℕ, not, length, filter, map, min, option_map, find, if◌then◌else◌, [], IfOk, OnOk, OnErr, ◌==◌, slice_get};
 ghost use Rattle.std.specs.List.{list_any};
-ghost use Rattle.iv_value.specs.References.{value_of};
 ghost use Rattle.iv_value.specs.Truths.{is_false};
-ghost use Rattle.iv_value.specs.Values.{all_same, is_null};
+ghost use Rattle.iv_value.specs.Values.{is_null};
 ghost use Rattle.iv_expr.specs.Scopes.{table_rows};
-ghost use Rattle.iv_machine.specs.Databases.{value_at, key_of, none_null, all_null, shares_key, is_unique, has_referenced, matches, obeys, satisfies, violates, fault_at, violations, chosen_violations, is_deferred, is_chosen, scan, first};
+ghost use Rattle.iv_key.specs.Keys.{value_at, key_of, none_null, all_null};
+ghost use Rattle.iv_machine.specs.Databases.{shares_key, is_unique, has_referenced, matches, obeys, satisfies, violates, fault_at, violations, chosen_violations, is_deferred, is_chosen, scan, first};
 
 use crate::database::Which;
 use iv_catalogue::{
     Constraint, ConstraintId, Fault, ForeignKey, MOST_CONSTRAINTS, MOST_TABLES, Rule,
 };
 use iv_expr::{StoredRow, TableId, check_truth};
+use iv_key::{Key, value_at};
 use iv_syntax::{ConstraintMode, MatchType};
-use iv_value::{Truth, Value, ValueRef};
+use iv_value::{Truth, Value};
 use std::alloc::{AllocError, Global};
-
-// The value of a column, null where there is none.
-fn value_at(row: &[Value], column: u32) -> ValueRef<'_>
-    ensures { value_of result ≡ value_at row.now column }
-{
-    match row.get(column as usize) {
-        Some(value) => value.as_ref(),
-        None => ValueRef::Null,
-    }
-}
-
-// Whether no column of a key is null.
-fn none_null(columns: &[u32], row: &[Value]) -> bool
-    ensures { result ≡ none_null (key_of columns.now row.now) }
-{
-    match columns {
-        [] => true,
-        [column, rest @ ..] => !value_at(row, *column).is_null() && none_null(rest, row),
-    }
-}
-
-// Whether all columns of a key are null.
-fn all_null(columns: &[u32], row: &[Value]) -> bool
-    ensures { result ≡ all_null (key_of columns.now row.now) }
-{
-    match columns {
-        [] => true,
-        [column, rest @ ..] => value_at(row, *column).is_null() && all_null(rest, row),
-    }
-}
-
-// Whether two rows have the same key, each in its own columns.
-fn same_key(columns: &[u32], row: &[Value], others: &[u32], other: &[Value]) -> bool
-    ensures { result ≡ all_same (key_of columns.now row.now) (key_of others.now other.now) }
-{
-    match columns {
-        [] => others.is_empty(),
-        [column, rest @ ..] => match others {
-            [] => false,
-            [other_column, more @ ..] => {
-                value_at(row, *column).same(value_at(other, *other_column))
-                    && same_key(rest, row, more, other)
-            }
-        },
-    }
-}
 
 // Whether another row holds this row's key.
 fn is_equal(columns: &[u32], row: &StoredRow, other: &StoredRow) -> bool
     ensures { result ≡ shares_key columns.now row.now other.now }
 {
+    let key = Key::new(columns, other.values.values());
     other.number != row.number
-        && none_null(columns, other.values.values())
-        && same_key(columns, other.values.values(), columns, row.values.values())
+        && key.none_null()
+        && key.same(&Key::new(columns, row.values.values()))
 }
 
 fn is_unique(rows: &[StoredRow], table: TableId, columns: &[u32], row: &StoredRow) -> bool
@@ -86,17 +42,13 @@ fn is_unique(rows: &[StoredRow], table: TableId, columns: &[u32], row: &StoredRo
 }
 
 // Whether the key of a referencing row is that of a referenced one.
-fn has_referenced(rows: &[StoredRow], key: &ForeignKey, row: &[Value]) -> bool
-    ensures { result ≡ has_referenced rows.now key.now (key_of key.now.columns row.now) }
+fn has_referenced(rows: &[StoredRow], reference: &ForeignKey, row: &[Value]) -> bool
+    ensures { result ≡ has_referenced rows.now reference.now (key_of reference.now.columns row.now) }
 {
+    let key = Key::new(reference.columns.as_slice(), row);
     for other in rows {
-        if other.table == key.referenced
-            && same_key(
-                key.key.as_slice(),
-                other.values.values(),
-                key.columns.as_slice(),
-                row,
-            )
+        if other.table == reference.referenced
+            && Key::new(reference.key.as_slice(), other.values.values()).same(&key)
         {
             return true;
         }
@@ -104,14 +56,15 @@ fn has_referenced(rows: &[StoredRow], key: &ForeignKey, row: &[Value]) -> bool
     false
 }
 
-fn matches(rows: &[StoredRow], key: &ForeignKey, row: &[Value]) -> bool
-    ensures { result ≡ matches key.now.matching rows.now key.now (key_of key.now.columns row.now) }
+fn matches(rows: &[StoredRow], reference: &ForeignKey, row: &[Value]) -> bool
+    ensures { result ≡ matches reference.now.matching rows.now reference.now
+        (key_of reference.now.columns row.now) }
 {
-    let given = none_null(key.columns.as_slice(), row);
-    match key.matching {
-        MatchType::Simple => !given || has_referenced(rows, key, row),
+    let key = Key::new(reference.columns.as_slice(), row);
+    match reference.matching {
+        MatchType::Simple => !key.none_null() || has_referenced(rows, reference, row),
         MatchType::Full => {
-            all_null(key.columns.as_slice(), row) || (given && has_referenced(rows, key, row))
+            key.all_null() || (key.none_null() && has_referenced(rows, reference, row))
         }
     }
 }
@@ -131,7 +84,7 @@ fn obeys(rows: &[StoredRow], table: TableId, rule: &Rule, row: &StoredRow) -> bo
         Rule::Check(condition) => passes_check(check_truth(condition, row.values.values())),
         Rule::Unique(columns) => is_unique(rows, table, columns.as_slice(), row),
         Rule::PrimaryKey(columns) => {
-            none_null(columns.as_slice(), row.values.values())
+            Key::new(columns.as_slice(), row.values.values()).none_null()
                 && is_unique(rows, table, columns.as_slice(), row)
         }
         Rule::ForeignKey(key) => matches(rows, key, row.values.values()),

@@ -1,5 +1,5 @@
 //! The mode of each constraint.
-ghost use Rattle.std.specs.Prelude.{◌≡◌, Some, None, find, fold, map, not, slice_set, IfOk, IfErr, OnOk, OnErr};
+ghost use Rattle.std.specs.Prelude.{◌≡◌, Some, None, find, fold, length, map, not, slice_set, IfOk, IfErr, OnOk, OnErr};
 ghost use Rattle.iv_machine.specs.Databases.{initial_modes, is_deferred};
 ghost use Rattle.iv_machine.specs.Machine.{with_modes};
 ghost use Rattle.iv_modes.specs.ModeMaps.{OnlyTheseAreSet, first_not_deferrable, initial_map, is_deferrable, with_mode};
@@ -74,6 +74,14 @@ fn set_all(modes: &mut Vec<ConstraintMode>, ids: &[ConstraintId], mode: Constrai
     }
 }
 
+// Sets each mode to the one at the same place of another list.
+fn copy_each(modes: &mut [ConstraintMode], others: &[ConstraintMode])
+    requires { length modes.old ≡ length others.now }
+    ensures { modes.new ≡ others.now }
+{
+    modes.copy_from_slice(others);
+}
+
 impl Modes {
     /// The modes at the start of a transaction.
     pub fn initial(alloc: Global, catalogue: &Catalogue) -> Result<Modes, AllocError>
@@ -95,6 +103,14 @@ impl Modes {
             deferrable: Vec::from_slice(alloc, self.deferrable.as_slice())?,
             modes: Vec::from_slice(alloc, self.modes.as_slice())?,
         })
+    }
+
+    /// Sets every mode to that of an earlier copy of the same map. It takes no memory.
+    pub fn restore(&mut self, earlier: &Modes)
+        requires { self.old.deferrable ≡ earlier.now.deferrable }
+        ensures { self.new ≡ earlier.now }
+    {
+        copy_each(&mut self.modes, earlier.modes.as_slice());
     }
 
     /// The modes by the constraint's number.

@@ -19,7 +19,8 @@ use Rattle.iv_catalogue.specs.declared.constraint.Rule.{Rule}
 use Rattle.iv_catalogue.specs.declared.constraint.Rule.TheVariants as rule
 use Rattle.iv_catalogue.specs.declared.limits.TheConstants.{MOST_CONSTRAINTS, MOST_TABLES}
 use Rattle.iv_machine.specs.declared.database.Database.{Database}
-use Rattle.iv_machine.specs.Databases.{row_at, key_of, none_null, all_null, shares_key, matches, obeys, satisfies, violates, fault_at, violations, scan, first, rows_with, database_after}
+use Rattle.iv_key.specs.Keys.{key_of, none_null, all_null}
+use Rattle.iv_machine.specs.Databases.{row_at, shares_key, matches, obeys, satisfies, violates, fault_at, violations, scan, first, rows_with, database_after}
 use Rattle.iv_machine.proofs.Scans.{scan_from, left_empty, right_empty}
 use Rattle.iv_store.specs.Stores.{StoreState, marked_database, store_before_mark}
 use Rattle.iv_plain_store.proofs.Places.{all_others}

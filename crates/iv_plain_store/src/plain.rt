@@ -10,9 +10,10 @@ use crate::referencing::children;
 use crate::touched::{first_fault, settle_touched, touch, touch_new};
 use iv_catalogue::{Constraint, ConstraintId, Fault, Table};
 use iv_expr::{Change, Rows, StoredRow, TableId};
+use iv_key::Key;
 use iv_machine::{Which, count_faults, first_violating, list_faults};
 use iv_modes::Modes;
-use iv_store::{AddFault, Keeper, Key, Kin, Mark};
+use iv_store::{AddFault, Keeper, Kin, Mark};
 use iv_value::Value;
 use std::alloc::{AllocError, Global};
 use std::marker::Model;
@@ -156,7 +157,9 @@ impl PlainStore {
 }
 
 impl Keeper for PlainStore {
-    ghost use Rattle.std.specs.Prelude.{refl};
+    ghost use Rattle.std.specs.Prelude.{refl, false};
+
+    ghost sure = { false };
 
     ghost rows_are = { λ k. refl };
 

@@ -13,7 +13,7 @@ use Rattle.iv_catalogue.specs.Catalogues.{Schema}
 use Rattle.iv_catalogue.specs.declared.catalogue.Column.{Column}
 use Rattle.iv_catalogue.specs.declared.limits.TheConstants.{MOST_COLUMNS}
 use Rattle.iv_resolution.specs.Constraints.{comes_twice}
-use Rattle.iv_machine.specs.Databases.{value_at}
+use Rattle.iv_key.specs.Keys.{value_at}
 use Rattle.iv_machine.specs.Context.{Context}
 use Rattle.iv_machine.specs.Proposals.{with_cause, column_at, value_for_column, stored_value, stored_values, with_columns, defaults_of}
 use Rattle.iv_store.specs.Stores.{is_fit, fits_columns, fits_table}

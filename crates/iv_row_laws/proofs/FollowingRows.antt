@@ -19,7 +19,8 @@ use Rattle.iv_catalogue.specs.declared.constraint.ForeignKey.{ForeignKey}
 use Rattle.iv_catalogue.specs.declared.constraint.Rule.{Rule}
 use Rattle.iv_catalogue.specs.declared.constraint.Rule.TheVariants as rule
 use Rattle.iv_machine.specs.declared.effect.Effect.{Effect}
-use Rattle.iv_machine.specs.Databases.{row_at, value_at, key_of, none_null, holds_key, database_after}
+use Rattle.iv_key.specs.Keys.{value_at, key_of, none_null, holds_key}
+use Rattle.iv_machine.specs.Databases.{row_at, database_after}
 use Rattle.iv_machine.specs.Context.{Context}
 use Rattle.iv_machine.specs.Proposals.{with_columns, defaults_of}
 use Rattle.iv_machine.specs.ReferentialActions.{foreign_key, Reference, reference, references, Loss, deleted, updated, loss_of_row, lost_keys, lost_reference, action_on, cascade, effects_of_action, effects_of_loss, keeps_reference, effects, effects_on, columns_set, have_deletion, values_after, change_by, following_wave}

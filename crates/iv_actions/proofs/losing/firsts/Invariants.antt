@@ -1,7 +1,7 @@
 use Rattle.std.proofs.Common.{◌≡◌, ◌≤◌, List, length, drop}
 use Rattle.std.specs.BTreeMap.{get}
 use Rattle.iv_value.specs.declared.value.Value.{Value}
-use Rattle.iv_actions.specs.KeyOrder.{key_cmp}
+use Rattle.iv_key.specs.KeyOrder.{key_cmp}
 use Rattle.iv_actions.specs.Losing.{first_taking}
 use Rattle.iv_actions.proofs.losing.firsts.Given as goal
 

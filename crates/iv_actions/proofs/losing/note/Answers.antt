@@ -2,9 +2,9 @@ use Rattle.std.proofs.Common.{◌∙◌, sym, ap, if◌then◌else◌, Some, Non
 use Rattle.std.specs.BTreeMap.{get}
 use Rattle.std.proofs.Common.{drop, ◌+◌}
 use Rattle.iv_value.specs.Values.{all_same}
-use Rattle.iv_actions.specs.KeyOrder.{key_cmp}
+use Rattle.iv_key.specs.KeyOrder.{key_cmp}
 use Rattle.iv_actions.specs.Losing.{first_taking}
-use Rattle.iv_actions.proofs.KeyOrders.{same_keys}
+use Rattle.iv_key.proofs.KeyOrders.{same_keys}
 use Rattle.iv_actions.proofs.Taking.{first_at}
 use Rattle.iv_actions.proofs.losing.note.Goals as goal
 

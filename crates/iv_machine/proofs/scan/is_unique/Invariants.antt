@@ -1,7 +1,7 @@
 use Rattle.std.proofs.Common.{◌≡◌, not, drop, ◌&&◌, ◌==◌}
 use Rattle.std.specs.List.{list_any}
 use Rattle.iv_expr.specs.Scopes.{table_rows}
-use Rattle.iv_machine.specs.Databases.{holds_key, key_of}
+use Rattle.iv_key.specs.Keys.{holds_key, key_of}
 use Rattle.iv_machine.proofs.scan.is_unique.Given as goal
 
 abbrev pub invariant-loop-other : goal.invariant-loop-other

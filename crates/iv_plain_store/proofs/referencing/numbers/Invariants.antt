@@ -1,5 +1,5 @@
 use Rattle.std.proofs.Common.{◌≡◌, ◌++◌, ◌&&◌, ◌==◌, drop, filter}
-use Rattle.iv_machine.specs.Databases.{holds_key}
+use Rattle.iv_key.specs.Keys.{holds_key}
 use Rattle.iv_store.specs.Stores.{numbers_of}
 use Rattle.iv_plain_store.proofs.referencing.numbers.Given as goal
 

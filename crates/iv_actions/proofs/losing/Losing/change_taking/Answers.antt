@@ -1,7 +1,7 @@
 use Rattle.std.proofs.Common.{◌∙◌, sym, ap, Some, None, slice_get}
 use Rattle.std.specs.Option.{option_copied}
 use Rattle.std.specs.BTreeMap.{get_by}
-use Rattle.iv_actions.specs.KeyOrder.{key_cmp}
+use Rattle.iv_key.specs.KeyOrder.{key_cmp}
 use Rattle.iv_actions.specs.Losing.{change_taking}
 use Rattle.iv_actions.proofs.Taking.{change_found}
 use Rattle.iv_actions.proofs.losing.Losing.change_taking.Goals as goal

@@ -1,0 +1,5 @@
+use Rattle.iv_laws_kept.proofs.Moves.{changes_are_taken_back}
+use Rattle.iv_laws_kept.proofs.changes_are_taken_back.Goals as goal
+
+pub returns : goal.returns
+returns c = changes_are_taken_back

@@ -1,0 +1,37 @@
+//! Laws of kept violations, each as the contract of a function that does nothing.
+#![tactic(auto)]
+
+ghost use Rattle.iv_laws_kept.specs.Numbers.{SameNumbersAreOneList};
+ghost use Rattle.iv_laws_kept.specs.KeptIsScan.{KeptIsTheScan};
+ghost use Rattle.iv_laws_kept.specs.Moves.{ChangesAreFollowed, ChangesAreTakenBack};
+ghost use Rattle.iv_laws_kept.specs.Marks.{MarkedRowsAreKept, OtherKeysStay};
+
+/// Two rising lists with the same members are one.
+pub fn same_numbers_are_one_list()
+    ensures { SameNumbersAreOneList }
+{}
+
+/// Kept violations are those that a scan finds.
+pub fn kept_is_the_scan()
+    ensures { KeptIsTheScan }
+{}
+
+/// Groups that follow a change of a row show the rows after it.
+pub fn changes_are_followed()
+    ensures { ChangesAreFollowed }
+{}
+
+/// Groups that follow the taking back of a change show the rows from before it.
+pub fn changes_are_taken_back()
+    ensures { ChangesAreTakenBack }
+{}
+
+/// The rows under a key that a change doesn't concern violate their constraint as before.
+pub fn other_keys_stay()
+    ensures { OtherKeysStay }
+{}
+
+/// The rows of the marked groups are the kept rows.
+pub fn marked_rows_are_kept()
+    ensures { MarkedRowsAreKept }
+{}
