@@ -1,0 +1,10 @@
+pub mod StretchLemmas
+pub mod RowsLemmas
+pub mod RowsFound
+pub mod RowsKept
+pub mod RowsUndone
+pub mod LinkedLemmas
+pub mod KeysLemmas
+pub mod GroupsLemmas
+pub mod SoundLemmas
+pub mod GroupsLaws

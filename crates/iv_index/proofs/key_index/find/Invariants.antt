@@ -1,0 +1,15 @@
+use Rattle.std.proofs.Common.{◌≡◌, ℕ, ◌<◌, ◌≤◌, length, get_or, false}
+use Rattle.iv_index.specs.Groups.{GroupOf}
+use Rattle.iv_value.specs.Values.{all_same}
+use Rattle.iv_index.specs.Linked.{EndsAt}
+use Rattle.iv_index.proofs.key_index.find.Given as goal
+
+abbrev pub invariant-loop-end : goal.invariant-loop-end
+invariant-loop-end l = record {
+  within : l.end ≤ length l.groups;
+  same : EndsAt l.hashes l.hash l.end;
+  none : (k : ℕ) (d : GroupOf) → l.end ≤ k → k < length l.groups → all_same (get_or l.groups k d).key l.key ≡ false;
+}
+
+abbrev pub decreases-loop-end : goal.decreases-loop-end
+decreases-loop-end l = l.end

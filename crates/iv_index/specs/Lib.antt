@@ -1,0 +1,7 @@
+pub mod Rows
+pub mod Stretches
+pub mod Kept
+pub mod Linked
+pub mod Groups
+pub mod Laws
+pub mod Lending

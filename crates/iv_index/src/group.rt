@@ -1,0 +1,103 @@
+//! One group: a key and the rows that hold it.
+ghost use Rattle.std.specs.Prelude.{◌≡◌, ◌<◌, true, false, IfOk, OnOk, OnErr};
+ghost use Rattle.iv_index.specs.Rows.{IsRising, added, has_row, no_rows, put, removed, roomy};
+ghost use Rattle.iv_index.specs.Groups.{changed};
+ghost use Rattle.iv_value.specs.Values.{all_same};
+
+use crate::row_numbers::RowNumbers;
+use iv_key::Key;
+use iv_value::Value;
+use std::alloc::{AllocError, Global};
+use std::marker::Model;
+
+/// A key and the rows that hold it.
+#[derive(Drop)]
+pub struct Group {
+    values: Vec<Value>,
+    rows: RowNumbers,
+}
+
+impl Model for Group {
+    ghost use Rattle.iv_index.specs.Groups.{GroupOf};
+
+    ghost Value = { GroupOf };
+
+    ghost view = { λ g. record { key = g.values.items; held = g.rows } };
+}
+
+impl Group {
+    /// The group of a key, with no row and with room for one. The values of the key are copied.
+    pub fn with_room(alloc: Global, key: &Key<'_>) -> Result<Group, AllocError>
+        ensures { IfOk result (λ g. g ≡ record { key = key.now; held = roomy no_rows }) }
+    {
+        let values = key.to_values(alloc)?;
+        let mut rows = RowNumbers::new(alloc);
+        rows.make_room()?;
+        Ok(Group { values, rows })
+    }
+
+    /// The group of a key, with one row and no room. The values of the key are copied.
+    pub fn with_row(alloc: Global, key: &Key<'_>, row: u64) -> Result<Group, AllocError>
+        ensures { IfOk result (λ g. g ≡ record { key = key.now; held = added row no_rows }) }
+    {
+        let values = key.to_values(alloc)?;
+        let mut rows = RowNumbers::new(alloc);
+        rows.add(row)?;
+        Ok(Group { values, rows })
+    }
+
+    /// Whether it is the group of this key.
+    pub fn is_of(&self, key: &Key<'_>) -> bool
+        ensures { result ≡ all_same self.now.key key.now }
+    {
+        key.has_values(self.values.as_slice())
+    }
+
+    /// Its rows.
+    pub fn rows(&self) -> &[u64]
+        ensures value { result.now ≡ self.now.held.rows }
+        ensures rising { IsRising result.now }
+    {
+        self.rows.as_slice()
+    }
+
+    /// How many more rows it takes without memory.
+    pub fn room(&self) -> usize
+        ensures { result ≡ self.now.held.room }
+    {
+        self.rows.room()
+    }
+
+    /// Sees that it has room for one row at least.
+    pub fn make_room(&mut self) -> Result<(), AllocError>
+        ensures ok { OnOk result (self.new ≡ changed roomy self.old) }
+        ensures err { OnErr result (self.new ≡ self.old) }
+    {
+        self.rows.make_room()
+    }
+
+    /// Adds a row. It takes one of the room, or memory where there is no room.
+    pub fn add(&mut self, row: u64) -> Result<(), AllocError>
+        requires { has_row row self.old.held.rows ≡ false }
+        ensures ok { OnOk result (self.new ≡ changed (added row) self.old) }
+        ensures err { OnErr result (self.new ≡ self.old) }
+    {
+        self.rows.add(row)
+    }
+
+    /// Puts a row where it isn't among its rows. It takes one of the room, and no memory.
+    pub fn put(&mut self, row: u64)
+        requires { 0 < self.old.held.room }
+        ensures { self.new ≡ changed (put row) self.old }
+    {
+        self.rows.put(row);
+    }
+
+    /// Removes a row. Its place is kept as room.
+    pub fn remove(&mut self, row: u64)
+        requires { has_row row self.old.held.rows ≡ true }
+        ensures { self.new ≡ changed (removed row) self.old }
+    {
+        self.rows.remove(row);
+    }
+}

@@ -1,0 +1,353 @@
+//! The groups of all constraints.
+ghost use Rattle.std.specs.Prelude.{◌≡◌, ℕ, ◌<◌, ◌≤◌, ◌^◌, [], length, min, max, true, false, IfOk, OnOk, OnErr, Some};
+ghost use Rattle.std.specs.Borrow.{sem};
+ghost use Rattle.iv_index.specs.Rows.{IsRising, has_row};
+ghost use Rattle.iv_index.specs.Groups.{AreSound, EachIsApart, EachIsFound, EachRises, counted, groups_of, place_in, room_of, rows_at, rows_of, with_groups, with_room_under, with_row_put, with_row_under, without_row_under};
+ghost use Rattle.iv_index.specs.Lending.{Looked};
+
+use crate::key_index::KeyIndex;
+use iv_key::Key;
+use std::alloc::{AllocError, Global};
+use std::marker::Model;
+
+/// The rows of each key of each constraint. Contracts see for each constraint, by its number, the groups in the order
+/// in which their keys came. A group never leaves, so its place stays, until the constraint is cleared.
+#[derive(Drop)]
+pub struct Groups {
+    alloc: Global,
+    indexes: Vec<KeyIndex>,
+    looked: u64,
+}
+
+impl Model for Groups {
+    ghost use Rattle.iv_index.specs.Groups.{AreSound, Contents};
+
+    ghost Value = { Contents };
+
+    ghost view = { λ a. record { groups = a.indexes.items; looked = a.looked } };
+
+    ghost invariant = { λ a. AreSound a.indexes.items };
+}
+
+// Adds constraints of no group, until there are so many.
+#[tactic(auto, using(crate::proofs::SoundLemmas::sound_like))]
+fn cover(alloc: Global, indexes: &mut Vec<KeyIndex>, count: usize) -> Result<(), AllocError>
+    requires { AreSound indexes.old.items }
+    ensures ok { OnOk result (count ≤ length indexes.new.items) }
+    ensures few { length indexes.new.items ≤ max count (length indexes.old.items) }
+    ensures stays { length indexes.old.items ≤ length indexes.new.items }
+    ensures groups { (constraint : ℕ) → groups_of indexes.new.items constraint ≡ groups_of indexes.old.items constraint }
+    ensures sound { AreSound indexes.new.items }
+{
+    while indexes.len() < count {
+        let index = KeyIndex::new(alloc);
+        indexes.push(index)?;
+    }
+    Ok(())
+}
+
+// Takes all groups of a constraint away.
+#[tactic(auto, using(crate::proofs::SoundLemmas::sound_cleared))]
+fn clear(alloc: Global, indexes: &mut Vec<KeyIndex>, constraint: usize)
+    requires known { constraint < length indexes.old.items }
+    requires sound { AreSound indexes.old.items }
+    ensures groups { indexes.new.items ≡ with_groups indexes.old.items constraint [] }
+    ensures sound { AreSound indexes.new.items }
+{
+    indexes[constraint] = KeyIndex::new(alloc);
+}
+
+// How many groups a constraint has.
+fn count_in(indexes: &[KeyIndex], constraint: usize) -> usize
+    ensures len { result ≡ length (groups_of indexes.now constraint) }
+    ensures small { result < 2 ^ 63 }
+{
+    match indexes.get(constraint) {
+        Some(index) => index.len(),
+        None => 0,
+    }
+}
+
+// The place of a key's group in a constraint.
+fn place_under(indexes: &[KeyIndex], constraint: usize, key: &Key<'_>) -> Option<usize>
+    ensures { result ≡ place_in (groups_of indexes.now constraint) key.now }
+{
+    match indexes.get(constraint) {
+        Some(index) => index.place(key),
+        None => None,
+    }
+}
+
+// The rows of a key in a constraint.
+fn rows_under<'a>(indexes: &'a [KeyIndex], constraint: usize, key: &Key<'_>) -> &'a [u64]
+    ensures value { result.now ≡ rows_of (groups_of indexes.now constraint) key.now }
+    ensures rising { IsRising result.now }
+{
+    match indexes.get(constraint) {
+        Some(index) => index.rows(key),
+        None => &[],
+    }
+}
+
+// The room of a key in a constraint.
+fn room_under(indexes: &[KeyIndex], constraint: usize, key: &Key<'_>) -> usize
+    ensures { result ≡ room_of (groups_of indexes.now constraint) key.now }
+{
+    match indexes.get(constraint) {
+        Some(index) => index.room(key),
+        None => 0,
+    }
+}
+
+// Makes room under a key of a constraint.
+#[tactic(auto, using(crate::proofs::SoundLemmas::sound_set))]
+fn make_room_under(
+    alloc: Global,
+    indexes: &mut Vec<KeyIndex>,
+    constraint: usize,
+    key: &Key<'_>,
+) -> Result<(), AllocError>
+    requires known { constraint < length indexes.old.items }
+    requires sound { AreSound indexes.old.items }
+    ensures ok { OnOk result (indexes.new.items
+        ≡ with_groups indexes.old.items constraint (with_room_under key.now (groups_of indexes.old.items constraint))) }
+    ensures err { OnErr result (indexes.new.items ≡ indexes.old.items) }
+    ensures sound { AreSound indexes.new.items }
+{
+    let index = &mut indexes[constraint];
+    let made = index.make_room(alloc, key);
+    index.are_sound();
+    made
+}
+
+// Adds a row under a key of a constraint.
+#[tactic(auto, using(crate::proofs::SoundLemmas::sound_set))]
+fn add_under(
+    alloc: Global,
+    indexes: &mut Vec<KeyIndex>,
+    constraint: usize,
+    key: &Key<'_>,
+    row: u64,
+) -> Result<(), AllocError>
+    requires known { constraint < length indexes.old.items }
+    requires absent { has_row row (rows_of (groups_of indexes.old.items constraint) key.now) ≡ false }
+    requires sound { AreSound indexes.old.items }
+    ensures ok { OnOk result (indexes.new.items
+        ≡ with_groups indexes.old.items constraint (with_row_under key.now row (groups_of indexes.old.items constraint))) }
+    ensures err { OnErr result (indexes.new.items ≡ indexes.old.items) }
+    ensures sound { AreSound indexes.new.items }
+{
+    let index = &mut indexes[constraint];
+    let made = index.add(alloc, key, row);
+    index.are_sound();
+    made
+}
+
+// Puts a row under a key of a constraint, and tells the place of its group.
+#[tactic(auto, using(crate::proofs::SoundLemmas::sound_set))]
+fn put_under(indexes: &mut Vec<KeyIndex>, constraint: usize, key: &Key<'_>, row: u64) -> usize
+    requires known { constraint < length indexes.old.items }
+    requires room { 0 < room_of (groups_of indexes.old.items constraint) key.now }
+    requires sound { AreSound indexes.old.items }
+    ensures groups { indexes.new.items
+        ≡ with_groups indexes.old.items constraint (with_row_put key.now row (groups_of indexes.old.items constraint)) }
+    ensures place { place_in (groups_of indexes.old.items constraint) key.now ≡ Some result }
+    ensures sound { AreSound indexes.new.items }
+{
+    let index = &mut indexes[constraint];
+    let place = index.put_back(key, row);
+    index.are_sound();
+    place
+}
+
+// Removes a row from a key of a constraint, and tells the place of its group.
+#[tactic(auto, using(crate::proofs::SoundLemmas::sound_set))]
+fn remove_under(indexes: &mut Vec<KeyIndex>, constraint: usize, key: &Key<'_>, row: u64) -> usize
+    requires known { constraint < length indexes.old.items }
+    requires present { has_row row (rows_of (groups_of indexes.old.items constraint) key.now) ≡ true }
+    requires sound { AreSound indexes.old.items }
+    ensures groups { indexes.new.items
+        ≡ with_groups indexes.old.items constraint (without_row_under key.now row (groups_of indexes.old.items constraint)) }
+    ensures place { place_in (groups_of indexes.old.items constraint) key.now ≡ Some result }
+    ensures sound { AreSound indexes.new.items }
+{
+    let index = &mut indexes[constraint];
+    let place = index.remove(key, row);
+    index.are_sound();
+    place
+}
+
+// Does nothing. It tells what holds of the groups of every constraint.
+fn kept(indexes: &[KeyIndex])
+    requires { AreSound indexes.now }
+    ensures found { (constraint : ℕ) → EachIsFound (groups_of indexes.now constraint) }
+    ensures apart { (constraint : ℕ) → EachIsApart (groups_of indexes.now constraint) }
+    ensures rising { (constraint : ℕ) → EachRises (groups_of indexes.now constraint) }
+{
+    let _ = indexes;
+}
+
+impl Groups {
+    /// No constraint, and no look-up. It takes no memory.
+    pub fn new(alloc: Global) -> Groups
+        ensures { result ≡ record { groups = []; looked = 0 } }
+    {
+        Groups {
+            alloc,
+            indexes: Vec::new(alloc),
+            looked: 0,
+        }
+    }
+
+    /// How many constraints there are. Their numbers are those below it.
+    pub fn constraints(&self) -> usize
+        ensures { result ≡ length self.now.groups }
+    {
+        self.indexes.len()
+    }
+
+    /// How many look-ups there were: each `make_room`, `add`, `put_back`, `remove`, `rows` and `place` is one. The
+    /// count stays at 2^64 - 1.
+    pub fn looked(&self) -> u64
+        ensures { result ≡ self.now.looked }
+    {
+        self.looked
+    }
+
+    /// Does nothing. Its contract tells what holds of the groups of every constraint: each is found under its key, no
+    /// two have one key, and the rows of every key rise.
+    pub fn are_kept(&self)
+        ensures found { (constraint : ℕ) → EachIsFound (groups_of self.now.groups constraint) }
+        ensures apart { (constraint : ℕ) → EachIsApart (groups_of self.now.groups constraint) }
+        ensures rising { (constraint : ℕ) → EachRises (groups_of self.now.groups constraint) }
+    {
+        kept(self.indexes.as_slice());
+    }
+
+    /// Sees that there are so many constraints at least. A new one has no group.
+    pub fn cover(&mut self, count: usize) -> Result<(), AllocError>
+        ensures ok { OnOk result (count ≤ length self.new.groups) }
+        ensures few { length self.new.groups ≤ max count (length self.old.groups) }
+        ensures stays { length self.old.groups ≤ length self.new.groups }
+        ensures groups { (constraint : ℕ) → groups_of self.new.groups constraint ≡ groups_of self.old.groups constraint }
+        ensures looked { self.new.looked ≡ self.old.looked }
+    {
+        cover(self.alloc, &mut self.indexes, count)
+    }
+
+    /// Takes all groups of a constraint away. It takes no memory.
+    pub fn clear(&mut self, constraint: usize)
+        requires known { constraint < length self.old.groups }
+        ensures groups { self.new.groups ≡ with_groups self.old.groups constraint [] }
+        ensures looked { self.new.looked ≡ self.old.looked }
+    {
+        clear(self.alloc, &mut self.indexes, constraint);
+    }
+
+    /// How many groups a constraint has. Their places are the numbers below it.
+    pub fn count_groups(&self, constraint: usize) -> usize
+        ensures count { result ≡ length (groups_of self.now.groups constraint) }
+        ensures small { result < 2 ^ 63 }
+    {
+        count_in(self.indexes.as_slice(), constraint)
+    }
+
+    /// The rows of the group at a place, in rising order. It is no look-up.
+    pub fn rows_at(&self, constraint: usize, place: usize) -> &[u64]
+        requires known { constraint < length self.now.groups }
+        requires place { place < length (groups_of self.now.groups constraint) }
+        ensures value { result.now ≡ rows_at (groups_of self.now.groups constraint) place }
+        ensures rising { IsRising result.now }
+    {
+        self.indexes[constraint].rows_at(place)
+    }
+
+    /// The rows of a key, in rising order, as `rows` tells them, but it isn't counted: searches ask it.
+    pub fn holders(&self, constraint: usize, key: &Key<'_>) -> &[u64]
+        ensures value { result.now ≡ rows_of (groups_of self.now.groups constraint) key.now }
+        ensures rising { IsRising result.now }
+    {
+        rows_under(self.indexes.as_slice(), constraint, key)
+    }
+
+    /// How many more rows a key takes without memory. It isn't counted.
+    pub fn room(&self, constraint: usize, key: &Key<'_>) -> u64
+        ensures { result ≡ room_of (groups_of self.now.groups constraint) key.now }
+    {
+        room_under(self.indexes.as_slice(), constraint, key) as u64
+    }
+
+    /// The rows of a key, in rising order: none, where it has no group.
+    pub fn rows(&mut self, constraint: usize, key: &Key<'_>) -> &[u64]
+        ensures* stays { sem 𝓛 (Looked self.entry) }
+        ensures value { result.now ≡ rows_of (groups_of self.old.groups constraint) key.now }
+        ensures rising { IsRising result.now }
+    {
+        self.looked = self.looked.saturating_add(1);
+        rows_under(self.indexes.as_slice(), constraint, key)
+    }
+
+    /// The place of a key's group.
+    pub fn place(&mut self, constraint: usize, key: &Key<'_>) -> Option<usize>
+        ensures place { result ≡ place_in (groups_of self.old.groups constraint) key.now }
+        ensures groups { self.new.groups ≡ self.old.groups }
+        ensures looked { self.new.looked ≡ counted self.old.looked }
+    {
+        self.looked = self.looked.saturating_add(1);
+        place_under(self.indexes.as_slice(), constraint, key)
+    }
+
+    /// Sees that a key has room for one row at least. Where it has no group it gets one of no row behind the others,
+    /// and its values are copied.
+    pub fn make_room(&mut self, constraint: usize, key: &Key<'_>) -> Result<(), AllocError>
+        requires known { constraint < length self.old.groups }
+        ensures ok { OnOk result (self.new.groups
+            ≡ with_groups self.old.groups constraint (with_room_under key.now (groups_of self.old.groups constraint))) }
+        ensures err { OnErr result (self.new.groups ≡ self.old.groups) }
+        ensures looked { self.new.looked ≡ counted self.old.looked }
+    {
+        self.looked = self.looked.saturating_add(1);
+        make_room_under(self.alloc, &mut self.indexes, constraint, key)
+    }
+
+    /// Adds a row that isn't under the key. It takes one of the room, or memory where there is no room; where the key
+    /// has no group, its values are copied.
+    pub fn add(&mut self, constraint: usize, key: &Key<'_>, row: u64) -> Result<(), AllocError>
+        requires known { constraint < length self.old.groups }
+        requires absent { has_row row (rows_of (groups_of self.old.groups constraint) key.now) ≡ false }
+        ensures ok { OnOk result (self.new.groups
+            ≡ with_groups self.old.groups constraint (with_row_under key.now row (groups_of self.old.groups constraint))) }
+        ensures err { OnErr result (self.new.groups ≡ self.old.groups) }
+        ensures looked { self.new.looked ≡ counted self.old.looked }
+    {
+        self.looked = self.looked.saturating_add(1);
+        add_under(self.alloc, &mut self.indexes, constraint, key, row)
+    }
+
+    /// Puts a row under a key that has room, where it isn't under it, and tells the place of its group. It takes one
+    /// of the room, and no memory.
+    pub fn put_back(&mut self, constraint: usize, key: &Key<'_>, row: u64) -> usize
+        requires known { constraint < length self.old.groups }
+        requires room { 0 < room_of (groups_of self.old.groups constraint) key.now }
+        ensures groups { self.new.groups
+            ≡ with_groups self.old.groups constraint (with_row_put key.now row (groups_of self.old.groups constraint)) }
+        ensures place { place_in (groups_of self.old.groups constraint) key.now ≡ Some result }
+        ensures looked { self.new.looked ≡ counted self.old.looked }
+    {
+        self.looked = self.looked.saturating_add(1);
+        put_under(&mut self.indexes, constraint, key, row)
+    }
+
+    /// Removes a row that is under the key, and tells the place of its group. The key has one more room.
+    pub fn remove(&mut self, constraint: usize, key: &Key<'_>, row: u64) -> usize
+        requires known { constraint < length self.old.groups }
+        requires present { has_row row (rows_of (groups_of self.old.groups constraint) key.now) ≡ true }
+        ensures groups { self.new.groups
+            ≡ with_groups self.old.groups constraint (without_row_under key.now row (groups_of self.old.groups constraint)) }
+        ensures place { place_in (groups_of self.old.groups constraint) key.now ≡ Some result }
+        ensures looked { self.new.looked ≡ counted self.old.looked }
+    {
+        self.looked = self.looked.saturating_add(1);
+        remove_under(&mut self.indexes, constraint, key, row)
+    }
+}

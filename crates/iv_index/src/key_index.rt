@@ -1,0 +1,317 @@
+//! The groups of one constraint.
+ghost use Rattle.std.specs.Prelude.{◌≡◌, ◌<◌, ◌^◌, [], ◌∷◌, ◌++◌, length, true, false, IfSome, OnOk, OnErr, Some, slice_index_or, slice_set};
+ghost use Rattle.iv_key.specs.Hashes.{hash_of};
+ghost use Rattle.iv_index.specs.Rows.{IsRising, added, has_row, put, removed, roomy};
+ghost use Rattle.iv_index.specs.Groups.{GroupOf, IsIndexed, IsSound, changed, place_in, room_of, rows_at, rows_of, with_room_under, with_row_put, with_row_under, without_row_under};
+
+use crate::group::Group;
+use crate::hash_index::HashIndex;
+use iv_key::Key;
+use std::alloc::{AllocError, Global};
+use std::marker::Model;
+
+/// The groups of one constraint, each found by the hash of its key. A group never leaves, so its place stays.
+#[derive(Drop)]
+pub struct KeyIndex {
+    hashes: HashIndex,
+    groups: Vec<Group>,
+}
+
+impl Model for KeyIndex {
+    ghost use Rattle.std.specs.Prelude.{List};
+    ghost use Rattle.iv_index.specs.Groups.{GroupOf, IsIndexed};
+
+    ghost Value = { List GroupOf };
+
+    ghost view = { λ x. x.groups.items };
+
+    ghost invariant = { λ x. IsIndexed x.hashes x.groups.items };
+}
+
+// The place of a key's group.
+fn find(hashes: &HashIndex, groups: &[Group], key: &Key<'_>, hash: u64) -> Option<usize>
+    requires indexed { IsIndexed hashes.now groups.now }
+    requires hash { hash ≡ hash_of key.now }
+    ensures place { result ≡ place_in groups.now key.now }
+    ensures within { IfSome result (λ place. place < length groups.now) }
+{
+    let mut end = hashes.last(hash);
+    while end > 0 {
+        let place = end - 1;
+        if groups[place].is_of(key) {
+            return Some(place);
+        }
+        end = hashes.before(place);
+    }
+    None
+}
+
+// Does nothing. It tells what holds of groups beside their hashes.
+fn sound(hashes: &HashIndex, groups: &[Group])
+    requires { IsIndexed hashes.now groups.now }
+    ensures { IsSound groups.now }
+{
+    let _ = hashes;
+    let _ = groups;
+}
+
+// The rows of a key.
+fn rows_under<'a>(hashes: &HashIndex, groups: &'a [Group], key: &Key<'_>) -> &'a [u64]
+    requires { IsIndexed hashes.now groups.now }
+    ensures value { result.now ≡ rows_of groups.now key.now }
+    ensures rising { IsRising result.now }
+{
+    match find(hashes, groups, key, key.hash()) {
+        Some(place) => groups[place].rows(),
+        None => &[],
+    }
+}
+
+// How many more rows a key takes without memory.
+fn room_under(hashes: &HashIndex, groups: &[Group], key: &Key<'_>) -> usize
+    requires { IsIndexed hashes.now groups.now }
+    ensures { result ≡ room_of groups.now key.now }
+{
+    match find(hashes, groups, key, key.hash()) {
+        Some(place) => groups[place].room(),
+        None => 0,
+    }
+}
+
+// Makes room in the group at a place.
+fn make_room_at(groups: &mut Vec<Group>, place: usize) -> Result<(), AllocError>
+    requires within { place < length groups.old.items }
+    ensures ok { OnOk result ((d : GroupOf) → groups.new.items
+        ≡ slice_set groups.old.items place (changed roomy (slice_index_or groups.old.items place d))) }
+    ensures err { OnErr result (groups.new.items ≡ groups.old.items) }
+{
+    let group = &mut groups[place];
+    group.make_room()
+}
+
+// Adds a row to the group at a place.
+fn add_at(groups: &mut Vec<Group>, place: usize, row: u64) -> Result<(), AllocError>
+    requires within { place < length groups.old.items }
+    requires absent { (d : GroupOf) → has_row row (slice_index_or groups.old.items place d).held.rows ≡ false }
+    ensures ok { OnOk result ((d : GroupOf) → groups.new.items
+        ≡ slice_set groups.old.items place (changed (added row) (slice_index_or groups.old.items place d))) }
+    ensures err { OnErr result (groups.new.items ≡ groups.old.items) }
+{
+    let group = &mut groups[place];
+    group.add(row)
+}
+
+// Puts a row into the group at a place.
+fn put_at(groups: &mut Vec<Group>, place: usize, row: u64)
+    requires within { place < length groups.old.items }
+    requires room { (d : GroupOf) → 0 < (slice_index_or groups.old.items place d).held.room }
+    ensures { (d : GroupOf) → groups.new.items
+        ≡ slice_set groups.old.items place (changed (put row) (slice_index_or groups.old.items place d)) }
+{
+    let group = &mut groups[place];
+    group.put(row);
+}
+
+// Removes a row from the group at a place.
+fn remove_at(groups: &mut Vec<Group>, place: usize, row: u64)
+    requires within { place < length groups.old.items }
+    requires present { (d : GroupOf) → has_row row (slice_index_or groups.old.items place d).held.rows ≡ true }
+    ensures { (d : GroupOf) → groups.new.items
+        ≡ slice_set groups.old.items place (changed (removed row) (slice_index_or groups.old.items place d)) }
+{
+    let group = &mut groups[place];
+    group.remove(row);
+}
+
+// Adds a group behind the others.
+fn add_group(
+    hashes: &mut HashIndex,
+    groups: &mut Vec<Group>,
+    hash: u64,
+    group: Group,
+) -> Result<(), AllocError>
+    ensures hashes { OnOk result (hashes.new ≡ hashes.old ++ hash ∷ []) }
+    ensures groups { OnOk result (groups.new.items ≡ groups.old.items ++ group ∷ []) }
+    ensures err { OnErr result ((hashes.new ≡ hashes.old) × (groups.new.items ≡ groups.old.items)) }
+{
+    groups.reserve(1)?;
+    hashes.push(hash)?;
+    groups.push_reserved(group);
+    Ok(())
+}
+
+// Makes room under a key.
+fn make_room_under(
+    alloc: Global,
+    hashes: &mut HashIndex,
+    groups: &mut Vec<Group>,
+    key: &Key<'_>,
+) -> Result<(), AllocError>
+    requires indexed { IsIndexed hashes.old groups.old.items }
+    ensures ok { OnOk result (groups.new.items ≡ with_room_under key.now groups.old.items) }
+    ensures err { OnErr result (groups.new.items ≡ groups.old.items) }
+    ensures indexed { IsIndexed hashes.new groups.new.items }
+{
+    let hash = key.hash();
+    match find(hashes, groups.as_slice(), key, hash) {
+        Some(place) => make_room_at(groups, place)?,
+        None => {
+            let group = Group::with_room(alloc, key)?;
+            add_group(hashes, groups, hash, group)?;
+        }
+    }
+    Ok(())
+}
+
+// Adds a row under a key.
+fn add_under(
+    alloc: Global,
+    hashes: &mut HashIndex,
+    groups: &mut Vec<Group>,
+    key: &Key<'_>,
+    row: u64,
+) -> Result<(), AllocError>
+    requires indexed { IsIndexed hashes.old groups.old.items }
+    requires absent { has_row row (rows_of groups.old.items key.now) ≡ false }
+    ensures ok { OnOk result (groups.new.items ≡ with_row_under key.now row groups.old.items) }
+    ensures err { OnErr result (groups.new.items ≡ groups.old.items) }
+    ensures indexed { IsIndexed hashes.new groups.new.items }
+{
+    let hash = key.hash();
+    match find(hashes, groups.as_slice(), key, hash) {
+        Some(place) => add_at(groups, place, row)?,
+        None => {
+            let group = Group::with_row(alloc, key, row)?;
+            add_group(hashes, groups, hash, group)?;
+        }
+    }
+    Ok(())
+}
+
+// Puts a row under a key, and tells the place of its group.
+fn put_under(hashes: &HashIndex, groups: &mut Vec<Group>, key: &Key<'_>, row: u64) -> usize
+    requires indexed { IsIndexed hashes.now groups.old.items }
+    requires room { 0 < room_of groups.old.items key.now }
+    ensures groups { groups.new.items ≡ with_row_put key.now row groups.old.items }
+    ensures place { place_in groups.old.items key.now ≡ Some result }
+    ensures indexed { IsIndexed hashes.now groups.new.items }
+{
+    match find(hashes, groups.as_slice(), key, key.hash()) {
+        Some(place) => {
+            put_at(groups, place, row);
+            place
+        }
+        None => unreachable!(),
+    }
+}
+
+// Removes a row from a key, and tells the place of its group.
+fn remove_under(hashes: &HashIndex, groups: &mut Vec<Group>, key: &Key<'_>, row: u64) -> usize
+    requires indexed { IsIndexed hashes.now groups.old.items }
+    requires present { has_row row (rows_of groups.old.items key.now) ≡ true }
+    ensures groups { groups.new.items ≡ without_row_under key.now row groups.old.items }
+    ensures place { place_in groups.old.items key.now ≡ Some result }
+    ensures indexed { IsIndexed hashes.now groups.new.items }
+{
+    match find(hashes, groups.as_slice(), key, key.hash()) {
+        Some(place) => {
+            remove_at(groups, place, row);
+            place
+        }
+        None => unreachable!(),
+    }
+}
+
+impl KeyIndex {
+    /// No groups. It takes no memory.
+    pub fn new(alloc: Global) -> KeyIndex
+        ensures { result ≡ [] }
+    {
+        KeyIndex {
+            hashes: HashIndex::new(alloc),
+            groups: Vec::new(alloc),
+        }
+    }
+
+    /// How many groups there are. Their places are the numbers below it.
+    pub fn len(&self) -> usize
+        ensures len { result ≡ length self.now }
+        ensures small { result < 2 ^ 63 }
+    {
+        self.groups.len()
+    }
+
+    /// Does nothing. It tells what holds of the groups: each is found under its key, no two have one key, and the rows
+    /// of every key rise.
+    pub fn are_sound(&self)
+        ensures { IsSound self.now }
+    {
+        sound(&self.hashes, self.groups.as_slice());
+    }
+
+    /// The place of a key's group.
+    pub fn place(&self, key: &Key<'_>) -> Option<usize>
+        ensures { result ≡ place_in self.now key.now }
+    {
+        find(&self.hashes, self.groups.as_slice(), key, key.hash())
+    }
+
+    /// The rows of a key, in rising order.
+    pub fn rows(&self, key: &Key<'_>) -> &[u64]
+        ensures value { result.now ≡ rows_of self.now key.now }
+        ensures rising { IsRising result.now }
+    {
+        rows_under(&self.hashes, self.groups.as_slice(), key)
+    }
+
+    /// The rows of the group at a place, in rising order.
+    pub fn rows_at(&self, place: usize) -> &[u64]
+        requires { place < length self.now }
+        ensures value { result.now ≡ rows_at self.now place }
+        ensures rising { IsRising result.now }
+    {
+        self.groups[place].rows()
+    }
+
+    /// How many more rows a key takes without memory.
+    pub fn room(&self, key: &Key<'_>) -> usize
+        ensures { result ≡ room_of self.now key.now }
+    {
+        room_under(&self.hashes, self.groups.as_slice(), key)
+    }
+
+    /// Sees that a key has room for one row at least, in its group or in a new one behind the others.
+    pub fn make_room(&mut self, alloc: Global, key: &Key<'_>) -> Result<(), AllocError>
+        ensures ok { OnOk result (self.new ≡ with_room_under key.now self.old) }
+        ensures err { OnErr result (self.new ≡ self.old) }
+    {
+        make_room_under(alloc, &mut self.hashes, &mut self.groups, key)
+    }
+
+    /// Adds a row under a key, in its group or in a new one behind the others.
+    pub fn add(&mut self, alloc: Global, key: &Key<'_>, row: u64) -> Result<(), AllocError>
+        requires { has_row row (rows_of self.old key.now) ≡ false }
+        ensures ok { OnOk result (self.new ≡ with_row_under key.now row self.old) }
+        ensures err { OnErr result (self.new ≡ self.old) }
+    {
+        add_under(alloc, &mut self.hashes, &mut self.groups, key, row)
+    }
+
+    /// Puts a row under a key that has room, where it isn't under it, and tells the place of its group.
+    pub fn put_back(&mut self, key: &Key<'_>, row: u64) -> usize
+        requires { 0 < room_of self.old key.now }
+        ensures groups { self.new ≡ with_row_put key.now row self.old }
+        ensures place { place_in self.old key.now ≡ Some result }
+    {
+        put_under(&self.hashes, &mut self.groups, key, row)
+    }
+
+    /// Removes a row from a key, and tells the place of its group.
+    pub fn remove(&mut self, key: &Key<'_>, row: u64) -> usize
+        requires { has_row row (rows_of self.old key.now) ≡ true }
+        ensures groups { self.new ≡ without_row_under key.now row self.old }
+        ensures place { place_in self.old key.now ≡ Some result }
+    {
+        remove_under(&self.hashes, &mut self.groups, key, row)
+    }
+}

@@ -1,0 +1,13 @@
+//! The rows of each key of each constraint, found by the key.
+#![tactic(auto)]
+
+mod group;
+mod groups;
+mod hash_index;
+mod key_index;
+mod laws;
+mod row_numbers;
+mod stretch;
+
+pub use groups::Groups;
+pub use laws::{groups_are_a_map, groups_are_undone};
