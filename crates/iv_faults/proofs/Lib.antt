@@ -1,0 +1,10 @@
+pub mod Placed
+pub mod GroupsShown
+pub mod SideKeys
+pub mod Steps
+pub mod Watching
+pub mod Watched
+pub mod Referenced
+pub mod Referring
+pub mod Turning
+pub mod Whole

@@ -1,0 +1,8 @@
+//! Kept violations: which groups of each constraint violate it, followed change by change.
+#![tactic(auto)]
+
+mod kept_key;
+mod reference;
+mod shown;
+mod step;
+mod turns;
