@@ -1,4 +1,5 @@
-use Rattle.std.specs.Prelude.{Option, Some, None, option_map, ◌==◌}
+-- The laws of groups.
+use Rattle.std.specs.Prelude.{Option, Some, None, option_map, ◌==◌, ◌&&◌}
 use Rattle.std.proofs.Common.{◌≡◌, ◌≢◌, ℕ, ◌+◌, ◌-◌, ◌<◌, ◌≤◌, List, [], ◌∷◌, length, get_or, Bool, true, false, cond, arith, refl, ap, sym, ◌∙◌, subst, ◌⊎◌, ⊎_elim, inl, inr}
 use Rattle.std.proofs.lemmas.Bool.{cases_eq, eq-eqb, false≢true}
 use Rattle.std.proofs.lemmas.Bool.Decides.{Decides-eqb}
@@ -7,7 +8,7 @@ use Rattle.iv_value.specs.declared.value.Value.{Value}
 use Rattle.iv_value.specs.Values.{all_same}
 use Rattle.iv_index.specs.Rows.{Rows, added, has_row, put, removed, roomy}
 use Rattle.iv_index.specs.Groups.{GroupOf, groups_of, held_at, rows_of, place_in, with_groups, with_held}
-use Rattle.iv_index.specs.Laws.{AddedAndRemoved, ConstraintsStay, GroupAtPlace, GroupsAfter, HeldAfter, OtherPlacesStay, PlaceStays, PutIsAdded, RemovedAndPutBack, SameIsEqual, SizeGrows, SizeStays}
+use Rattle.iv_index.specs.Laws.{AddedAndRemoved, ConstraintsStay, GroupAtPlace, GroupsAfter, HeldAfter, IsFiniteMap, OtherPlacesStay, PlaceStays, PutIsAdded, RemovedAndPutBack, SameIsEqual, SizeGrows, SizeStays}
 use Rattle.iv_index.proofs.KeysLemmas.{all_same-Decides, all_same_sound, all_same_refl}
 use Rattle.iv_index.proofs.GroupsLemmas.{placed, missing}
 use Rattle.iv_index.proofs.RowsUndone.{absent_without, with_without, without_with, length_with, length_without}
@@ -75,11 +76,13 @@ other_places_stay groups key held place d l ne = by_place (place_in groups key) 
         let n : place ≢ k = λ (q : place ≡ k). ne (e ∙ ap (λ (x : ℕ). Some x) (sym q)) in
         ap (λ (gs : List GroupOf). get_or gs place d) (at.with_is d held) ∙ get_or-set_other groups k place (record { key = (get_or groups k d).key; held = held }) d n
 
--- ---- a change after a change of one key
+-- ---- two changes of one key
 
+-- a key has the rows that it was given
 held_twice : (gs : List GroupOf) (key : List Value) (h : Rows) → held_at (with_held gs key h) key ≡ h
 held_twice gs key h = held_after gs key key h ∙ ap (λ b. cond b h (held_at gs key)) (all_same_refl key)
 
+-- of two changes the second stays
 with_twice : (gs : List GroupOf) (key : List Value) (h h' : Rows) → with_held (with_held gs key h) key h' ≡ with_held gs key h'
 with_twice [] key h h' = ap (λ b. cond b (record { key = key; held = h' } ∷ []) (record { key = key; held = h } ∷ record { key = key; held = h' } ∷ [])) (all_same_refl key)
 with_twice (g ∷ gs) key h h' = ⊎_elim
@@ -198,3 +201,19 @@ groups_after groups constraint other new known = ⊎_elim
 
 pub constraints_stay : ConstraintsStay
 constraints_stay groups constraint new = length-set groups constraint new
+
+pub is_finite_map : IsFiniteMap
+is_finite_map groups constraint place key other held known =
+    let new : List GroupOf = with_held (groups_of groups constraint) key held in
+    ap (λ (gs : List GroupOf). held_at gs other) (groups_after groups constraint place new known)
+    ∙ ⊎_elim
+    (λ (e : place ≡ constraint).
+    let is : (place == constraint) ≡ true = eq-eqb place constraint e in
+    ap (λ b. held_at (cond b new (groups_of groups place)) other) is ∙ held_after (groups_of groups constraint) key other held
+    ∙ ap (λ (n : ℕ). cond (all_same key other) held (held_at (groups_of groups n) other)) (sym e)
+    ∙ sym (ap (λ b. cond (b && all_same key other) held (held_at (groups_of groups place) other)) is))
+    (λ (n : place ≢ constraint).
+    let is : (place == constraint) ≡ false = eq_false place constraint n in
+    ap (λ b. held_at (cond b new (groups_of groups place)) other) is
+    ∙ sym (ap (λ b. cond (b && all_same key other) held (held_at (groups_of groups place) other)) is))
+    (cases_eq place constraint)
