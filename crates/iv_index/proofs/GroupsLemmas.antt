@@ -11,6 +11,28 @@ use Rattle.iv_index.specs.Groups.{EachIsApart, EachIsFound, EachRises, GroupOf, 
 use Rattle.iv_index.proofs.RowsKept.{rising_none}
 use Rattle.iv_index.proofs.KeysLemmas.{all_same_sound, all_same_refl, not_true}
 
+-- ---- one step of a look: the key is that of the first group, or it isn't
+
+pub held_here : (g : GroupOf) (gs : List GroupOf) (key : List Value) → all_same g.key key ≡ true → held_at (g ∷ gs) key ≡ g.held
+held_here g gs key e = ap (λ b. cond b g.held (held_at gs key)) e
+
+pub held_later : (g : GroupOf) (gs : List GroupOf) (key : List Value) → all_same g.key key ≡ false → held_at (g ∷ gs) key ≡ held_at gs key
+held_later g gs key e = ap (λ b. cond b g.held (held_at gs key)) e
+
+pub with_here : (g : GroupOf) (gs : List GroupOf) (key : List Value) (held : Rows) → all_same g.key key ≡ true → with_held (g ∷ gs) key held ≡ record { key = g.key; held = held } ∷ gs
+with_here g gs key held e = ap (λ b. cond b (record { key = g.key; held = held } ∷ gs) (g ∷ with_held gs key held)) e
+
+pub with_later : (g : GroupOf) (gs : List GroupOf) (key : List Value) (held : Rows) → all_same g.key key ≡ false → with_held (g ∷ gs) key held ≡ g ∷ with_held gs key held
+with_later g gs key held e = ap (λ b. cond b (record { key = g.key; held = held } ∷ gs) (g ∷ with_held gs key held)) e
+
+place_here : (g : GroupOf) (gs : List GroupOf) (key : List Value) → all_same g.key key ≡ true → place_in (g ∷ gs) key ≡ Some 0
+place_here g gs key e = ap (λ b. cond b (Some 0) (option_map (λ place. place + 1) (place_in gs key))) e
+
+place_later : (g : GroupOf) (gs : List GroupOf) (key : List Value) → all_same g.key key ≡ false → place_in (g ∷ gs) key ≡ option_map (λ place. place + 1) (place_in gs key)
+place_later g gs key e = ap (λ b. cond b (Some 0) (option_map (λ place. place + 1) (place_in gs key))) e
+
+-- ---- the place of a key
+
 -- no group is of the key
 abbrev pub NoneOf : List GroupOf → List Value → Type 0
 NoneOf gs key = (k : ℕ) (d : GroupOf) → k < length gs → all_same (get_or gs k d).key key ≡ false
@@ -18,16 +40,16 @@ NoneOf gs key = (k : ℕ) (d : GroupOf) → k < length gs → all_same (get_or g
 pub place_missing : (gs : List GroupOf) (key : List Value) → NoneOf gs key → place_in gs key ≡ None
 place_missing [] key none = refl
 place_missing (g ∷ gs) key none =
-    ap (λ b. cond b (Some 0) (option_map (λ place. place + 1) (place_in gs key))) (none zero g (omega arith))
+    place_later g gs key (none zero g (omega arith))
     ∙ ap (λ o. option_map (λ place. place + 1) o) (place_missing gs key (λ k d l. none (suc k) d (omega arith)))
 
 pub place_found : (gs : List GroupOf) (key : List Value) (k : ℕ) (d : GroupOf) → EachIsApart gs → k < length gs → all_same (get_or gs k d).key key ≡ true → place_in gs key ≡ Some k
 place_found [] key k d apart l e = absurd (omega arith)
-place_found (g ∷ gs) key zero d apart l e = ap (λ b. cond b (Some 0) (option_map (λ place. place + 1) (place_in gs key))) e
+place_found (g ∷ gs) key zero d apart l e = place_here g gs key e
 place_found (g ∷ gs) key (suc k) d apart l e =
     let key_is : (get_or gs k d).key ≡ key = all_same_sound (get_or gs k d).key key e in
     let other : all_same g.key key ≡ false = subst (λ (x : List Value). all_same g.key x ≡ false) key_is (apart zero (suc k) d (omega arith) l) in
-    ap (λ b. cond b (Some 0) (option_map (λ place. place + 1) (place_in gs key))) other
+    place_later g gs key other
     ∙ ap (λ o. option_map (λ place. place + 1) o) (place_found gs key k d (λ i j x m n. apart (suc i) (suc j) x (omega arith) (omega arith)) (omega arith) e)
     ∙ (let q : k + 1 ≡ suc k = omega arith in ap (λ (n : ℕ). Some n) q)
 
@@ -42,16 +64,16 @@ placed_first : (g : GroupOf) (gs : List GroupOf) (key : List Value) → all_same
 placed_first g gs key e = record {
   within = omega arith;
   key_is = λ d. all_same_sound g.key key e;
-  held_is = λ d. ap (λ b. cond b g.held (held_at gs key)) e;
-  with_is = λ d held. ap (λ b. cond b (record { key = g.key; held = held } ∷ gs) (g ∷ with_held gs key held)) e;
+  held_is = λ d. held_here g gs key e;
+  with_is = λ d held. with_here g gs key held e;
 }
 
 placed_later : (g : GroupOf) (gs : List GroupOf) (key : List Value) (k : ℕ) → all_same g.key key ≡ false → Placed gs key k → Placed (g ∷ gs) key (suc k)
 placed_later g gs key k e p = record {
   within = omega (arith, p.within);
   key_is = λ d. p.key_is d;
-  held_is = λ d. ap (λ b. cond b g.held (held_at gs key)) e ∙ p.held_is d;
-  with_is = λ d held. ap (λ b. cond b (record { key = g.key; held = held } ∷ gs) (g ∷ with_held gs key held)) e ∙ ap (λ rest. g ∷ rest) (p.with_is d held);
+  held_is = λ d. held_later g gs key e ∙ p.held_is d;
+  with_is = λ d held. with_later g gs key held e ∙ ap (λ rest. g ∷ rest) (p.with_is d held);
 }
 
 pub placed : (gs : List GroupOf) (key : List Value) (k : ℕ) → place_in gs key ≡ Some k → Placed gs key k
@@ -73,8 +95,8 @@ pub record Missing (gs : List GroupOf) (key : List Value) : Type 0 where
 missing_later : (g : GroupOf) (gs : List GroupOf) (key : List Value) → all_same g.key key ≡ false → Missing gs key → Missing (g ∷ gs) key
 missing_later g gs key e m = record {
   none = none_of;
-  held_is = ap (λ b. cond b g.held (held_at gs key)) e ∙ m.held_is;
-  with_is = λ held. ap (λ b. cond b (record { key = g.key; held = held } ∷ gs) (g ∷ with_held gs key held)) e ∙ ap (λ rest. g ∷ rest) (m.with_is held);
+  held_is = held_later g gs key e ∙ m.held_is;
+  with_is = λ held. with_later g gs key held e ∙ ap (λ rest. g ∷ rest) (m.with_is held);
 }
   where
     none_of : NoneOf (g ∷ gs) key
