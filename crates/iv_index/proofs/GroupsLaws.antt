@@ -1,4 +1,5 @@
-use Rattle.std.specs.Prelude.{Option, Some, None, option_map, ◌==◌}
+-- The laws of groups.
+use Rattle.std.specs.Prelude.{Option, Some, None, option_map, ◌==◌, ◌&&◌}
 use Rattle.std.proofs.Common.{◌≡◌, ◌≢◌, ℕ, ◌+◌, ◌-◌, ◌<◌, ◌≤◌, List, [], ◌∷◌, length, get_or, Bool, true, false, cond, arith, refl, ap, sym, ◌∙◌, subst, ◌⊎◌, ⊎_elim, inl, inr}
 use Rattle.std.proofs.lemmas.Bool.{cases_eq, eq-eqb, false≢true}
 use Rattle.std.proofs.lemmas.Bool.Decides.{Decides-eqb}
@@ -7,9 +8,9 @@ use Rattle.iv_value.specs.declared.value.Value.{Value}
 use Rattle.iv_value.specs.Values.{all_same}
 use Rattle.iv_index.specs.Rows.{Rows, added, has_row, put, removed, roomy}
 use Rattle.iv_index.specs.Groups.{GroupOf, groups_of, held_at, rows_of, place_in, with_groups, with_held}
-use Rattle.iv_index.specs.Laws.{AddedAndRemoved, ConstraintsStay, GroupAtPlace, GroupsAfter, HeldAfter, OtherPlacesStay, PlaceStays, PutIsAdded, RemovedAndPutBack, SameIsEqual, SizeGrows, SizeStays}
+use Rattle.iv_index.specs.Laws.{AddedAndRemoved, ConstraintsStay, GroupAtPlace, GroupsAfter, HeldAfter, IsFiniteMap, OtherPlacesStay, PlaceStays, PutIsAdded, RemovedAndPutBack, SameIsEqual, SizeGrows, SizeStays}
 use Rattle.iv_index.proofs.KeysLemmas.{all_same-Decides, all_same_sound, all_same_refl}
-use Rattle.iv_index.proofs.GroupsLemmas.{placed, missing}
+use Rattle.iv_index.proofs.GroupsLemmas.{held_here, held_later, missing, placed, with_here, with_later}
 use Rattle.iv_index.proofs.RowsUndone.{absent_without, with_without, without_with, length_with, length_without}
 use Rattle.iv_index.proofs.RowsLemmas.{eq_false}
 
@@ -25,11 +26,11 @@ held_after [] key other held = refl
 held_after (g ∷ gs) key other held = ⊎_elim
     (λ (e : all_same g.key key ≡ true).
     let is : g.key ≡ key = all_same_sound g.key key e in
-    ap (λ b. held_at (cond b (record { key = g.key; held = held } ∷ gs) (g ∷ with_held gs key held)) other) e
+    ap (λ (xs : List GroupOf). held_at xs other) (with_here g gs key held e)
     ∙ ap (λ (x : List Value). cond (all_same x other) held (held_at gs other)) is
     ∙ by_other (all_same key other) refl (ap (λ (x : List Value). all_same x other) is))
     (λ (n : all_same g.key key ≡ false).
-    ap (λ b. held_at (cond b (record { key = g.key; held = held } ∷ gs) (g ∷ with_held gs key held)) other) n
+    ap (λ (xs : List GroupOf). held_at xs other) (with_later g gs key held n)
     ∙ ap (λ (h : Rows). cond (all_same g.key other) g.held h) (held_after gs key other held)
     ∙ apart (all_same g.key other) (all_same key other) refl refl n)
     (test_cases (all_same g.key key))
@@ -49,9 +50,9 @@ pub place_stays : PlaceStays
 place_stays [] key other held place e = cc
 place_stays (g ∷ gs) key other held place e = ⊎_elim
     (λ (t : all_same g.key key ≡ true).
-    ap (λ b. place_in (cond b (record { key = g.key; held = held } ∷ gs) (g ∷ with_held gs key held)) other) t ∙ e)
+    ap (λ (xs : List GroupOf). place_in xs other) (with_here g gs key held t) ∙ e)
     (λ (n : all_same g.key key ≡ false).
-    ap (λ b. place_in (cond b (record { key = g.key; held = held } ∷ gs) (g ∷ with_held gs key held)) other) n
+    ap (λ (xs : List GroupOf). place_in xs other) (with_later g gs key held n)
     ∙ later (all_same g.key other) (place_in gs other) refl (λ p q. place_stays gs key other held p q) e)
     (test_cases (all_same g.key key))
   where
@@ -75,23 +76,25 @@ other_places_stay groups key held place d l ne = by_place (place_in groups key) 
         let n : place ≢ k = λ (q : place ≡ k). ne (e ∙ ap (λ (x : ℕ). Some x) (sym q)) in
         ap (λ (gs : List GroupOf). get_or gs place d) (at.with_is d held) ∙ get_or-set_other groups k place (record { key = (get_or groups k d).key; held = held }) d n
 
--- ---- a change after a change of one key
+-- ---- two changes of one key
 
+-- a key has the rows that it was given
 held_twice : (gs : List GroupOf) (key : List Value) (h : Rows) → held_at (with_held gs key h) key ≡ h
 held_twice gs key h = held_after gs key key h ∙ ap (λ b. cond b h (held_at gs key)) (all_same_refl key)
 
+-- of two changes the second stays
 with_twice : (gs : List GroupOf) (key : List Value) (h h' : Rows) → with_held (with_held gs key h) key h' ≡ with_held gs key h'
-with_twice [] key h h' = ap (λ b. cond b (record { key = key; held = h' } ∷ []) (record { key = key; held = h } ∷ record { key = key; held = h' } ∷ [])) (all_same_refl key)
+with_twice [] key h h' = with_here (record { key = key; held = h }) [] key h' (all_same_refl key)
 with_twice (g ∷ gs) key h h' = ⊎_elim
     (λ (e : all_same g.key key ≡ true).
-    ap (λ b. with_held (cond b (record { key = g.key; held = h } ∷ gs) (g ∷ with_held gs key h)) key h') e
-    ∙ ap (λ b. cond b (record { key = g.key; held = h' } ∷ gs) (record { key = g.key; held = h } ∷ with_held gs key h')) e
-    ∙ sym (ap (λ b. cond b (record { key = g.key; held = h' } ∷ gs) (g ∷ with_held gs key h')) e))
+    ap (λ (xs : List GroupOf). with_held xs key h') (with_here g gs key h e)
+    ∙ with_here (record { key = g.key; held = h }) gs key h' e
+    ∙ sym (with_here g gs key h' e))
     (λ (n : all_same g.key key ≡ false).
-    ap (λ b. with_held (cond b (record { key = g.key; held = h } ∷ gs) (g ∷ with_held gs key h)) key h') n
-    ∙ ap (λ b. cond b (record { key = g.key; held = h' } ∷ with_held gs key h) (g ∷ with_held (with_held gs key h) key h')) n
+    ap (λ (xs : List GroupOf). with_held xs key h') (with_later g gs key h n)
+    ∙ with_later g (with_held gs key h) key h' n
     ∙ ap (λ (rest : List GroupOf). g ∷ rest) (with_twice gs key h h')
-    ∙ sym (ap (λ b. cond b (record { key = g.key; held = h' } ∷ gs) (g ∷ with_held gs key h')) n))
+    ∙ sym (with_later g gs key h' n))
     (test_cases (all_same g.key key))
 
 -- a key that has rows has a group, and its own rows change nothing
@@ -99,10 +102,10 @@ with_own : (gs : List GroupOf) (key : List Value) (row : ℕ) → has_row row (r
 with_own [] key row h = absurd (false≢true h)
 with_own (g ∷ gs) key row h = ⊎_elim
     (λ (e : all_same g.key key ≡ true).
-    ap (λ b. cond b (record { key = g.key; held = cond b g.held (held_at gs key) } ∷ gs) (g ∷ with_held gs key (cond b g.held (held_at gs key)))) e)
+    ap (with_held (g ∷ gs) key) (held_here g gs key e) ∙ with_here g gs key g.held e)
     (λ (n : all_same g.key key ≡ false).
-    ap (λ b. cond b (record { key = g.key; held = cond b g.held (held_at gs key) } ∷ gs) (g ∷ with_held gs key (cond b g.held (held_at gs key)))) n
-    ∙ ap (λ (rest : List GroupOf). g ∷ rest) (with_own gs key row (sym (ap (λ b. has_row row (cond b g.held (held_at gs key)).rows) n) ∙ h)))
+    ap (with_held (g ∷ gs) key) (held_later g gs key n) ∙ with_later g gs key (held_at gs key) n
+    ∙ ap (λ (rest : List GroupOf). g ∷ rest) (with_own gs key row (sym (ap (λ (x : Rows). has_row row x.rows) (held_later g gs key n)) ∙ h)))
     (test_cases (all_same g.key key))
 
 pub put_is_added : PutIsAdded
@@ -198,3 +201,19 @@ groups_after groups constraint other new known = ⊎_elim
 
 pub constraints_stay : ConstraintsStay
 constraints_stay groups constraint new = length-set groups constraint new
+
+pub is_finite_map : IsFiniteMap
+is_finite_map groups constraint place key other held known =
+    let new : List GroupOf = with_held (groups_of groups constraint) key held in
+    ap (λ (gs : List GroupOf). held_at gs other) (groups_after groups constraint place new known)
+    ∙ ⊎_elim
+    (λ (e : place ≡ constraint).
+    let is : (place == constraint) ≡ true = eq-eqb place constraint e in
+    ap (λ b. held_at (cond b new (groups_of groups place)) other) is ∙ held_after (groups_of groups constraint) key other held
+    ∙ ap (λ (n : ℕ). cond (all_same key other) held (held_at (groups_of groups n) other)) (sym e)
+    ∙ sym (ap (λ b. cond (b && all_same key other) held (held_at (groups_of groups place) other)) is))
+    (λ (n : place ≢ constraint).
+    let is : (place == constraint) ≡ false = eq_false place constraint n in
+    ap (λ b. held_at (cond b new (groups_of groups place)) other) is
+    ∙ sym (ap (λ b. cond (b && all_same key other) held (held_at (groups_of groups place) other)) is))
+    (cases_eq place constraint)

@@ -1,3 +1,4 @@
+-- Groups beside the hashes of their keys: where a key has its group, and what a change at its place leaves.
 use Rattle.std.specs.Prelude.{Option, Some, None, option_map}
 use Rattle.std.proofs.Common.{◌≡◌, ◌≢◌, ℕ, zero, suc, ◌+◌, ◌<◌, ◌≤◌, List, [], ◌∷◌, ◌++◌, length, get_or, set, Bool, true, false, cond, arith, refl, ap, sym, ◌∙◌, subst, ⊎_elim, length-append}
 use Rattle.std.proofs.lemmas.Bool.{cases_lt, cases_eq}
@@ -6,8 +7,31 @@ use Rattle.iv_value.specs.declared.value.Value.{Value}
 use Rattle.iv_value.specs.Values.{all_same}
 use Rattle.iv_key.specs.Hashes.{hash_of}
 use Rattle.iv_index.specs.Rows.{Rows, IsRising, no_rows}
-use Rattle.iv_index.specs.Groups.{EachIsApart, EachIsFound, EachRises, GroupOf, IsIndexed, IsSound, held_at, place_in, with_held}
+use Rattle.iv_index.specs.Groups.{EachIsApart, EachIsFound, EachRises, GroupOf, IsIndexed, IsSound, changed, held_at, place_in, with_held}
+use Rattle.iv_index.proofs.RowsKept.{rising_none}
 use Rattle.iv_index.proofs.KeysLemmas.{all_same_sound, all_same_refl, not_true}
+
+-- ---- one step of a look: the key is that of the first group, or it isn't
+
+pub held_here : (g : GroupOf) (gs : List GroupOf) (key : List Value) → all_same g.key key ≡ true → held_at (g ∷ gs) key ≡ g.held
+held_here g gs key e = ap (λ b. cond b g.held (held_at gs key)) e
+
+pub held_later : (g : GroupOf) (gs : List GroupOf) (key : List Value) → all_same g.key key ≡ false → held_at (g ∷ gs) key ≡ held_at gs key
+held_later g gs key e = ap (λ b. cond b g.held (held_at gs key)) e
+
+pub with_here : (g : GroupOf) (gs : List GroupOf) (key : List Value) (held : Rows) → all_same g.key key ≡ true → with_held (g ∷ gs) key held ≡ record { key = g.key; held = held } ∷ gs
+with_here g gs key held e = ap (λ b. cond b (record { key = g.key; held = held } ∷ gs) (g ∷ with_held gs key held)) e
+
+pub with_later : (g : GroupOf) (gs : List GroupOf) (key : List Value) (held : Rows) → all_same g.key key ≡ false → with_held (g ∷ gs) key held ≡ g ∷ with_held gs key held
+with_later g gs key held e = ap (λ b. cond b (record { key = g.key; held = held } ∷ gs) (g ∷ with_held gs key held)) e
+
+place_here : (g : GroupOf) (gs : List GroupOf) (key : List Value) → all_same g.key key ≡ true → place_in (g ∷ gs) key ≡ Some 0
+place_here g gs key e = ap (λ b. cond b (Some 0) (option_map (λ place. place + 1) (place_in gs key))) e
+
+place_later : (g : GroupOf) (gs : List GroupOf) (key : List Value) → all_same g.key key ≡ false → place_in (g ∷ gs) key ≡ option_map (λ place. place + 1) (place_in gs key)
+place_later g gs key e = ap (λ b. cond b (Some 0) (option_map (λ place. place + 1) (place_in gs key))) e
+
+-- ---- the place of a key
 
 -- no group is of the key
 abbrev pub NoneOf : List GroupOf → List Value → Type 0
@@ -16,16 +40,16 @@ NoneOf gs key = (k : ℕ) (d : GroupOf) → k < length gs → all_same (get_or g
 pub place_missing : (gs : List GroupOf) (key : List Value) → NoneOf gs key → place_in gs key ≡ None
 place_missing [] key none = refl
 place_missing (g ∷ gs) key none =
-    ap (λ b. cond b (Some 0) (option_map (λ place. place + 1) (place_in gs key))) (none zero g (omega arith))
+    place_later g gs key (none zero g (omega arith))
     ∙ ap (λ o. option_map (λ place. place + 1) o) (place_missing gs key (λ k d l. none (suc k) d (omega arith)))
 
 pub place_found : (gs : List GroupOf) (key : List Value) (k : ℕ) (d : GroupOf) → EachIsApart gs → k < length gs → all_same (get_or gs k d).key key ≡ true → place_in gs key ≡ Some k
 place_found [] key k d apart l e = absurd (omega arith)
-place_found (g ∷ gs) key zero d apart l e = ap (λ b. cond b (Some 0) (option_map (λ place. place + 1) (place_in gs key))) e
+place_found (g ∷ gs) key zero d apart l e = place_here g gs key e
 place_found (g ∷ gs) key (suc k) d apart l e =
     let key_is : (get_or gs k d).key ≡ key = all_same_sound (get_or gs k d).key key e in
     let other : all_same g.key key ≡ false = subst (λ (x : List Value). all_same g.key x ≡ false) key_is (apart zero (suc k) d (omega arith) l) in
-    ap (λ b. cond b (Some 0) (option_map (λ place. place + 1) (place_in gs key))) other
+    place_later g gs key other
     ∙ ap (λ o. option_map (λ place. place + 1) o) (place_found gs key k d (λ i j x m n. apart (suc i) (suc j) x (omega arith) (omega arith)) (omega arith) e)
     ∙ (let q : k + 1 ≡ suc k = omega arith in ap (λ (n : ℕ). Some n) q)
 
@@ -35,28 +59,21 @@ pub record Placed (gs : List GroupOf) (key : List Value) (k : ℕ) : Type 0 wher
   pub key_is : (d : GroupOf) → (get_or gs k d).key ≡ key
   pub held_is : (d : GroupOf) → held_at gs key ≡ (get_or gs k d).held
   pub with_is : (d : GroupOf) (held : Rows) → with_held gs key held ≡ set gs k (record { key = (get_or gs k d).key; held = held })
-  pub after : (held : Rows) → place_in (with_held gs key held) key ≡ Some k
 
 placed_first : (g : GroupOf) (gs : List GroupOf) (key : List Value) → all_same g.key key ≡ true → Placed (g ∷ gs) key 0
 placed_first g gs key e = record {
   within = omega arith;
   key_is = λ d. all_same_sound g.key key e;
-  held_is = λ d. ap (λ b. cond b g.held (held_at gs key)) e;
-  with_is = λ d held. ap (λ b. cond b (record { key = g.key; held = held } ∷ gs) (g ∷ with_held gs key held)) e;
-  after = λ held. ap (λ b. place_in (cond b (record { key = g.key; held = held } ∷ gs) (g ∷ with_held gs key held)) key) e
-      ∙ ap (λ b. cond b (Some 0) (option_map (λ place. place + 1) (place_in gs key))) e;
+  held_is = λ d. held_here g gs key e;
+  with_is = λ d held. with_here g gs key held e;
 }
 
 placed_later : (g : GroupOf) (gs : List GroupOf) (key : List Value) (k : ℕ) → all_same g.key key ≡ false → Placed gs key k → Placed (g ∷ gs) key (suc k)
 placed_later g gs key k e p = record {
   within = omega (arith, p.within);
   key_is = λ d. p.key_is d;
-  held_is = λ d. ap (λ b. cond b g.held (held_at gs key)) e ∙ p.held_is d;
-  with_is = λ d held. ap (λ b. cond b (record { key = g.key; held = held } ∷ gs) (g ∷ with_held gs key held)) e ∙ ap (λ rest. g ∷ rest) (p.with_is d held);
-  after = λ held. ap (λ b. place_in (cond b (record { key = g.key; held = held } ∷ gs) (g ∷ with_held gs key held)) key) e
-      ∙ ap (λ b. cond b (Some 0) (option_map (λ place. place + 1) (place_in (with_held gs key held) key))) e
-      ∙ ap (λ o. option_map (λ place. place + 1) o) (p.after held)
-      ∙ (let q : k + 1 ≡ suc k = omega arith in ap (λ (n : ℕ). Some n) q);
+  held_is = λ d. held_later g gs key e ∙ p.held_is d;
+  with_is = λ d held. with_later g gs key held e ∙ ap (λ rest. g ∷ rest) (p.with_is d held);
 }
 
 pub placed : (gs : List GroupOf) (key : List Value) (k : ℕ) → place_in gs key ≡ Some k → Placed gs key k
@@ -74,17 +91,12 @@ pub record Missing (gs : List GroupOf) (key : List Value) : Type 0 where
   pub none : NoneOf gs key
   pub held_is : held_at gs key ≡ no_rows
   pub with_is : (held : Rows) → with_held gs key held ≡ gs ++ record { key = key; held = held } ∷ []
-  pub after : (held : Rows) → place_in (with_held gs key held) key ≡ Some (length gs)
 
 missing_later : (g : GroupOf) (gs : List GroupOf) (key : List Value) → all_same g.key key ≡ false → Missing gs key → Missing (g ∷ gs) key
 missing_later g gs key e m = record {
   none = none_of;
-  held_is = ap (λ b. cond b g.held (held_at gs key)) e ∙ m.held_is;
-  with_is = λ held. ap (λ b. cond b (record { key = g.key; held = held } ∷ gs) (g ∷ with_held gs key held)) e ∙ ap (λ rest. g ∷ rest) (m.with_is held);
-  after = λ held. ap (λ b. place_in (cond b (record { key = g.key; held = held } ∷ gs) (g ∷ with_held gs key held)) key) e
-      ∙ ap (λ b. cond b (Some 0) (option_map (λ place. place + 1) (place_in (with_held gs key held) key))) e
-      ∙ ap (λ o. option_map (λ place. place + 1) o) (m.after held)
-      ∙ (let q : length gs + 1 ≡ length (g ∷ gs) = omega arith in ap (λ (n : ℕ). Some n) q);
+  held_is = held_later g gs key e ∙ m.held_is;
+  with_is = λ held. with_later g gs key held e ∙ ap (λ rest. g ∷ rest) (m.with_is held);
 }
   where
     none_of : NoneOf (g ∷ gs) key
@@ -96,7 +108,6 @@ missing [] key e = record {
   none = λ k d l. absurd (omega arith);
   held_is = refl;
   with_is = λ held. refl;
-  after = λ held. ap (λ b. cond b (Some 0) None) (all_same_refl key);
 }
 missing (g ∷ gs) key e = by_test (all_same g.key key) (place_in gs key) refl refl (missing gs key) e
   where
@@ -159,58 +170,51 @@ indexed_push hashes gs key held ix none rises =
           (cases_lt j (length gs));
     }
 
--- ---- what a change at the place of a key's group leaves
+-- ---- a change of the group at a place
 
-pub record Edited (hashes : List ℕ) (gs new : List GroupOf) (key : List Value) (k : ℕ) (f : Rows → Rows) : Type 0 where
+-- what holds of the rows of a key holds of its group's
+pub of_group : {gs : List GroupOf} {key : List Value} {k : ℕ} (P : Rows → Type 0) → Placed gs key k → P (held_at gs key) → (d : GroupOf) → P (get_or gs k d).held
+of_group P at p d = subst P (at.held_is d) p
+
+-- the groups after a change of the rows of a key
+pub record Edited (hashes : List ℕ) (gs new : List GroupOf) (key : List Value) (f : Rows → Rows) : Type 0 where
   pub groups : new ≡ with_held gs key (f (held_at gs key))
-  pub place : place_in new key ≡ Some k
   pub indexed : IsIndexed hashes new
 
-pub edited : (hashes : List ℕ) (gs new : List GroupOf) (key : List Value) (k : ℕ) (f : Rows → Rows) → IsIndexed hashes gs → Placed gs key k
-    → (IsRising (held_at gs key).rows → IsRising (f (held_at gs key)).rows) → ((d : GroupOf) → new ≡ set gs k (record { key = (get_or gs k d).key; held = f (get_or gs k d).held })) → Edited hashes gs new key k f
-edited hashes gs new key k f ix at keeps set_is =
+-- a change of the rows of the group that stands at a key's place
+pub edited : {hashes : List ℕ} {gs new : List GroupOf} {key : List Value} {k : ℕ} (f : Rows → Rows) → IsIndexed hashes gs → Placed gs key k
+    → (IsRising (held_at gs key).rows → IsRising (f (held_at gs key)).rows) → ((d : GroupOf) → new ≡ set gs k (changed f (get_or gs k d))) → Edited hashes gs new key f
+edited {hashes} {gs} {new} {key} {k} f ix at keeps set_is =
     let d : GroupOf = record { key = key; held = no_rows } in
-    let g : GroupOf = record { key = (get_or gs k d).key; held = f (get_or gs k d).held } in
-    let new_is : new ≡ with_held gs key (f (held_at gs key)) =
-    set_is d ∙ sym (at.with_is d (f (get_or gs k d).held)) ∙ ap (λ (h : Rows). with_held gs key (f h)) (sym (at.held_is d)) in
+    let g : GroupOf = changed f (get_or gs k d) in
     let rises : IsRising g.held.rows =
     subst (λ (h : Rows). IsRising (f h).rows) (at.held_is d) (keeps (subst (λ (h : Rows). IsRising h.rows) (sym (at.held_is d)) (ix.rising k d at.within))) in
     record {
-      groups = new_is;
-      place = ap (λ (xs : List GroupOf). place_in xs key) new_is ∙ at.after (f (held_at gs key));
-      indexed = subst (IsIndexed hashes) (sym (set_is d))
-          (indexed_set hashes gs k g ix (λ e. at.key_is d ∙ sym (at.key_is e)) rises);
+      groups = set_is d ∙ sym (at.with_is d (f (get_or gs k d).held)) ∙ ap (λ (h : Rows). with_held gs key (f h)) (sym (at.held_is d));
+      indexed = subst (IsIndexed hashes) (sym (set_is d)) (indexed_set hashes gs k g ix (λ e. at.key_is d ∙ sym (at.key_is e)) rises);
     }
 
--- what holds of the rows of a key holds of its group's
-pub of_group : (gs : List GroupOf) (key : List Value) (k : ℕ) (P : Rows → Type 0) → Placed gs key k → P (held_at gs key) → (d : GroupOf) → P (get_or gs k d).held
-of_group gs key k P at p d = subst P (at.held_is d) p
-
-pub record Grown (hashes new_hashes : List ℕ) (gs new : List GroupOf) (key : List Value) (f : Rows → Rows) : Type 0 where
-  pub groups : new ≡ with_held gs key (f (held_at gs key))
-  pub place : place_in new key ≡ Some (length gs)
-  pub indexed : IsIndexed new_hashes new
-
-pub grown : (hashes new_hashes : List ℕ) (gs new : List GroupOf) (key : List Value) (f : Rows → Rows) → IsIndexed hashes gs → Missing gs key → IsRising (f no_rows).rows → new_hashes ≡ hashes ++ hash_of key ∷ []
-    → new ≡ gs ++ record { key = key; held = f no_rows } ∷ [] → Grown hashes new_hashes gs new key f
-grown hashes new_hashes gs new key f ix none rises hashes_are new_are =
-    let new_is : new ≡ with_held gs key (f (held_at gs key)) =
-    new_are ∙ sym (none.with_is (f no_rows)) ∙ ap (λ (h : Rows). with_held gs key (f h)) (sym none.held_is) in
+-- a group of a key that had none, behind the others
+pub grown : {hashes new_hashes : List ℕ} {hash : ℕ} {gs new : List GroupOf} {g : GroupOf} {key : List Value} (f : Rows → Rows) → IsIndexed hashes gs → Missing gs key → IsRising (f no_rows).rows
+    → hash ≡ hash_of key → new_hashes ≡ hashes ++ hash ∷ [] → g ≡ record { key = key; held = f no_rows } → new ≡ gs ++ g ∷ [] → Edited new_hashes gs new key f
+grown {hashes} {new_hashes} {hash} {gs} {new} {g} {key} f ix none rises hash_is hashes_are g_is new_are =
+    let grown_hashes : new_hashes ≡ hashes ++ hash_of key ∷ [] = hashes_are ∙ ap (λ (n : ℕ). hashes ++ n ∷ []) hash_is in
+    let grown_groups : new ≡ gs ++ record { key = key; held = f no_rows } ∷ [] = new_are ∙ ap (λ (x : GroupOf). gs ++ x ∷ []) g_is in
     record {
-      groups = new_is;
-      place = ap (λ (xs : List GroupOf). place_in xs key) new_is ∙ none.after (f (held_at gs key));
-      indexed = subst (λ (hs : List ℕ). IsIndexed hs new) (sym hashes_are) (subst (λ (xs : List GroupOf). IsIndexed (hashes ++ hash_of key ∷ []) xs) (sym new_are) (indexed_push hashes gs key (f no_rows) ix none.none rises));
+      groups = grown_groups ∙ sym (none.with_is (f no_rows)) ∙ ap (λ (h : Rows). with_held gs key (f h)) (sym none.held_is);
+      indexed = subst (λ (hs : List ℕ). IsIndexed hs new) (sym grown_hashes)
+          (subst (IsIndexed (hashes ++ hash_of key ∷ [])) (sym grown_groups) (indexed_push hashes gs key (f no_rows) ix none.none rises));
     }
 
 -- what `find` tells of the groups that it was lent
-pub placed_in : (lent gs : List GroupOf) (key : List Value) (k : ℕ) → lent ≡ gs → Some k ≡ place_in lent key → Placed gs key k
-placed_in lent gs key k e p = placed gs key k (sym (subst (λ (xs : List GroupOf). Some k ≡ place_in xs key) e p))
+pub found_in : {lent gs : List GroupOf} (key : List Value) (k : ℕ) → lent ≡ gs → Some k ≡ place_in lent key → place_in gs key ≡ Some k
+found_in key k e p = sym (subst (λ (xs : List GroupOf). Some k ≡ place_in xs key) e p)
 
-pub found_in : (lent gs : List GroupOf) (key : List Value) (k : ℕ) → lent ≡ gs → Some k ≡ place_in lent key → place_in gs key ≡ Some k
-found_in lent gs key k e p = sym (subst (λ (xs : List GroupOf). Some k ≡ place_in xs key) e p)
+pub placed_in : {lent gs : List GroupOf} (key : List Value) (k : ℕ) → lent ≡ gs → Some k ≡ place_in lent key → Placed gs key k
+placed_in {lent} {gs} key k e p = placed gs key k (found_in key k e p)
 
-pub missing_in : (lent gs : List GroupOf) (key : List Value) → lent ≡ gs → None ≡ place_in lent key → Missing gs key
-missing_in lent gs key e p = missing gs key (sym (subst (λ (xs : List GroupOf). None ≡ place_in xs key) e p))
+pub missing_in : {lent gs : List GroupOf} (key : List Value) → lent ≡ gs → None ≡ place_in lent key → Missing gs key
+missing_in {lent} {gs} key e p = missing gs key (sym (subst (λ (xs : List GroupOf). None ≡ place_in xs key) e p))
 
 -- ---- what holds of all groups
 
@@ -221,7 +225,7 @@ pub each_rises : (hashes : List ℕ) (gs : List GroupOf) → IsIndexed hashes gs
 each_rises hashes gs ix key = by_place (place_in gs key) refl
   where
     by_place : (o : Option ℕ) → place_in gs key ≡ o → IsRising (held_at gs key).rows
-    by_place None e = subst (λ (h : Rows). IsRising h.rows) (sym (missing gs key e).held_is) (λ i j lt l. absurd (omega arith))
+    by_place None e = subst (λ (h : Rows). IsRising h.rows) (sym (missing gs key e).held_is) rising_none
     by_place (Some k) e =
         let at = placed gs key k e in
         let d : GroupOf = record { key = key; held = no_rows } in

@@ -1,4 +1,5 @@
-use Rattle.std.specs.Prelude.{◌==◌, ◌||◌}
+-- Numbers still rise with one more and with one less.
+use Rattle.std.specs.Prelude.{◌==◌}
 use Rattle.std.proofs.Common.{◌≡◌, ◌≢◌, ℕ, zero, suc, ◌+◌, ◌-◌, ◌<◌, ◌≤◌, List, [], ◌∷◌, ◌++◌, length, insert, remove, get_or, take, drop, Bool, true, false, cond, arith, refl, ap, sym, ◌∙◌, ⊎_elim, subst}
 use Rattle.std.proofs.lemmas.Bool.{cases_lt, cases_eq, false≢true, eq-eqb}
 use Rattle.std.proofs.lemmas.List.{take_at}
@@ -6,7 +7,7 @@ use Rattle.iv_index.specs.declared.stretch.Stretch.{Stretch}
 use Rattle.iv_index.specs.Rows.{Rows, IsRising, added, has_row, put, roomy, with_row, without_row}
 use Rattle.iv_index.specs.Kept.{IsKept}
 use Rattle.iv_index.specs.Stretches.{held}
-use Rattle.iv_index.proofs.RowsLemmas.{rising_rest, lt_true, lt_false, eq_false}
+use Rattle.iv_index.proofs.RowsLemmas.{or_false, rising_rest, lt_true, lt_false, eq_false}
 
 -- a number is below all of these
 abbrev Below : ℕ → List ℕ → Type 0
@@ -42,9 +43,8 @@ below_without x r (y ∷ xs) b = ⊎_elim
     (λ (n : y ≢ r). subst (Below x) (sym (ap (λ t. cond t xs (y ∷ without_row r xs)) (eq_false y r n))) (below_more x y (without_row r xs) (b zero (omega arith)) (below_without x r xs (below_rest x y xs b))))
     (cases_eq y r)
 
-or_false : (a b : Bool) → (a || b) ≡ false → (a ≡ false) × (b ≡ false)
-or_false false b h = (refl, h)
-or_false true b h = absurd (false≢true (sym h))
+pub rising_none : IsRising []
+rising_none i j lt l = absurd (omega arith)
 
 pub rising_with : (r : ℕ) (xs : List ℕ) → has_row r xs ≡ false → IsRising xs → IsRising (with_row r xs)
 rising_with r [] n h = rising_more r [] (λ k l. absurd (omega arith)) h
@@ -79,10 +79,11 @@ rising_roomy held h = by_test (held.room == 0)
     by_test true = h
     by_test false = h
 
--- what a slice of a whole list holds after it was changed in its place
+-- a whole list whose slice was changed is what the slice became
 pub whole_after : (new old : List ℕ) (n : ℕ) → length new ≡ n → take n (new ++ drop (length new) old) ≡ new
 whole_after new old n e = take_at new (drop (length new) old) n e
 
+-- a number was inserted into the stretch
 pub kept_inserted : (places new : List ℕ) (live live' : Stretch) (room room' at r : ℕ) → IsKept places live room → length new ≡ length places → live'.start ≤ live'.end → live'.end ≤ length new
     → live'.end - live'.start ≡ live.end - live.start + 1 → held new live' ≡ insert (held places live) at r → insert (held places live) at r ≡ with_row r (held places live)
     → has_row r (held places live) ≡ false → room' < room → IsKept new live' room'
@@ -93,6 +94,7 @@ kept_inserted places new live live' room room' at r k len o w count held_is with
   rising = subst IsRising (sym (held_is ∙ with_is)) (rising_with r (held places live) absent k.rising);
 }
 
+-- a number was removed from the stretch
 pub kept_removed : (places new : List ℕ) (live live' : Stretch) (room at r : ℕ) → IsKept places live room → length new ≡ length places → live'.start ≤ live'.end → live'.end ≤ length new
     → live'.end - live'.start + 1 ≡ live.end - live.start → held new live' ≡ remove (held places live) at → remove (held places live) at ≡ without_row r (held places live)
     → IsKept new live' (room + 1)

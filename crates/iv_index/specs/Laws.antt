@@ -1,5 +1,5 @@
 -- What follows from the definitions: groups are a finite map from constraints and keys to rows, whose places stay, and what is undone is as before.
-use Rattle.std.specs.Prelude.{◌≡◌, ℕ, ◌+◌, ◌<◌, ◌≤◌, ◌==◌, List, length, Some, true, false, if◌then◌else◌, slice_index_or}
+use Rattle.std.specs.Prelude.{◌≡◌, ℕ, ◌+◌, ◌<◌, ◌≤◌, ◌==◌, ◌&&◌, List, length, Some, true, false, if◌then◌else◌, slice_index_or}
 use Rattle.iv_value.specs.declared.value.Value.{Value}
 use Rattle.iv_value.specs.Values.{all_same}
 use Rattle.iv_index.specs.Rows.{Rows, IsRising, has_row}
@@ -22,6 +22,13 @@ ConstraintsStay = (groups : List (List GroupOf)) (constraint : ℕ) (new : List 
 abbrev pub HeldAfter : Type 0
 HeldAfter = (groups : List GroupOf) (key other : List Value) (held : Rows)
     → held_at (with_held groups key held) other ≡ (if all_same key other then held else held_at groups other)
+
+-- Both together: after a change of the rows of a key in a constraint, this key has those rows there, and every other key of
+-- this constraint and every key of another has what it had.
+abbrev pub IsFiniteMap : Type 0
+IsFiniteMap = (groups : List (List GroupOf)) (constraint place : ℕ) (key other : List Value) (held : Rows) → constraint < length groups
+    → held_at (groups_of (with_groups groups constraint (with_held (groups_of groups constraint) key held)) place) other
+    ≡ (if (place == constraint) && all_same key other then held else held_at (groups_of groups place) other)
 
 -- A key that has a place keeps it.
 abbrev pub PlaceStays : Type 0

@@ -29,6 +29,13 @@ impl Model for Groups {
     ghost invariant = { λ a. AreSound a.indexes.items };
 }
 
+// Counts a look-up.
+fn count(looked: &mut u64)
+    ensures { looked.new ≡ counted looked.old }
+{
+    *looked = looked.saturating_add(1);
+}
+
 // Adds constraints of no group, until there are so many.
 #[tactic(auto, using(crate::proofs::SoundLemmas::sound_like))]
 fn cover(alloc: Global, indexes: &mut Vec<KeyIndex>, count: usize) -> Result<(), AllocError>
@@ -85,6 +92,18 @@ fn rows_under<'a>(indexes: &'a [KeyIndex], constraint: usize, key: &Key<'_>) -> 
 {
     match indexes.get(constraint) {
         Some(index) => index.rows(key),
+        None => &[],
+    }
+}
+
+// The rows of the group at a place of a constraint.
+fn rows_in(indexes: &[KeyIndex], constraint: usize, place: usize) -> &[u64]
+    requires { place < length (groups_of indexes.now constraint) }
+    ensures value { result.now ≡ rows_at (groups_of indexes.now constraint) place }
+    ensures rising { IsRising result.now }
+{
+    match indexes.get(constraint) {
+        Some(index) => index.rows_at(place),
         None => &[],
     }
 }
@@ -254,12 +273,11 @@ impl Groups {
 
     /// The rows of the group at a place, in rising order. It is no look-up.
     pub fn rows_at(&self, constraint: usize, place: usize) -> &[u64]
-        requires known { constraint < length self.now.groups }
-        requires place { place < length (groups_of self.now.groups constraint) }
+        requires { place < length (groups_of self.now.groups constraint) }
         ensures value { result.now ≡ rows_at (groups_of self.now.groups constraint) place }
         ensures rising { IsRising result.now }
     {
-        self.indexes[constraint].rows_at(place)
+        rows_in(self.indexes.as_slice(), constraint, place)
     }
 
     /// The rows of a key, in rising order, as `rows` tells them, but it isn't counted: searches ask it.
@@ -283,8 +301,8 @@ impl Groups {
         ensures value { result.now ≡ rows_of (groups_of self.old.groups constraint) key.now }
         ensures rising { IsRising result.now }
     {
-        self.looked = self.looked.saturating_add(1);
-        rows_under(self.indexes.as_slice(), constraint, key)
+        count(&mut self.looked);
+        self.holders(constraint, key)
     }
 
     /// The place of a key's group.
@@ -293,7 +311,7 @@ impl Groups {
         ensures groups { self.new.groups ≡ self.old.groups }
         ensures looked { self.new.looked ≡ counted self.old.looked }
     {
-        self.looked = self.looked.saturating_add(1);
+        count(&mut self.looked);
         place_under(self.indexes.as_slice(), constraint, key)
     }
 
@@ -306,7 +324,7 @@ impl Groups {
         ensures err { OnErr result (self.new.groups ≡ self.old.groups) }
         ensures looked { self.new.looked ≡ counted self.old.looked }
     {
-        self.looked = self.looked.saturating_add(1);
+        count(&mut self.looked);
         make_room_under(self.alloc, &mut self.indexes, constraint, key)
     }
 
@@ -320,7 +338,7 @@ impl Groups {
         ensures err { OnErr result (self.new.groups ≡ self.old.groups) }
         ensures looked { self.new.looked ≡ counted self.old.looked }
     {
-        self.looked = self.looked.saturating_add(1);
+        count(&mut self.looked);
         add_under(self.alloc, &mut self.indexes, constraint, key, row)
     }
 
@@ -334,7 +352,7 @@ impl Groups {
         ensures place { place_in (groups_of self.old.groups constraint) key.now ≡ Some result }
         ensures looked { self.new.looked ≡ counted self.old.looked }
     {
-        self.looked = self.looked.saturating_add(1);
+        count(&mut self.looked);
         put_under(&mut self.indexes, constraint, key, row)
     }
 
@@ -347,7 +365,7 @@ impl Groups {
         ensures place { place_in (groups_of self.old.groups constraint) key.now ≡ Some result }
         ensures looked { self.new.looked ≡ counted self.old.looked }
     {
-        self.looked = self.looked.saturating_add(1);
+        count(&mut self.looked);
         remove_under(&mut self.indexes, constraint, key, row)
     }
 }

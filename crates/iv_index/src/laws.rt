@@ -1,5 +1,5 @@
 //! What follows from the definitions of groups, as contracts of functions that do nothing.
-ghost use Rattle.iv_index.specs.Laws.{SameIsEqual, GroupsAfter, ConstraintsStay, HeldAfter, PlaceStays, GroupAtPlace, OtherPlacesStay, PutIsAdded, RemovedAndPutBack, AddedAndRemoved, SizeGrows, SizeStays};
+ghost use Rattle.iv_index.specs.Laws.{SameIsEqual, GroupsAfter, ConstraintsStay, HeldAfter, IsFiniteMap, PlaceStays, GroupAtPlace, OtherPlacesStay, PutIsAdded, RemovedAndPutBack, AddedAndRemoved, SizeGrows, SizeStays};
 
 /// Does nothing. Its contract states that groups are a finite map from constraints and keys to rows, and that places
 /// stay.
@@ -8,6 +8,7 @@ pub fn groups_are_a_map()
     ensures groups { GroupsAfter }
     ensures constraints { ConstraintsStay }
     ensures held { HeldAfter }
+    ensures map { IsFiniteMap }
     ensures place { PlaceStays }
     ensures at_place { GroupAtPlace }
     ensures others { OtherPlacesStay }

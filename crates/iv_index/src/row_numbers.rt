@@ -29,7 +29,8 @@ impl Model for RowNumbers {
     ghost invariant = { λ r. IsKept r.places.items r.live r.room };
 }
 
-// Doubles the places where all are taken.
+// Doubles the places where not a fifth of them is free. So a list is moved to the middle once in many changes, also
+// where numbers go at one end and come at the other.
 fn more_places(places: &mut Vec<u64>, live: Stretch) -> Result<(), AllocError>
     requires ordered { live.start ≤ live.end }
     requires within { live.end ≤ length places.old.items }
@@ -38,9 +39,9 @@ fn more_places(places: &mut Vec<u64>, live: Stretch) -> Result<(), AllocError>
     ensures held { OnOk result (held places.new.items live ≡ held places.old.items live) }
     ensures err { OnErr result (places.new.items ≡ places.old.items) }
 {
-    let count = places.len();
-    if live.end - live.start == count {
-        places.resize(count.saturating_mul(2).max(1), 0)?;
+    let count = live.end - live.start;
+    if count + count / 4 >= places.len() {
+        places.resize(places.len().saturating_mul(2).max(1), 0)?;
     }
     Ok(())
 }
