@@ -1,0 +1,4 @@
+pub mod Exchanges
+pub mod Flags
+pub mod MarkedPlaces
+pub mod Violated
