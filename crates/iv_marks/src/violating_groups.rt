@@ -133,6 +133,28 @@ fn is_any(constraints: &[Marks], violated: &Marks) -> bool
     violated.is_any()
 }
 
+// The marked places of a constraint.
+fn marked(constraints: &[Marks], constraint: usize) -> &[usize]
+    ensures members { (place : ℕ) →
+        has place result.now ≡ flag (marks_of constraints.now constraint) place }
+    ensures once { NoRepeats result.now }
+{
+    match constraints.get(constraint) {
+        Some(marks) => marks.marked(),
+        None => &[],
+    }
+}
+
+// The numbers of the constraints with a marked place.
+fn violated<'a>(constraints: &[Marks], violated: &'a Marks) -> &'a [usize]
+    requires { AreViolated constraints.now violated.now }
+    ensures members { (id : ℕ) → has id result.now ≡ is_any (marks_of constraints.now id) }
+    ensures once { NoRepeats result.now }
+{
+    let _ = constraints;
+    violated.marked()
+}
+
 impl ViolatingGroups {
     /// No constraint. It takes no memory.
     pub fn new(alloc: Global) -> ViolatingGroups
@@ -221,5 +243,22 @@ impl ViolatingGroups {
             place,
             mark,
         );
+    }
+
+    /// The marked places of a constraint, each once, in no order that callers know: none where there is no such
+    /// constraint.
+    pub fn marked(&self, constraint: usize) -> &[usize]
+        ensures members { (place : ℕ) → has place result.now ≡ flag (marks_of self.now constraint) place }
+        ensures once { NoRepeats result.now }
+    {
+        marked(self.constraints.as_slice(), constraint)
+    }
+
+    /// The numbers of the constraints with a marked place, each once, in no order that callers know.
+    pub fn violated(&self) -> &[usize]
+        ensures members { (id : ℕ) → has id result.now ≡ is_any (marks_of self.now id) }
+        ensures once { NoRepeats result.now }
+    {
+        violated(self.constraints.as_slice(), &self.violated)
     }
 }
