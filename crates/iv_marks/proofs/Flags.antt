@@ -36,11 +36,11 @@ flag_within marks place e = ⊎_elim
 pub any_flag : (marks : List Bool) (place : ℕ) → flag marks place ≡ true → is_any marks ≡ true
 any_flag marks place e = list_any_at (λ mark. mark) marks place false (flag_within marks place e) e
 
-pub record Set (marks : List Bool) : Type 0 where
+pub record SetFlag (marks : List Bool) : Type 0 where
   pub place : ℕ
   pub is : flag marks place ≡ true
 
-pub flag_of_any : (marks : List Bool) → is_any marks ≡ true → Set marks
+pub flag_of_any : (marks : List Bool) → is_any marks ≡ true → SetFlag marks
 flag_of_any [] e = absurd (true≢false (sym e))
 flag_of_any (true ∷ marks) e = record { place = 0; is = refl }
 flag_of_any (false ∷ marks) e = let rest = flag_of_any marks e in record { place = suc rest.place; is = rest.is }

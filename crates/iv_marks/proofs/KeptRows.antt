@@ -77,13 +77,13 @@ group_within (o ∷ own) zero g e = omega arith
 group_within (o ∷ own) (suc place) g e = let l = group_within own place g e in omega (arith, l)
 
 -- a number of a list that isn't empty
-record Some_of (numbers : List ℕ) : Type 0 where
+record Member (numbers : List ℕ) : Type 0 where
   number : ℕ
   is_in : has number numbers ≡ true
 
-some_of : (numbers : List ℕ) → not (is_empty numbers) ≡ true → Some_of numbers
-some_of [] e = absurd (false_true e)
-some_of (n ∷ numbers) e = record { number = n; is_in = has_head n numbers }
+member_of : (numbers : List ℕ) → not (is_empty numbers) ≡ true → Member numbers
+member_of [] e = absurd (false_true e)
+member_of (n ∷ numbers) e = record { number = n; is_in = has_head n numbers }
 
 -- ---- the rows of a constraint
 
@@ -119,8 +119,8 @@ module _ (constraints : List Constraint) (groups : Groups) (marks : Marks) (few 
       set = let found = flag_of_any (marks_of marks id) e in
           passing (is_violating constraints groups c.constraint) (groups_of groups id) found.place (sym (are id c.constraint found.place c.at) ∙ found.is)
 
-      row : Some_of set.group.rows
-      row = some_of set.group.rows (and_first (not (is_empty set.group.rows)) (not (none_null set.group.key) || break_rule constraints groups c.constraint.rule set.group.key set.group.rows) set.passes)
+      row : Member set.group.rows
+      row = member_of set.group.rows (and_first (not (is_empty set.group.rows)) (not (none_null set.group.key) || break_rule constraints groups c.constraint.rule set.group.key set.group.rows) set.passes)
 
       is_in : has row.number (kept_rows constraints groups id c.constraint) ≡ true
       is_in = has_in_rising_order row.number _
