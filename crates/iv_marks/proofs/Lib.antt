@@ -1,0 +1,11 @@
+pub mod Exchanges
+pub mod Flags
+pub mod MarkedPlaces
+pub mod Violated
+pub mod Shown
+pub mod Least
+pub mod Sorted
+pub mod Once
+pub mod Apart
+pub mod KeptRows
+pub mod KeptFaults

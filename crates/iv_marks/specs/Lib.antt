@@ -1,0 +1,4 @@
+pub mod Shown
+pub mod Marking
+pub mod Answers
+pub mod Apart
