@@ -8,3 +8,4 @@ pub mod Referenced
 pub mod Referring
 pub mod Turning
 pub mod Whole
+pub mod Follows

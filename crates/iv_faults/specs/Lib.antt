@@ -4,4 +4,5 @@ pub mod Sides
 pub mod Steps
 pub mod References
 pub mod Turns
+pub mod Following
 pub mod Whole

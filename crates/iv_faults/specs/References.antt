@@ -33,7 +33,7 @@ reference_at references place = elim (slice_get references place) [ Some r ↦ r
 
 -- The references are those of the constraints' foreign keys, each at its constraint's place.
 pub record AreReferences (constraints : List Constraint) (references : List (Option Reference)) : Type 0 where
-  pub are : (place : ℕ) (c : Constraint) (r : Reference) → slice_get constraints place ≡ Some c → reference_at references place ≡ Some r → IsReference constraints c r
+  pub are : (place : ℕ) (r : Reference) → reference_at references place ≡ Some r → (c : Constraint) × (slice_get constraints place ≡ Some c) × IsReference constraints c r
   pub all : (place : ℕ) (c : Constraint) (fk : ForeignKey) → slice_get constraints place ≡ Some c → c.rule ≡ rule.ForeignKey fk → (r : Reference) × (reference_at references place ≡ Some r)
 
 -- Whether the key of a referencing row is referenced, by the groups of the named key: of all constraints that name that key.

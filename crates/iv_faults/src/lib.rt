@@ -1,6 +1,7 @@
 //! Kept violations: which groups of each constraint violate it, followed change by change.
 #![tactic(auto)]
 
+mod following;
 mod kept_key;
 mod reference;
 mod shown;

@@ -185,7 +185,15 @@ pub fn move_row(
         return;
     }
     leave_old(groups, marks, id, &constraint.rule, &old, change.row);
-    enter_new(groups, marks, id, &constraint.rule, &new, change.row, referenced);
+    enter_new(
+        groups,
+        marks,
+        id,
+        &constraint.rule,
+        &new,
+        change.row,
+        referenced,
+    );
 }
 
 // Marks the group of a key of a foreign key anew.

@@ -148,7 +148,14 @@ pub fn move_references(
         groups.old groups.new marks.old marks.new }
 {
     for place in places {
-        move_at(groups, marks, *place as usize, constraints, references, change);
+        move_at(
+            groups,
+            marks,
+            *place as usize,
+            constraints,
+            references,
+            change,
+        );
     }
 }
 

@@ -73,6 +73,8 @@ fn cover_places(
     requires known { constraint < length constraints.old.items }
     ensures ok { OnOk result (count ≤ length (marks_of constraints.new.items constraint)) }
     ensures count { length constraints.new.items ≡ length constraints.old.items }
+    ensures others { (id : ℕ) → id ≢ constraint →
+        marks_of constraints.new.items id ≡ marks_of constraints.old.items id }
     ensures stays { (id : ℕ) →
         length (marks_of constraints.old.items id) ≤ length (marks_of constraints.new.items id) }
     ensures flags { (id place : ℕ) →
@@ -190,6 +192,7 @@ impl ViolatingGroups {
         requires known { constraint < length self.old }
         ensures ok { OnOk result (count ≤ length (marks_of self.new constraint)) }
         ensures count { length self.new ≡ length self.old }
+        ensures others { (id : ℕ) → id ≢ constraint → marks_of self.new id ≡ marks_of self.old id }
         ensures stays { (id : ℕ) → length (marks_of self.old id) ≤ length (marks_of self.new id) }
         ensures flags { (id place : ℕ) → flag (marks_of self.new id) place ≡ flag (marks_of self.old id) place }
     {
