@@ -107,6 +107,20 @@ module _ (constraints : List Constraint) (table : ℕ) (keys foreign_keys : List
   pub no_foreign_key : is_reference c.rule ≡ false → has k foreign_keys ≡ false
   no_foreign_key e = foreign_key_is ∙ no_meeting c.rule c.table table e
 
+-- a constraint on the table is among the one or the other
+pub met_either : (constraints : List Constraint) (table : ℕ) (keys foreign_keys : List ℕ) → AreMet constraints table keys foreign_keys → (k : ℕ) (c : Constraint) → slice_get constraints k ≡ Some c
+    → (table == c.table) ≡ true → has k keys ≡ false → has k foreign_keys ≡ true
+met_either constraints table keys foreign_keys met k c at t missing =
+    foreign_key_is constraints table keys foreign_keys met k c at
+    ∙ on_table c.rule (sym (sym missing ∙ key_is constraints table keys foreign_keys met k c at ∙ ap (λ b. b && not (is_reference c.rule)) t))
+  where
+    on_table : (k : Rule) → not (is_reference k) ≡ false → meets k c.table table ≡ true
+    on_table (rule.NotNull column) e = absurd (true≢false e)
+    on_table (rule.Check condition) e = absurd (true≢false e)
+    on_table (rule.Unique columns) e = absurd (true≢false e)
+    on_table (rule.PrimaryKey columns) e = absurd (true≢false e)
+    on_table (rule.ForeignKey fk) e = ap (λ b. b || (table == fk.referenced)) t
+
 -- the key that a reference names is no foreign key, and is there
 pub named_there : (constraints : List Constraint) (c : Constraint) (r : Reference) (id : ℕ) → AllNamed constraints → slice_get constraints id ≡ Some c → IsReference constraints c r
     → (d : Constraint) × (slice_get constraints r.named ≡ Some d) × (is_reference d.rule ≡ false)

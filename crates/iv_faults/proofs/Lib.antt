@@ -9,3 +9,4 @@ pub mod Referring
 pub mod Turning
 pub mod Whole
 pub mod Follows
+pub mod Rooms

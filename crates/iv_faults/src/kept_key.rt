@@ -6,6 +6,7 @@ ghost use Rattle.iv_key.specs.Keys.{key_of, value_at};
 ghost use Rattle.iv_laws_kept.specs.Kept.{null_key, null_key_where, is_free, kept_key, key_or};
 ghost use Rattle.iv_faults.specs.Sides.{is_one_key, referenced_key, side_key};
 
+use crate::sides::Sides;
 use iv_catalogue::{Constraint, ForeignKey, Rule};
 use iv_expr::{Row, TableId, check_truth};
 use iv_key::{Key, value_at};
@@ -81,8 +82,8 @@ pub fn kept_key<'a>(rule: &'a Rule, row: &'a [Value]) -> Option<Key<'a>>
     }
 }
 
-/// The key under which a constraint keeps one side of a change in a table, if it keeps it.
-pub fn side_key<'a>(
+// The key under which a constraint keeps one side of a change in a table, if it keeps it.
+fn side_key<'a>(
     constraint: &'a Constraint,
     table: TableId,
     side: &'a Option<Row>,
@@ -101,9 +102,9 @@ pub fn side_key<'a>(
     }
 }
 
-/// The key of one side of a change that rows refer to by a foreign key, where it is a row of the referenced table and
-/// has no null.
-pub fn referenced_key<'a>(
+// The key of one side of a change that rows refer to by a foreign key, where it is a row of the referenced table and
+// has no null.
+fn referenced_key<'a>(
     fk: &'a ForeignKey,
     table: TableId,
     side: &'a Option<Row>,
@@ -134,4 +135,32 @@ pub fn is_one_key(one: &Option<Key<'_>>, other: &Option<Key<'_>>) -> bool
             Some(other) => key.same(other),
         },
     }
+}
+
+/// The key under which a constraint keeps the old side of a change, if it keeps it.
+pub fn old_key<'a>(constraint: &'a Constraint, change: &Sides<'a>) -> Option<Key<'a>>
+    ensures { result ≡ side_key constraint.entry.now change.now.table change.now.old }
+{
+    side_key(constraint, change.table(), change.old())
+}
+
+/// The key under which a constraint keeps the new side of a change, if it keeps it.
+pub fn new_key<'a>(constraint: &'a Constraint, change: &Sides<'a>) -> Option<Key<'a>>
+    ensures { result ≡ side_key constraint.entry.now change.now.table change.now.new }
+{
+    side_key(constraint, change.table(), change.new())
+}
+
+/// The key of the old side of a change that rows refer to by a foreign key, if there is one.
+pub fn old_referenced_key<'a>(fk: &'a ForeignKey, change: &Sides<'a>) -> Option<Key<'a>>
+    ensures { result ≡ referenced_key fk.entry.now change.now.table change.now.old }
+{
+    referenced_key(fk, change.table(), change.old())
+}
+
+/// The key of the new side of a change that rows refer to by a foreign key, if there is one.
+pub fn new_referenced_key<'a>(fk: &'a ForeignKey, change: &Sides<'a>) -> Option<Key<'a>>
+    ensures { result ≡ referenced_key fk.entry.now change.now.table change.now.new }
+{
+    referenced_key(fk, change.table(), change.new())
 }

@@ -5,5 +5,6 @@ mod following;
 mod kept_key;
 mod reference;
 mod shown;
+mod sides;
 mod step;
 mod turns;

@@ -10,11 +10,13 @@ ghost use Rattle.iv_faults.specs.References.{ChildIsMarked, KeysAreReferred, Ref
 ghost use Rattle.iv_faults.specs.Sides.{stays_put};
 ghost use Rattle.iv_faults.specs.Steps.{IsReady, IsWatched, OnlyOf, RowMoved};
 
-use crate::kept_key::{is_one_key, referenced_key, side_key};
+use crate::kept_key::{
+    is_one_key, new_key, new_referenced_key, old_key, old_referenced_key,
+};
 use crate::shown::{count_at, place};
+use crate::sides::Sides;
 use crate::step::{move_row, refer};
 use iv_catalogue::{Constraint, ForeignKey};
-use iv_expr::Change;
 use iv_index::Groups;
 use iv_key::Key;
 use iv_marks::ViolatingGroups;
@@ -45,13 +47,13 @@ fn has_rows(groups: &mut Groups, id: usize, key: &Key<'_>) -> bool
 }
 
 // Whether rows are kept under the key of the old side of a change, in the columns of the named key. One look-up.
-fn old_is_referenced(groups: &mut Groups, r: &Reference, change: &Change) -> bool
+fn old_is_referenced(groups: &mut Groups, r: &Reference, change: &Sides<'_>) -> bool
     requires known { r.now.named < length groups.old.groups }
     ensures told { TellsOld r.now change.now (shown_of groups.old.groups r.now.named) result }
     ensures kept { groups.new.groups ≡ groups.old.groups }
     ensures looked { groups.new.looked ≤ groups.old.looked + 1 }
 {
-    match &change.old {
+    match change.old() {
         Some(row) => has_rows(
             groups,
             r.named,
@@ -79,14 +81,14 @@ fn is_referenced(groups: &mut Groups, r: &Reference, row: &[Value]) -> bool
 }
 
 // Whether the key of the new side of a change is referenced. One look-up.
-fn new_is_referenced(groups: &mut Groups, r: &Reference, change: &Change) -> bool
+fn new_is_referenced(groups: &mut Groups, r: &Reference, change: &Sides<'_>) -> bool
     requires known { r.now.named < length groups.old.groups }
     ensures told { (row : List Value) → change.now.new ≡ Some row
         → TellsReferenced r.now row (shown_of groups.old.groups r.now.named) result }
     ensures kept { groups.new.groups ≡ groups.old.groups }
     ensures looked { groups.new.looked ≤ groups.old.looked + 1 }
 {
-    match &change.new {
+    match change.new() {
         Some(row) => is_referenced(groups, r, row.values()),
         None => false,
     }
@@ -99,7 +101,7 @@ fn refer_sides(
     id: usize,
     constraint: &Constraint,
     r: &Reference,
-    change: &Change,
+    change: &Sides<'_>,
 )
     requires watched { IsWatched id groups.old.groups marks.old }
     requires known { r.now.named < length groups.old.groups }
@@ -109,8 +111,8 @@ fn refer_sides(
     ensures only { OnlyOf id 3 groups.old groups.new marks.old marks.new }
     ensures watched { IsWatched id groups.new.groups marks.new }
 {
-    let old = referenced_key(&r.key, change.table, &change.old);
-    let new = referenced_key(&r.key, change.table, &change.new);
+    let old = old_referenced_key(&r.key, change);
+    let new = new_referenced_key(&r.key, change);
     if is_one_key(&old, &new) {
         return;
     }
@@ -124,7 +126,7 @@ fn moved_is_referenced(
     groups: &mut Groups,
     constraint: &Constraint,
     r: &Reference,
-    change: &Change,
+    change: &Sides<'_>,
 ) -> bool
     requires known { r.now.named < length groups.old.groups }
     ensures told { stays_put constraint.now change.now ≡ false
@@ -133,8 +135,8 @@ fn moved_is_referenced(
     ensures kept { groups.new.groups ≡ groups.old.groups }
     ensures looked { groups.new.looked ≤ groups.old.looked + 1 }
 {
-    let old = side_key(constraint, change.table, &change.old);
-    let new = side_key(constraint, change.table, &change.new);
+    let old = old_key(constraint, change);
+    let new = new_key(constraint, change);
     if is_one_key(&old, &new) {
         return false;
     }
@@ -148,7 +150,7 @@ fn move_child(
     id: usize,
     constraint: &Constraint,
     r: &Reference,
-    change: &Change,
+    change: &Sides<'_>,
 )
     requires ready { IsReady change.now constraint.now (groups_of groups.old.groups id) }
     requires watched { IsWatched id groups.old.groups marks.old }
@@ -173,7 +175,7 @@ pub fn move_reference(
     id: usize,
     constraint: &Constraint,
     r: &Reference,
-    change: &Change,
+    change: &Sides<'_>,
 )
     requires ready { IsReady change.now constraint.now (groups_of groups.old.groups id) }
     requires watched { IsWatched id groups.old.groups marks.old }

@@ -13,10 +13,10 @@ ghost use Rattle.iv_faults.specs.KeyGroups.{break_by, violate_by, Marked};
 ghost use Rattle.iv_faults.specs.Sides.{come, is_key, side_key, stays_put};
 ghost use Rattle.iv_faults.specs.Steps.{IsReady, IsWatched, OnlyOf, RowMoved, RowsStay};
 
-use crate::kept_key::{is_free, is_one_key, side_key};
+use crate::kept_key::{is_free, is_one_key, new_key, old_key};
+use crate::sides::Sides;
 use crate::shown::{count_at, make_room, place, put, rows_rise, take};
 use iv_catalogue::{Constraint, Rule};
-use iv_expr::Change;
 use iv_index::Groups;
 use iv_key::Key;
 use iv_marks::ViolatingGroups;
@@ -162,7 +162,7 @@ pub fn move_row(
     marks: &mut ViolatingGroups,
     id: usize,
     constraint: &Constraint,
-    change: &Change,
+    change: &Sides<'_>,
     referenced: bool,
 )
     requires ready { IsReady change.now constraint.now (groups_of groups.old.groups id) }
@@ -178,20 +178,20 @@ pub fn move_row(
     ensures only { OnlyOf id 2 groups.old groups.new marks.old marks.new }
     ensures watched { IsWatched id groups.new.groups marks.new }
 {
-    let old = side_key(constraint, change.table, &change.old);
-    let new = side_key(constraint, change.table, &change.new);
+    let old = old_key(constraint, change);
+    let new = new_key(constraint, change);
     rows_rise(groups);
     if is_one_key(&old, &new) {
         return;
     }
-    leave_old(groups, marks, id, &constraint.rule, &old, change.row);
+    leave_old(groups, marks, id, &constraint.rule, &old, change.row());
     enter_new(
         groups,
         marks,
         id,
         &constraint.rule,
         &new,
-        change.row,
+        change.row(),
         referenced,
     );
 }
@@ -252,7 +252,7 @@ pub fn make_room_for(
     marks: &mut ViolatingGroups,
     id: usize,
     constraint: &Constraint,
-    change: &Change,
+    change: &Sides<'_>,
 ) -> Result<(), AllocError>
     requires watched { IsWatched id groups.old.groups marks.old }
     ensures stay { RowsStay constraint.now (shown_of groups.old.groups id) (marks_of marks.old id)
@@ -263,8 +263,8 @@ pub fn make_room_for(
     ensures only { OnlyOf id 1 groups.old groups.new marks.old marks.new }
     ensures watched { IsWatched id groups.new.groups marks.new }
 {
-    let old = side_key(constraint, change.table, &change.old);
-    let new = side_key(constraint, change.table, &change.new);
+    let old = old_key(constraint, change);
+    let new = new_key(constraint, change);
     if is_one_key(&old, &new) {
         return Ok(());
     }

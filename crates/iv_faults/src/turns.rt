@@ -14,9 +14,9 @@ ghost use Rattle.iv_faults.specs.Steps.{IsReady, IsWatched, OnlyOf};
 ghost use Rattle.iv_faults.specs.Turns.{AllStay, HasRoom, KeyTurn, ReferenceTurn, RoomTurn, StayTurn, Turned};
 
 use crate::reference::{Reference, move_reference};
+use crate::sides::Sides;
 use crate::step::{make_room_for, move_row};
 use iv_catalogue::Constraint;
-use iv_expr::Change;
 use iv_index::Groups;
 use iv_marks::ViolatingGroups;
 use std::alloc::AllocError;
@@ -34,7 +34,7 @@ fn move_key(
     marks: &mut ViolatingGroups,
     id: usize,
     constraints: &[Constraint],
-    change: &Change,
+    change: &Sides<'_>,
 )
     requires watched { IsWatched id groups.old.groups marks.old }
     requires ready { (c : Constraint) → slice_get constraints.now id ≡ Some c
@@ -55,7 +55,7 @@ pub fn move_keys(
     marks: &mut ViolatingGroups,
     places: &[u32],
     constraints: &[Constraint],
-    change: &Change,
+    change: &Sides<'_>,
 )
     requires once { NoRepeats places.now }
     requires watched { (k : ℕ) → has k places.now ≡ true → IsWatched k groups.old.groups marks.old }
@@ -85,7 +85,7 @@ fn move_by(
     id: usize,
     constraints: &[Constraint],
     r: &Reference,
-    change: &Change,
+    change: &Sides<'_>,
 )
     requires watched { IsWatched id groups.old.groups marks.old }
     requires known { r.now.named < length groups.old.groups }
@@ -111,7 +111,7 @@ fn move_at(
     id: usize,
     constraints: &[Constraint],
     references: &[Option<Reference>],
-    change: &Change,
+    change: &Sides<'_>,
 )
     requires watched { IsWatched id groups.old.groups marks.old }
     requires named { (r : Refers) → reference_at references.now id ≡ Some r
@@ -136,7 +136,7 @@ pub fn move_references(
     places: &[u32],
     constraints: &[Constraint],
     references: &[Option<Reference>],
-    change: &Change,
+    change: &Sides<'_>,
 )
     requires once { NoRepeats places.now }
     requires watched { (k : ℕ) → has k places.now ≡ true → IsWatched k groups.old.groups marks.old }
@@ -165,7 +165,7 @@ fn make_room_at(
     marks: &mut ViolatingGroups,
     id: usize,
     constraints: &[Constraint],
-    change: &Change,
+    change: &Sides<'_>,
 ) -> Result<(), AllocError>
     requires watched { IsWatched id groups.old.groups marks.old }
     ensures stay { StayTurn constraints.now id (groups_of groups.old.groups id) (marks_of marks.old id)
@@ -186,7 +186,7 @@ pub fn make_rooms(
     marks: &mut ViolatingGroups,
     places: &[u32],
     constraints: &[Constraint],
-    change: &Change,
+    change: &Sides<'_>,
 ) -> Result<(), AllocError>
     requires once { NoRepeats places.now }
     requires watched { (k : ℕ) → has k places.now ≡ true → IsWatched k groups.old.groups marks.old }

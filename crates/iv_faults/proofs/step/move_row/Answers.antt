@@ -7,5 +7,5 @@ use Rattle.iv_faults.proofs.step.move_row.Goals as goal
 pub returns-then-is_one_key-clause-moved : goal.returns-then-is_one_key-clause-moved
 returns-then-is_one_key-clause-moved c = λ key.
     stays_moved c.args.constraint.now c.args.change.now (shown_of c.args.groups.now.groups c.args.id) key
-    ((λ i. is_one_key (sym c.side_key-old.ensures i) (sym c.side_key-new.ensures i)) ∙ sym c.is_one_key.ensures ∙ c.if-is_one_key.true)
+    ((λ i. is_one_key (sym c.old_key-old.ensures i) (sym c.new_key-new.ensures i)) ∙ sym c.is_one_key.ensures ∙ c.if-is_one_key.true)
     c.requires.ready.present (c.rows_rise.ensures c.args.id key)
