@@ -10,3 +10,4 @@ pub mod Turning
 pub mod Whole
 pub mod Follows
 pub mod Rooms
+pub mod Shows

@@ -6,3 +6,5 @@ pub mod References
 pub mod Turns
 pub mod Following
 pub mod Whole
+pub mod Watch
+pub mod Watching

@@ -104,11 +104,7 @@ fn side_key<'a>(
 
 // The key of one side of a change that rows refer to by a foreign key, where it is a row of the referenced table and
 // has no null.
-fn referenced_key<'a>(
-    fk: &'a ForeignKey,
-    table: TableId,
-    side: &'a Option<Row>,
-) -> Option<Key<'a>>
+fn referenced_key<'a>(fk: &'a ForeignKey, table: TableId, side: &'a Option<Row>) -> Option<Key<'a>>
     ensures { result ≡ referenced_key fk.entry.now table side.entry.now }
 {
     match side {

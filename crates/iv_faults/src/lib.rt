@@ -1,10 +1,14 @@
 //! Kept violations: which groups of each constraint violate it, followed change by change.
 #![tactic(auto)]
 
+mod faults;
 mod following;
 mod kept_key;
 mod reference;
 mod shown;
 mod sides;
 mod step;
+mod table_constraints;
 mod turns;
+
+pub use faults::Faults;

@@ -10,9 +10,7 @@ ghost use Rattle.iv_faults.specs.References.{ChildIsMarked, KeysAreReferred, Ref
 ghost use Rattle.iv_faults.specs.Sides.{stays_put};
 ghost use Rattle.iv_faults.specs.Steps.{IsReady, IsWatched, OnlyOf, RowMoved};
 
-use crate::kept_key::{
-    is_one_key, new_key, new_referenced_key, old_key, old_referenced_key,
-};
+use crate::kept_key::{is_one_key, new_key, new_referenced_key, old_key, old_referenced_key};
 use crate::shown::{count_at, place};
 use crate::sides::Sides;
 use crate::step::{move_row, refer};
@@ -25,6 +23,7 @@ use sqlite_items::Items;
 
 /// A foreign key with the number of the key that it names, that key's columns, and the referencing columns that are
 /// paired with these and with the foreign key's own list.
+#[derive(Drop)]
 pub struct Reference {
     pub key: ForeignKey,
     pub named: usize,

@@ -14,8 +14,8 @@ ghost use Rattle.iv_faults.specs.Sides.{come, is_key, side_key, stays_put};
 ghost use Rattle.iv_faults.specs.Steps.{IsReady, IsWatched, OnlyOf, RowMoved, RowsStay};
 
 use crate::kept_key::{is_free, is_one_key, new_key, old_key};
-use crate::sides::Sides;
 use crate::shown::{count_at, make_room, place, put, rows_rise, take};
+use crate::sides::Sides;
 use iv_catalogue::{Constraint, Rule};
 use iv_index::Groups;
 use iv_key::Key;

@@ -1,0 +1,104 @@
+-- What is kept shows rows.
+use Rattle.std.proofs.Common.{◌≡◌, refl, ℕ, ◌+◌, ◌*◌, ◌<◌, ◌≤◌, Bool, true, false, ◌&&◌, if◌then◌else◌, List, [], ◌∷◌, length, slice_get, Option, Some, None, sym, ap, subst, ◌∙◌, arith}
+use Rattle.std.specs.Prelude.{Result, Ok, Err, OnErr}
+use Rattle.std.specs.Bool.{◌==◌}
+use Rattle.iv_faults.specs.Words.{Value, StoredRow, Change, Constraint}
+use Rattle.iv_value.specs.Values.{all_same}
+use Rattle.iv_laws.proofs.Keys.{all_same_itself}
+use Rattle.iv_laws.proofs.RowNumbers.{some_none, some_same}
+use Rattle.iv_laws.proofs.AppliedRows.{rows_after_in_order}
+use Rattle.iv_laws.specs.FittingWaves.{old_row}
+use Rattle.iv_machine.specs.Databases.{row_at, rows_after, scan}
+use Rattle.iv_index.specs.Groups.{Contents, GroupOf, groups_of}
+use Rattle.iv_marks.specs.Shown.{shown}
+use Rattle.iv_marks.specs.Apart.{AreApart}
+use Rattle.iv_marks.specs.Answers.{HaveGroups}
+use Rattle.iv_marks.proofs.Apart.{shown_groups_are_apart}
+use Rattle.iv_marks.proofs.KeptRows.{have_groups}
+use Rattle.iv_marks.proofs.Shown.{groups_shown}
+use Rattle.iv_laws_kept.specs.Kept.{AllNamed, Groups, KeysOnce, Show, is_kept_under, kept, kept_key, rows_in, rows_under}
+use Rattle.iv_laws_kept.specs.Marks.{Marks, AreMarked}
+use Rattle.iv_laws_kept.specs.Moves.{Follow, Holds, taken_back}
+use Rattle.iv_laws_kept.specs.Numbers.{has}
+use Rattle.iv_laws_kept.proofs.Rows.{has_filtered, passes}
+use Rattle.iv_laws_kept.proofs.Moves.{changes_are_followed, changes_are_taken_back}
+use Rattle.iv_laws_kept.proofs.KeptIsScan.{kept_is_the_scan}
+use Rattle.iv_faults.specs.Sides.{IsPresent, side_key}
+use Rattle.iv_faults.specs.Steps.{IsReady, IsWatched}
+use Rattle.iv_faults.specs.Turns.{AllStay}
+use Rattle.iv_faults.specs.Following.{Followed}
+use Rattle.iv_faults.specs.Watching.{AreWatched, HasRoomBack, IsShownBy, ShownRowsArePresent, Watching}
+use Rattle.iv_faults.proofs.Rooms.{stay_marked, stay_rows}
+
+pub on_err : {A E : Type 0} (X : Type 0) (r : Result A E) → X → OnErr r X
+on_err X (Ok a) x = tt
+on_err X (Err e) x = x
+
+-- ---- after a change
+
+abbrev watching : List Constraint → Marks → Watching
+watching constraints marks = record { constraints = constraints; marks = marks }
+
+pub shown_after : (constraints : List Constraint) (change : Change) (most : ℕ) (start now : Contents) (marks later : Marks) (rows : List StoredRow) → AllNamed constraints → KeysOnce (shown now.groups)
+    → Followed constraints change most start now marks later → Holds rows change → IsShownBy rows (watching constraints marks) start
+    → IsShownBy (rows_after rows (change ∷ [])) (watching constraints later) now
+shown_after constraints change most start now marks later rows all once f holds s = record {
+  in_order = rows_after_in_order rows (change ∷ []);
+  shows = (changes_are_followed constraints change (shown start.groups) (shown now.groups) rows all once f.follow holds s.shows).0;
+  marked = f.marked s.marked;
+}
+
+pub shown_back : (constraints : List Constraint) (change : Change) (most : ℕ) (start now : Contents) (marks later : Marks) (rows : List StoredRow) → AllNamed constraints → KeysOnce (shown now.groups)
+    → Followed constraints (taken_back change) most start now marks later → Holds rows change → IsShownBy (rows_after rows (change ∷ [])) (watching constraints marks) start
+    → IsShownBy rows (watching constraints later) now
+shown_back constraints change most start now marks later rows all once f holds s = record {
+  in_order = holds.0;
+  shows = (changes_are_taken_back constraints change (shown start.groups) (shown now.groups) rows all once f.follow holds s.shows).0;
+  marked = f.marked s.marked;
+}
+
+pub shown_still : (constraints : List Constraint) (most : ℕ) (start now : Contents) (marks later : Marks) (rows : List StoredRow) → AllNamed constraints
+    → AllStay constraints most start now marks later → IsShownBy rows (watching constraints marks) start → IsShownBy rows (watching constraints later) now
+shown_still constraints most start now marks later rows all s shows = record {
+  in_order = shows.in_order;
+  shows = λ id c key at. stay_rows constraints most start now marks later id c key s at ∙ shows.shows id c key at;
+  marked = stay_marked constraints most start now marks later all s shows.marked;
+}
+
+-- what the taking back of a change asks of each constraint
+pub ready_back : (constraints : List Constraint) (change : Change) (groups : List (List GroupOf)) → IsPresent constraints (shown groups) (taken_back change) → HasRoomBack constraints groups change
+    → (k : ℕ) (c : Constraint) → slice_get constraints k ≡ Some c → IsReady (taken_back change) c (groups_of groups k)
+ready_back constraints change groups present room k c at = record {
+  present = λ key e. ap (λ g. has change.row (rows_in g key)) (sym (groups_shown groups k)) ∙ present k c key at e;
+  room_for = λ key moves e. room k c key at moves e;
+}
+
+-- the marked places have groups
+pub have_groups_of : (constraints : List Constraint) (groups : List (List GroupOf)) (marks : Marks) → length marks ≡ length constraints → AreMarked constraints (shown groups) marks → HaveGroups marks (shown groups)
+have_groups_of constraints groups marks count marked = have_groups constraints (shown groups) marks (omega (arith, count)) marked
+
+-- ---- the rows that are shown are under their keys
+
+pub shown_rows_are_present : ShownRowsArePresent
+shown_rows_are_present rows constraints groups change shows holds id c key at e =
+    ap (has change.row) (shows id c key at) ∙ has_filtered (is_kept_under c key) rows change.row holds.0 ∙ ap (passes (is_kept_under c key)) holds.1 ∙ by_side change.old e
+  where
+    by_side : (side : Option (List Value)) → side_key c change.table side ≡ Some key
+        → passes (is_kept_under c key) (elim side [ Some values ↦ Some (record { table = change.table; number = change.row; values = values }) | None ↦ None ]) ≡ true
+    by_side None e = absurd (some_none key (sym e))
+    by_side (Some values) e = by_table (change.table == c.table) (kept_key c.rule values) e
+      where
+        by_table : (b : Bool) (o : Option (List Value)) → (if b then o else None) ≡ Some key → (b && elim o [ Some k ↦ all_same k key | None ↦ false ]) ≡ true
+        by_table true None e = absurd (some_none key (sym e))
+        by_table true (Some k) e = ap (λ k. all_same k key) (some_same k key e) ∙ all_same_itself key
+        by_table false o e = absurd (some_none key (sym e))
+
+-- ---- the scan
+
+pub kept_scan : (constraints : List Constraint) (groups : Contents) (marks : Marks) (rows : List StoredRow) (chosen : ℕ → Bool) → AllNamed constraints → KeysOnce (shown groups.groups)
+    → IsShownBy rows (watching constraints marks) groups → kept constraints (shown groups.groups) chosen ≡ scan rows constraints chosen
+kept_scan constraints groups marks rows chosen all once s = kept_is_the_scan rows constraints (shown groups.groups) chosen s.in_order all once s.shows
+
+pub rows_apart : (constraints : List Constraint) (groups : Contents) (marks : Marks) (rows : List StoredRow) → KeysOnce (shown groups.groups)
+    → IsShownBy rows (watching constraints marks) groups → AreApart constraints (shown groups.groups)
+rows_apart constraints groups marks rows once s = shown_groups_are_apart rows constraints (shown groups.groups) s.in_order once s.shows

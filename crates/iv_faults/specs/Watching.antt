@@ -1,0 +1,52 @@
+-- Kept violations: what is kept, and which rows it shows.
+use Rattle.std.specs.Prelude.{◌≡◌, ℕ, ◌*◌, ◌<◌, ◌≤◌, false, List, length, slice_get, Option, Some}
+use Rattle.iv_catalogue.specs.declared.limits.TheConstants.{MOST_CONSTRAINTS, MOST_TABLES}
+use Rattle.iv_faults.specs.Words.{Value, StoredRow, Change, Constraint}
+use Rattle.iv_faults.specs.declared.reference.Reference.{Reference}
+use Rattle.iv_faults.specs.declared.table_constraints.TableConstraints.{TableConstraints}
+use Rattle.iv_index.specs.Groups.{Contents, GroupOf, groups_of, room_of}
+use Rattle.iv_marks.specs.Shown.{shown}
+use Rattle.iv_laws.specs.RisingRows.{InOrder}
+use Rattle.iv_laws_kept.specs.Kept.{AllNamed, Show}
+use Rattle.iv_laws_kept.specs.Marks.{Marks, AreMarked}
+use Rattle.iv_laws_kept.specs.Moves.{Holds, taken_back}
+use Rattle.iv_faults.specs.Sides.{IsPresent, side_key, stays_put}
+use Rattle.iv_faults.specs.Steps.{IsWatched}
+use Rattle.iv_faults.specs.References.{AreReferences}
+use Rattle.iv_faults.specs.Watch.{AreTabled}
+
+-- The constraints that are watched, and for each which of its groups are marked.
+pub record Watching : Type 0 where
+  pub constraints : List Constraint
+  pub marks : Marks
+
+-- what stands beside the constraints is theirs
+pub record IsTakenUp (constraints : List Constraint) (references : List (Option Reference)) (tables : List TableConstraints) (marks : Marks) : Type 0 where
+  pub references_are : AreReferences constraints references
+  pub named : AllNamed constraints
+  pub tabled : AreTabled constraints tables
+  pub few : length constraints ≤ MOST_TABLES * MOST_CONSTRAINTS
+  pub marks_count : length marks ≡ length constraints
+
+-- each constraint has groups, and a place for the mark of each
+abbrev pub AreWatched : Watching → Contents → Type 0
+AreWatched w groups = (k : ℕ) → k < length w.constraints → IsWatched k groups.groups w.marks
+
+-- The groups and the marks show these rows: under each key of each constraint are the rows that it keeps there, and the marked
+-- groups are those that violate their constraint.
+pub record IsShownBy (rows : List StoredRow) (w : Watching) (groups : Contents) : Type 0 where
+  pub in_order : InOrder rows
+  pub shows : Show rows w.constraints (shown groups.groups)
+  pub marked : AreMarked w.constraints (shown groups.groups) w.marks
+
+-- there is room under each key that a row has to be put back under when a change is taken back
+abbrev pub HasRoomBack : List Constraint → List (List GroupOf) → Change → Type 0
+HasRoomBack constraints groups change =
+    (k : ℕ) (c : Constraint) (key : List Value)
+    → slice_get constraints k ≡ Some c → stays_put c (taken_back change) ≡ false → side_key c change.table change.old ≡ Some key → 0 < room_of (groups_of groups k) key
+
+-- Where the groups show rows, and the changed row holds what the change says, it is under the keys of its old side.
+abbrev pub ShownRowsArePresent : Type 0
+ShownRowsArePresent =
+    (rows : List StoredRow) (constraints : List Constraint) (groups : List (List GroupOf)) (change : Change)
+    → Show rows constraints (shown groups) → Holds rows change → IsPresent constraints (shown groups) change
