@@ -1,5 +1,5 @@
 -- Lists in rising number: what two numbers tell, an item among the others, and the place of a number.
-use Rattle.std.proofs.Common.{◌≡◌, ℕ, zero, suc, ◌+◌, ◌-◌, ◌^◌, ◌<◌, ◌≤◌, ◌⊎◌, inl, inr, min, Bool, true, false, ◌||◌, if◌then◌else◌, ◌==◌, cond, Option, Some, None, option_map, List, [], ◌∷◌, filter, length, take, drop, get_or, slice_set, arith, refl, ap, sym, subst, ◌∙◌}
+use Rattle.std.proofs.Common.{◌≡◌, ℕ, zero, suc, ◌+◌, ◌-◌, ◌^◌, ◌<◌, ◌≤◌, ◌⊎◌, inl, inr, min, Bool, true, false, ◌||◌, if◌then◌else◌, ◌==◌, cond, Some, None, option_map, List, [], ◌∷◌, filter, length, take, drop, get_or, slice_set, arith, refl, ap, sym, subst, ◌∙◌}
 use Rattle.std.specs.Prelude.{nat_lt, slice_get, unwrap_or}
 use Rattle.std.specs.List.{insert}
 use Rattle.std.proofs.lemmas.Bool.Decides.{nat_tests}

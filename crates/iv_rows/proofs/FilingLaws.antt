@@ -1,13 +1,13 @@
 -- Numbers under which rows are looked for: one more of them, fewer of them, and what is filed.
-use Rattle.std.proofs.Common.{◌≡◌, ℕ, zero, suc, ◌+◌, ◌-◌, ◌^◌, ◌<◌, ◌≤◌, ◌⊎◌, inl, inr, min, Bool, true, false, ◌||◌, if◌then◌else◌, ◌==◌, Option, Some, None, Result, Ok, Err, OnOk, OnErr, List, [], ◌∷◌, ◌++◌, filter, length, drop, slice_set, arith, refl, ap, sym, subst, ◌∙◌}
-use Rattle.std.specs.Prelude.{nat_lt, slice_get, slice_index_or}
+use Rattle.std.proofs.Common.{◌≡◌, ℕ, zero, suc, ◌+◌, ◌-◌, ◌^◌, ◌<◌, ◌≤◌, ◌⊎◌, inl, inr, min, Bool, true, false, if◌then◌else◌, Result, Ok, Err, OnOk, OnErr, List, [], ◌∷◌, filter, length, drop, slice_set, arith, refl, ap, sym, subst, ◌∙◌}
+use Rattle.std.specs.Prelude.{nat_lt, slice_index_or}
 use Rattle.iv_expr.specs.declared.row.StoredRow.{StoredRow}
-use Rattle.iv_machine.specs.Databases.{row_at, rows_with}
+use Rattle.iv_machine.specs.Databases.{row_at}
 use Rattle.iv_rows.specs.declared.slot.Slot.{Slot}
 use Rattle.iv_rows.specs.ByNumber.{place_by}
-use Rattle.iv_rows.specs.InSlots.{SlotsRise, slot_number, live_rows, slots_with, slots_without, swept, has_slot}
-use Rattle.iv_rows.specs.Filing.{itself, NumbersRise, with_number, is_number, numbers_above, numbers_for, is_filed, StaysWhere, StaysFiled, Covers, Files}
-use Rattle.iv_rows.proofs.ByNumber.{Less, Same, tells, less, below_tells, impossible, lower, front, instead, further, with_rises, has_added, has_still, has_passed, place_further, place_here, has_at}
+use Rattle.iv_rows.specs.InSlots.{slot_number, live_rows, slots_with, slots_without, swept, has_slot}
+use Rattle.iv_rows.specs.Filing.{itself, NumbersRise, with_number, is_number, numbers_above, numbers_for, is_filed, StaysWhere, StaysFiled, Files}
+use Rattle.iv_rows.proofs.ByNumber.{Less, Same, tells, less, below_tells, impossible, instead, further, with_rises, has_added, has_still, has_passed, place_further, place_here, has_at}
 use Rattle.iv_rows.proofs.Rows.{found_with, found_without}
 use Rattle.iv_rows.proofs.SlotLaws.{live_with, live_without, without_rises, live_swept, swept_rises, found_slot}
 
@@ -56,18 +56,6 @@ there_already n (m ∷ numbers) h = by (tells n m) (there_already n numbers) whe
       further itself n m numbers f.1 f.3 ∙ ap (λ l. m ∷ l) (more (sym (ap (λ k. has_at itself (m ∷ numbers) k n) (place_further itself n m numbers f.0)) ∙ h))
 
 -- ---- what is filed
-
-pub stays_same : (old new : List (List ℕ)) → ((t : ℕ) → numbers_for new t ≡ numbers_for old t) → StaysFiled old new
-stays_same old new s t n e = ap (is_number n) (s t) ∙ e
-
-pub stays_then : (a b c : List (List ℕ)) → StaysFiled a b → StaysFiled b c → StaysFiled a c
-stays_then a b c f g t n e = g t n (f t n e)
-
-pub for_more : (numbers : List (List ℕ)) (t : ℕ) → numbers_for (numbers ++ [] ∷ []) t ≡ numbers_for numbers t
-for_more [] zero = refl
-for_more [] (suc t) = refl
-for_more (l ∷ numbers) zero = refl
-for_more (l ∷ numbers) (suc t) = for_more numbers t
 
 set_for : (numbers : List (List ℕ)) (k : ℕ) (l : List ℕ) → k < length numbers → numbers_for (slice_set numbers k l) k ≡ l
 set_for [] k l h = absurd (omega (arith, h))

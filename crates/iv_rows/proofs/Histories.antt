@@ -1,7 +1,8 @@
 -- What holds of a database with its journal and marks: after a change, a step back, and marks that are made, reached and dropped.
-use Rattle.std.proofs.Common.{◌≡◌, ℕ, zero, suc, ◌+◌, ◌-◌, ◌^◌, ◌<◌, ◌≤◌, max, Option, Some, None, IfSome, List, [], ◌∷◌, ◌++◌, map, length, length-append, take, remove, arith, refl, ap, sym, subst, ◌∙◌}
+use Rattle.std.proofs.Common.{◌≡◌, ℕ, zero, suc, ◌+◌, ◌-◌, ◌^◌, ◌<◌, ◌≤◌, max, Option, Some, None, IfSome, List, [], ◌∷◌, ◌++◌, length, length-append, take, remove, arith, refl, ap, sym, subst, ◌∙◌}
 use Rattle.std.specs.Prelude.{slice_get}
 use Rattle.iv_expr.specs.declared.row.StoredRow.{StoredRow}
+use Rattle.std.proofs.lemmas.List.{length-map}
 use Rattle.iv_expr.specs.declared.row.Change.{Change}
 use Rattle.iv_expr.specs.Scopes.{Rises}
 use Rattle.iv_expr.specs.Changes.{wave_of}
@@ -11,10 +12,10 @@ use Rattle.iv_machine.specs.Databases.{row_at, database_after}
 use Rattle.iv_machine.specs.Waves.{values_at}
 use Rattle.iv_rows.specs.declared.saved.Saved.{Saved}
 use Rattle.iv_rows.specs.SetRows.{InBounds, set_row}
-use Rattle.iv_rows.specs.Histories.{History, database_of, rows_before, database_at, databases_at, marked_databases, Marked, marked_of, after_change, with_mark, marked_database, at_mark, before_mark, without_mark, history_after, saved_of, noted_at, stepped_back, NeverFalls, AllBelow, EachBelow, EachInBounds, Sound}
+use Rattle.iv_rows.specs.Histories.{History, database_of, rows_before, database_at, databases_at, marked_databases, Marked, marked_of, after_change, marked_database, at_mark, before_mark, without_mark, history_after, saved_of, noted_at, stepped_back, NeverFalls, AllBelow, EachBelow, EachInBounds, Sound}
 use Rattle.iv_rows.proofs.Rows.{back_again}
 use Rattle.iv_rows.proofs.OneChange.{rises, set_rises, changed_is, changed_in_bounds}
-use Rattle.iv_rows.proofs.Marks.{plus_one, Ends, ends, ends_of, front_is, rows_before_is, map_take, map_remove, map_more, take_taken, taken_at, removed_last, falls_more, falls_marked, falls_without, falls_taken, falls_to, falls_at, marked_with_change, marked_now, each_more, each_taken, each_without, below_higher, below_more, below_fewer, below_last, before_same, before_more, before_taken, before_without, before_at, noted_is, marked_at, map_length}
+use Rattle.iv_rows.proofs.Marks.{plus_one, Ends, ends, ends_of, front_is, rows_before_is, map_take, map_remove, map_more, take_taken, taken_at, removed_last, falls_more, falls_marked, falls_without, falls_taken, falls_to, falls_at, marked_with_change, marked_now, each_more, each_taken, each_without, below_higher, below_more, below_fewer, below_last, before_same, before_more, before_taken, before_without, before_at, noted_is, marked_at}
 
 -- the rows rise
 pub rows_rise : (h : History) → Sound h → Rises 0 h.rows
@@ -90,9 +91,6 @@ sound_with_mark h s = record {
   before = before_more h.marks h.journal (saved_of h) (omega arith) s.below s.before;
 }
 
-pub marked_with_mark : (h : History) → marked_of (history_with h (h.marks ++ saved_of h ∷ [])) ≡ with_mark (marked_of h)
-marked_with_mark h = ap (λ (dbs : List Database). record { base = database_of h; marks = dbs }) (marks_more h)
-
 pub sound_taken : (h : History) (n : ℕ) → Sound h → Sound (history_with h (take n h.marks))
 sound_taken h n s = record {
   base = s.base;
@@ -113,15 +111,6 @@ sound_without h n s = record {
 
 pub marked_without : (h : History) (n : ℕ) → marked_of (history_with h (remove h.marks n)) ≡ without_mark (marked_of h) n
 marked_without h n = ap (λ (dbs : List Database). record { base = database_of h; marks = dbs }) (map_remove (database_at h.journal h.rows) h.marks n)
-
-pub sound_settled : (h : History) → Sound h → Sound (record { rows = h.rows; next = h.next; journal = []; marks = [] })
-sound_settled h s = record {
-  base = record { rising = s.base.rising; next = s.base.next; count = omega arith };
-  marked = tt;
-  falls = omega arith;
-  below = tt;
-  before = tt;
-}
 
 -- ---- a step back
 
@@ -237,6 +226,10 @@ marked_arrived h place m i l s =
     ∙ ap (λ (dbs : List Database). record { base = database_at h.journal h.rows m; marks = dbs }) (map_take (database_at h.journal h.rows) (place + 1) h.marks)
     ∙ ap (λ o. record { base = elim o [ Some db ↦ db | None ↦ database_of h ]; marks = take (place + 1) (marked_databases h) })
     (sym (marked_at h.journal h.rows h.marks place m i))
+
+-- There are as many marked databases as marks.
+pub marked_length : (h : History) → length (marked_databases h) ≡ length h.marks
+marked_length h = length-map h.marks (database_at h.journal h.rows)
 
 -- Where the marked databases up to a mark are the same, going back to it leads to the same.
 pub same_at_mark : (a b : Marked) (place : ℕ) → take (place + 1) a.marks ≡ take (place + 1) b.marks → place < length b.marks → at_mark a place ≡ at_mark b place

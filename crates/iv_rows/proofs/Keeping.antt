@@ -1,10 +1,9 @@
 -- What holds of a history whose rows are in slots: after a change, and after one is undone.
-use Rattle.std.proofs.Common.{◌≡◌, ℕ, zero, suc, ◌+◌, ◌-◌, ◌^◌, ◌<◌, ◌≤◌, ◌⊎◌, inl, inr, max, true, Option, Some, None, IfSome, List, [], ◌∷◌, ◌++◌, length, take, remove, arith, refl, ap, sym, subst, ◌∙◌}
-use Rattle.std.specs.Prelude.{slice_get, slice_index_or}
+use Rattle.std.proofs.Common.{◌≡◌, ℕ, ◌+◌, ◌-◌, ◌<◌, ◌≤◌, max, true, Option, Some, None, IfSome, List, [], ◌∷◌, ◌++◌, length, take, remove, refl, ap, sym, subst, ◌∙◌}
+use Rattle.std.specs.Prelude.{slice_get}
 use Rattle.iv_value.specs.declared.value.Value.{Value}
 use Rattle.iv_expr.specs.declared.row.StoredRow.{StoredRow}
 use Rattle.iv_expr.specs.declared.row.Change.{Change}
-use Rattle.iv_machine.specs.Bounds.{last_row_number}
 use Rattle.iv_machine.specs.Databases.{row_at}
 use Rattle.iv_machine.specs.Waves.{values_at}
 use Rattle.iv_rows.specs.declared.saved.Saved.{Saved}
@@ -13,8 +12,8 @@ use Rattle.iv_rows.specs.InSlots.{SlotsRise, live_rows, slots_after, has_slot, h
 use Rattle.iv_rows.specs.Filing.{is_filed, is_filed_for, StaysFiled, Files}
 use Rattle.iv_rows.specs.Histories.{History, history_of, history_after, saved_of, rows_before_last, noted_at, stepped_back, AllBelow, Sound, CanUndo, CanUndoAll, Kept}
 use Rattle.iv_rows.proofs.SlotLaws.{live_after, stays_after, found_slot}
-use Rattle.iv_rows.proofs.Marks.{last_is, rows_before_is, indexed, noted_is, below_last}
-use Rattle.iv_rows.proofs.Histories.{Fits, sound_after, sound_with_mark, sound_taken, sound_without, sound_settled, sound_stepped, sound_arrived, arrived}
+use Rattle.iv_rows.proofs.Marks.{rows_before_is, below_last}
+use Rattle.iv_rows.proofs.Histories.{Fits, sound_after, sound_with_mark, sound_taken, sound_without, sound_stepped, sound_arrived}
 
 -- ---- what can be undone
 
@@ -96,8 +95,8 @@ changed_view slots new next higher j noted marks c h m =
     ∙ ap (λ (l : List Change). history_of (slots_after c.table c.row c.new slots) (max (c.row + 1) next) l marks) m.journal_is
     ∙ after_is slots next j marks c h
 
-pub kept_changed : (slots new : List Slot) (old filed : List (List ℕ)) (next higher : ℕ) (j noted : List Change) (marks : List Saved) (c : Change) → Files slots old
-    → StaysFiled old filed → Made slots new next higher j noted c → Fits (history_of slots next j marks) c → Kept slots old next j marks
+pub kept_changed : (slots new : List Slot) (old filed : List (List ℕ)) (next higher : ℕ) (j noted : List Change) (marks : List Saved) (c : Change)
+    → Files slots old → StaysFiled old filed → Made slots new next higher j noted c → Fits (history_of slots next j marks) c → Kept slots old next j marks
     → Kept new filed higher noted marks
 kept_changed slots new old filed next higher j noted marks c f g m fits k = record {
   sound = subst (λ (h : History). Sound h) (sym (changed_view slots new next higher j noted marks c f.rises m))
@@ -139,9 +138,6 @@ undone_undo slots new numbers filed j left c e s f u =
     (subst (λ (l : List (List ℕ)). CanUndoAll (slots_after c.table c.row c.old slots) l left) (sym f)
     (can_stay slots (slots_after c.table c.row c.old slots) numbers numbers left (λ n. stays_after c.table c.row c.old n slots) (λ t n x. x)
     (can_fewer slots numbers left c (subst (λ (l : List Change). CanUndoAll slots numbers l) e u))))
-
-pub nothing_undone : (j : List Change) (rows : List StoredRow) → j ≡ [] → rows ≡ rows_before_last j rows
-nothing_undone j rows e = sym (ap (λ (l : List Change). rows_before_last l rows) e)
 
 pub stepped_view : (slots new : List Slot) (next : ℕ) (j left : List Change) (marks : List Saved) (place : ℕ)
     → live_rows new ≡ rows_before_last j (live_rows slots) → left ≡ take (length j - 1) j

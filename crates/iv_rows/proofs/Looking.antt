@@ -1,14 +1,14 @@
 -- The first row of a table above a number is the first under the numbers above it.
-use Rattle.std.proofs.Common.{◌≡◌, ℕ, ◌+◌, ◌-◌, ◌^◌, ◌<◌, ◌≤◌, ◌⊎◌, inl, inr, min, Bool, true, false, ◌||◌, if◌then◌else◌, ◌==◌, Option, Some, None, List, [], ◌∷◌, arith, refl, ap, sym, subst, ◌∙◌}
+use Rattle.std.proofs.Common.{◌≡◌, ℕ, ◌+◌, ◌<◌, ◌≤◌, ◌⊎◌, inl, inr, true, false, ◌||◌, if◌then◌else◌, ◌==◌, Option, Some, None, List, [], ◌∷◌, arith, refl, ap, sym, subst, ◌∙◌}
 use Rattle.std.specs.Prelude.{nat_lt, slice_get}
 use Rattle.iv_expr.specs.declared.row.StoredRow.{StoredRow}
 use Rattle.iv_expr.specs.Scopes.{Rises, table_rows, row_above}
 use Rattle.iv_machine.specs.Databases.{row_at}
 use Rattle.iv_rows.specs.declared.slot.Slot.{Slot}
 use Rattle.iv_rows.specs.ByNumber.{place_by}
-use Rattle.iv_rows.specs.InSlots.{SlotsRise, slot_number, live_rows}
+use Rattle.iv_rows.specs.InSlots.{slot_number, live_rows}
 use Rattle.iv_rows.specs.Filing.{NumbersRise, is_number, numbers_above, numbers_for, is_filed, Covers, Files, row_of, first_of, IsAhead}
-use Rattle.iv_rows.proofs.ByNumber.{less, below_tells, same_tells, equal_itself, decided, either, place_rises}
+use Rattle.iv_rows.proofs.ByNumber.{less, below_tells, same_tells, equal_itself, decided, place_rises}
 use Rattle.iv_rows.proofs.Rows.{found, passed, none_at, found_above, part_rises}
 use Rattle.iv_rows.proofs.SlotLaws.{live_rises}
 use Rattle.iv_rows.proofs.FilingLaws.{above_rises}

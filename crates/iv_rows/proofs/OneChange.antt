@@ -1,6 +1,5 @@
 -- A database after a change of one row: its rows with that row set.
 use Rattle.std.proofs.Common.{◌≡◌, ℕ, ◌+◌, ◌^◌, ◌<◌, ◌≤◌, ◌⊎◌, inl, inr, max, Bool, true, false, not, ◌||◌, if◌then◌else◌, ◌==◌, Option, Some, None, List, [], ◌∷◌, ◌++◌, filter, arith, refl, ap, sym, subst, ◌∙◌}
-use Rattle.std.specs.Prelude.{nat_lt}
 use Rattle.iv_value.specs.declared.value.Value.{Value}
 use Rattle.iv_expr.specs.declared.row.StoredRow.{StoredRow}
 use Rattle.iv_expr.specs.declared.row.Change.{Change}

@@ -1,12 +1,12 @@
 -- Rows in slots: the rows after a slot is set, the row of a number, and the slots that are kept.
-use Rattle.std.proofs.Common.{◌≡◌, ℕ, zero, suc, ◌^◌, ◌<◌, ◌≤◌, ◌⊎◌, inl, inr, Bool, true, false, not, ◌||◌, if◌then◌else◌, ◌==◌, Option, Some, None, List, [], ◌∷◌, filter, slice_set, arith, refl, ap, sym, subst, ◌∙◌}
-use Rattle.std.specs.Prelude.{nat_lt, slice_get, slice_index_or}
+use Rattle.std.proofs.Common.{◌≡◌, ℕ, ◌^◌, ◌<◌, ◌≤◌, ◌⊎◌, inl, inr, Bool, true, false, not, ◌||◌, if◌then◌else◌, ◌==◌, Option, Some, None, List, [], ◌∷◌, slice_set, arith, refl, ap, sym, subst, ◌∙◌}
+use Rattle.std.specs.Prelude.{slice_get, slice_index_or}
 use Rattle.iv_value.specs.declared.value.Value.{Value}
 use Rattle.iv_expr.specs.declared.row.StoredRow.{StoredRow}
 use Rattle.iv_expr.specs.Scopes.{Rises}
 use Rattle.iv_machine.specs.Databases.{row_at, rows_with}
 use Rattle.iv_rows.specs.declared.slot.Slot.{Slot}
-use Rattle.iv_rows.specs.ByNumber.{RiseBy, place_by}
+use Rattle.iv_rows.specs.ByNumber.{place_by}
 use Rattle.iv_rows.specs.SetRows.{without_row, set_row}
 use Rattle.iv_rows.specs.InSlots.{SlotsRise, slot_number, live_rows, slots_with, emptied, slots_without, slots_after, swept, has_slot}
 use Rattle.iv_rows.proofs.ByNumber.{Less, Same, tells, decided, same_tells, impossible, place_further, place_here, has_at, has_still}

@@ -8,6 +8,8 @@ mod saved;
 mod set;
 mod slot;
 mod slots;
+#[cfg(test)]
+mod tests;
 mod versions;
 mod walk;
 

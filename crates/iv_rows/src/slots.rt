@@ -3,7 +3,7 @@ ghost use Rattle.std.specs.Prelude.{◌≡◌, ◌<◌, ◌^◌, [], true, OnOk,
 ghost use Rattle.std.specs.Option.{option_copied};
 ghost use Rattle.iv_expr.specs.Scopes.{Rises, row_above, table_rows};
 ghost use Rattle.iv_machine.specs.Databases.{row_at};
-ghost use Rattle.iv_rows.specs.InSlots.{SlotsRise, live_rows, has_slot_for, slots_after};
+ghost use Rattle.iv_rows.specs.InSlots.{live_rows, has_slot_for, slots_without, slots_after};
 ghost use Rattle.iv_rows.specs.Filing.{is_filed_for, StaysFiled, Files};
 
 use crate::filing::{file, keep_numbers};
@@ -80,6 +80,15 @@ impl Slots {
         }
     }
 
+    // Takes the row of a number out, where there is one: its slot stays.
+    fn take_out(&mut self, number: u64)
+        ensures slots { self.new.slots ≡ slots_without number self.old.slots }
+        ensures numbers { self.new.numbers ≡ self.old.numbers }
+    {
+        empty(&mut self.slots, number);
+        self.emptied = self.emptied.saturating_add(1);
+    }
+
     /// Sets the row of a number to these values, or takes it out. Where memory is refused, all rows stay.
     pub fn set(
         &mut self,
@@ -104,8 +113,7 @@ impl Slots {
                 put(&mut self.slots, row)
             }
             None => {
-                empty(&mut self.slots, number);
-                self.emptied = self.emptied.saturating_add(1);
+                self.take_out(number);
                 Ok(())
             }
         }
@@ -129,10 +137,7 @@ impl Slots {
                 };
                 replace(&mut self.slots, row);
             }
-            None => {
-                empty(&mut self.slots, number);
-                self.emptied = self.emptied.saturating_add(1);
-            }
+            None => self.take_out(number),
         }
     }
 

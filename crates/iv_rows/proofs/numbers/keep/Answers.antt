@@ -1,4 +1,4 @@
-use Rattle.std.proofs.Common.{◌≡◌, ◌∙◌, ◌++◌, ◌+◌, ◌<◌, ◌≤◌, ◌∷◌, ℕ, List, filter, take, drop, length, slice_set, arith, ap, sym, subst}
+use Rattle.std.proofs.Common.{◌≡◌, ◌∙◌, ◌++◌, ◌+◌, ◌<◌, ◌≤◌, ◌∷◌, ℕ, List, filter, take, drop, length, arith, ap, sym, subst}
 use Rattle.std.proofs.Common.{Vec, Global}
 use Rattle.iv_rows.specs.InSlots.{has_slot}
 use Rattle.iv_rows.specs.Filing.{IsAhead}

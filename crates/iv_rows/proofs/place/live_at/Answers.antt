@@ -1,11 +1,6 @@
-use Rattle.std.proofs.Common.{◌≡◌, ◌∙◌, sym, ap, if◌then◌else◌, ◌==◌, false, Option, Some, None}
+use Rattle.std.proofs.Common.{◌≡◌, ◌∙◌, sym, ap, None}
 use Rattle.std.specs.Prelude.{slice_get}
 use Rattle.std.specs.Option.{option_copied}
-use Rattle.iv_expr.specs.declared.row.StoredRow.{StoredRow}
-use Rattle.iv_machine.specs.Databases.{row_at}
-use Rattle.iv_rows.specs.declared.slot.Slot.{Slot}
-use Rattle.iv_rows.specs.InSlots.{live_rows}
-use Rattle.iv_rows.proofs.ByNumber.{same_tells}
 use Rattle.iv_rows.proofs.SlotLaws.{row_in, live_at_place, row_in_live, row_in_dead, row_in_other}
 use Rattle.iv_rows.proofs.place.live_at.Goals as goal
 use Rattle.iv_rows.proofs.place.live_at.Goals.{in_default-via-in-Some+then-slot+else-slot-number, in_default-via-in-Some+else-slot, in_default-via-in_default}

@@ -1,4 +1,4 @@
-use Rattle.std.proofs.Common.{◌≡◌, ◌∙◌, ◌+◌, ◌-◌, min, List, length, take, drop, sym, ap, subst}
+use Rattle.std.proofs.Common.{◌∙◌, ◌+◌, min, List, length, take, drop, sym, ap, subst}
 use Rattle.std.proofs.lemmas.List.{take_rest}
 use Rattle.iv_rows.specs.declared.slot.Slot.{Slot}
 use Rattle.iv_rows.specs.ByNumber.{place_by}

@@ -3,8 +3,7 @@ use Rattle.std.specs.Option.{option_copied}
 use Rattle.std.specs.Prelude.{slice_get}
 use Rattle.iv_expr.specs.Scopes.{row_above, table_rows}
 use Rattle.iv_rows.specs.declared.slot.Slot.{Slot}
-use Rattle.iv_rows.specs.ByNumber.{place_by}
-use Rattle.iv_rows.specs.InSlots.{slot_number, live_rows}
+use Rattle.iv_rows.specs.InSlots.{live_rows}
 use Rattle.iv_rows.specs.Filing.{Filed, NumbersRise, IsAhead, first_of}
 use Rattle.iv_rows.proofs.FilingLaws.{above_rises}
 use Rattle.iv_rows.proofs.Looking.{ahead_above, told_next, told_none}

@@ -1,4 +1,4 @@
-use Rattle.std.proofs.Common.{◌≡◌, ◌∙◌, ◌<◌, ◌≤◌, ◌+◌, List, Some, length, sym, ap, subst}
+use Rattle.std.proofs.Common.{◌≡◌, ◌∙◌, ◌<◌, ◌≤◌, List, Some, length, sym, ap, subst}
 use Rattle.std.specs.Prelude.{slice_get}
 use Rattle.iv_rows.specs.declared.saved.Saved.{Saved}
 use Rattle.iv_rows.specs.Histories.{History, history_of, marked_of, at_mark, noted_at, Kept}

@@ -1,4 +1,4 @@
-use Rattle.std.proofs.Common.{◌≡◌, ◌∙◌, ◌<◌, ◌+◌, List, length, take, sym, ap, subst}
+use Rattle.std.proofs.Common.{◌∙◌, ◌<◌, ◌+◌, List, length, take, sym, ap, subst}
 use Rattle.iv_rows.specs.declared.saved.Saved.{Saved}
 use Rattle.iv_rows.specs.Histories.{History, history_of, marked_databases, noted_at, Kept}
 use Rattle.iv_rows.proofs.Histories.{small_rows, marked_stepped}

@@ -1,4 +1,4 @@
-use Rattle.std.proofs.Common.{◌≡◌, ◌+◌, ◌<◌, ◌≤◌, length, take}
+use Rattle.std.proofs.Common.{◌≡◌, ◌+◌, ◌<◌, length, take}
 use Rattle.iv_rows.specs.Histories.{marked_databases, noted_at}
 use Rattle.iv_rows.proofs.versions.Versions.undo_to.Given as goal
 
