@@ -8,14 +8,14 @@ use Rattle.iv_expr.specs.Scopes.{Rises}
 use Rattle.iv_expr.specs.Changes.{wave_of}
 use Rattle.iv_machine.specs.declared.database.Database.{Database}
 use Rattle.iv_machine.specs.Bounds.{last_row_number, most_changes_in_a_transaction}
-use Rattle.iv_machine.specs.Databases.{row_at, database_after}
+use Rattle.iv_machine.specs.Databases.{row_at, rows_after, database_after}
 use Rattle.iv_machine.specs.Waves.{values_at}
 use Rattle.iv_rows.specs.declared.saved.Saved.{Saved}
 use Rattle.iv_rows.specs.SetRows.{InBounds, set_row}
-use Rattle.iv_rows.specs.Histories.{History, database_of, rows_before, database_at, databases_at, marked_databases, Marked, marked_of, after_change, marked_database, at_mark, before_mark, without_mark, history_after, saved_of, noted_at, stepped_back, NeverFalls, AllBelow, EachBelow, EachInBounds, Sound}
+use Rattle.iv_rows.specs.Histories.{History, database_of, rows_before, database_at, databases_at, marked_databases, Marked, marked_of, after_change, marked_database, at_mark, before_mark, without_mark, history_after, saved_of, noted_at, stepped_back, last_change, NeverFalls, AllMade, AllBelow, EachBelow, EachInBounds, Sound}
 use Rattle.iv_rows.proofs.Rows.{back_again}
-use Rattle.iv_rows.proofs.OneChange.{rises, set_rises, changed_is, changed_in_bounds}
-use Rattle.iv_rows.proofs.Marks.{plus_one, Ends, ends, ends_of, front_is, rows_before_is, map_take, map_remove, map_more, take_taken, taken_at, removed_last, falls_more, falls_marked, falls_without, falls_taken, falls_to, falls_at, marked_with_change, marked_now, each_more, each_taken, each_without, below_higher, below_more, below_fewer, below_last, before_same, before_more, before_taken, before_without, before_at, noted_is, marked_at}
+use Rattle.iv_rows.proofs.OneChange.{rises, set_rises, rows_after_set, changed_is, changed_in_bounds}
+use Rattle.iv_rows.proofs.Marks.{plus_one, Ends, ends, ends_of, last_is, front_is, made_more, made_fewer, made_last, rows_before_is, map_take, map_remove, map_more, take_taken, taken_at, removed_last, falls_more, falls_marked, falls_without, falls_taken, falls_to, falls_at, marked_with_change, marked_now, each_more, each_taken, each_without, below_higher, below_more, below_fewer, below_last, before_same, before_more, before_taken, before_without, before_at, noted_is, marked_at}
 
 -- the rows rise
 pub rows_rise : (h : History) → Sound h → Rises 0 h.rows
@@ -54,6 +54,7 @@ sound_after h c s f = record {
       (changed_in_bounds (database_of h) c s.base f.positive f.small f.room);
   marked = subst (λ dbs. EachInBounds dbs) (sym (marks_stay h c s f)) s.marked;
   falls = falls_more 0 h.marks (length h.journal) (length (h.journal ++ c ∷ [])) (longer (one_longer h.journal c)) s.falls;
+  made = made_more h.journal c h.rows (set_row c.table c.row c.new h.rows) (back h c s f) refl s.made;
   below = below_more (max (c.row + 1) h.next) h.journal c f.positive (omega arith)
       (below_higher h.next (max (c.row + 1) h.next) h.journal (omega arith) s.below);
   before = subst (λ T. T) (sym (before_same 0 h.marks h.journal c s.falls)) s.before;
@@ -87,6 +88,7 @@ sound_with_mark h s = record {
   base = s.base;
   marked = subst (λ dbs. EachInBounds dbs) (sym (marks_more h)) (each_more (marked_databases h) (database_of h) s.marked (s.base, tt));
   falls = falls_marked 0 h.marks (length h.journal) (saved_of h) refl s.falls;
+  made = s.made;
   below = s.below;
   before = before_more h.marks h.journal (saved_of h) (omega arith) s.below s.before;
 }
@@ -96,6 +98,7 @@ sound_taken h n s = record {
   base = s.base;
   marked = subst (λ dbs. EachInBounds dbs) (sym (map_take (database_at h.journal h.rows) n h.marks)) (each_taken n (marked_databases h) s.marked);
   falls = falls_taken 0 h.marks n (length h.journal) s.falls;
+  made = s.made;
   below = s.below;
   before = before_taken n h.marks h.journal s.before;
 }
@@ -105,6 +108,7 @@ sound_without h n s = record {
   base = s.base;
   marked = subst (λ dbs. EachInBounds dbs) (sym (map_remove (database_at h.journal h.rows) h.marks n)) (each_without (marked_databases h) n s.marked);
   falls = falls_without 0 h.marks n (length h.journal) s.falls;
+  made = s.made;
   below = s.below;
   before = before_without h.marks n h.journal s.before;
 }
@@ -156,6 +160,7 @@ sound_before h place m left c i l e s = record {
   };
   marked = subst (λ dbs. EachInBounds dbs) (sym (marks_left h place m left c i l e s)) (each_taken (place + 1) (marked_databases h) s.marked);
   falls = falls_left h place m left c i l e s;
+  made = made_fewer left c h.rows (subst (λ (j : List Change). AllMade j h.rows) e s.made);
   below = below_fewer h.next left c all;
   before = subst (λ T. T) (before_same 0 (take (place + 1) h.marks) left c (falls_left h place m left c i l e s))
       (subst (λ (j : List Change). EachBelow j (take (place + 1) h.marks)) e (before_taken (place + 1) h.marks h.journal s.before));
@@ -188,6 +193,38 @@ marked_stepped h place t a s = by (there h.marks place t) (ends_of h.journal (om
       ap (λ (k : History). marked_databases k) (stepped_is h place left c e)
       ∙ marks_left h place w.0 left c w.1 (subst (λ n. n < length h.journal) (noted_is h.marks place w.0 w.1) a) e s
 
+-- the rows are those after the last change
+pub made_of_last : (h : History) (c : Change) → Sound h → last_change h.journal ≡ Some c → rows_after (rows_before c h.rows) (c ∷ []) ≡ h.rows
+made_of_last h c s i = by h.journal s.below s.made i where
+  made : (left : List Change) (d : Change) → d ≡ c → AllBelow h.next (left ++ d ∷ []) → AllMade (left ++ d ∷ []) h.rows → rows_after (rows_before c h.rows) (c ∷ []) ≡ h.rows
+  made left d e b m =
+      let below : (0 < c.row) × (c.row < h.next) = subst (λ (x : Change). (0 < x.row) × (x.row < h.next)) e (below_last h.next left d b) in
+      rows_after_set (rows_before c h.rows) h.next c (set_rises h.rows h.next c.table c.row c.old s.base.rising below.0 below.1) below.1
+      ∙ subst (λ (x : Change). set_row x.table x.row x.new (rows_before x h.rows) ≡ h.rows) e (made_last left d h.rows m)
+
+  by : (j : List Change) → AllBelow h.next j → AllMade j h.rows → last_change j ≡ Some c → rows_after (rows_before c h.rows) (c ∷ []) ≡ h.rows
+  by [] b m k = cc
+  by (x ∷ j) b m k = ended (ends_of (x ∷ j) (omega arith)) where
+    ended : Ends (x ∷ j) → rows_after (rows_before c h.rows) (c ∷ []) ≡ h.rows
+    ended (ends left d e) =
+        let same : Some d ≡ Some c = sym (last_is (x ∷ j) left d e) ∙ k in
+        let it : d ≡ c = cc in
+        made left d it (subst (λ (l : List Change). AllBelow h.next l) e b) (subst (λ (l : List Change). AllMade l h.rows) e m)
+
+pub if_made : (h : History) (o : Option Change) → Sound h → o ≡ last_change h.journal → IfSome o (λ c. rows_after (rows_before c h.rows) (c ∷ []) ≡ h.rows)
+if_made h None s e = tt
+if_made h (Some c) s e = made_of_last h c s (sym e)
+
+-- where a change is noted there is a last one
+pub never_none : (journal : List Change) → 0 < length journal → last_change journal ≡ None → ⊥
+never_none journal l e = by (ends_of journal l) where
+  by : Ends journal → ⊥
+  by (ends left c f) = (let bad : Some c ≡ None = sym (last_is journal left c f) ∙ e in cc)
+
+pub if_some : {A P : Type 0} (o : Option A) → P → IfSome o (λ _. P)
+if_some None p = tt
+if_some (Some a) p = p
+
 -- ---- back at a mark
 
 -- nothing is noted since the mark
@@ -213,6 +250,7 @@ sound_arrived h place m i l s = record {
       (each_at (marked_databases h) place (database_at h.journal h.rows m) (marked_at h.journal h.rows h.marks place m i) s.marked);
   marked = taken.marked;
   falls = taken.falls;
+  made = s.made;
   below = before_at h.marks place h.journal m i l s.before;
   before = taken.before;
 } where

@@ -7,7 +7,8 @@ use Rattle.iv_expr.specs.declared.row.StoredRow.{StoredRow}
 use Rattle.iv_expr.specs.declared.row.Change.{Change}
 use Rattle.iv_machine.specs.declared.database.Database.{Database}
 use Rattle.iv_rows.specs.declared.saved.Saved.{Saved}
-use Rattle.iv_rows.specs.Histories.{rows_before, rows_before_all, database_at, databases_at, last_change, noted_at, rows_before_last, NeverFalls, AllBelow, EachBelow, EachInBounds}
+use Rattle.iv_rows.specs.SetRows.{set_row}
+use Rattle.iv_rows.specs.Histories.{rows_before, rows_before_all, database_at, databases_at, last_change, noted_at, rows_before_last, NeverFalls, AllMade, AllBelow, EachBelow, EachInBounds}
 
 -- ---- the last of a list
 
@@ -107,6 +108,25 @@ drop_more : (a : ℕ) (xs : List Change) (c : Change) → a ≤ length xs → dr
 drop_more zero xs c le = refl
 drop_more (suc a) [] c le = absurd (omega (arith, le))
 drop_more (suc a) (x ∷ xs) c le = drop_more a xs c (omega (arith, le))
+
+-- each leads from the rows before it to those after it, with a change more
+pub made_more : (j : List Change) (c : Change) (rows after : List StoredRow) → rows_before c after ≡ rows → set_row c.table c.row c.new rows ≡ after
+    → AllMade j rows → AllMade (j ++ c ∷ []) after
+made_more [] c rows after e f h = (ap (set_row c.table c.row c.new) e ∙ f, tt)
+made_more (x ∷ j) c rows after e f h =
+    (ap (set_row x.table x.row x.new) (back (x ∷ j)) ∙ h.0 ∙ sym (back j), made_more j c rows after e f h.1) where
+      back : (l : List Change) → rows_before_all (l ++ c ∷ []) after ≡ rows_before_all l rows
+      back l = joined l (c ∷ []) after ∙ ap (rows_before_all l) e
+
+-- and with the last one undone
+pub made_fewer : (left : List Change) (c : Change) (rows : List StoredRow) → AllMade (left ++ c ∷ []) rows → AllMade left (rows_before c rows)
+made_fewer [] c rows h = tt
+made_fewer (x ∷ left) c rows h =
+    (sym (ap (set_row x.table x.row x.new) (joined (x ∷ left) (c ∷ []) rows)) ∙ h.0 ∙ joined left (c ∷ []) rows, made_fewer left c rows h.1)
+
+pub made_last : (left : List Change) (c : Change) (rows : List StoredRow) → AllMade (left ++ c ∷ []) rows → set_row c.table c.row c.new (rows_before c rows) ≡ rows
+made_last [] c rows h = h.0
+made_last (x ∷ left) c rows h = made_last left c rows h.1
 
 -- ---- the lengths of the journal at marks
 

@@ -280,3 +280,32 @@ set_itself table number old rows h e own = by (row_at rows number) refl where
 pub back_again : (c : Change) (rows : List StoredRow) → Rises 0 rows → values_at rows c.row ≡ c.old
     → IfSome (row_at rows c.row) (λ (r : StoredRow). r.table ≡ c.table) → rows_before c (set_row c.table c.row c.new rows) ≡ rows
 back_again c rows h e own = set_again c.table c.row c.old c.new rows h ∙ set_itself c.table c.row c.old rows h e own
+
+-- ---- the row that was set
+
+-- what is found after a row is set is that row, or none where it is taken out
+pub row_after_set : (table number : ℕ) (o : Option (List Value)) (rows : List StoredRow)
+    → row_at (set_row table number o rows) number ≡ elim o [ Some values ↦ Some (record { table = table; number = number; values = values }) | None ↦ None ]
+row_after_set table number (Some values) rows = with_found (record { table = table; number = number; values = values }) rows where
+  with_found : (x : StoredRow) (rows : List StoredRow) → row_at (rows_with x rows) x.number ≡ Some x
+  with_found x [] = found x.number x [] (equal_itself x.number)
+  with_found x (r ∷ rows) = by (tells x.number r.number) (with_found x rows) where
+    by : Less x.number r.number ⊎ (Same x.number r.number ⊎ Less r.number x.number) → row_at (rows_with x rows) x.number ≡ Some x
+        → row_at (rows_with x (r ∷ rows)) x.number ≡ Some x
+    by (inl t) more = ap (λ l. row_at l x.number) (front x r rows t.0) ∙ found x.number x (r ∷ rows) (equal_itself x.number)
+    by (inr (inl q)) more = ap (λ l. row_at l x.number) (instead x r rows q.0 q.2) ∙ found x.number x rows (equal_itself x.number)
+    by (inr (inr f)) more = ap (λ l. row_at l x.number) (further x r rows f.1 f.3) ∙ passed x.number r (rows_with x rows) f.2 ∙ more
+row_after_set table number None rows = by (row_at (without_row number rows) number) refl where
+  never : (l : List StoredRow) (r : StoredRow) → row_at (without_row number l) number ≡ Some r → ⊥
+  never [] r e = cc
+  never (s ∷ l) r e = elim (tells number s.number) [
+    | inl t ↦ never l r (sym (ap (λ k. row_at k number) (without_other number s l t.2) ∙ passed number s (without_row number l) t.3) ∙ e)
+    | inr o ↦ elim o [
+      | inl q ↦ never l r (sym (ap (λ k. row_at k number) (without_this number s l q.2)) ∙ e)
+      | inr t ↦ never l r (sym (ap (λ k. row_at k number) (without_other number s l t.3) ∙ passed number s (without_row number l) t.2) ∙ e)
+    ]
+  ]
+
+  by : (o : Option StoredRow) → row_at (without_row number rows) number ≡ o → row_at (without_row number rows) number ≡ None
+  by None e = e
+  by (Some r) e = absurd (never rows r e)

@@ -136,6 +136,11 @@ abbrev pub EachBelow : List Change → List Saved → Type 0
 EachBelow journal [] = Unit {0}
 EachBelow journal (m ∷ marks) = AllBelow m.next (take m.noted journal) × EachBelow journal marks
 
+-- each of these changes leads from the rows before it to those after it
+abbrev pub AllMade : List Change → List StoredRow → Type 0
+AllMade [] rows = Unit {0}
+AllMade (c ∷ cs) rows = (set_row c.table c.row c.new (rows_before_all (c ∷ cs) rows) ≡ rows_before_all cs rows) × AllMade cs rows
+
 abbrev pub EachInBounds : List Database → Type 0
 EachInBounds [] = Unit {0}
 EachInBounds (db ∷ dbs) = InBounds db × EachInBounds dbs
@@ -145,6 +150,7 @@ pub record Sound (h : History) : Type 0 where
   pub base : InBounds (database_of h)
   pub marked : EachInBounds (marked_databases h)
   pub falls : NeverFalls 0 h.marks (length h.journal)
+  pub made : AllMade h.journal h.rows
   pub below : AllBelow h.next h.journal
   pub before : EachBelow h.journal h.marks
 

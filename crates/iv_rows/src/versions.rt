@@ -4,12 +4,12 @@ ghost use Rattle.std.specs.List.{remove};
 ghost use Rattle.std.specs.Option.{option_copied};
 ghost use Rattle.iv_expr.specs.Scopes.{Rises, row_above, table_rows};
 ghost use Rattle.iv_machine.specs.Bounds.{last_row_number, most_changes_in_a_transaction};
-ghost use Rattle.iv_machine.specs.Databases.{row_at};
+ghost use Rattle.iv_machine.specs.Databases.{row_at, rows_after};
 ghost use Rattle.iv_machine.specs.Invariants.{Rising};
 ghost use Rattle.iv_machine.specs.Waves.{values_at};
 ghost use Rattle.iv_rows.specs.InSlots.{live_rows, slots_after};
 ghost use Rattle.iv_rows.specs.Filing.{StaysFiled};
-ghost use Rattle.iv_rows.specs.Histories.{marked_databases, marked_of, after_change, with_mark, at_mark, before_mark, without_mark, settled, history_after, saved_of, last_change, noted_at, rows_before_last, stepped_back, AllBelow, CanUndoAll};
+ghost use Rattle.iv_rows.specs.Histories.{marked_databases, marked_of, after_change, with_mark, at_mark, before_mark, without_mark, settled, history_after, saved_of, last_change, noted_at, rows_before, rows_before_last, stepped_back, AllBelow, CanUndoAll};
 
 use crate::saved::Saved;
 use crate::slots::Slots;
@@ -180,6 +180,8 @@ impl Versions {
         requires { place < length self.now.marks }
         ensures last { IfSome (option_copied result)
             (λ change. last_change self.now.journal ≡ Some change) }
+        ensures made { IfSome (option_copied result) (λ change.
+            rows_after (rows_before change self.now.rows) (change ∷ []) ≡ self.now.rows) }
         ensures above { IfSome result (λ _. noted_at self.now.marks place < length self.now.journal) }
         ensures none { result ≡ None → length self.now.journal ≤ noted_at self.now.marks place }
     {
