@@ -196,7 +196,8 @@ marked_stepped h place t a s = by (there h.marks place t) (ends_of h.journal (om
 -- the rows are those after the last change
 pub made_of_last : (h : History) (c : Change) → Sound h → last_change h.journal ≡ Some c → rows_after (rows_before c h.rows) (c ∷ []) ≡ h.rows
 made_of_last h c s i = by h.journal s.below s.made i where
-  made : (left : List Change) (d : Change) → d ≡ c → AllBelow h.next (left ++ d ∷ []) → AllMade (left ++ d ∷ []) h.rows → rows_after (rows_before c h.rows) (c ∷ []) ≡ h.rows
+  made : (left : List Change) (d : Change) → d ≡ c → AllBelow h.next (left ++ d ∷ []) → AllMade (left ++ d ∷ []) h.rows
+      → rows_after (rows_before c h.rows) (c ∷ []) ≡ h.rows
   made left d e b m =
       let below : (0 < c.row) × (c.row < h.next) = subst (λ (x : Change). (0 < x.row) × (x.row < h.next)) e (below_last h.next left d b) in
       rows_after_set (rows_before c h.rows) h.next c (set_rises h.rows h.next c.table c.row c.old s.base.rising below.0 below.1) below.1

@@ -124,7 +124,8 @@ made_fewer [] c rows h = tt
 made_fewer (x ∷ left) c rows h =
     (sym (ap (set_row x.table x.row x.new) (joined (x ∷ left) (c ∷ []) rows)) ∙ h.0 ∙ joined left (c ∷ []) rows, made_fewer left c rows h.1)
 
-pub made_last : (left : List Change) (c : Change) (rows : List StoredRow) → AllMade (left ++ c ∷ []) rows → set_row c.table c.row c.new (rows_before c rows) ≡ rows
+pub made_last : (left : List Change) (c : Change) (rows : List StoredRow) → AllMade (left ++ c ∷ []) rows
+    → set_row c.table c.row c.new (rows_before c rows) ≡ rows
 made_last [] c rows h = h.0
 made_last (x ∷ left) c rows h = made_last left c rows h.1
 
