@@ -1,0 +1,10 @@
+pub mod ByNumber
+pub mod Rows
+pub mod OneChange
+pub mod SlotLaws
+pub mod FilingLaws
+pub mod Looking
+pub mod Thinning
+pub mod Marks
+pub mod Histories
+pub mod Keeping

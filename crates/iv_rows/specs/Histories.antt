@@ -1,0 +1,173 @@
+-- A database with the changes that can be undone, and the marked databases that they lead back to.
+use Rattle.std.specs.Prelude.{◌≡◌, ℕ, ◌+◌, ◌-◌, ◌<◌, ◌≤◌, max, true, List, [], ◌∷◌, map, take, drop, length, ◌++◌, slice_get, Option, Some, None}
+use Rattle.std.specs.List.{remove}
+use Rattle.iv_expr.specs.declared.row.StoredRow.{StoredRow}
+use Rattle.iv_expr.specs.declared.row.Change.{Change}
+use Rattle.iv_expr.specs.Changes.{wave_of}
+use Rattle.iv_machine.specs.declared.database.Database.{Database}
+use Rattle.iv_machine.specs.Databases.{database_after}
+use Rattle.iv_rows.specs.declared.saved.Saved.{Saved}
+use Rattle.iv_rows.specs.declared.slot.Slot.{Slot}
+use Rattle.iv_rows.specs.SetRows.{InBounds, set_row}
+use Rattle.iv_rows.specs.InSlots.{live_rows, has_slot_for}
+use Rattle.iv_rows.specs.Filing.{is_filed_for}
+
+-- The rows and the next number; the changes that were made since no mark was there, in their order; and what each mark keeps.
+pub record History : Type 0 where
+  pub rows : List StoredRow
+  pub next : ℕ
+  pub journal : List Change
+  pub marks : List Saved
+
+-- ---- the databases
+
+-- the database: as many changes are counted as are noted
+abbrev pub database_of : History → Database
+database_of h = record { rows = h.rows; next = h.next; count = length h.journal }
+
+-- the rows before a change
+abbrev pub rows_before : Change → List StoredRow → List StoredRow
+rows_before c rows = set_row c.table c.row c.old rows
+
+-- the rows before these changes, the last of which is undone first
+abbrev pub rows_before_all : List Change → List StoredRow → List StoredRow
+rows_before_all [] rows = rows
+rows_before_all (c ∷ cs) rows = rows_before c (rows_before_all cs rows)
+
+-- The database of a mark: the changes that are noted since are undone.
+abbrev pub database_at : List Change → List StoredRow → Saved → Database
+database_at journal rows m = record { rows = rows_before_all (drop m.noted journal) rows; next = m.next; count = m.noted }
+
+abbrev pub databases_at : List Change → List StoredRow → List Saved → List Database
+databases_at journal rows marks = map (database_at journal rows) marks
+
+-- the marked databases, by the place of the mark
+abbrev pub marked_databases : History → List Database
+marked_databases h = databases_at h.journal h.rows h.marks
+
+-- a database, and the databases that are marked
+pub record Marked : Type 0 where
+  pub base : Database
+  pub marks : List Database
+
+abbrev pub marked_of : History → Marked
+marked_of h = record { base = database_of h; marks = marked_databases h }
+
+-- ---- what calls leave
+
+-- after a change of one row
+abbrev pub after_change : Change → Marked → Marked
+after_change c m = record m { base = database_after m.base (wave_of (c ∷ [])) }
+
+-- with one more mark, at the database
+abbrev pub with_mark : Marked → Marked
+with_mark m = record m { marks = m.marks ++ m.base ∷ [] }
+
+-- the database that the mark of this place is at
+abbrev pub marked_database : Marked → ℕ → Database
+marked_database m place = elim (slice_get m.marks place) [ Some db ↦ db | None ↦ m.base ]
+
+-- back at a mark: it stays, and later ones go
+abbrev pub at_mark : Marked → ℕ → Marked
+at_mark m place = record { base = marked_database m place; marks = take (place + 1) m.marks }
+
+-- back at a mark, which goes too
+abbrev pub before_mark : Marked → ℕ → Marked
+before_mark m place = record { base = marked_database m place; marks = take place m.marks }
+
+-- without the mark of this place: each later one's place falls by one
+abbrev pub without_mark : Marked → ℕ → Marked
+without_mark m place = record m { marks = remove m.marks place }
+
+-- without marks, and no change counted: the rows and the next number stay
+abbrev pub settled : Marked → Marked
+settled m = record { base = record m.base { count = 0 }; marks = [] }
+
+-- ---- so of a history
+
+-- one more change, which is noted
+abbrev pub history_after : History → Change → History
+history_after h c = record {
+  rows = set_row c.table c.row c.new h.rows;
+  next = max (c.row + 1) h.next;
+  journal = h.journal ++ c ∷ [];
+  marks = h.marks;
+}
+
+-- what a mark keeps
+abbrev pub saved_of : History → Saved
+saved_of h = record { noted = length h.journal; next = h.next }
+
+-- the last change that is noted
+abbrev pub last_change : List Change → Option Change
+last_change journal = slice_get journal (length journal - 1)
+
+-- how many changes were noted at the mark of this place
+abbrev pub noted_at : List Saved → ℕ → ℕ
+noted_at marks place = elim (slice_get marks place) [ Some m ↦ m.noted | None ↦ 0 ]
+
+-- the rows before the last of these changes
+abbrev pub rows_before_last : List Change → List StoredRow → List StoredRow
+rows_before_last journal rows = elim (last_change journal) [ Some c ↦ rows_before c rows | None ↦ rows ]
+
+-- The last change is undone, and the marks after that of this place are gone.
+abbrev pub stepped_back : History → ℕ → History
+stepped_back h place = record {
+  rows = rows_before_last h.journal h.rows;
+  next = h.next;
+  journal = take (length h.journal - 1) h.journal;
+  marks = take (place + 1) h.marks;
+}
+
+-- ---- what holds
+
+-- the lengths of the journal at marks don't fall, from this one to that
+abbrev pub NeverFalls : ℕ → List Saved → ℕ → Type 0
+NeverFalls low [] top = low ≤ top
+NeverFalls low (m ∷ marks) top = (low ≤ m.noted) × NeverFalls m.noted marks top
+
+-- the changes are of rows from number 1 to below this one
+abbrev pub AllBelow : ℕ → List Change → Type 0
+AllBelow next [] = Unit {0}
+AllBelow next (c ∷ cs) = (0 < c.row) × (c.row < next) × AllBelow next cs
+
+-- so of the changes before each mark, and its next number
+abbrev pub EachBelow : List Change → List Saved → Type 0
+EachBelow journal [] = Unit {0}
+EachBelow journal (m ∷ marks) = AllBelow m.next (take m.noted journal) × EachBelow journal marks
+
+-- each of these changes leads from the rows before it to those after it
+abbrev pub AllMade : List Change → List StoredRow → Type 0
+AllMade [] rows = Unit {0}
+AllMade (c ∷ cs) rows = (set_row c.table c.row c.new (rows_before_all (c ∷ cs) rows) ≡ rows_before_all cs rows) × AllMade cs rows
+
+abbrev pub EachInBounds : List Database → Type 0
+EachInBounds [] = Unit {0}
+EachInBounds (db ∷ dbs) = InBounds db × EachInBounds dbs
+
+-- What holds of a database with its journal and marks.
+pub record Sound (h : History) : Type 0 where
+  pub base : InBounds (database_of h)
+  pub marked : EachInBounds (marked_databases h)
+  pub falls : NeverFalls 0 h.marks (length h.journal)
+  pub made : AllMade h.journal h.rows
+  pub below : AllBelow h.next h.journal
+  pub before : EachBelow h.journal h.marks
+
+-- A change can be undone in these slots: no slot and no number is added.
+pub record CanUndo (slots : List Slot) (numbers : List (List ℕ)) (c : Change) : Type 0 where
+  pub slot : has_slot_for c.old slots c.row ≡ true
+  pub filed : is_filed_for c.old numbers c.table c.row ≡ true
+
+abbrev pub CanUndoAll : List Slot → List (List ℕ) → List Change → Type 0
+CanUndoAll slots numbers [] = Unit {0}
+CanUndoAll slots numbers (c ∷ cs) = CanUndo slots numbers c × CanUndoAll slots numbers cs
+
+-- the history whose rows are in these slots
+abbrev pub history_of : List Slot → ℕ → List Change → List Saved → History
+history_of slots next journal marks = record { rows = live_rows slots; next = next; journal = journal; marks = marks }
+
+-- What holds of a history whose rows are in slots.
+pub record Kept (slots : List Slot) (numbers : List (List ℕ)) (next : ℕ) (journal : List Change) (marks : List Saved) : Type 0 where
+  pub sound : Sound (history_of slots next journal marks)
+  pub undo : CanUndoAll slots numbers journal
