@@ -73,7 +73,8 @@ fn count_among(
 
 impl ViolatingGroups {
     /// How many violations there are of the constraints that are meant; the count stays at 2^64 - 1 once it is there.
-    /// It takes the time of one look at each marked group of these constraints, and no memory.
+    /// It takes the time of one look at each constraint with a marked group, and one at each marked group of those that
+    /// are meant. It takes no memory.
     pub fn count(&self, groups: &Groups, modes: &Modes, which: Which) -> u64
         requires within { HaveGroups self.now (shown groups.now.groups) }
         ensures { (constraints : List Constraint)
