@@ -8,4 +8,6 @@ pub mod Referenced
 pub mod Referring
 pub mod Turning
 pub mod Whole
+pub mod WatchTables
+pub mod WatchAppended
 pub mod Follows

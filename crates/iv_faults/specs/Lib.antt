@@ -6,3 +6,4 @@ pub mod References
 pub mod Turns
 pub mod Following
 pub mod Whole
+pub mod Watch
