@@ -11,3 +11,5 @@ pub mod Whole
 pub mod Follows
 pub mod Rooms
 pub mod Shows
+pub mod WatchTables
+pub mod WatchAppended

@@ -1,9 +1,11 @@
 //! Kept violations: which groups of each constraint violate it, followed change by change.
 #![tactic(auto)]
 
+mod copies;
 mod faults;
 mod following;
 mod kept_key;
+mod naming;
 mod reference;
 mod shown;
 mod sides;
