@@ -1,11 +1,14 @@
 -- Constraints with more behind them.
-use Rattle.std.proofs.Common.{◌≡◌, refl, ℕ, zero, suc, ◌+◌, ◌<◌, ◌≤◌, List, [], ◌∷◌, ◌++◌, length, map, filter_map, slice_get, get_or, take, option_map, Option, Some, None, sym, ap, subst, ◌∙◌, arith}
-use Rattle.std.specs.List.{cons_option, enumerate_from}
+use Rattle.std.proofs.Common.{◌≡◌, refl, ℕ, zero, suc, ◌+◌, ◌<◌, ◌≤◌, List, [], ◌∷◌, ◌++◌, length, map, filter_map, slice_get, get_or, take, option_map, Option, Some, None, sym, ap, subst, ◌∙◌, arith, Bool, true, ◌&&◌, ◌||◌}
+use Rattle.std.specs.List.{cons_option, enumerate_from, list_all, list_any}
+use Rattle.std.proofs.lemmas.List.Folds.{list_all-append, list_any-append}
 use Rattle.std.proofs.lemmas.List.{map-append, take_all, take_more}
 use Rattle.std.proofs.Math.Nat.{suc-ne-zero}
-use Rattle.iv_laws.proofs.Keys.{false_true}
+use Rattle.iv_laws.proofs.Keys.{and_first, and_second, false_true}
 use Rattle.iv_laws.proofs.RowNumbers.{some_none, some_same}
 use Rattle.iv_machine.specs.Databases.{first}
+use Rattle.iv_machine.specs.ReferentialActions.{foreign_key}
+use Rattle.iv_store.specs.Stores.{has_key, is_named_key}
 use Rattle.iv_laws_kept.specs.Kept.{AllNamed, KeyConstraint, named_by, named_key}
 use Rattle.iv_laws_kept.proofs.Naming.{named_of}
 use Rattle.iv_faults.specs.Words.{Constraint, Rule, ForeignKey}
@@ -77,6 +80,23 @@ next_named olds more fk e =
 -- a new foreign key finds the key that it names
 pub new_key : (olds more : List Constraint) (place : ℕ) (c : Constraint) → AllNamed (olds ++ more) → slice_get more place ≡ Some c → FindsKey (olds ++ more) c.rule
 new_key olds more place c all at fk is = let n = named_of (olds ++ more) (length olds + place) c fk all (behind_at olds more place ∙ at) is in (n.key, n.found)
+
+-- a key that is named among the old constraints is named among all
+pub still_has_key : (olds more : List Constraint) (fk : Option ForeignKey) → has_key olds fk ≡ true → has_key (olds ++ more) fk ≡ true
+still_has_key olds more None e = refl
+still_has_key olds more (Some fk) e = list_any-append (is_named_key fk) olds more ∙ ap (λ b. b || list_any (is_named_key fk) more) e
+
+all_by : {A : Type 0} (p q : A → Bool) → ((x : A) → p x ≡ true → q x ≡ true) → (xs : List A) → list_all p xs ≡ true → list_all q xs ≡ true
+all_by p q h [] e = refl
+all_by p q h (x ∷ xs) e = ap (λ b. b && list_all q xs) (h x (and_first (p x) (list_all p xs) e)) ∙ all_by p q h xs (and_second (p x) (list_all p xs) e)
+
+-- Where the new foreign keys find the keys that they name, all do.
+pub named_append : (olds more : List Constraint) → AllNamed olds → list_all (λ c. has_key (olds ++ more) (foreign_key c.rule)) more ≡ true → AllNamed (olds ++ more)
+named_append olds more old new =
+    list_all-append (λ c. has_key (olds ++ more) (foreign_key c.rule)) olds more
+    ∙ ap (λ b. b && list_all (λ c. has_key (olds ++ more) (foreign_key c.rule)) more)
+    (all_by (λ c. has_key olds (foreign_key c.rule)) (λ c. has_key (olds ++ more) (foreign_key c.rule)) (λ c. still_has_key olds more (foreign_key c.rule)) olds old)
+    ∙ new
 
 -- ---- references
 

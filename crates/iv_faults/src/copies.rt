@@ -22,6 +22,7 @@ fn both<T: Drop>(
     }
 }
 
+// An expression again.
 #[cycle(copy_expr)]
 fn copy_expr(alloc: Global, expr: &Expr) -> Result<Expr, AllocError>
     ensures { IfOk result (λ copy. copy ≡ expr.now) }
@@ -61,6 +62,7 @@ fn boxed_expr(alloc: Global, expr: &Expr) -> Result<Boxed<Expr>, AllocError>
     Boxed::new(alloc, copy_expr(alloc, expr)?)
 }
 
+// A condition again.
 #[cycle(copy_cond)]
 fn copy_cond(alloc: Global, cond: &Cond) -> Result<Cond, AllocError>
     ensures { IfOk result (λ copy. copy ≡ cond.now) }
@@ -98,7 +100,7 @@ fn boxed_cond(alloc: Global, cond: &Cond) -> Result<Boxed<Cond>, AllocError>
     Boxed::new(alloc, copy_cond(alloc, cond)?)
 }
 
-// A foreign key again.
+/// A foreign key again.
 pub fn copy_foreign_key(alloc: Global, key: &ForeignKey) -> Result<ForeignKey, AllocError>
     ensures { IfOk result (λ copy. copy ≡ key.now) }
 {
@@ -112,6 +114,7 @@ pub fn copy_foreign_key(alloc: Global, key: &ForeignKey) -> Result<ForeignKey, A
     })
 }
 
+// A rule again.
 fn copy_rule(alloc: Global, rule: &Rule) -> Result<Rule, AllocError>
     ensures { IfOk result (λ copy. copy ≡ rule.now) }
 {
@@ -127,6 +130,7 @@ fn copy_rule(alloc: Global, rule: &Rule) -> Result<Rule, AllocError>
     }
 }
 
+// A constraint again.
 fn copy_constraint(alloc: Global, constraint: &Constraint) -> Result<Constraint, AllocError>
     ensures { IfOk result (λ copy. copy ≡ constraint.now) }
 {

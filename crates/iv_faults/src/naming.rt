@@ -14,11 +14,11 @@ use iv_catalogue::{Constraint, ForeignKey, Rule};
 use sqlite_items::Items;
 use std::alloc::{AllocError, Global};
 
-/// A UNIQUE or a PRIMARY KEY that a foreign key names, by its number among the constraints.
+// A UNIQUE or a PRIMARY KEY that a foreign key names, by its number among the constraints.
 #[derive(Drop)]
-pub struct NamedKey {
-    pub id: usize,
-    pub columns: Items<u32>,
+struct NamedKey {
+    id: usize,
+    columns: Items<u32>,
 }
 
 // What a reference is made of. It is let go where memory is refused, which a reference can't be.
@@ -31,12 +31,14 @@ struct Parts {
     back: Items<u32>,
 }
 
+// Whether a column is one of these.
 fn is_among(column: u32, columns: &[u32]) -> bool
     ensures { result ≡ list_any (λ d. column == d) columns.now }
 {
     columns.iter().any(|other| column == *other)
 }
 
+// Whether each column is one of these.
 fn all_among(some: &[u32], columns: &[u32]) -> bool
     ensures { result ≡ all_among some.now columns.now }
 {

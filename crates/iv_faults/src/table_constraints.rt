@@ -47,6 +47,7 @@ fn widen(alloc: Global, tables: &mut Vec<TableConstraints>, table: usize) -> Res
     Ok(())
 }
 
+// Adds a number to the keys of a table.
 fn push_key(tables: &mut Vec<TableConstraints>, table: usize, id: u32) -> Result<(), AllocError>
     requires { table < length tables.old.items }
     ensures { OnOk result (tables.new.items ≡ set tables.old.items table (record {
@@ -58,6 +59,7 @@ fn push_key(tables: &mut Vec<TableConstraints>, table: usize, id: u32) -> Result
     numbers.keys.push(id)
 }
 
+// Adds a number to the foreign keys of a table.
 fn push_foreign_key(
     tables: &mut Vec<TableConstraints>,
     table: usize,
