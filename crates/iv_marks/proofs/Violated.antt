@@ -1,6 +1,6 @@
 -- The set of the constraints with a marked place.
-use Rattle.std.proofs.Common.{◌≡◌, refl, ℕ, zero, suc, ◌≤◌, Bool, true, false, ◌||◌, List, [], ◌∷◌, length, subst, sym, ◌∙◌}
-use Rattle.std.proofs.lemmas.Bool.{true≢false, or_right}
+use Rattle.std.proofs.Common.{◌≡◌, refl, ℕ, zero, suc, ◌<◌, ◌≤◌, Bool, true, false, ◌||◌, List, [], ◌∷◌, length, take, ap, subst, sym, ◌∙◌, arith, ⊎_elim}
+use Rattle.std.proofs.lemmas.Bool.{true≢false, or_right, cases_lt}
 use Rattle.iv_laws.proofs.Keys.{same_test}
 use Rattle.iv_laws_kept.specs.Marks.{Marks, marks_of}
 use Rattle.iv_marks.specs.Marking.{AreViolated, flag, has_any, is_any}
@@ -37,3 +37,41 @@ pub any_violated : (marks : Marks) (violated : List Bool) → AreViolated marks 
 any_violated marks violated are = same_test (is_any violated) (has_any marks)
     (λ e. let set = flag_of_any violated e in any_of marks set.place (sym (are.each set.place) ∙ set.is))
     (λ e. let one = of_any marks e in any_flag violated one.id (are.each one.id ∙ one.is))
+
+-- ---- fewer constraints
+
+before : (marks : Marks) (count id : ℕ) → id < count → marks_of (take count marks) id ≡ marks_of marks id
+before [] zero id h = refl
+before [] (suc count) id h = refl
+before (own ∷ marks) zero id h = absurd (none h)
+  where
+    none : id < 0 → ⊥
+    none h = omega (arith, h)
+before (own ∷ marks) (suc count) zero h = refl
+before (own ∷ marks) (suc count) (suc id) h = before marks count id (omega (arith, h))
+
+from : (marks : Marks) (count id : ℕ) → count ≤ id → marks_of (take count marks) id ≡ []
+from [] zero id h = refl
+from [] (suc count) id h = refl
+from (own ∷ marks) zero id h = refl
+from (own ∷ marks) (suc count) zero h = absurd (none h)
+  where
+    none : suc count ≤ 0 → ⊥
+    none h = omega (arith, h)
+from (own ∷ marks) (suc count) (suc id) h = from marks count id (omega (arith, h))
+
+shorter : (marks : Marks) (count : ℕ) → length (take count marks) ≤ length marks
+shorter [] zero = omega arith
+shorter [] (suc count) = omega arith
+shorter (own ∷ marks) zero = omega arith
+shorter (own ∷ marks) (suc count) = omega (arith, shorter marks count)
+
+-- the first constraints, where the others have no marked place
+pub violated_before : (marks : Marks) (violated : List Bool) (count : ℕ) → AreViolated marks violated → ((id : ℕ) → count ≤ id → is_any (marks_of marks id) ≡ false) → AreViolated (take count marks) violated
+violated_before marks violated count are none = record {
+  known = omega (arith, shorter marks count, are.known);
+  each = λ id. ⊎_elim
+      (λ (less : id < count). are.each id ∙ ap is_any (sym (before marks count id less)))
+      (λ (from_on : count ≤ id). are.each id ∙ none id from_on ∙ ap is_any (sym (from marks count id from_on)))
+      (cases_lt id count);
+}

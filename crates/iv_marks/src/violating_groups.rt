@@ -1,5 +1,5 @@
 //! The groups of all constraints that violate them.
-ghost use Rattle.std.specs.Prelude.{◌≡◌, ◌≢◌, ℕ, ◌<◌, ◌≤◌, [], length, max, true, false, OnOk, OnErr};
+ghost use Rattle.std.specs.Prelude.{◌≡◌, ◌≢◌, ℕ, ◌<◌, ◌≤◌, [], length, max, true, false, OnOk, OnErr, take};
 ghost use Rattle.iv_laws_kept.specs.Marks.{marks_of};
 ghost use Rattle.iv_laws_kept.specs.Numbers.{has};
 ghost use Rattle.iv_marks.specs.Marking.{AreViolated, NoRepeats, flag, has_any, is_any, with_flag, with_marks};
@@ -125,6 +125,18 @@ fn is_marked(constraints: &[Marks], constraint: usize, place: usize) -> bool
     }
 }
 
+// Drops the constraints from a number on, none of which has a marked place.
+#[tactic(auto, using(crate::proofs::Violated::violated_before))]
+fn truncate(constraints: &mut Vec<Marks>, violated: &Marks, count: usize)
+    requires violated { AreViolated constraints.old.items violated.now }
+    requires unmarked { (id : ℕ) → count ≤ id → is_any (marks_of constraints.old.items id) ≡ false }
+    ensures marks { constraints.new.items ≡ take count constraints.old.items }
+    ensures violated { AreViolated constraints.new.items violated.now }
+{
+    let _ = violated;
+    constraints.truncate(count);
+}
+
 // Whether some flag is set.
 #[tactic(auto, using(crate::proofs::Violated::any_violated))]
 fn is_any(constraints: &[Marks], violated: &Marks) -> bool
@@ -213,6 +225,14 @@ impl ViolatingGroups {
             &mut self.violated,
             constraint,
         );
+    }
+
+    /// Drops the constraints from a number on, none of which has a marked place. It takes no memory.
+    pub fn truncate(&mut self, count: usize)
+        requires unmarked { (id : ℕ) → count ≤ id → is_any (marks_of self.old id) ≡ false }
+        ensures marks { self.new ≡ take count self.old }
+    {
+        truncate(&mut self.constraints, &self.violated, count);
     }
 
     /// Whether a place of a constraint is marked: false where there is no such place.
