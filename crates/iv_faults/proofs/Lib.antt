@@ -2,7 +2,7 @@ pub mod Placed
 pub mod GroupsShown
 pub mod SideKeys
 pub mod Steps
-pub mod Watching
+pub mod NoForeignKeys
 pub mod Watched
 pub mod Referenced
 pub mod Referring

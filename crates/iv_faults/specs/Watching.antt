@@ -1,6 +1,7 @@
 -- Kept violations: what is kept, and which rows it shows.
-use Rattle.std.specs.Prelude.{◌≡◌, ℕ, ◌*◌, ◌<◌, ◌≤◌, false, List, length, slice_get, Option, Some}
+use Rattle.std.specs.Prelude.{◌≡◌, ℕ, ◌*◌, ◌<◌, ◌≤◌, ◌++◌, false, List, [], filter, length, slice_get, Option, Some}
 use Rattle.iv_catalogue.specs.declared.limits.TheConstants.{MOST_CONSTRAINTS, MOST_TABLES}
+use Rattle.iv_machine.specs.Databases.{violates}
 use Rattle.iv_faults.specs.Words.{Value, StoredRow, Change, Constraint}
 use Rattle.iv_faults.specs.declared.reference.Reference.{Reference}
 use Rattle.iv_faults.specs.declared.table_constraints.TableConstraints.{TableConstraints}
@@ -50,3 +51,7 @@ abbrev pub ShownRowsArePresent : Type 0
 ShownRowsArePresent =
     (rows : List StoredRow) (constraints : List Constraint) (groups : List (List GroupOf)) (change : Change)
     → Show rows constraints (shown groups) → Holds rows change → IsPresent constraints (shown groups) change
+
+-- no row violates one of these constraints
+abbrev pub NoneViolates : List StoredRow → List Constraint → Type 0
+NoneViolates rows constraints = (k : ℕ) (c : Constraint) → slice_get constraints k ≡ Some c → ◌≡◌ {A = List StoredRow} (filter (violates rows c) rows) []

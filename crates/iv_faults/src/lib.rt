@@ -12,5 +12,6 @@ mod sides;
 mod step;
 mod table_constraints;
 mod turns;
+mod watching;
 
 pub use faults::Faults;

@@ -5,7 +5,7 @@ use Rattle.iv_laws_kept.specs.Marks.{marks_of}
 use Rattle.iv_marks.specs.Shown.{shown_of}
 use Rattle.iv_faults.specs.Words.{Constraint}
 use Rattle.iv_faults.specs.Steps.{KeyMoved, is_reference}
-use Rattle.iv_faults.proofs.Watching.{marked_without}
+use Rattle.iv_faults.proofs.NoForeignKeys.{marked_without}
 use Rattle.iv_faults.proofs.turns.move_key.Goals as goal
 
 pub returns-in-Some-clause-moved : goal.returns-in-Some-clause-moved
