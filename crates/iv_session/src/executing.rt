@@ -6,13 +6,16 @@ ghost use Rattle.iv_resolution.specs.Resolution.{resolution};
 ghost use Rattle.iv_run.specs.Step.{Executes, step, takes_no_memory};
 ghost use Rattle.iv_state.specs.Performing.{Runs};
 ghost use Rattle.iv_session.specs.RunningAll.{IsRunOf};
+ghost use Rattle.iv_session.specs.Sure.{is_rollback_to};
 
 use crate::levels::Levels;
 use crate::session::Session;
+use iv_catalogue::Cause;
 use iv_resolve::resolve;
 use iv_run::Outcome;
 use iv_store::Keeper;
 use iv_syntax::Statement;
+use iv_writable::is_writable;
 use std::alloc::AllocError;
 
 impl<K: Keeper + Drop> Session<K> {
@@ -36,6 +39,8 @@ impl<K: Keeper + Drop> Session<K> {
             (step self.old.state statement.now) result self.new }
         ensures sure { takes_no_memory self.old.state statement.now ≡ true
             → is_memory result ≡ false }
+        ensures sure_store { K.sure ≡ true → is_rollback_to statement.now ≡ true
+            → is_memory result ≡ false }
     {
         if let Some(cause) = self.state.transaction_cause(statement) {
             return self.state.refuse_now(cause);
@@ -43,6 +48,13 @@ impl<K: Keeper + Drop> Session<K> {
         match statement {
             Statement::Commit => self.state.commit_statement(),
             Statement::Rollback => self.state.rollback_statement(),
+            Statement::RollbackTo(name) => {
+                if is_writable(statement) {
+                    self.state.rollback_to(name.as_str())
+                } else {
+                    self.state.refuse_now(Cause::Limit)
+                }
+            }
             _ => self.resolve_and_perform(statement),
         }
     }
@@ -52,6 +64,9 @@ impl<K: Keeper + Drop> Session<K> {
     pub fn execute(&mut self, statement: &Statement) -> Outcome
         ensures step { Executes self.old.state statement.now result self.new.state }
         ensures sure { takes_no_memory self.old.state statement.now ≡ true
+            → is_memory result ≡ false }
+        // a store that goes back to a mark without memory
+        ensures sure_store { K.sure ≡ true → is_rollback_to statement.now ≡ true
             → is_memory result ≡ false }
         ensures work { MatchBool (is_memory result) (Unit {0}) (self.new.work
             ≡ (step self.old.state statement.now).work) }

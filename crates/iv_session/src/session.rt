@@ -118,11 +118,12 @@ impl<K: Keeper + Drop> Session<K> {
 
     /// ROLLBACK TO SAVEPOINT as a call: the answer, the state after it and the changes that were undone are
     /// those of the machine, or memory was refused and the state is as before. Outside a transaction it takes
-    /// no memory.
+    /// no memory, and on a store that goes back to a mark without memory it never takes any.
     pub fn rollback_to(&mut self, name: &str) -> Outcome
         ensures lookups { self.new.lookups ≡ self.new.looked - self.old.looked }
         ensures unlooked { ((store : K) → K.lookups store ≡ 0) → self.new.lookups ≡ 0 }
         ensures sure { is_open self.old.state ≡ false → is_memory result ≡ false }
+        ensures sure_store { K.sure ≡ true → is_memory result ≡ false }
         ensures performs { Performs self.old.state
             (outcome_unless self.old.state (transaction_cause (is_open self.old.state) inside)
             (rollback_to_outcome self.old.state

@@ -1,6 +1,7 @@
 -- RELEASE and ROLLBACK TO: the newest savepoint of a name, and those before it.
-use Rattle.std.proofs.Common.{◌≡◌, ℕ, zero, suc, ◌+◌, ◌<◌, Bool, true, false, if◌then◌else◌, Option, Some, None, List, [], ◌∷◌, ◌++◌, length, take, get_or, arith, refl, ap, sym, subst, ◌∙◌, slice_get, IfSome}
+use Rattle.std.proofs.Common.{◌≡◌, ℕ, zero, suc, ◌+◌, ◌<◌, Bool, true, false, if◌then◌else◌, Option, Some, None, List, [], ◌∷◌, ◌++◌, length, take, get_or, arith, refl, ap, sym, subst, ◌∙◌, slice_get, is_some, IfSome}
 use Rattle.std.specs.Str.{bytes_eq}
+use Rattle.std.proofs.lemmas.Bool.{true≢false}
 use Rattle.std.proofs.lemmas.List.{take_more, length-take-le}
 use Rattle.iv_state.specs.Words.{Table, Constraint, Database}
 use Rattle.iv_machine.specs.Machine.{Savepoint, NamedSavepoint, State, savepoint_named}
@@ -8,7 +9,7 @@ use Rattle.iv_modes.specs.ModeMaps.{ModeMap}
 use Rattle.iv_store.specs.Stores.{StoreState, marked_database, store_at_mark}
 use Rattle.iv_state.specs.declared.session_state.Saved.{Saved}
 use Rattle.iv_row_laws.specs.RowFits.{rows_fit}
-use Rattle.iv_state.specs.Kept.{Parts, Kept, IsOpen, StandsAs, AllModes, AreModes, all_fit, current, later, savepoint_at, savepoints_of, started, state_of}
+use Rattle.iv_state.specs.Kept.{Parts, Kept, IsOpen, StandsAs, AllModes, AreModes, AreSaved, all_fit, brought_back, current, later, savepoint_at, savepoints_of, started, state_of}
 use Rattle.iv_state.specs.Saving.{last_named, with_marks}
 use Rattle.iv_state.proofs.Saves.{two, parts_of, saves_more, first_or, later_length}
 use Rattle.iv_state.proofs.TakenOut.{last_in, last_named_is, none_first, At, here, there, at_of}
@@ -96,16 +97,16 @@ first_base : (base other : Database) (dbs : List Database) → 0 < length dbs �
 first_base base other [] w = absurd (omega (arith, w))
 first_base base other (d ∷ dbs) w = refl
 
-modes_take : (ks : List Constraint) (ss : List Saved) (p : ℕ) → AllModes ks ss → AllModes ks (take p ss)
-modes_take ks [] zero h = h
-modes_take ks [] (suc p) h = h
-modes_take ks (s ∷ ss) zero h = tt
-modes_take ks (s ∷ ss) (suc p) h = (h.0, modes_take ks ss p h.1)
+modes_take : (ks : List Constraint) (c : Bool) (ss : List Saved) (p : ℕ) → AllModes ks c ss → AllModes ks c (take p ss)
+modes_take ks c [] zero h = h
+modes_take ks c [] (suc p) h = h
+modes_take ks c (s ∷ ss) zero h = tt
+modes_take ks c (s ∷ ss) (suc p) h = (h.0, modes_take ks c ss p h.1)
 
-modes_at : (ks : List Constraint) (ss : List Saved) (p : ℕ) (s : Saved) → p < length ss → AllModes ks ss → IfSome (get_or ss p s).modes (AreModes ks)
-modes_at ks [] p s w h = absurd (omega (arith, w))
-modes_at ks (x ∷ ss) zero s w h = h.0
-modes_at ks (x ∷ ss) (suc p) s w h = modes_at ks ss p s (omega (arith, w)) h.1
+modes_at : (ks : List Constraint) (c : Bool) (ss : List Saved) (p : ℕ) (s : Saved) → p < length ss → AllModes ks c ss → IfSome (get_or ss p s).modes (AreSaved ks c)
+modes_at ks c [] p s w h = absurd (omega (arith, w))
+modes_at ks c (x ∷ ss) zero s w h = h.0
+modes_at ks c (x ∷ ss) (suc p) s w h = modes_at ks c ss p s (omega (arith, w)) h.1
 
 fit_take : (tables : List Table) (dbs : List Database) (p : ℕ) → all_fit tables dbs ≡ true → all_fit tables (take p dbs) ≡ true
 fit_take tables [] zero h = h
@@ -179,7 +180,7 @@ released_kept h p saves t a o w e f k =
     let whole : IsOpen (released h (with_marks h.store (take (p + 1) h.store.marks)) (take p h.saves)) = record {
       marks = marks ∙ ap (λ (n : ℕ). n + 1) (sym short);
       modes = o.modes;
-      saved = modes_take h.schema.constraints h.saves p o.saved;
+      saved = modes_take h.schema.constraints (is_some h.changed) h.saves p o.saved;
       fit = fit_take h.schema.tables h.store.marks (p + 1) o.fit;
     } in
     rw (e, f) (record {
@@ -189,6 +190,45 @@ released_kept h p saves t a o w e f k =
     })
 
 -- ---- ROLLBACK TO SAVEPOINT
+
+-- the modes brought back are those of the savepoint, or the initial ones
+brought_is : (ks : List Constraint) (initial : ModeMap) (changed modes : Option ModeMap) → IfSome modes (AreSaved ks (is_some changed))
+    → current initial (brought_back changed (current initial modes)) ≡ current initial modes
+brought_is ks initial (Some m) modes h = refl
+brought_is ks initial None None h = refl
+brought_is ks initial None (Some m) h = absurd (true≢false (sym h.1))
+
+current_modes : (ks : List Constraint) (initial : ModeMap) (c : Bool) (modes : Option ModeMap) → AreModes ks initial → IfSome modes (AreSaved ks c) → AreModes ks (current initial modes)
+current_modes ks initial c None i h = i
+current_modes ks initial c (Some m) i h = h.0
+
+brought_modes : (ks : List Constraint) (changed : Option ModeMap) (m : ModeMap) → AreModes ks m → IfSome (brought_back changed m) (AreModes ks)
+brought_modes ks None m h = tt
+brought_modes ks (Some x) m h = h
+
+brought_some : (changed : Option ModeMap) (m : ModeMap) → is_some changed ≡ is_some (brought_back changed m)
+brought_some None m = refl
+brought_some (Some x) m = refl
+
+both_modes : (ks : List Constraint) (changed : Option ModeMap) (m : ModeMap) → IfSome changed (AreModes ks) → AreModes ks m → IfSome changed (λ x. x.deferrable ≡ m.deferrable)
+both_modes ks None m h g = h
+both_modes ks (Some x) m h g = h ∙ sym g
+
+-- the modes of a savepoint, or the initial ones
+abbrev pub modes_back : Parts → Saved → ModeMap
+modes_back h x = current h.initial x.modes
+
+back_modes : (h : Parts) (p : ℕ) (s : Saved) → IsOpen h → p < length h.saves → Kept h → AreModes h.schema.constraints (modes_back h (get_or h.saves p s))
+back_modes h p s o w k =
+    current_modes h.schema.constraints h.initial (is_some h.changed) (get_or h.saves p s).modes (ap (λ (x : ModeMap). x.deferrable) k.initial)
+    (modes_at h.schema.constraints (is_some h.changed) h.saves p s w o.saved)
+
+-- they are modes of the same constraints as those of the session
+pub same_modes : (h : Parts) (p : ℕ) (s x : Saved) → IsOpen h → p < length h.saves → Kept h → x ≡ get_or h.saves p s
+    → IfSome h.changed (λ m. m.deferrable ≡ (modes_back h x).deferrable)
+same_modes h p s x o w k e =
+    subst (λ (y : Saved). IfSome h.changed (λ m. m.deferrable ≡ (modes_back h y).deferrable)) (sym e)
+    (both_modes h.schema.constraints h.changed (modes_back h (get_or h.saves p s)) o.modes (back_modes h p s o w k))
 
 -- the parts after it
 abbrev pub backed : Parts → StoreState → List Saved → Option ModeMap → Parts
@@ -213,7 +253,7 @@ backed_base h p db t o w f =
     ∙ marked_at h.store.marks p h.store.base db (omega (arith, w, later_length h.store.marks (length h.saves) o.marks))
 
 pub backed_state : (h : Parts) (p : ℕ) (s : Saved) (db : Database) (saves : List Saved) (t : StoreState) (changed : Option ModeMap) → IsOpen h → p < length h.saves
-    → saves ≡ take (p + 1) h.saves → t ≡ store_at_mark h.store (p + 1) → changed ≡ (get_or h.saves p s).modes
+    → saves ≡ take (p + 1) h.saves → t ≡ store_at_mark h.store (p + 1) → changed ≡ brought_back h.changed (modes_back h (get_or h.saves p s))
     → state_of (backed h t saves changed) ≡ back_at (state_of h) (named_at h.initial h.saves (later h.store.marks) p s db)
 backed_state h p s db saves t changed o w e f m =
     let len : length (later h.store.marks) ≡ length h.saves = later_length h.store.marks (length h.saves) o.marks in
@@ -233,24 +273,29 @@ backed_state h p s db saves t changed o w e f m =
     ∙ first_base (marked_database h.store (p + 1)) h.store.base h.store.marks some in
     let begins : (b : Bool) → started b t ≡ started b h.store = elim [ true ↦ ap (λ (d : Database). Some d) start | false ↦ refl ] in
     let base : t.base ≡ get_or (later h.store.marks) p db = backed_base h p db t o w f in
+    let modes : current h.initial changed ≡ modes_back h (get_or h.saves p s) =
+    ap (current h.initial) m
+    ∙ brought_is h.schema.constraints h.initial h.changed (get_or h.saves p s).modes (modes_at h.schema.constraints (is_some h.changed) h.saves p s w o.saved) in
     λ i. record {
       schema = h.schema;
       limits = h.limits;
       database = base i;
-      modes = (current h.initial (m i)).modes;
+      modes = (modes i).modes;
       start = begins h.active i;
       savepoints = same i;
     }
 
 pub backed_kept : (h : Parts) (p : ℕ) (s : Saved) (saves : List Saved) (t : StoreState) (changed : Option ModeMap) → h.active ≡ true → IsOpen h → p < length h.saves
-    → saves ≡ take (p + 1) h.saves → t ≡ store_at_mark h.store (p + 1) → changed ≡ (get_or h.saves p s).modes → Kept h → Kept (backed h t saves changed)
+    → saves ≡ take (p + 1) h.saves → t ≡ store_at_mark h.store (p + 1) → changed ≡ brought_back h.changed (modes_back h (get_or h.saves p s)) → Kept h → Kept (backed h t saves changed)
 backed_kept h p s saves t changed a o w e f m k =
     let marks : length (take (p + 1 + 1) h.store.marks) ≡ p + 1 + 1 = length-take-le (p + 1 + 1) h.store.marks (omega (arith, o.marks, w)) in
     let short : length (take (p + 1) h.saves) ≡ p + 1 = length-take-le (p + 1) h.saves (omega (arith, w)) in
-    let whole : IsOpen (backed h (store_at_mark h.store (p + 1)) (take (p + 1) h.saves) (get_or h.saves p s).modes) = record {
+    let others : ModeMap = modes_back h (get_or h.saves p s) in
+    let whole : IsOpen (backed h (store_at_mark h.store (p + 1)) (take (p + 1) h.saves) (brought_back h.changed others)) = record {
       marks = marks ∙ ap (λ (n : ℕ). n + 1) (sym short);
-      modes = modes_at h.schema.constraints h.saves p s w o.saved;
-      saved = modes_take h.schema.constraints h.saves (p + 1) o.saved;
+      modes = brought_modes h.schema.constraints h.changed others (back_modes h p s o w k);
+      saved = subst (λ (c : Bool). AllModes h.schema.constraints c (take (p + 1) h.saves)) (brought_some h.changed others)
+          (modes_take h.schema.constraints (is_some h.changed) h.saves (p + 1) o.saved);
       fit = fit_take h.schema.tables h.store.marks (p + 1 + 1) o.fit;
     } in
     rw (e, f, m) (record {
@@ -261,5 +306,5 @@ backed_kept h p s saves t changed a o w e f m k =
         rows = fit_at h.schema.tables h.store.marks (p + 1) h.store.base o.fit k.store.rows;
       };
       initial = k.initial;
-      stands = subst (λ b. StandsAs b (backed h (store_at_mark h.store (p + 1)) (take (p + 1) h.saves) (get_or h.saves p s).modes)) (sym a) whole;
+      stands = subst (λ b. StandsAs b (backed h (store_at_mark h.store (p + 1)) (take (p + 1) h.saves) (brought_back h.changed others))) (sym a) whole;
     })

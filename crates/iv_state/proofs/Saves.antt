@@ -1,5 +1,5 @@
 -- A list of savepoints with one more, and without those of a name.
-use Rattle.std.proofs.Common.{◌≡◌, ℕ, suc, ◌+◌, ◌<◌, Bool, true, false, not, ◌&&◌, if◌then◌else◌, Some, None, List, [], ◌∷◌, ◌++◌, length, arith, refl, ap, sym, subst, ◌∙◌, append-nil, length-append, slice_get, IfSome, is_some}
+use Rattle.std.proofs.Common.{◌≡◌, ℕ, suc, ◌+◌, ◌<◌, Bool, true, false, not, ◌&&◌, if◌then◌else◌, Some, None, Option, List, [], ◌∷◌, ◌++◌, length, arith, refl, ap, sym, subst, ◌∙◌, append-nil, length-append, slice_get, IfSome, is_some}
 use Rattle.std.specs.Str.{bytes_eq}
 use Rattle.iv_state.specs.Words.{Table, Constraint, Database}
 use Rattle.iv_machine.specs.Machine.{Savepoint, without_name, state_with_savepoint}
@@ -7,7 +7,7 @@ use Rattle.iv_modes.specs.ModeMaps.{ModeMap}
 use Rattle.iv_store.specs.Stores.{StoreState, marked_database, store_with_mark}
 use Rattle.iv_state.specs.declared.session_state.Saved.{Saved}
 use Rattle.iv_row_laws.specs.RowFits.{rows_fit}
-use Rattle.iv_state.specs.Kept.{Parts, Kept, IsOpen, StandsAs, AllModes, AreModes, all_fit, current, later, savepoint_at, savepoints_of, started, state_of}
+use Rattle.iv_state.specs.Kept.{Parts, Kept, IsOpen, StandsAs, AllModes, AreModes, AreSaved, all_fit, current, later, savepoint_at, savepoints_of, started, state_of}
 use Rattle.iv_state.specs.Saving.{saves_without, marks_without, IsWithout}
 
 -- ---- lists
@@ -73,16 +73,30 @@ without_lengths name (s ∷ ss) (d ∷ dbs) e = by (bytes_eq name s.name) (witho
 
 -- ---- what holds of each
 
-pub modes_more : (ks : List Constraint) (ss : List Saved) (s : Saved) → AllModes ks ss → IfSome s.modes (AreModes ks) → AllModes ks (ss ++ s ∷ [])
-modes_more ks [] s h g = (g, tt)
-modes_more ks (x ∷ ss) s h g = (h.0, modes_more ks ss s h.1 g)
+pub modes_more : (ks : List Constraint) (c : Bool) (ss : List Saved) (s : Saved) → AllModes ks c ss → IfSome s.modes (AreSaved ks c) → AllModes ks c (ss ++ s ∷ [])
+modes_more ks c [] s h g = (g, tt)
+modes_more ks c (x ∷ ss) s h g = (h.0, modes_more ks c ss s h.1 g)
 
-pub modes_others : (ks : List Constraint) (name : List ℕ) (ss : List Saved) → AllModes ks ss → AllModes ks (saves_without name ss)
-modes_others ks name [] h = h
-modes_others ks name (s ∷ ss) h = by (bytes_eq name s.name) (modes_others ks name ss h.1) where
-  by : (b : Bool) → AllModes ks (saves_without name ss) → AllModes ks (if not b then s ∷ saves_without name ss else saves_without name ss)
+pub modes_others : (ks : List Constraint) (c : Bool) (name : List ℕ) (ss : List Saved) → AllModes ks c ss → AllModes ks c (saves_without name ss)
+modes_others ks c name [] h = h
+modes_others ks c name (s ∷ ss) h = by (bytes_eq name s.name) (modes_others ks c name ss h.1) where
+  by : (b : Bool) → AllModes ks c (saves_without name ss) → AllModes ks c (if not b then s ∷ saves_without name ss else saves_without name ss)
   by true g = g
   by false g = (h.0, g)
+
+-- the modes of the session, as those of a savepoint
+modes_own : (ks : List Constraint) (o : Option ModeMap) → IfSome o (AreModes ks) → IfSome o (AreSaved ks (is_some o))
+modes_own ks None h = h
+modes_own ks (Some m) h = (h, refl)
+
+-- once those of the session are changed
+modes_set : (ks : List Constraint) (c : Bool) (o : Option ModeMap) → IfSome o (AreSaved ks c) → IfSome o (AreSaved ks true)
+modes_set ks c None h = h
+modes_set ks c (Some m) h = (h.0, refl)
+
+pub modes_changed : (ks : List Constraint) (c : Bool) (ss : List Saved) → AllModes ks c ss → AllModes ks true ss
+modes_changed ks c [] h = h
+modes_changed ks c (s ∷ ss) h = (modes_set ks c s.modes h.0, modes_changed ks c ss h.1)
 
 pub fit_more : (tables : List Table) (dbs : List Database) (db : Database) → all_fit tables dbs ≡ true → rows_fit tables db.rows ≡ true → all_fit tables (dbs ++ db ∷ []) ≡ true
 fit_more tables [] db h g = two (rows_fit tables db.rows) true g refl
@@ -200,7 +214,8 @@ saved_kept h name s others saves t a o m w e k =
           ∙ sym (length-append (saves_without name h.saves) (s ∷ []))
           ∙ sym (ap (λ (l : List Saved). length l) (e ∙ ap (λ (l : List Saved). l ++ s ∷ []) w.kept)));
       modes = o.modes;
-      saved = rw (e, w.kept) (modes_more h.schema.constraints (saves_without name h.saves) s (modes_others h.schema.constraints name h.saves o.saved) (subst (λ x. IfSome x (AreModes h.schema.constraints)) (sym m) o.modes));
+      saved = rw (e, w.kept) (modes_more h.schema.constraints (is_some h.changed) (saves_without name h.saves) s (modes_others h.schema.constraints (is_some h.changed) name h.saves o.saved)
+          (subst (λ x. IfSome x (AreSaved h.schema.constraints (is_some h.changed))) (sym m) (modes_own h.schema.constraints h.changed o.modes)));
       fit = fit_whole h.schema.tables t.base t.marks some (ap (λ (d : Database). rows_fit h.schema.tables d.rows) start ∙ first.0) fit;
     } in
     record {

@@ -1,5 +1,5 @@
 -- What a session is seen as, and what holds of its parts.
-use Rattle.std.specs.Prelude.{◌≡◌, ℕ, ◌+◌, Bool, true, false, List, [], ◌∷◌, ◌++◌, map, length, Option, Some, None, IfSome}
+use Rattle.std.specs.Prelude.{◌≡◌, ℕ, ◌+◌, Bool, true, false, List, [], ◌∷◌, ◌++◌, map, length, Option, Some, None, is_some, IfSome}
 use Rattle.std.specs.List.{list_all}
 use Rattle.iv_catalogue.specs.Catalogues.{Schema}
 use Rattle.iv_state.specs.Words.{Table, Constraint, Database}
@@ -36,6 +36,11 @@ pub record Parts : Type 0 where
 abbrev pub current : ModeMap → Option ModeMap → ModeMap
 current initial None = initial
 current initial (Some modes) = modes
+
+-- the modes that were changed, where there are any, are set to others
+abbrev pub brought_back : Option ModeMap → ModeMap → Option ModeMap
+brought_back None others = None
+brought_back (Some modes) others = Some others
 
 -- the transaction began at the first mark
 abbrev pub started : Bool → StoreState → Option Database
@@ -97,9 +102,13 @@ all_fit tables dbs = list_all (λ db. rows_fit tables db.rows) dbs
 abbrev pub AreModes : List Constraint → ModeMap → Type 0
 AreModes constraints m = m.deferrable ≡ map (λ c. c.deferrable) constraints
 
-abbrev pub AllModes : List Constraint → List Saved → Type 0
-AllModes constraints [] = Unit {0}
-AllModes constraints (s ∷ saves) = IfSome s.modes (AreModes constraints) × AllModes constraints saves
+-- the modes that a savepoint has are there only where those of the session were changed too
+abbrev pub AreSaved : List Constraint → Bool → ModeMap → Type 0
+AreSaved constraints changed m = AreModes constraints m × (changed ≡ true)
+
+abbrev pub AllModes : List Constraint → Bool → List Saved → Type 0
+AllModes constraints changed [] = Unit {0}
+AllModes constraints changed (s ∷ saves) = IfSome s.modes (AreSaved constraints changed) × AllModes constraints changed saves
 
 -- Outside a transaction there is no mark and no savepoint, modes are initial, and no change is counted.
 pub record IsCalm (h : Parts) : Type 0 where
@@ -112,7 +121,7 @@ pub record IsCalm (h : Parts) : Type 0 where
 pub record IsOpen (h : Parts) : Type 0 where
   pub marks : length h.store.marks ≡ length h.saves + 1
   pub modes : IfSome h.changed (AreModes h.schema.constraints)
-  pub saved : AllModes h.schema.constraints h.saves
+  pub saved : AllModes h.schema.constraints (is_some h.changed) h.saves
   pub fit : all_fit h.schema.tables h.store.marks ≡ true
 
 abbrev pub StandsAs : Bool → Parts → Type 0

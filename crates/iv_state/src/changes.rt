@@ -39,7 +39,7 @@ pub trait DataStatements {
 }
 
 // The modes of the constraints.
-fn modes_now<'a>(initial: &'a Modes, changed: &'a Option<Modes>) -> &'a Modes
+pub(crate) fn modes_now<'a>(initial: &'a Modes, changed: &'a Option<Modes>) -> &'a Modes
     ensures { result.now ≡ current initial.entry.now changed.entry.now }
 {
     match changed {

@@ -7,9 +7,11 @@ ghost use Rattle.iv_catalogue.specs.Refusals.{is_memory, refusal_answer};
 ghost use Rattle.iv_machine.specs.declared.answer.Answer.TheVariants.{Done};
 ghost use Rattle.iv_machine.specs.Machine.{accept, inside, is_open, outcome_unless, with_transaction, state_with_savepoint, release_outcome, rollback_to_outcome, savepoint_named, transaction_cause};
 ghost use Rattle.iv_store.specs.Stores.{store_without_mark};
+ghost use Rattle.iv_state.specs.Kept.{brought_back, current};
 ghost use Rattle.iv_state.specs.Performing.{Performs};
 ghost use Rattle.iv_state.specs.Saving.{IsWithout, last_named, with_marks};
 
+use crate::changes::modes_now;
 use crate::session_state::{Saved, SessionState, Work};
 use iv_catalogue::{Cause, Refusal};
 use iv_machine::Answer;
@@ -26,6 +28,17 @@ fn copied(modes: &Option<Modes>) -> Result<Option<Modes>, AllocError>
     match modes {
         Some(modes) => Ok(Some(modes.copy()?)),
         None => Ok(None),
+    }
+}
+
+// Sets modes that were changed to those of a savepoint, or to the initial ones where it has none.
+fn bring_back(changed: &mut Option<Modes>, initial: &Modes, saved: &Option<Modes>)
+    requires { IfSome changed.old
+        (λ m. m.deferrable ≡ (current initial.now saved.now).deferrable) }
+    ensures { changed.new ≡ brought_back changed.old (current initial.now saved.now) }
+{
+    if let Some(modes) = changed {
+        modes.restore(modes_now(initial, saved));
     }
 }
 
@@ -151,7 +164,8 @@ impl<K: Keeper + Drop> SessionState<K> {
     // ROLLBACK TO SAVEPOINT.
     pub(crate) fn back_to(&mut self, name: &str) -> Outcome
         requires { is_open self.old.state ≡ true }
-        ensures { Performs self.old.state
+        ensures sure_store { K.sure ≡ true → is_memory result ≡ false }
+        ensures performs { Performs self.old.state
             (rollback_to_outcome self.old.state
             (savepoint_named name.now self.old.state.savepoints)) result self.new }
     {
@@ -160,11 +174,10 @@ impl<K: Keeper + Drop> SessionState<K> {
             Some(place) => place,
             None => return refuse(Cause::UnknownSavepoint),
         };
-        let modes = copied(&self.saves[place].modes)?;
         let standing = self.store.standing();
         self.store.undo_to(Mark::new(place + 1))?;
+        bring_back(&mut self.changed, &self.initial, &self.saves[place].modes);
         self.saves.truncate(place + 1);
-        self.changed = modes;
         self.work.undone = standing.saturating_sub(self.store.standing());
         Ok(Answer::Done)
     }
@@ -176,6 +189,7 @@ impl<K: Keeper + Drop> SessionState<K> {
             (rollback_to_outcome self.old.state
             (savepoint_named name.now self.old.state.savepoints))) result self.new }
         ensures sure { is_open self.old.state ≡ false → is_memory result ≡ false }
+        ensures sure_store { K.sure ≡ true → is_memory result ≡ false }
     {
         if self.in_transaction() {
             self.back_to(name)
@@ -186,11 +200,12 @@ impl<K: Keeper + Drop> SessionState<K> {
 
     /// ROLLBACK TO SAVEPOINT as a call: the answer, the state after it and the changes that were undone are
     /// those of the machine, or memory was refused and the state is as before. Outside a transaction it takes
-    /// no memory.
+    /// no memory, and on a store that goes back to a mark without memory it never takes any.
     pub fn rollback_to(&mut self, name: &str) -> Outcome
         ensures lookups { self.new.lookups ≡ self.new.looked - self.old.looked }
         ensures unlooked { ((store : K) → K.lookups store ≡ 0) → self.new.lookups ≡ 0 }
         ensures sure { is_open self.old.state ≡ false → is_memory result ≡ false }
+        ensures sure_store { K.sure ≡ true → is_memory result ≡ false }
         ensures performs { Performs self.old.state
             (outcome_unless self.old.state (transaction_cause (is_open self.old.state) inside)
             (rollback_to_outcome self.old.state

@@ -50,7 +50,8 @@ pub struct SessionState<K: Keeper + Drop> {
     pub(crate) store: K,
     // The modes at the start of a transaction.
     pub(crate) initial: Modes,
-    // The modes after SET CONSTRAINTS.
+    // The modes after SET CONSTRAINTS. Once there are any, there are to the end of the transaction, so that
+    // ROLLBACK TO SAVEPOINT sets them in place.
     pub(crate) changed: Option<Modes>,
     pub(crate) active: bool,
     // The savepoints, the oldest first.

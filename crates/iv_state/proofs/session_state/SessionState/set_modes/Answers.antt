@@ -1,4 +1,4 @@
-use Rattle.std.proofs.Common.{◌≡◌, ◌∙◌, ap, sym, subst, refl, true, map, Option, Some}
+use Rattle.std.proofs.Common.{◌≡◌, ◌∙◌, ap, sym, subst, refl, true, map, Option, Some, is_some}
 use Rattle.iv_state.specs.Words.{Fault}
 use Rattle.iv_state.specs.Words.cause.{NotDeferrable, Violation}
 use Rattle.iv_state.specs.Words.answer.{Done}
@@ -6,7 +6,7 @@ use Rattle.iv_machine.specs.Machine.{State, accept, first_made_immediate, is_ope
 use Rattle.iv_modes.specs.ModeMaps.{ModeMap}
 use Rattle.iv_state.specs.Kept.{IsOpen, Parts, parts, Seen, StandsAs, state_of}
 use Rattle.iv_state.proofs.Deferred.{set_refused, set_seen}
-use Rattle.iv_state.proofs.Saves.{open_is}
+use Rattle.iv_state.proofs.Saves.{modes_changed, open_is}
 use Rattle.iv_state.proofs.Performed.{accept_performs, refuse_performs}
 use Rattle.iv_state.proofs.session_state.SessionState.set_modes.Goals as goal
 
@@ -20,7 +20,7 @@ invariant_of-self-in-None g c =
     record {
       store = c.self.invariant.store;
       initial = c.self.invariant.initial;
-      stands = subst (λ b. StandsAs b (record h { changed = Some c.set.new.self })) (sym a) (record { marks = o.marks; modes = m; saved = o.saved; fit = o.fit });
+      stands = subst (λ b. StandsAs b (record h { changed = Some c.set.new.self })) (sym a) (record { marks = o.marks; modes = m; saved = modes_changed h.schema.constraints (is_some h.changed) h.saves o.saved; fit = o.fit });
     }
 
 pub returns-in-Err : goal.returns-in-Err
