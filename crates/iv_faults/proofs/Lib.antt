@@ -13,3 +13,5 @@ pub mod Rooms
 pub mod Shows
 pub mod WatchTables
 pub mod WatchAppended
+pub mod Taking
+pub mod Taken

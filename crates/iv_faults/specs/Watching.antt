@@ -9,7 +9,8 @@ use Rattle.iv_index.specs.Groups.{Contents, GroupOf, groups_of, room_of}
 use Rattle.iv_marks.specs.Shown.{shown}
 use Rattle.iv_laws.specs.RisingRows.{InOrder}
 use Rattle.iv_laws_kept.specs.Kept.{AllNamed, Show}
-use Rattle.iv_laws_kept.specs.Marks.{Marks, AreMarked}
+use Rattle.iv_marks.specs.Marking.{flag}
+use Rattle.iv_laws_kept.specs.Marks.{Marks, marks_of, AreMarked}
 use Rattle.iv_laws_kept.specs.Moves.{Holds, taken_back}
 use Rattle.iv_faults.specs.Sides.{IsPresent, side_key, stays_put}
 use Rattle.iv_faults.specs.Steps.{IsWatched}
@@ -24,6 +25,7 @@ pub record Watching : Type 0 where
 -- what stands beside the constraints is theirs
 pub record IsTakenUp (constraints : List Constraint) (references : List (Option Reference)) (tables : List TableConstraints) (marks : Marks) : Type 0 where
   pub references_are : AreReferences constraints references
+  pub references_count : length references ≡ length constraints
   pub named : AllNamed constraints
   pub tabled : AreTabled constraints tables
   pub few : length constraints ≤ MOST_TABLES * MOST_CONSTRAINTS
@@ -55,3 +57,9 @@ ShownRowsArePresent =
 -- no row violates one of these constraints
 abbrev pub NoneViolates : List StoredRow → List Constraint → Type 0
 NoneViolates rows constraints = (k : ℕ) (c : Constraint) → slice_get constraints k ≡ Some c → ◌≡◌ {A = List StoredRow} (filter (violates rows c) rows) []
+
+-- the same places are marked, and those that were known still are
+pub record MarksStay (marks later : Marks) : Type 0 where
+  pub count : length marks ≤ length later
+  pub flags : (id place : ℕ) → flag (marks_of later id) place ≡ flag (marks_of marks id) place
+  pub places : (id : ℕ) → id < length marks → length (marks_of marks id) ≤ length (marks_of later id)

@@ -1,24 +1,26 @@
 //! Violations that are kept, change by change.
-ghost use Rattle.std.specs.Prelude.{◌≡◌, ℕ, ◌+◌, ◌-◌, ◌*◌, ◌^◌, ◌≤◌, [], ◌∷◌, List, length, min, IfOk, OnOk, OnErr};
+ghost use Rattle.std.specs.Prelude.{◌≡◌, ℕ, ◌+◌, ◌-◌, ◌*◌, ◌^◌, ◌≤◌, [], ◌∷◌, ◌++◌, List, length, min, IfOk, OnOk, OnErr};
 ghost use Rattle.iv_value.specs.declared.value.Value.{Value};
 ghost use Rattle.iv_expr.specs.declared.row.StoredRow.{StoredRow};
+ghost use Rattle.iv_catalogue.specs.declared.limits.TheConstants.{MOST_CONSTRAINTS, MOST_TABLES};
 ghost use Rattle.iv_machine.specs.Databases.{first, is_chosen, rows_after, scan};
 ghost use Rattle.iv_index.specs.Groups.{groups_of};
 ghost use Rattle.iv_index.specs.Laws.{size_of};
 ghost use Rattle.iv_marks.specs.Shown.{shown};
-ghost use Rattle.iv_laws_kept.specs.Kept.{KeysOnce};
+ghost use Rattle.iv_laws_kept.specs.Kept.{AllNamed, KeysOnce, Show};
 ghost use Rattle.iv_laws_kept.specs.Marks.{AreMarked};
 ghost use Rattle.iv_laws_kept.specs.Moves.{Holds, taken_back};
 ghost use Rattle.iv_faults.specs.Following.{Followed};
 ghost use Rattle.iv_faults.specs.Sides.{IsPresent};
 ghost use Rattle.iv_faults.specs.Turns.{AllStay};
 ghost use Rattle.iv_faults.specs.Watch.{foreign_keys_of, keys_of};
-ghost use Rattle.iv_faults.specs.Watching.{AreWatched, HasRoomBack, IsShownBy, IsTakenUp};
+ghost use Rattle.iv_faults.specs.Watching.{AreWatched, HasRoomBack, IsShownBy, IsTakenUp, NoneViolates};
 
 use crate::following::{follow, make_room_and_follow};
 use crate::reference::Reference;
 use crate::sides::Sides;
 use crate::table_constraints::TableConstraints;
+use crate::watching::take_up;
 use iv_catalogue::{Constraint, Fault};
 use iv_expr::{Change, TableId};
 use iv_index::Groups;
@@ -152,6 +154,36 @@ impl Faults {
         ensures { result.now ≡ self.now.constraints }
     {
         self.constraints.as_slice()
+    }
+
+    /// Takes up constraints that no row violates and whose groups are filled, all or none: their numbers go on from those
+    /// that are watched. The key that a foreign key names is watched, or comes with it. Its cost is in proportion to the
+    /// groups and to the constraints that are watched.
+    pub fn watch(&mut self, groups: &Groups, more: &[Constraint]) -> Result<(), AllocError>
+        requires known { length self.old.constraints + length more.now ≤ length groups.now.groups }
+        requires named { AllNamed (self.old.constraints ++ more.now) }
+        requires few { length self.old.constraints + length more.now ≤ MOST_TABLES * MOST_CONSTRAINTS }
+        ensures ok { OnOk result (self.new.constraints ≡ self.old.constraints ++ more.now) }
+        ensures err { OnErr result (self.new.constraints ≡ self.old.constraints) }
+        ensures shown { OnOk result ((rows : List StoredRow) → IsShownBy rows self.old groups.now
+            → Show rows (self.old.constraints ++ more.now) (shown groups.now.groups)
+            → NoneViolates rows more.now → IsShownBy rows self.new groups.now) }
+        ensures still { OnErr result ((rows : List StoredRow) → IsShownBy rows self.old groups.now
+            → IsShownBy rows self.new groups.now) }
+        ensures watched { OnOk result (AreWatched self.old groups.now → AreWatched self.new groups.now) }
+        ensures still_watched { OnErr result (AreWatched self.old groups.now → AreWatched self.new groups.now) }
+    {
+        take_up(
+            self.alloc,
+            &mut self.constraints,
+            &mut self.references,
+            &mut self.tables,
+            &mut self.marks,
+            groups,
+            more,
+        )?;
+        keys_once(groups);
+        Ok(())
     }
 
     /// Follows a change of a row in the groups, and marks those that violate their constraint then. Where memory is

@@ -40,25 +40,25 @@ any_violated marks violated are = same_test (is_any violated) (has_any marks)
 
 -- ---- fewer constraints
 
-before : (marks : Marks) (count id : ℕ) → id < count → marks_of (take count marks) id ≡ marks_of marks id
-before [] zero id h = refl
-before [] (suc count) id h = refl
-before (own ∷ marks) zero id h = absurd (none h)
+pub marks_before : (marks : Marks) (count id : ℕ) → id < count → marks_of (take count marks) id ≡ marks_of marks id
+marks_before [] zero id h = refl
+marks_before [] (suc count) id h = refl
+marks_before (own ∷ marks) zero id h = absurd (none h)
   where
     none : id < 0 → ⊥
     none h = omega (arith, h)
-before (own ∷ marks) (suc count) zero h = refl
-before (own ∷ marks) (suc count) (suc id) h = before marks count id (omega (arith, h))
+marks_before (own ∷ marks) (suc count) zero h = refl
+marks_before (own ∷ marks) (suc count) (suc id) h = marks_before marks count id (omega (arith, h))
 
-from : (marks : Marks) (count id : ℕ) → count ≤ id → marks_of (take count marks) id ≡ []
-from [] zero id h = refl
-from [] (suc count) id h = refl
-from (own ∷ marks) zero id h = refl
-from (own ∷ marks) (suc count) zero h = absurd (none h)
+pub marks_from : (marks : Marks) (count id : ℕ) → count ≤ id → marks_of (take count marks) id ≡ []
+marks_from [] zero id h = refl
+marks_from [] (suc count) id h = refl
+marks_from (own ∷ marks) zero id h = refl
+marks_from (own ∷ marks) (suc count) zero h = absurd (none h)
   where
     none : suc count ≤ 0 → ⊥
     none h = omega (arith, h)
-from (own ∷ marks) (suc count) (suc id) h = from marks count id (omega (arith, h))
+marks_from (own ∷ marks) (suc count) (suc id) h = marks_from marks count id (omega (arith, h))
 
 shorter : (marks : Marks) (count : ℕ) → length (take count marks) ≤ length marks
 shorter [] zero = omega arith
@@ -71,7 +71,7 @@ pub violated_before : (marks : Marks) (violated : List Bool) (count : ℕ) → A
 violated_before marks violated count are none = record {
   known = omega (arith, shorter marks count, are.known);
   each = λ id. ⊎_elim
-      (λ (less : id < count). are.each id ∙ ap is_any (sym (before marks count id less)))
-      (λ (from_on : count ≤ id). are.each id ∙ none id from_on ∙ ap is_any (sym (from marks count id from_on)))
+      (λ (less : id < count). are.each id ∙ ap is_any (sym (marks_before marks count id less)))
+      (λ (from_on : count ≤ id). are.each id ∙ none id from_on ∙ ap is_any (sym (marks_from marks count id from_on)))
       (cases_lt id count);
 }
