@@ -1,0 +1,7 @@
+//! Tests of `iv_faults`. A crate's own tests have the whole crate proved once more.
+#![tactic(auto)]
+
+#[cfg(test)]
+mod no_constraints;
+#[cfg(test)]
+mod rows;
