@@ -1,5 +1,5 @@
 -- A change of a row, followed by all constraints.
-use Rattle.std.proofs.Common.{◌≡◌, ◌≢◌, refl, ℕ, zero, suc, ◌+◌, ◌*◌, ◌<◌, ◌≤◌, Bool, true, false, ◌&&◌, ◌||◌, not, if◌then◌else◌, List, [], ◌∷◌, length, map, slice_get, Option, Some, None, sym, ap, subst, ◌∙◌, arith}
+use Rattle.std.proofs.Common.{◌≡◌, refl, ℕ, zero, suc, ◌<◌, Bool, true, false, ◌&&◌, ◌||◌, not, List, [], ◌∷◌, length, map, slice_get, Option, Some, None, sym, ap, subst, ◌∙◌, arith}
 use Rattle.std.proofs.lemmas.Bool.{true≢false}
 use Rattle.std.specs.Bool.{◌==◌}
 use Rattle.iv_faults.specs.Words.{Value, Rule, Change, Constraint, ForeignKey}
@@ -9,23 +9,22 @@ use Rattle.iv_store.specs.Stores.{unique_columns}
 use Rattle.iv_laws.proofs.RowNumbers.{some_none, some_same}
 use Rattle.iv_laws.proofs.Keys.{false_true}
 use Rattle.iv_index.specs.Groups.{GroupOf, Contents, groups_of}
-use Rattle.iv_index.specs.Laws.{size_of}
 use Rattle.iv_marks.specs.Shown.{shown, shown_group, shown_of}
 use Rattle.iv_marks.proofs.Shown.{groups_shown}
-use Rattle.iv_laws_kept.specs.Kept.{kept_key, Group, Groups, rows_in, rows_under, is_referenced, AllNamed}
+use Rattle.iv_laws_kept.specs.Kept.{kept_key, Group, rows_in, is_referenced, AllNamed}
 use Rattle.iv_key.specs.Keys.{key_of}
 use Rattle.iv_value.specs.Values.{all_same}
-use Rattle.iv_laws_kept.specs.Marks.{Marks, marks_of, AreMarked, referenced_side}
+use Rattle.iv_laws_kept.specs.Marks.{Marks, marks_of, referenced_side}
 use Rattle.iv_laws_kept.specs.Moves.{moved, side_under, rows_moved, Follow}
 use Rattle.iv_laws_kept.specs.Numbers.{has}
 use Rattle.iv_laws_kept.proofs.Naming.{Named, named_of}
 use Rattle.iv_laws_kept.proofs.OtherKeys.{still_referenced}
 use Rattle.iv_faults.specs.KeyGroups.{Marked}
-use Rattle.iv_faults.specs.Sides.{IsPresent, side_key}
-use Rattle.iv_faults.specs.Steps.{IsReady, IsWatched, KeyMoved, RowMoved, is_reference}
-use Rattle.iv_faults.specs.References.{AreReferences, IsReference, ReferenceMoved, reference_at}
+use Rattle.iv_faults.specs.Sides.{IsPresent}
+use Rattle.iv_faults.specs.Steps.{IsReady, IsWatched, RowMoved, is_reference}
+use Rattle.iv_faults.specs.References.{AreReferences, IsReference, reference_at}
 use Rattle.iv_faults.specs.Turns.{KeyTurn, ReferenceTurn, Turned}
-use Rattle.iv_faults.specs.Following.{AreMet, Followed, is_key_on, is_reference_of, meets}
+use Rattle.iv_faults.specs.Following.{AreMet, Followed, meets}
 use Rattle.iv_faults.proofs.Steps.{marks_stay}
 use Rattle.iv_faults.proofs.Whole.{parts_make_the_whole}
 

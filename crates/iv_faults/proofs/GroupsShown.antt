@@ -18,7 +18,7 @@ use Rattle.iv_marks.specs.Shown.{shown_group, shown_of}
 use Rattle.iv_faults.specs.KeyGroups.{place_of, with_rows, with_group}
 use Rattle.iv_faults.proofs.Placed.{behind, rows_at_key}
 use Rattle.iv_laws_kept.proofs.RisingNumbers.{has_with, not_above, rise_with, same_numbers}
-use Rattle.iv_index.proofs.GroupsLaws.{held_after, groups_after, constraints_stay, size_grows, size_stays}
+use Rattle.iv_index.proofs.GroupsLaws.{held_after, groups_after, size_grows, size_stays}
 
 -- the groups of a constraint without room
 abbrev all_shown : List GroupOf → List Group

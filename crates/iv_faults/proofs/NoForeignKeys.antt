@@ -1,14 +1,11 @@
 -- Constraints that aren't foreign keys.
-use Rattle.std.proofs.Common.{◌≡◌, refl, ℕ, ◌<◌, Bool, false, List, [], ◌∷◌, map, length, get_or, Option, Some, None, sym, ap, subst, ◌∙◌}
+use Rattle.std.proofs.Common.{◌≡◌, refl, Bool, false, List, [], ◌∷◌, map, ap, ◌∙◌}
 use Rattle.std.proofs.lemmas.Bool.{true≢false}
-use Rattle.std.specs.List.{slice_get}
-use Rattle.iv_laws.proofs.RowNumbers.{some_same}
 use Rattle.iv_faults.specs.Words.{Value, Rule, ForeignKey}
 use Rattle.iv_faults.specs.Words.rule
 use Rattle.iv_laws_kept.specs.Kept.{Group}
 use Rattle.iv_marks.specs.Marking.{flag}
 use Rattle.iv_faults.specs.KeyGroups.{group_violates, Marked}
-use Rattle.std.proofs.lemmas.Option.{slice_get-get_or}
 use Rattle.iv_faults.specs.Steps.{is_reference}
 
 -- it doesn't matter to them which keys are referenced

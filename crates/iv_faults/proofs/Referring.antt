@@ -1,6 +1,6 @@
 -- A foreign key's part of a change.
-use Rattle.std.proofs.Common.{◌≡◌, refl, ℕ, Bool, true, false, ◌&&◌, not, if◌then◌else◌, List, [], ◌∷◌, length, Option, Some, None, sym, ap, subst, ◌∙◌, arith}
-use Rattle.std.proofs.lemmas.Bool.{true≢false, eqb-true}
+use Rattle.std.proofs.Common.{◌≡◌, refl, ℕ, Bool, true, false, not, if◌then◌else◌, List, Option, Some, None, sym, ap, subst, ◌∙◌}
+use Rattle.std.proofs.lemmas.Bool.{true≢false}
 use Rattle.std.specs.Bool.{◌==◌}
 use Rattle.std.specs.List.{slice_get}
 use Rattle.iv_faults.specs.Words.{Value, Rule, Change, Constraint, ForeignKey}
@@ -9,23 +9,20 @@ use Rattle.iv_faults.specs.declared.reference.Reference.{Reference}
 use Rattle.iv_value.specs.Values.{all_same}
 use Rattle.iv_key.specs.Keys.{key_of, none_null}
 use Rattle.iv_laws.proofs.RowNumbers.{some_none, some_same}
-use Rattle.iv_laws.proofs.Keys.{false_true, all_same_is, all_same_itself, all_same_swap}
-use Rattle.iv_laws_kept.specs.Kept.{null_key, null_key_where, is_free, kept_key, Group, Groups, KeyConstraint, groups_of, rows_in, rows_under, is_empty, is_referenced, AllNamed}
+use Rattle.iv_laws.proofs.Keys.{false_true, all_same_is, all_same_swap}
+use Rattle.iv_laws_kept.specs.Kept.{null_key, null_key_where, is_free, kept_key, Group, Groups, groups_of, rows_in, rows_under, is_empty, is_referenced, AllNamed}
 use Rattle.iv_laws_kept.specs.Moves.{Follow}
 use Rattle.iv_laws_kept.specs.Marks.{referenced_side}
-use Rattle.iv_laws_kept.specs.Numbers.{has}
 use Rattle.iv_laws_kept.proofs.Naming.{Named, named_of}
 use Rattle.iv_laws_kept.proofs.RowByRow.{not_empty}
-use Rattle.iv_laws_kept.proofs.OtherKeys.{still_referenced}
 use Rattle.iv_faults.specs.KeyGroups.{Marked}
 use Rattle.iv_faults.specs.Sides.{IsPresent, is_key, is_one_key, referenced_key, side_key}
 use Rattle.iv_index.specs.Groups.{GroupOf}
 use Rattle.iv_marks.specs.Shown.{shown_of}
 use Rattle.iv_faults.specs.Steps.{RowMoved}
-use Rattle.iv_faults.specs.References.{ChildIsMarked, IsReference, KeysAreReferred, ReferenceMoved, TellsOld, TellsReferenced, paired_with}
-use Rattle.iv_faults.proofs.Referenced.{row_is_referenced, new_is_referenced, half_way, half_way_is, half_way_at, from_half_way, key_parts, told_apart, told_paired, named_side}
+use Rattle.iv_faults.specs.References.{ChildIsMarked, IsReference, KeysAreReferred, ReferenceMoved, TellsOld}
+use Rattle.iv_faults.proofs.Referenced.{row_is_referenced, new_is_referenced, half_way, half_way_is, half_way_at, from_half_way, key_parts, named_side}
 use Rattle.iv_faults.proofs.SideKeys.{none_referenced, other_referenced}
-use Rattle.iv_faults.proofs.Steps.{marks_stay}
 
 -- a key without nulls that a foreign key keeps a side under is that of its columns
 pub side_parts : (c : Constraint) (fk : ForeignKey) (table : ℕ) (side : Option (List Value)) (key : List Value) → c.rule ≡ rule.ForeignKey fk → side_key c table side ≡ Some key → none_null key ≡ true

@@ -1,23 +1,21 @@
 -- Room for a change, and then the change.
-use Rattle.std.proofs.Common.{◌≡◌, refl, ℕ, ◌+◌, ◌*◌, ◌<◌, ◌≤◌, Bool, true, false, ◌&&◌, ◌||◌, not, if◌then◌else◌, List, length, map, slice_get, Option, Some, None, sym, ap, subst, ◌∙◌, arith}
+use Rattle.std.proofs.Common.{◌≡◌, refl, ℕ, ◌+◌, ◌<◌, ◌≤◌, Bool, true, false, ◌&&◌, not, if◌then◌else◌, List, length, slice_get, Option, Some, None, sym, ap, subst, ◌∙◌, arith}
 use Rattle.std.specs.Bool.{◌==◌}
 use Rattle.iv_faults.specs.Words.{Value, Change, Constraint, ForeignKey}
-use Rattle.iv_faults.specs.Words.rule
 use Rattle.iv_laws.proofs.RowNumbers.{some_none}
-use Rattle.iv_index.specs.Groups.{GroupOf, Contents, groups_of, rows_of, room_of}
-use Rattle.iv_index.specs.Laws.{size_of}
-use Rattle.iv_marks.specs.Shown.{shown, shown_group, shown_of}
+use Rattle.iv_index.specs.Groups.{Contents, groups_of, rows_of, room_of}
+use Rattle.iv_marks.specs.Shown.{shown, shown_of}
 use Rattle.iv_marks.proofs.Shown.{groups_shown, rows_in_shown}
 use Rattle.iv_laws_kept.specs.Kept.{groups_of as own_groups}
 use Rattle.iv_laws_kept.specs.Kept.{Groups, kept_key, rows_in, rows_under, in_order_of, can_be_key, is_empty, is_referenced, AllNamed}
 use Rattle.iv_laws_kept.specs.Marks.{Marks, marks_of, AreMarked}
-use Rattle.iv_laws_kept.specs.Moves.{rows_moved, Follow}
+use Rattle.iv_laws_kept.specs.Moves.{rows_moved}
 use Rattle.iv_laws_kept.specs.Numbers.{has}
 use Rattle.iv_laws_kept.proofs.Naming.{Named, named_of}
 use Rattle.iv_faults.specs.KeyGroups.{Marked}
 use Rattle.iv_faults.specs.Sides.{IsPresent, side_key, stays_put}
-use Rattle.iv_faults.specs.Steps.{IsReady, IsWatched, RowsStay, is_reference}
-use Rattle.iv_faults.specs.Turns.{AllStay, HasRoom, StayTurn}
+use Rattle.iv_faults.specs.Steps.{IsReady}
+use Rattle.iv_faults.specs.Turns.{AllStay, HasRoom}
 use Rattle.iv_faults.specs.Following.{AreMet, Followed}
 use Rattle.iv_faults.proofs.Follows.{met_either}
 use Rattle.iv_faults.proofs.Steps.{marks_stay}

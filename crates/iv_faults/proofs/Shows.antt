@@ -1,5 +1,5 @@
 -- What is kept shows rows.
-use Rattle.std.proofs.Common.{◌≡◌, refl, ℕ, ◌+◌, ◌*◌, ◌<◌, ◌≤◌, Bool, true, false, ◌&&◌, if◌then◌else◌, List, [], ◌∷◌, length, slice_get, Option, Some, None, sym, ap, subst, ◌∙◌, arith}
+use Rattle.std.proofs.Common.{◌≡◌, ℕ, Bool, true, false, ◌&&◌, if◌then◌else◌, List, [], ◌∷◌, length, slice_get, Option, Some, None, sym, ap, ◌∙◌, arith}
 use Rattle.std.specs.Prelude.{Result, Ok, Err, OnErr}
 use Rattle.std.specs.Bool.{◌==◌}
 use Rattle.iv_faults.specs.Words.{Value, StoredRow, Change, Constraint}
@@ -7,8 +7,7 @@ use Rattle.iv_value.specs.Values.{all_same}
 use Rattle.iv_laws.proofs.Keys.{all_same_itself}
 use Rattle.iv_laws.proofs.RowNumbers.{some_none, some_same}
 use Rattle.iv_laws.proofs.AppliedRows.{rows_after_in_order}
-use Rattle.iv_laws.specs.FittingWaves.{old_row}
-use Rattle.iv_machine.specs.Databases.{row_at, rows_after, scan}
+use Rattle.iv_machine.specs.Databases.{rows_after, scan}
 use Rattle.iv_index.specs.Groups.{Contents, GroupOf, groups_of}
 use Rattle.iv_marks.specs.Shown.{shown}
 use Rattle.iv_marks.specs.Apart.{AreApart}
@@ -16,18 +15,18 @@ use Rattle.iv_marks.specs.Answers.{HaveGroups}
 use Rattle.iv_marks.proofs.Apart.{shown_groups_are_apart}
 use Rattle.iv_marks.proofs.KeptRows.{have_groups}
 use Rattle.iv_marks.proofs.Shown.{groups_shown}
-use Rattle.iv_laws_kept.specs.Kept.{AllNamed, Groups, KeysOnce, Show, is_kept_under, kept, kept_key, rows_in, rows_under}
+use Rattle.iv_laws_kept.specs.Kept.{AllNamed, KeysOnce, is_kept_under, kept, kept_key, rows_in}
 use Rattle.iv_laws_kept.specs.Marks.{Marks, AreMarked}
-use Rattle.iv_laws_kept.specs.Moves.{Follow, Holds, taken_back}
+use Rattle.iv_laws_kept.specs.Moves.{Holds, taken_back}
 use Rattle.iv_laws_kept.specs.Numbers.{has}
 use Rattle.iv_laws_kept.proofs.Rows.{has_filtered, passes}
 use Rattle.iv_laws_kept.proofs.Moves.{changes_are_followed, changes_are_taken_back}
 use Rattle.iv_laws_kept.proofs.KeptIsScan.{kept_is_the_scan}
 use Rattle.iv_faults.specs.Sides.{IsPresent, side_key}
-use Rattle.iv_faults.specs.Steps.{IsReady, IsWatched}
+use Rattle.iv_faults.specs.Steps.{IsReady}
 use Rattle.iv_faults.specs.Turns.{AllStay}
 use Rattle.iv_faults.specs.Following.{Followed}
-use Rattle.iv_faults.specs.Watching.{AreWatched, HasRoomBack, IsShownBy, ShownRowsArePresent, Watching}
+use Rattle.iv_faults.specs.Watching.{HasRoomBack, IsShownBy, ShownRowsArePresent, Watching}
 use Rattle.iv_faults.proofs.Rooms.{stay_marked, stay_rows}
 
 pub on_err : {A E : Type 0} (X : Type 0) (r : Result A E) → X → OnErr r X

@@ -12,7 +12,7 @@ use Rattle.iv_value.specs.Values.{all_same}
 use Rattle.iv_laws_kept.specs.Kept.{kept_key}
 use Rattle.iv_laws_kept.specs.Moves.{side_under}
 use Rattle.iv_laws_kept.specs.Kept.{Group, rows_in}
-use Rattle.iv_laws_kept.specs.Moves.{left, moved, rows_moved}
+use Rattle.iv_laws_kept.specs.Moves.{moved, rows_moved}
 use Rattle.iv_laws_kept.specs.Numbers.{has, with_number, without, Rise}
 use Rattle.iv_laws_kept.proofs.RisingNumbers.{has_with, has_without, rise_filter, rise_with, same_numbers}
 use Rattle.iv_faults.specs.Sides.{is_key, is_one_key, side_key, referenced_key}

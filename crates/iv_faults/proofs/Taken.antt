@@ -1,29 +1,25 @@
 -- What is kept after constraints were taken up.
-use Rattle.std.proofs.Common.{◌≡◌, refl, ℕ, zero, suc, ◌+◌, ◌<◌, ◌≤◌, Bool, true, false, ◌&&◌, ◌||◌, not, if◌then◌else◌, List, [], ◌∷◌, ◌++◌, length, map, filter, flat_map, slice_get, Option, Some, None, sym, ap, subst, ◌∙◌, arith, ⊎_elim}
+use Rattle.std.proofs.Common.{◌≡◌, refl, ℕ, zero, suc, ◌+◌, ◌<◌, ◌≤◌, Bool, true, false, ◌&&◌, ◌||◌, not, if◌then◌else◌, List, [], ◌∷◌, ◌++◌, length, map, filter, flat_map, slice_get, Some, None, sym, ap, ◌∙◌, arith, ⊎_elim}
 use Rattle.std.proofs.lemmas.Bool.{true≢false, cases_lt}
 use Rattle.std.proofs.lemmas.List.{length-append}
-use Rattle.std.specs.Bool.{◌==◌}
-use Rattle.iv_faults.specs.Words.{Value, StoredRow, Rule, Constraint, ForeignKey}
+use Rattle.iv_faults.specs.Words.{StoredRow, Rule, Constraint}
 use Rattle.iv_faults.specs.Words.rule
 use Rattle.iv_laws.proofs.Keys.{and_first, false_true}
-use Rattle.iv_laws.proofs.RowNumbers.{some_none, some_same}
 use Rattle.iv_key.specs.Keys.{none_null}
-use Rattle.iv_machine.specs.Databases.{violates}
 use Rattle.iv_store.specs.Stores.{numbers_of}
 use Rattle.iv_index.specs.Groups.{Contents, groups_of}
 use Rattle.iv_marks.specs.Shown.{shown}
 use Rattle.iv_marks.specs.Marking.{flag}
 use Rattle.iv_laws_kept.specs.Kept.{Group, Groups, groups_of as own_groups}
-use Rattle.iv_laws_kept.specs.Kept.{AllNamed, KeysOnce, Show, can_be_key, in_order_of, is_empty, is_free, is_referenced, is_violating, kept_rows, rows_under, violate}
-use Rattle.iv_laws_kept.specs.Marks.{Marks, marks_of, AreMarked}
-use Rattle.iv_laws_kept.specs.Numbers.{has, in_rising_order}
+use Rattle.iv_laws_kept.specs.Kept.{AllNamed, KeysOnce, Show, can_be_key, in_order_of, is_empty, is_free, is_referenced, is_violating, rows_under, violate}
+use Rattle.iv_laws_kept.specs.Marks.{Marks, marks_of}
+use Rattle.iv_laws_kept.specs.Numbers.{has}
 use Rattle.iv_laws_kept.proofs.KeptIsScan.{kept_rows_are}
 use Rattle.iv_laws_kept.proofs.Naming.{Named, named_of}
 use Rattle.iv_laws_kept.proofs.RisingNumbers.{has_head, has_in_rising_order}
-use Rattle.iv_faults.specs.Steps.{IsWatched}
 use Rattle.iv_faults.specs.Watching.{AreWatched, IsShownBy, MarksStay, NoneViolates, Watching}
 use Rattle.iv_faults.proofs.Taking.{no_marks}
-use Rattle.iv_faults.proofs.WatchAppended.{behind_at, still_at, still_named}
+use Rattle.iv_faults.proofs.WatchAppended.{still_named}
 
 -- ---- the appended list
 

@@ -1,5 +1,5 @@
 -- Marks of constraints that are taken up.
-use Rattle.std.proofs.Common.{◌≡◌, refl, ℕ, zero, suc, ◌<◌, ◌≤◌, Bool, false, List, [], ◌∷◌, length, take, sym, ap, subst, ◌∙◌, arith, ⊎_elim}
+use Rattle.std.proofs.Common.{◌≡◌, refl, ℕ, zero, suc, ◌<◌, ◌≤◌, false, [], ◌∷◌, length, take, sym, ap, subst, ◌∙◌, arith, ⊎_elim}
 use Rattle.std.proofs.lemmas.Bool.{cases_lt}
 use Rattle.std.proofs.lemmas.List.{length-take-le}
 use Rattle.iv_laws_kept.specs.Marks.{Marks, marks_of}

@@ -1,22 +1,19 @@
 -- Constraints that are changed one after the other.
-use Rattle.std.proofs.Common.{◌≡◌, ◌≢◌, refl, ℕ, zero, suc, ◌+◌, ◌*◌, ◌<◌, ◌≤◌, Bool, true, false, ◌||◌, List, [], ◌∷◌, length, drop, get_or, map, slice_get, Option, Some, sym, ap, subst, ◌∙◌, arith}
+use Rattle.std.proofs.Common.{◌≡◌, ◌≢◌, refl, ℕ, suc, ◌+◌, ◌*◌, ◌<◌, ◌≤◌, Bool, true, false, ◌||◌, List, [], ◌∷◌, length, drop, get_or, map, Option, Some, sym, ap, subst, ◌∙◌, arith}
 use Rattle.std.proofs.lemmas.Bool.{true≢false, eqb-true, eq-eqb}
 use Rattle.std.proofs.lemmas.List.{drop_more, drop_all}
 use Rattle.std.specs.Bool.{◌==◌}
-use Rattle.iv_faults.specs.Words.{Value, Change, Constraint}
-use Rattle.iv_index.specs.Groups.{GroupOf, Contents, groups_of, room_of}
-use Rattle.iv_index.specs.Laws.{size_of}
+use Rattle.iv_faults.specs.Words.{Change, Constraint}
+use Rattle.iv_index.specs.Groups.{GroupOf, Contents, groups_of}
 use Rattle.iv_marks.specs.Shown.{shown_group}
 use Rattle.iv_marks.specs.Marking.{NoRepeats}
 use Rattle.iv_laws_kept.specs.Marks.{Marks, marks_of}
 use Rattle.iv_laws_kept.specs.Numbers.{has}
 use Rattle.iv_laws_kept.proofs.RisingNumbers.{has_head, has_other}
-use Rattle.iv_faults.specs.Sides.{side_key, stays_put}
 use Rattle.iv_faults.specs.Steps.{IsWatched, OnlyOf, RowsStay}
-use Rattle.iv_marks.specs.Shown.{shown_of}
 use Rattle.iv_faults.specs.declared.reference.Reference.{Reference}
 use Rattle.iv_faults.specs.References.{ReferenceMoved, reference_at}
-use Rattle.iv_faults.specs.Turns.{AllStay, HasRoom, Left, ReferenceTurn, RoomTurn, StayTurn, Turned}
+use Rattle.iv_faults.specs.Turns.{AllStay, Left, ReferenceTurn, RoomTurn, StayTurn, Turned}
 
 -- a constraint other than the one that a step changed is watched as before
 watched_other : (k id most : ℕ) (old new : Contents) (marks later : Marks) → OnlyOf id most old new marks later → k ≢ id → IsWatched k old.groups marks → IsWatched k new.groups later

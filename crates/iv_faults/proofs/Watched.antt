@@ -1,19 +1,14 @@
 -- What a step leaves of a constraint's groups and marks.
-use Rattle.std.proofs.Common.{◌≡◌, refl, ℕ, ◌+◌, ◌<◌, ◌≤◌, Bool, List, length, map, Option, Some, None, sym, ap, subst, ◌∙◌, arith}
+use Rattle.std.proofs.Common.{◌≡◌, refl, ℕ, ◌+◌, ◌<◌, ◌≤◌, Bool, List, length, Some, sym, ap, subst, ◌∙◌, arith}
 use Rattle.std.proofs.lemmas.List.{length-map}
 use Rattle.iv_faults.specs.Words.{Value, Rule}
-use Rattle.iv_key.specs.Keys.{none_null}
-use Rattle.iv_value.specs.Values.{all_same}
 use Rattle.iv_index.specs.Groups.{GroupOf, groups_of}
 use Rattle.iv_marks.specs.Shown.{shown_group, shown_of}
-use Rattle.iv_marks.specs.Marking.{flag, with_flag}
-use Rattle.iv_laws_kept.specs.Kept.{Group, OneEach, rows_in}
+use Rattle.iv_marks.specs.Marking.{with_flag}
 use Rattle.iv_laws_kept.specs.Marks.{Marks, marks_of, rows_at}
-use Rattle.iv_laws_kept.specs.Numbers.{has}
 use Rattle.iv_faults.specs.KeyGroups.{Marked, place_of, violate_by, with_group, with_rows}
 use Rattle.iv_faults.specs.Steps.{IsWatched}
-use Rattle.iv_faults.proofs.Placed.{within}
-use Rattle.iv_faults.proofs.Steps.{place_in, place_in_set, places_stay, marks_change, refer_one, rows_in_more, length_more, marked_more}
+use Rattle.iv_faults.proofs.Steps.{place_in, places_stay, marks_change, length_more}
 
 shown_length : (gs : List (List GroupOf)) (id : ℕ) → length (shown_of gs id) ≡ length (groups_of gs id)
 shown_length gs id = length-map (groups_of gs id) shown_group

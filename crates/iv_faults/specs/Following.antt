@@ -1,5 +1,5 @@
 -- A change of a row, followed by all constraints.
-use Rattle.std.specs.Prelude.{◌≡◌, ℕ, ◌+◌, ◌*◌, ◌<◌, ◌≤◌, Bool, true, false, ◌&&◌, ◌||◌, ◌==◌, not, List, length, slice_get, Some, None}
+use Rattle.std.specs.Prelude.{◌≡◌, ℕ, ◌+◌, ◌*◌, ◌≤◌, Bool, false, ◌&&◌, ◌||◌, ◌==◌, not, List, length, slice_get, Some, None}
 use Rattle.iv_faults.specs.Words.{Value, Rule, Change, Constraint}
 use Rattle.iv_faults.specs.Words.rule
 use Rattle.iv_index.specs.Groups.{Contents, groups_of}

@@ -1,12 +1,12 @@
 -- A foreign key's part of a change.
-use Rattle.std.specs.Prelude.{◌≡◌, ℕ, Bool, true, false, if◌then◌else◌, ◌==◌, not, List, [], ◌∷◌, map, slice_get, Option, Some, None}
-use Rattle.iv_key.specs.Keys.{key_of, none_null}
+use Rattle.std.specs.Prelude.{◌≡◌, ℕ, Bool, true, if◌then◌else◌, ◌==◌, not, List, [], ◌∷◌, map, slice_get, Option, Some, None}
+use Rattle.iv_key.specs.Keys.{key_of}
 use Rattle.iv_faults.specs.Words.{Value, Change, Constraint, ForeignKey}
 use Rattle.iv_faults.specs.Words.rule
 use Rattle.iv_faults.specs.declared.reference.Reference.{Reference}
-use Rattle.iv_laws_kept.specs.Kept.{Group, Groups, KeyConstraint, groups_of, named_key, is_empty, is_referenced, rows_in, AllNamed}
+use Rattle.iv_laws_kept.specs.Kept.{Group, Groups, groups_of, named_key, is_empty, is_referenced, rows_in, AllNamed}
 use Rattle.iv_laws_kept.specs.Moves.{Follow}
-use Rattle.iv_faults.specs.Sides.{IsPresent, referenced_key, side_key}
+use Rattle.iv_faults.specs.Sides.{IsPresent}
 use Rattle.iv_faults.specs.KeyGroups.{Marked}
 use Rattle.iv_faults.specs.Steps.{RowMoved}
 

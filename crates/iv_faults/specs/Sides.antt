@@ -1,5 +1,5 @@
 -- The sides of a change, as a constraint keeps them.
-use Rattle.std.specs.Prelude.{◌≡◌, ℕ, Bool, true, false, ◌&&◌, not, if◌then◌else◌, ◌==◌, List, slice_get, Option, Some, None}
+use Rattle.std.specs.Prelude.{◌≡◌, ℕ, Bool, true, false, ◌&&◌, if◌then◌else◌, ◌==◌, List, slice_get, Option, Some, None}
 use Rattle.iv_faults.specs.Words.{Value, Change, Constraint, ForeignKey}
 use Rattle.iv_value.specs.Values.{all_same}
 use Rattle.iv_key.specs.Keys.{key_of, none_null}

@@ -5,6 +5,7 @@ mod copies;
 mod faults;
 mod following;
 mod kept_key;
+mod laws;
 mod naming;
 mod reference;
 mod shown;
@@ -15,3 +16,4 @@ mod turns;
 mod watching;
 
 pub use faults::Faults;
+pub use laws::shown_rows_are_present;

@@ -1,4 +1,3 @@
-use Rattle.std.proofs.Common.{ℕ, ◌<◌, subst, sym, length}
 use Rattle.iv_faults.proofs.Follows.{is_present, named_apart, whole}
 use Rattle.iv_faults.proofs.following.follow.Goals as goal
 

@@ -1,4 +1,4 @@
-use Rattle.std.proofs.Common.{sym, ap, ◌∙◌}
+use Rattle.std.proofs.Common.{ap, ◌∙◌}
 use Rattle.iv_laws_kept.specs.Kept.{is_referenced}
 use Rattle.iv_laws_kept.specs.Marks.{marks_of}
 use Rattle.iv_faults.proofs.Referring.{marked_like, side_parts}

@@ -3,7 +3,7 @@ use Rattle.iv_laws_kept.specs.Numbers.{without}
 use Rattle.iv_laws_kept.specs.Marks.{marks_of}
 use Rattle.iv_marks.specs.Shown.{shown_of}
 use Rattle.iv_faults.proofs.Steps.{mark_at_tells, place_in_set, rows_change}
-use Rattle.iv_faults.proofs.Watched.{mark_set, place_marked, places_of, watched_set}
+use Rattle.iv_faults.proofs.Watched.{mark_set, place_marked, watched_set}
 use Rattle.iv_faults.proofs.step.leave.Goals as goal
 
 pub count_at-count-requires-clause-place : goal.count_at-count-requires-clause-place

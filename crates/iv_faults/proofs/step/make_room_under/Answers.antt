@@ -1,10 +1,9 @@
-use Rattle.std.proofs.Common.{ap, ◌∙◌, ◌+◌, ◌≤◌, length, subst, refl, sym}
-use Rattle.iv_index.specs.Groups.{groups_of}
+use Rattle.std.proofs.Common.{ap, ◌∙◌, ◌+◌, ◌≤◌, length, subst}
 use Rattle.iv_laws_kept.specs.Kept.{rows_in}
 use Rattle.iv_laws_kept.specs.Marks.{marks_of}
 use Rattle.iv_marks.specs.Shown.{shown_of}
 use Rattle.iv_faults.proofs.Steps.{rows_in_more, marked_more}
-use Rattle.iv_faults.proofs.Watched.{watched_more, watched_places}
+use Rattle.iv_faults.proofs.Watched.{watched_more}
 use Rattle.iv_faults.proofs.step.make_room_under.Goals as goal
 
 pub returns-clause-stay : goal.returns-clause-stay

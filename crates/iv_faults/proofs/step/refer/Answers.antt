@@ -1,4 +1,4 @@
-use Rattle.std.proofs.Common.{refl, sym, ap, ◌∙◌}
+use Rattle.std.proofs.Common.{refl, ap, ◌∙◌}
 use Rattle.iv_laws_kept.specs.Marks.{marks_of}
 use Rattle.iv_marks.specs.Shown.{shown_of}
 use Rattle.iv_faults.specs.Sides.{is_key}

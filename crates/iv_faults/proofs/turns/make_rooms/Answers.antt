@@ -1,5 +1,4 @@
-use Rattle.std.proofs.Common.{subst, List, ℕ, drop, ◌≡◌, []}
-use Rattle.iv_faults.specs.Turns.{RoomTurn, Turned}
+use Rattle.iv_faults.specs.Turns.{RoomTurn}
 use Rattle.iv_faults.proofs.Turning.{all_stay, turn_refused, turn_watched, ended}
 use Rattle.iv_faults.proofs.turns.make_rooms.Goals as goal
 

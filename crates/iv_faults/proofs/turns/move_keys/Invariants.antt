@@ -1,4 +1,4 @@
-use Rattle.std.proofs.Common.{◌≡◌, drop}
+use Rattle.std.proofs.Common.{drop}
 use Rattle.iv_marks.specs.Marking.{NoRepeats}
 use Rattle.iv_faults.specs.Turns.{KeyTurn, Turned}
 use Rattle.iv_faults.proofs.turns.move_keys.Given as goal

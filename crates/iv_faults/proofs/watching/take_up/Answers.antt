@@ -1,4 +1,4 @@
-use Rattle.std.proofs.Common.{◌≡◌, length, sym, subst, ◌∙◌, rules}
+use Rattle.std.proofs.Common.{◌≡◌, length, sym, subst, ◌∙◌}
 use Rattle.iv_faults.specs.Watching.{MarksStay}
 use Rattle.iv_faults.proofs.Taking.{stay_dropped, unmarked}
 use Rattle.iv_faults.proofs.watching.take_up.Goals as goal

@@ -3,7 +3,7 @@ use Rattle.iv_index.specs.Groups.{groups_of}
 use Rattle.iv_laws_kept.specs.Kept.{AllNamed, Show}
 use Rattle.iv_laws_kept.specs.Marks.{marks_of}
 use Rattle.iv_marks.specs.Shown.{shown}
-use Rattle.iv_faults.specs.Words.{StoredRow, Constraint}
+use Rattle.iv_faults.specs.Words.{Constraint}
 use Rattle.iv_faults.specs.Watching.{AreWatched, IsShownBy, Watching}
 use Rattle.iv_faults.proofs.Taken.{shown_more, watched_more}
 use Rattle.iv_faults.proofs.faults.Faults.watch.Goals as goal
