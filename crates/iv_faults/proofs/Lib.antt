@@ -15,3 +15,4 @@ pub mod WatchTables
 pub mod WatchAppended
 pub mod Taking
 pub mod Taken
+pub mod Rooming

@@ -78,19 +78,20 @@ have_groups_of constraints groups marks count marked = have_groups constraints (
 
 -- ---- the rows that are shown are under their keys
 
+-- a side that is kept under a key passes the test for that key
+pub side_is_there : (c : Constraint) (change : Change) (key : List Value) (side : Option (List Value)) → side_key c change.table side ≡ Some key
+    → passes (is_kept_under c key) (elim side [ Some values ↦ Some (record { table = change.table; number = change.row; values = values }) | None ↦ None ]) ≡ true
+side_is_there c change key None e = absurd (some_none key (sym e))
+side_is_there c change key (Some values) e = by_table (change.table == c.table) (kept_key c.rule values) e
+  where
+    by_table : (b : Bool) (o : Option (List Value)) → (if b then o else None) ≡ Some key → (b && elim o [ Some k ↦ all_same k key | None ↦ false ]) ≡ true
+    by_table true None e = absurd (some_none key (sym e))
+    by_table true (Some k) e = ap (λ k. all_same k key) (some_same k key e) ∙ all_same_itself key
+    by_table false o e = absurd (some_none key (sym e))
+
 pub shown_rows_are_present : ShownRowsArePresent
 shown_rows_are_present rows constraints groups change shows holds id c key at e =
-    ap (has change.row) (shows id c key at) ∙ has_filtered (is_kept_under c key) rows change.row holds.0 ∙ ap (passes (is_kept_under c key)) holds.1 ∙ by_side change.old e
-  where
-    by_side : (side : Option (List Value)) → side_key c change.table side ≡ Some key
-        → passes (is_kept_under c key) (elim side [ Some values ↦ Some (record { table = change.table; number = change.row; values = values }) | None ↦ None ]) ≡ true
-    by_side None e = absurd (some_none key (sym e))
-    by_side (Some values) e = by_table (change.table == c.table) (kept_key c.rule values) e
-      where
-        by_table : (b : Bool) (o : Option (List Value)) → (if b then o else None) ≡ Some key → (b && elim o [ Some k ↦ all_same k key | None ↦ false ]) ≡ true
-        by_table true None e = absurd (some_none key (sym e))
-        by_table true (Some k) e = ap (λ k. all_same k key) (some_same k key e) ∙ all_same_itself key
-        by_table false o e = absurd (some_none key (sym e))
+    ap (has change.row) (shows id c key at) ∙ has_filtered (is_kept_under c key) rows change.row holds.0 ∙ ap (passes (is_kept_under c key)) holds.1 ∙ side_is_there c change key change.old e
 
 -- ---- the scan
 

@@ -1,14 +1,16 @@
 -- Kept violations: what is kept, and which rows it shows.
-use Rattle.std.specs.Prelude.{◌≡◌, ℕ, ◌*◌, ◌<◌, ◌≤◌, false, List, [], filter, length, slice_get, Option, Some}
+use Rattle.std.specs.Prelude.{◌≡◌, ℕ, ◌*◌, ◌<◌, ◌≤◌, false, List, [], filter, length, slice_get, Option, Some, ◌∷◌, ◌+◌}
 use Rattle.iv_catalogue.specs.declared.limits.TheConstants.{MOST_CONSTRAINTS, MOST_TABLES}
-use Rattle.iv_machine.specs.Databases.{violates}
+use Rattle.iv_machine.specs.Databases.{rows_after, violates}
+use Rattle.iv_store.specs.Stores.{numbers_of}
 use Rattle.iv_faults.specs.Words.{Value, StoredRow, Change, Constraint}
 use Rattle.iv_faults.specs.declared.reference.Reference.{Reference}
 use Rattle.iv_faults.specs.declared.table_constraints.TableConstraints.{TableConstraints}
 use Rattle.iv_index.specs.Groups.{Contents, GroupOf, groups_of, room_of}
 use Rattle.iv_marks.specs.Shown.{shown}
 use Rattle.iv_laws.specs.RisingRows.{InOrder}
-use Rattle.iv_laws_kept.specs.Kept.{AllNamed, Show}
+use Rattle.iv_index.specs.Laws.{size_of}
+use Rattle.iv_laws_kept.specs.Kept.{AllNamed, Show, is_kept_under}
 use Rattle.iv_marks.specs.Marking.{flag}
 use Rattle.iv_laws_kept.specs.Marks.{Marks, marks_of, AreMarked}
 use Rattle.iv_laws_kept.specs.Moves.{Holds, taken_back}
@@ -63,3 +65,12 @@ pub record MarksStay (marks later : Marks) : Type 0 where
   pub count : length marks ≤ length later
   pub flags : (id place : ℕ) → flag (marks_of later id) place ≡ flag (marks_of marks id) place
   pub places : (id : ℕ) → id < length marks → length (marks_of marks id) ≤ length (marks_of later id)
+
+-- Where the groups show the rows after a change, and no key can hold fewer rows without memory than it had before the change, there
+-- is room to take the change back.
+abbrev pub RoomSuffices : Type 0
+RoomSuffices =
+    (rows : List StoredRow) (constraints : List Constraint) (groups : List (List GroupOf)) (change : Change)
+    → Holds rows change → Show (rows_after rows (change ∷ [])) constraints (shown groups)
+    → ((k : ℕ) (c : Constraint) (key : List Value) → slice_get constraints k ≡ Some c → length (numbers_of (filter (is_kept_under c key) rows)) ≤ size_of (groups_of groups k) key)
+    → HasRoomBack constraints groups change

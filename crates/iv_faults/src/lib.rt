@@ -16,4 +16,4 @@ mod turns;
 mod watching;
 
 pub use faults::Faults;
-pub use laws::shown_rows_are_present;
+pub use laws::{room_suffices, shown_rows_are_present};
