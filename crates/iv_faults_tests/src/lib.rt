@@ -5,3 +5,5 @@
 mod no_constraints;
 #[cfg(test)]
 mod rows;
+#[cfg(test)]
+mod steps;
