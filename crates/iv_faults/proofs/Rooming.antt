@@ -1,21 +1,18 @@
 -- Room for taking changes back.
-use Rattle.std.proofs.Common.{◌≡◌, refl, ℕ, zero, suc, ◌+◌, ◌<◌, ◌≤◌, Bool, true, false, ◌||◌, not, if◌then◌else◌, List, [], ◌∷◌, length, filter, slice_get, Option, Some, None, sym, ap, subst, ◌∙◌, arith}
+use Rattle.std.proofs.Common.{◌≡◌, refl, ℕ, suc, ◌<◌, ◌≤◌, true, false, ◌||◌, not, if◌then◌else◌, List, [], ◌∷◌, length, filter, Option, Some, None, sym, ap, ◌∙◌, arith}
 use Rattle.std.proofs.lemmas.Bool.{true≢false}
 use Rattle.std.specs.Bool.{◌==◌}
-use Rattle.iv_faults.specs.Words.{Value, StoredRow, Change, Constraint}
-use Rattle.iv_value.specs.Values.{all_same}
-use Rattle.iv_laws.proofs.Keys.{all_same_itself, all_same_swap}
-use Rattle.iv_machine.specs.Databases.{rows_after}
+use Rattle.iv_faults.specs.Words.{Value}
+use Rattle.iv_laws.proofs.Keys.{all_same_itself}
 use Rattle.iv_store.specs.Stores.{numbers_of}
-use Rattle.iv_index.specs.Groups.{GroupOf, groups_of, rows_of, room_of}
-use Rattle.iv_marks.specs.Shown.{shown}
+use Rattle.iv_index.specs.Groups.{groups_of, rows_of}
 use Rattle.iv_marks.proofs.Shown.{rows_under_shown}
 use Rattle.iv_laws_kept.specs.Kept.{is_kept_under}
-use Rattle.iv_laws_kept.specs.Moves.{moved, rows_moved, side_under}
+use Rattle.iv_laws_kept.specs.Moves.{moved, side_under}
 use Rattle.iv_laws_kept.specs.Numbers.{has, without}
 use Rattle.iv_laws_kept.proofs.Moves.{moved_is}
 use Rattle.iv_laws_kept.proofs.Rows.{has_filtered, passes}
-use Rattle.iv_faults.specs.Sides.{is_key, is_one_key, side_key, stays_put}
+use Rattle.iv_faults.specs.Sides.{is_key, is_one_key, side_key}
 use Rattle.iv_faults.specs.Watching.{RoomSuffices}
 use Rattle.iv_faults.proofs.Shows.{side_is_there}
 use Rattle.iv_faults.proofs.SideKeys.{under_is}

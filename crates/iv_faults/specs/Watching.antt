@@ -1,5 +1,5 @@
 -- Kept violations: what is kept, and which rows it shows.
-use Rattle.std.specs.Prelude.{◌≡◌, ℕ, ◌*◌, ◌<◌, ◌≤◌, false, List, [], filter, length, slice_get, Option, Some, ◌∷◌, ◌+◌}
+use Rattle.std.specs.Prelude.{◌≡◌, ℕ, ◌*◌, ◌<◌, ◌≤◌, false, List, [], filter, length, slice_get, Option, Some, ◌∷◌}
 use Rattle.iv_catalogue.specs.declared.limits.TheConstants.{MOST_CONSTRAINTS, MOST_TABLES}
 use Rattle.iv_machine.specs.Databases.{rows_after, violates}
 use Rattle.iv_store.specs.Stores.{numbers_of}

@@ -7,3 +7,5 @@ mod no_constraints;
 mod rows;
 #[cfg(test)]
 mod steps;
+#[cfg(test)]
+mod unique;
