@@ -272,5 +272,6 @@ module _ (constraints : List Constraint) (references : List (Option Reference)) 
         (reference_marks id c fk at is (subst (λ g. Marked (is_referenced constraints (shown start.groups) fk) c.rule g (marks_of marks id)) (groups_shown start.groups id) right)));
     watched = λ k w. second.watched k (first.watched k w);
     sizes = λ k key. omega (arith, first.sizes k key, second.sizes k key);
+    grows = omega (arith, first.grows, second.grows);
     looked = omega (arith, first.looked, second.looked, met.few);
   }

@@ -34,6 +34,7 @@ stay_then constraints a b most start mid now marks between later less first seco
   };
   watched = λ k w. second.watched k (first.watched k w);
   sizes = λ k key. omega (arith, first.sizes k key, second.sizes k key);
+  grows = omega (arith, first.grows, second.grows);
   looked = omega (arith, first.looked, second.looked, less);
 }
 
@@ -44,6 +45,7 @@ stay_more constraints a most start now marks later less s = record {
   stay = s.stay;
   watched = s.watched;
   sizes = s.sizes;
+  grows = s.grows;
   looked = omega (arith, s.looked, less);
 }
 
@@ -131,5 +133,6 @@ then_followed constraints change start mid now marks between later all s f = rec
   marked = λ right. f.marked (stay_marked constraints (length constraints) start mid marks between all s right);
   watched = λ k w. f.watched k (s.watched k w);
   sizes = λ k key. omega (arith, s.sizes k key, f.sizes k key);
+  grows = omega (arith, s.grows, f.grows);
   looked = omega (arith, s.looked, f.looked);
 }

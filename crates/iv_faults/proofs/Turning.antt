@@ -34,6 +34,7 @@ turned_none Leaves most places start marks = record {
   others = λ k h. (refl, refl);
   watched = λ k w. w;
   sizes = λ k key. omega arith;
+  grows = omega arith;
   looked = omega arith;
 }
 
@@ -52,6 +53,7 @@ turned_next Leaves most places rest id start now next marks mid later once t o w
   others = λ k h. let d = outside k h in (o.others k d ∙ (t.others k h).0, o.other_marks k d ∙ (t.others k h).1);
   watched = λ k u. watch k (id == k) refl (t.watched k u);
   sizes = λ k key. omega (arith, t.sizes k key, o.sizes k key);
+  grows = omega (arith, t.grows, o.grows);
   looked = more;
 }
   where
@@ -106,6 +108,7 @@ all_stay constraints change places start now marks later t = record {
   stay = λ k. by_place k (has k places) refl;
   watched = t.watched;
   sizes = t.sizes;
+  grows = t.grows;
   looked = omega (arith, t.looked);
 }
   where
@@ -125,6 +128,7 @@ stay_refused constraints change places rest id start now next marks mid later on
   stay = λ k. by_place k (has k places) refl;
   watched = n.watched;
   sizes = n.sizes;
+  grows = n.grows;
   looked = omega (arith, n.looked);
 }
   where
@@ -138,6 +142,7 @@ stay_refused constraints change places rest id start now next marks mid later on
       others = t.others;
       watched = t.watched;
       sizes = t.sizes;
+      grows = t.grows;
       looked = t.looked;
     }
 

@@ -202,6 +202,7 @@ impl Faults {
         ensures count { length groups.new.groups ≡ length groups.old.groups }
         ensures sizes { (k : ℕ) (key : List Value) →
             size_of (groups_of groups.old.groups k) key ≤ size_of (groups_of groups.new.groups k) key }
+        ensures grows { groups.old.looked ≤ groups.new.looked }
         ensures looked { groups.new.looked ≤ groups.old.looked + 7 * length self.old.constraints }
     {
         moved(
@@ -229,6 +230,7 @@ impl Faults {
         ensures count { length groups.new.groups ≡ length groups.old.groups }
         ensures sizes { (k : ℕ) (key : List Value) →
             size_of (groups_of groups.old.groups k) key ≤ size_of (groups_of groups.new.groups k) key }
+        ensures grows { groups.old.looked ≤ groups.new.looked }
         ensures looked { groups.new.looked ≤ groups.old.looked + 6 * length self.old.constraints }
     {
         moved_back(

@@ -1,7 +1,6 @@
 //! Kept violations: which groups of each constraint violate it, followed change by change.
 #![tactic(auto)]
 
-mod copies;
 mod faults;
 mod following;
 mod kept_key;

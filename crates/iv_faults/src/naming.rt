@@ -8,9 +8,10 @@ ghost use Rattle.iv_faults.specs.declared.reference.Reference.{Reference as Refe
 ghost use Rattle.iv_faults.specs.References.{AreReferences, paired, paired_with};
 ghost use Rattle.iv_faults.specs.Watch.{AreReferencesOf, FindsKey, IsReferenceOf, IsReferenceTo, as_key, as_reference, reference_to};
 
-use crate::copies::copy_foreign_key;
+
 use crate::reference::Reference;
 use iv_catalogue::{Constraint, ForeignKey, Rule};
+use iv_copies::copy_foreign_key;
 use sqlite_items::Items;
 use std::alloc::{AllocError, Global};
 

@@ -37,6 +37,7 @@ fn has_rows(groups: &mut Groups, id: usize, key: &Key<'_>) -> bool
     requires known { id < length groups.old.groups }
     ensures has { result ≡ not (is_empty (rows_in (shown_of groups.old.groups id) key.now)) }
     ensures kept { groups.new.groups ≡ groups.old.groups }
+    ensures grows { groups.old.looked ≤ groups.new.looked }
     ensures looked { groups.new.looked ≤ groups.old.looked + 1 }
 {
     match place(groups, id, key) {
@@ -50,6 +51,7 @@ fn old_is_referenced(groups: &mut Groups, r: &Reference, change: &Sides<'_>) -> 
     requires known { r.now.named < length groups.old.groups }
     ensures told { TellsOld r.now change.now (shown_of groups.old.groups r.now.named) result }
     ensures kept { groups.new.groups ≡ groups.old.groups }
+    ensures grows { groups.old.looked ≤ groups.new.looked }
     ensures looked { groups.new.looked ≤ groups.old.looked + 1 }
 {
     match change.old() {
@@ -67,6 +69,7 @@ fn is_referenced(groups: &mut Groups, r: &Reference, row: &[Value]) -> bool
     requires known { r.now.named < length groups.old.groups }
     ensures told { TellsReferenced r.now row.now (shown_of groups.old.groups r.now.named) result }
     ensures kept { groups.new.groups ≡ groups.old.groups }
+    ensures grows { groups.old.looked ≤ groups.new.looked }
     ensures looked { groups.new.looked ≤ groups.old.looked + 1 }
 {
     if r.key.columns.len() != r.key.key.len() {
@@ -85,6 +88,7 @@ fn new_is_referenced(groups: &mut Groups, r: &Reference, change: &Sides<'_>) -> 
     ensures told { (row : List Value) → change.now.new ≡ Some row
         → TellsReferenced r.now row (shown_of groups.old.groups r.now.named) result }
     ensures kept { groups.new.groups ≡ groups.old.groups }
+    ensures grows { groups.old.looked ≤ groups.new.looked }
     ensures looked { groups.new.looked ≤ groups.old.looked + 1 }
 {
     match change.new() {
@@ -132,6 +136,7 @@ fn moved_is_referenced(
         → (row : List Value) → change.now.new ≡ Some row
         → TellsReferenced r.now row (shown_of groups.old.groups r.now.named) result }
     ensures kept { groups.new.groups ≡ groups.old.groups }
+    ensures grows { groups.old.looked ≤ groups.new.looked }
     ensures looked { groups.new.looked ≤ groups.old.looked + 1 }
 {
     let old = old_key(constraint, change);

@@ -18,6 +18,7 @@ pub fn place(groups: &mut Groups, id: usize, key: &Key<'_>) -> Option<usize>
     ensures place { result ≡ place_of (shown_of groups.old.groups id) key.now }
     ensures once { OneEach (shown_of groups.old.groups id) }
     ensures kept { groups.new.groups ≡ groups.old.groups }
+    ensures grows { groups.old.looked ≤ groups.new.looked }
     ensures looked { groups.new.looked ≤ groups.old.looked + 1 }
 {
     groups.are_kept();
@@ -49,8 +50,10 @@ pub fn make_room(groups: &mut Groups, id: usize, key: &Key<'_>) -> Result<(), Al
     ensures others { (k : ℕ) → k ≢ id → groups_of groups.new.groups k ≡ groups_of groups.old.groups k }
     ensures count { length groups.new.groups ≡ length groups.old.groups }
     ensures sizes { (k : ℕ) (other : List Value) → size_of (groups_of groups.old.groups k) other ≤ size_of (groups_of groups.new.groups k) other }
+    ensures grows { groups.old.looked ≤ groups.new.looked }
     ensures looked { groups.new.looked ≤ groups.old.looked + 1 }
 {
+    groups.are_kept();
     groups.make_room(id, key)?;
     Ok(())
 }
@@ -66,6 +69,7 @@ pub fn put(groups: &mut Groups, id: usize, key: &Key<'_>, row: u64) -> usize
     ensures others { (k : ℕ) → k ≢ id → groups_of groups.new.groups k ≡ groups_of groups.old.groups k }
     ensures count { length groups.new.groups ≡ length groups.old.groups }
     ensures sizes { (k : ℕ) (other : List Value) → size_of (groups_of groups.old.groups k) other ≤ size_of (groups_of groups.new.groups k) other }
+    ensures grows { groups.old.looked ≤ groups.new.looked }
     ensures looked { groups.new.looked ≤ groups.old.looked + 1 }
 {
     groups.are_kept();
@@ -83,6 +87,7 @@ pub fn take(groups: &mut Groups, id: usize, key: &Key<'_>, row: u64) -> usize
     ensures others { (k : ℕ) → k ≢ id → groups_of groups.new.groups k ≡ groups_of groups.old.groups k }
     ensures count { length groups.new.groups ≡ length groups.old.groups }
     ensures sizes { (k : ℕ) (other : List Value) → size_of (groups_of groups.old.groups k) other ≤ size_of (groups_of groups.new.groups k) other }
+    ensures grows { groups.old.looked ≤ groups.new.looked }
     ensures looked { groups.new.looked ≤ groups.old.looked + 1 }
 {
     groups.are_kept();

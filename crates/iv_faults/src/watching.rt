@@ -7,11 +7,12 @@ ghost use Rattle.iv_laws_kept.specs.Marks.{marks_of};
 ghost use Rattle.iv_marks.specs.Marking.{flag};
 ghost use Rattle.iv_faults.specs.Watching.{IsTakenUp, MarksStay};
 
-use crate::copies::copies_of;
+
 use crate::naming::references_of;
 use crate::reference::Reference;
 use crate::table_constraints::{TableConstraints, with_constraints};
 use iv_catalogue::Constraint;
+use iv_copies::copy_constraints;
 use iv_index::Groups;
 use iv_marks::ViolatingGroups;
 use std::alloc::{AllocError, Global};
@@ -123,7 +124,7 @@ pub fn take_up(
     ensures stay { MarksStay marks.old marks.new }
     ensures taken_up { IsTakenUp constraints.new.items references.new.items tables.new.items marks.new }
 {
-    let mut copies = copies_of(alloc, more)?;
+    let mut copies = copy_constraints(alloc, more)?;
     let mut news = references_of(alloc, constraints.as_slice(), more)?;
     let first = constraints.len();
     let lists = with_constraints(alloc, tables.as_slice(), first, more)?;

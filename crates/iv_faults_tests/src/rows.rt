@@ -68,7 +68,7 @@ fn make(
     ensures constraints { faults.new.constraints ≡ faults.old.constraints }
 {
     faults.moved(groups, &change)?;
-    versions.change(change)?;
+    versions.change(&change)?;
     Ok(())
 }
 
@@ -164,7 +164,7 @@ fn make_back(
     ensures constraints { faults.new.constraints ≡ faults.old.constraints }
 {
     faults.moved_back(groups, change);
-    versions.change(back)?;
+    versions.change(&back)?;
     Ok(())
 }
 

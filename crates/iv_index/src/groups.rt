@@ -1,5 +1,5 @@
 //! The groups of all constraints.
-ghost use Rattle.std.specs.Prelude.{◌≡◌, ℕ, ◌<◌, ◌≤◌, ◌^◌, [], length, min, max, true, false, IfOk, OnOk, OnErr, Some};
+ghost use Rattle.std.specs.Prelude.{◌≡◌, ℕ, ◌-◌, ◌<◌, ◌≤◌, ◌^◌, [], length, min, max, true, false, IfOk, OnOk, OnErr, Some};
 ghost use Rattle.std.specs.Borrow.{sem};
 ghost use Rattle.iv_index.specs.Rows.{IsRising, has_row};
 ghost use Rattle.iv_index.specs.Groups.{AreSound, EachIsApart, EachIsFound, EachRises, counted, groups_of, place_in, room_of, rows_at, rows_of, with_groups, with_room_under, with_row_put, with_row_under, without_row_under};
@@ -234,12 +234,14 @@ impl Groups {
     }
 
     /// Does nothing. Its contract tells what holds of the groups of every constraint: each is found under its key, no
-    /// two have one key, and the rows of every key rise.
+    /// two have one key, the rows of every key rise, and the count of look-ups is below 2^64.
     pub fn are_kept(&self)
         ensures found { (constraint : ℕ) → EachIsFound (groups_of self.now.groups constraint) }
         ensures apart { (constraint : ℕ) → EachIsApart (groups_of self.now.groups constraint) }
         ensures rising { (constraint : ℕ) → EachRises (groups_of self.now.groups constraint) }
+        ensures counted { self.now.looked ≤ 2 ^ 64 - 1 }
     {
+        let _ = self.looked;
         kept(self.indexes.as_slice());
     }
 

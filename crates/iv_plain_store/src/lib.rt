@@ -1,7 +1,6 @@
 //! A store of rows that keeps lists, copies and scans.
 #![tactic(auto)]
 
-mod copy;
 mod database;
 mod place;
 mod plain;

@@ -4,11 +4,11 @@ ghost use Rattle.iv_catalogue.specs.Catalogues.{AllOn};
 ghost use Rattle.iv_catalogue.specs.declared.limits.TheConstants.{MOST_CONSTRAINTS, MOST_TABLES};
 ghost use Rattle.iv_store.specs.Stores.{store_with_table, store_with_constraint, first_violating_row};
 
-use crate::copy::{copy_constraint, copy_constraints, copy_table};
 use crate::database::PlainDatabase;
 use crate::referencing::children;
 use crate::touched::{first_fault, settle_touched, touch, touch_new};
 use iv_catalogue::{Constraint, ConstraintId, Fault, Table};
+use iv_copies::{copy_constraint, copy_constraints, copy_table};
 use iv_expr::{Change, Rows, StoredRow, TableId};
 use iv_key::Key;
 use iv_machine::{Which, count_faults, first_violating, list_faults};

@@ -35,7 +35,7 @@ fn set(versions: &mut Versions, table: u32, number: u64, new: Option<Row>) -> Re
     }
     let table = TableId::new(table);
     let old = held(versions, table, number)?;
-    versions.change(Change {
+    versions.change(&Change {
         table,
         row: number,
         old,

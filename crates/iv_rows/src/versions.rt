@@ -40,24 +40,19 @@ impl Model for Versions {
 }
 
 // Notes a change and makes it.
-fn make(slots: &mut Slots, journal: &mut Journal, change: Change) -> Result<(), AllocError>
-    requires positive { 0 < change.row }
-    requires small { change.row < 2 ^ 63 }
+fn make(slots: &mut Slots, journal: &mut Journal, change: &Change) -> Result<(), AllocError>
+    requires positive { 0 < change.now.row }
+    requires small { change.now.row < 2 ^ 63 }
     ensures slots { OnOk result (slots.new.slots ≡
-        slots_after change.table change.row change.new slots.old.slots) }
-    ensures journal { OnOk result (journal.new ≡ journal.old ++ change ∷ []) }
+        slots_after change.now.table change.now.row change.now.new slots.old.slots) }
+    ensures journal { OnOk result (journal.new ≡ journal.old ++ change.now ∷ []) }
     ensures kept_slots { OnErr result (slots.new.slots ≡ slots.old.slots) }
     ensures kept_journal { OnErr result (journal.new ≡ journal.old) }
     ensures stays { StaysFiled slots.old.numbers slots.new.numbers }
 {
+    let new = change.new.clone()?;
     journal.note(change.clone()?)?;
-    let Change {
-        table,
-        row,
-        old: _,
-        new,
-    } = change;
-    match slots.set(table, row, new) {
+    match slots.set(change.table, change.row, new) {
         Ok(()) => Ok(()),
         Err(refused) => {
             let _ = journal.pop();
@@ -139,22 +134,21 @@ impl Versions {
     }
 
     /// Makes a change of one row. Where memory is refused, all is as before.
-    pub fn change(&mut self, change: Change) -> Result<(), AllocError>
-        requires current { values_at self.old.rows change.row ≡ change.old }
-        requires own { IfSome (row_at self.old.rows change.row)
-            (λ row. row.table ≡ change.table) }
-        requires positive { 0 < change.row }
-        requires small { change.row ≤ last_row_number }
+    pub fn change(&mut self, change: &Change) -> Result<(), AllocError>
+        requires current { values_at self.old.rows change.now.row ≡ change.now.old }
+        requires own { IfSome (row_at self.old.rows change.now.row)
+            (λ row. row.table ≡ change.now.table) }
+        requires positive { 0 < change.now.row }
+        requires small { change.now.row ≤ last_row_number }
         requires room { length self.old.journal < most_changes_in_a_transaction }
-        ensures ok { OnOk result (self.new ≡ history_after self.old change) }
+        ensures ok { OnOk result (self.new ≡ history_after self.old change.now) }
         ensures marked { OnOk result (marked_of self.new ≡
-            after_change change (marked_of self.old)) }
+            after_change change.now (marked_of self.old)) }
         ensures err { OnErr result (self.new ≡ self.old) }
     {
         self.slots.known();
-        let number = change.row;
         make(&mut self.slots, &mut self.journal, change)?;
-        self.next = (number + 1).max(self.next);
+        self.next = (change.row + 1).max(self.next);
         Ok(())
     }
 
