@@ -11,7 +11,7 @@ use Rattle.iv_faults.specs.Steps.{is_reference}
 use Rattle.iv_faults.proofs.Steps.{some_rows}
 
 -- which keys are referenced, as a rule asks it
-abbrev referenced_by : List Constraint → Groups → Rule → List Value → Bool
+abbrev pub referenced_by : List Constraint → Groups → Rule → List Value → Bool
 referenced_by constraints groups (rule.NotNull column) key = false
 referenced_by constraints groups (rule.Check condition) key = false
 referenced_by constraints groups (rule.Unique columns) key = false
@@ -19,7 +19,7 @@ referenced_by constraints groups (rule.PrimaryKey columns) key = false
 referenced_by constraints groups (rule.ForeignKey fk) key = is_referenced constraints groups fk key
 
 -- the two ways to say that a group violates
-same_violating : (constraints : List Constraint) (groups : Groups) (c : Constraint) (k : Rule) (g : Group) → c.rule ≡ k
+pub same_violating : (constraints : List Constraint) (groups : Groups) (c : Constraint) (k : Rule) (g : Group) → c.rule ≡ k
     → is_violating constraints groups c g ≡ group_violates (referenced_by constraints groups k) k g
 same_violating constraints groups c k g is = ap (λ r. violate constraints groups r g.key g.rows) is ∙ by_rule k
   where

@@ -8,3 +8,4 @@ pub mod Following
 pub mod Whole
 pub mod Watch
 pub mod Watching
+pub mod Filling

@@ -2,6 +2,7 @@
 #![tactic(auto)]
 
 mod faults;
+mod filling;
 mod following;
 mod kept_key;
 mod laws;

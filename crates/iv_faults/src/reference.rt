@@ -64,8 +64,8 @@ fn old_is_referenced(groups: &mut Groups, r: &Reference, change: &Sides<'_>) -> 
     }
 }
 
-// Whether the key of a referencing row is referenced. One look-up.
-fn is_referenced(groups: &mut Groups, r: &Reference, row: &[Value]) -> bool
+/// Whether the key of a referencing row is referenced. One look-up.
+pub fn is_referenced(groups: &mut Groups, r: &Reference, row: &[Value]) -> bool
     requires known { r.now.named < length groups.old.groups }
     ensures told { TellsReferenced r.now row.now (shown_of groups.old.groups r.now.named) result }
     ensures kept { groups.new.groups ≡ groups.old.groups }

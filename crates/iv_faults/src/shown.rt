@@ -53,7 +53,6 @@ pub fn make_room(groups: &mut Groups, id: usize, key: &Key<'_>) -> Result<(), Al
     ensures grows { groups.old.looked ≤ groups.new.looked }
     ensures looked { groups.new.looked ≤ groups.old.looked + 1 }
 {
-    groups.are_kept();
     groups.make_room(id, key)?;
     Ok(())
 }

@@ -36,8 +36,8 @@ fn breaks(rule: &Rule, key: &Key<'_>, count: usize, referenced: bool) -> bool
     }
 }
 
-// Whether so many rows under a key violate a rule, all of them.
-fn violate(rule: &Rule, key: &Key<'_>, count: usize, referenced: bool) -> bool
+/// Whether so many rows under a key violate a rule, all of them.
+pub fn violate(rule: &Rule, key: &Key<'_>, count: usize, referenced: bool) -> bool
     ensures { (is_referenced : List Value → Bool)
         → (none_null key.now ≡ true → is_referenced key.now ≡ referenced)
         → result ≡ violate_by is_referenced rule.now key.now count }

@@ -68,8 +68,8 @@ pub fn move_keys(
     }
 }
 
-// The reference of a constraint, where it is a foreign key.
-fn reference_at(references: &[Option<Reference>], id: usize) -> Option<&Reference>
+/// The reference of a constraint, where it is a foreign key.
+pub fn reference_at(references: &[Option<Reference>], id: usize) -> Option<&Reference>
     ensures { option_copied result ≡ reference_at references.now id }
 {
     match references.get(id) {
