@@ -16,4 +16,4 @@ pub mod WatchAppended
 pub mod Taking
 pub mod Taken
 pub mod Rooming
-pub mod Filling
+pub mod Filled

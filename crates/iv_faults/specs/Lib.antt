@@ -8,4 +8,4 @@ pub mod Following
 pub mod Whole
 pub mod Watch
 pub mod Watching
-pub mod Filling
+pub mod Violating

@@ -11,7 +11,7 @@ ghost use Rattle.iv_index.specs.Groups.{groups_of};
 ghost use Rattle.iv_marks.specs.Shown.{shown, shown_of};
 ghost use Rattle.iv_laws_kept.specs.Kept.{AllNamed, Show, is_kept_under, kept_key, rows_in};
 ghost use Rattle.iv_faults.specs.declared.reference.Reference.{Reference as Refers};
-ghost use Rattle.iv_faults.specs.Filling.{IsReferring, violates_by};
+ghost use Rattle.iv_faults.specs.Violating.{IsReferring, violates_by};
 ghost use Rattle.iv_faults.specs.References.{AreReferences, TellsReferenced, reference_at};
 ghost use Rattle.iv_faults.specs.Sides.{come, is_key};
 
@@ -189,11 +189,5 @@ pub fn fill<R: Rows>(
 {
     let references = references_of(alloc, olds, slice::from_ref(constraint))?;
     fill_rows(groups, olds.len(), constraint, rows)?;
-    Ok(first_violating(
-        groups,
-        olds.len(),
-        constraint,
-        references.as_slice(),
-        rows,
-    ))
+    Ok(first_violating(groups, olds.len(), constraint, references.as_slice(), rows))
 }

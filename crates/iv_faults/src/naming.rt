@@ -8,7 +8,6 @@ ghost use Rattle.iv_faults.specs.declared.reference.Reference.{Reference as Refe
 ghost use Rattle.iv_faults.specs.References.{AreReferences, paired, paired_with};
 ghost use Rattle.iv_faults.specs.Watch.{AreReferencesOf, FindsKey, IsReferenceOf, IsReferenceTo, as_key, as_reference, reference_to};
 
-
 use crate::reference::Reference;
 use iv_catalogue::{Constraint, ForeignKey, Rule};
 use iv_copies::copy_foreign_key;

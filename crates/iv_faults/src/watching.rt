@@ -7,7 +7,6 @@ ghost use Rattle.iv_laws_kept.specs.Marks.{marks_of};
 ghost use Rattle.iv_marks.specs.Marking.{flag};
 ghost use Rattle.iv_faults.specs.Watching.{IsTakenUp, MarksStay};
 
-
 use crate::naming::references_of;
 use crate::reference::Reference;
 use crate::table_constraints::{TableConstraints, with_constraints};

@@ -1,6 +1,7 @@
 -- The groups of a constraint, filled row by row, and the first row that violates it.
-use Rattle.std.proofs.Common.{◌≡◌, refl, ℕ, suc, ◌+◌, ◌<◌, ◌≤◌, Bool, true, false, ◌&&◌, ◌||◌, not, if◌then◌else◌, List, [], ◌∷◌, ◌++◌, length, map, filter, find, slice_get, option_map, Option, Some, None, sym, ap, subst, ◌∙◌, arith, ⊎_elim}
+use Rattle.std.proofs.Common.{◌≡◌, refl, ℕ, zero, suc, ◌+◌, ◌<◌, ◌≤◌, Bool, true, false, ◌&&◌, ◌||◌, not, if◌then◌else◌, List, [], ◌∷◌, ◌++◌, length, map, filter, find, slice_get, option_map, Option, Some, None, sym, ap, subst, ◌∙◌, arith, ⊎_elim}
 use Rattle.std.specs.Bool.{◌==◌, nat_lt}
+use Rattle.std.specs.Prelude.{◌≢◌}
 use Rattle.std.proofs.lemmas.Bool.{true≢false, cases_lt, eqb-true, eq-eqb}
 use Rattle.std.proofs.lemmas.Bool.Decides.{nat_tests}
 use Rattle.iv_faults.specs.Words.{Value, StoredRow, Rule, Constraint, ForeignKey}
@@ -8,12 +9,12 @@ use Rattle.iv_faults.specs.Words.rule
 use Rattle.iv_value.specs.Values.{all_same}
 use Rattle.iv_key.specs.Keys.{key_of, none_null}
 use Rattle.iv_expr.specs.Scopes.{Rises, row_above, table_rows, numbered}
-use Rattle.iv_expr.proofs.Scan.{rows_above, scan_next, scan_none, found_row}
+use Rattle.iv_expr.proofs.Scan.{rows_above, above_all, above_next, scan_next, scan_none, found_row, table_rises}
 use Rattle.iv_machine.specs.Databases.{row_at, satisfies, violates}
 use Rattle.iv_store.specs.Stores.{numbers_of}
 use Rattle.iv_laws.specs.RisingRows.{Above, InOrder}
 use Rattle.iv_laws.proofs.RowNumbers.{in_order_filter, passing, row_at_filter_in_order, some_none, some_same}
-use Rattle.iv_index.specs.Groups.{GroupOf, groups_of}
+use Rattle.iv_index.specs.Groups.{Contents, GroupOf, groups_of}
 use Rattle.iv_marks.specs.Shown.{shown, shown_group, shown_of}
 use Rattle.iv_marks.proofs.Shown.{groups_shown}
 use Rattle.iv_laws_kept.specs.Numbers.{has, with_number}
@@ -24,10 +25,13 @@ use Rattle.iv_laws_kept.proofs.RisingNumbers.{has_append, has_head}
 use Rattle.iv_laws_kept.proofs.RowByRow.{violates_is}
 use Rattle.iv_laws_kept.proofs.Rows.{passes}
 use Rattle.iv_faults.specs.declared.reference.Reference.{Reference}
-use Rattle.iv_faults.specs.Filling.{IsReferring, violates_by}
+use Rattle.iv_faults.specs.Violating.{IsReferring, violates_by}
 use Rattle.iv_faults.specs.KeyGroups.{violate_by}
 use Rattle.iv_faults.specs.References.{AreReferences, IsReference, TellsReferenced, reference_at}
 use Rattle.iv_faults.specs.Sides.{come, is_key}
+use Rattle.std.proofs.lemmas.List.{length-append}
+use Rattle.std.proofs.lemmas.Option.{slice_get_within}
+use Rattle.iv_faults.proofs.Follows.{named_there}
 use Rattle.iv_faults.proofs.Whole.{referenced_by, same_violating}
 
 -- ---- rows by rising number
@@ -63,12 +67,12 @@ first_above n (x ∷ rows) r h e =
 
 -- a row that a scan found, by its number
 pub found_at : (rows : List StoredRow) (t n : ℕ) (p : ℕ × List Value) → Rises 0 rows → Some p ≡ option_map numbered (row_above n (table_rows rows t))
-    → (r : StoredRow) × (row_at rows p.0 ≡ Some r) × (r.number ≡ p.0) × (r.values ≡ p.1) × ((r.table == t) ≡ true)
+    → (r : StoredRow) × (rows_above n (table_rows rows t) ≡ r ∷ rows_above p.0 (table_rows rows t)) × (row_at rows p.0 ≡ Some r) × (r.values ≡ p.1) × (r.number ≡ p.0) × ((r.table == t) ≡ true)
 found_at rows t n p h e =
     let f = found_row (row_above n (table_rows rows t)) p e in
     let own : row_at (table_rows rows t) f.0.number ≡ Some f.0 = first_above n (table_rows rows t) f.0 sorted f.1 in
     let whole = passed (row_at rows f.0.number) (sym (row_at_filter_in_order (λ r. r.table == t) rows f.0.number (in_order 0 rows h)) ∙ own) in
-    (f.0, ap (row_at rows) (sym f.2) ∙ whole.0, f.2, f.3, whole.1)
+    (f.0, above_next 0 n (table_rows rows t) f.0 (table_rises 0 t rows h) f.1 ∙ ap (λ k. f.0 ∷ rows_above k (table_rows rows t)) f.2, ap (row_at rows) (sym f.2) ∙ whole.0, f.3, f.2, whole.1)
   where
     found : StoredRow
     found = (found_row (row_above n (table_rows rows t)) p e).0
@@ -121,7 +125,7 @@ pub filled_is : (c : Constraint) (key : List Value) (low : ℕ) (rows : List Sto
     → filled c.rule key (table_rows rows c.table) numbers ≡ numbers ++ numbers_of (filter (is_kept_under c key) rows)
 filled_is c key low [] numbers h below = sym (append_none numbers)
 filled_is c key low (r ∷ rows) numbers h below =
-    by_table (r.table == c.table) (is_key (kept_key c.rule r.values) key) refl
+    by_table (λ later under. filled_is c key r.number rows later h.2 under) (r.table == c.table) (is_key (kept_key c.rule r.values) key) refl
     ∙ ap (λ b. numbers ++ numbers_of (if (r.table == c.table) && b then r ∷ filter (is_kept_under c key) rows else filter (is_kept_under c key) rows)) (is_one (kept_key c.rule r.values) key)
   where
     own : List StoredRow
@@ -141,18 +145,19 @@ filled_is c key low (r ∷ rows) numbers h below =
             by_same true s q = let is : r.number ≡ m = eqb-true r.number m s in omega (arith, is)
             by_same false s q = absurd (true≢false (sym q))
 
-    by_table : (b k : Bool) → is_key (kept_key c.rule r.values) key ≡ k
+    by_table : ((later : List ℕ) → ((m : ℕ) → has m later ≡ true → m ≤ r.number) → filled c.rule key (table_rows rows c.table) later ≡ later ++ numbers_of own)
+        → (b k : Bool) → is_key (kept_key c.rule r.values) key ≡ k
         → filled c.rule key (if b then r ∷ table_rows rows c.table else table_rows rows c.table) numbers ≡ numbers ++ numbers_of (if b && is_key (kept_key c.rule r.values) key then r ∷ own else own)
-    by_table false k e = filled_is c key r.number rows numbers h.2 lower
-    by_table true true e =
+    by_table more false k e = more numbers lower
+    by_table more true true e =
         ap (λ b. filled c.rule key (table_rows rows c.table) (come b r.number numbers)) e
         ∙ ap (filled c.rule key (table_rows rows c.table)) (with_last r.number numbers (λ m there. let le : m ≤ low = below m there in omega (arith, h.0, le)))
-        ∙ filled_is c key r.number rows (numbers ++ r.number ∷ []) h.2 next
+        ∙ more (numbers ++ r.number ∷ []) next
         ∙ append_twice numbers (r.number ∷ []) (numbers_of own)
         ∙ ap (λ b. numbers ++ numbers_of (if b then r ∷ own else own)) (sym e)
-    by_table true false e =
+    by_table more true false e =
         ap (λ b. filled c.rule key (table_rows rows c.table) (come b r.number numbers)) e
-        ∙ filled_is c key r.number rows numbers h.2 lower
+        ∙ more numbers lower
         ∙ ap (λ b. numbers ++ numbers_of (if b then r ∷ own else own)) (sym e)
 
 -- a row that was scanned comes first
@@ -191,13 +196,6 @@ violates_at rows constraints gs id c n r h all show at here table =
     said : (o : Option (List Value)) → violate_at constraints (shown gs) id c o ≡ violates_by constraints (shown gs) id c o
     said None = refl
     said (Some key) = refl
-
--- what the search finds from a row on that was scanned
-pub found_next : (p : StoredRow → Bool) (rs : List StoredRow) (n : ℕ) (q : ℕ × List Value) → Rises 0 rs → Some q ≡ option_map numbered (row_above n rs)
-    → (r : StoredRow) × (find p (rows_above n rs) ≡ (if p r then Some r else find p (rows_above q.0 rs))) × (r.number ≡ q.0) × (r.values ≡ q.1)
-found_next p rs n q h s =
-    let r = scan_next n rs q h s in
-    (r.0, ap (λ (rows : List StoredRow). find p rows) r.1, r.2, r.3)
 
 -- ---- whether the rows under a key violate
 
@@ -268,9 +266,9 @@ behind [] x = refl
 behind (y ∷ olds) x = behind olds x
 
 among : {A : Type 0} (olds : List A) (x d : A) (k : ℕ) (P : Type 0) → slice_get (olds ++ x ∷ []) k ≡ Some d → (slice_get olds k ≡ Some d → k < length olds → P) → (k ≡ length olds → x ≡ d → P) → P
-among [] x d 0 P e old new = new refl (some_same x d e)
+among [] x d zero P e old new = new refl (some_same x d e)
 among [] x d (suc k) P e old new = absurd (some_none d (sym e))
-among (y ∷ olds) x d 0 P e old new = old e (omega arith)
+among (y ∷ olds) x d zero P e old new = old e (omega arith)
 among (y ∷ olds) x d (suc k) P e old new = among olds x d k P e (λ at less. old at (omega (arith, less))) (λ is. new (ap suc is))
 
 pub added_at : (olds : List Constraint) (c : Constraint) → slice_get (olds ++ c ∷ []) (length olds) ≡ Some c
@@ -305,3 +303,127 @@ referring olds c old news count are = record {
 
     at : reference_at (old ++ news) (length olds) ≡ reference_at news 0
     at = ap (reference_at (old ++ news)) (sym count) ∙ along old
+
+-- ---- the loops
+
+-- What is to come makes the numbers under each key those of all rows, and the other constraints have what they had.
+pub record Filling (rows : List StoredRow) (c : Constraint) (id after : ℕ) (start now : Contents) : Type 0 where
+  pub coming : (key : List Value) → filled c.rule key (rows_above after (table_rows rows c.table)) (rows_in (shown_of now.groups id) key) ≡ filled c.rule key (table_rows rows c.table) []
+  pub others : (k : ℕ) → k ≢ id → groups_of now.groups k ≡ groups_of start.groups k
+  pub count : length now.groups ≡ length start.groups
+  pub grows : start.looked ≤ now.looked
+
+pub filling_begins : (rows : List StoredRow) (c : Constraint) (id : ℕ) (start : Contents) → Rises 0 rows → groups_of start.groups id ≡ [] → Filling rows c id 0 start start
+filling_begins rows c id start h free = record {
+  coming = λ key. ap (λ own. filled c.rule key (rows_above 0 (table_rows rows c.table)) (rows_in (map shown_group own) key)) free
+      ∙ ap (λ (xs : List StoredRow). filled c.rule key xs []) (above_all 0 0 (table_rows rows c.table) (table_rises 0 c.table rows h) (omega arith));
+  others = λ k n. refl;
+  count = refl;
+  grows = omega arith;
+}
+
+pub filling_goes_on : (rows : List StoredRow) (c : Constraint) (id after : ℕ) (p : ℕ × List Value) (start now next : Contents) → Rises 0 rows
+    → Some p ≡ option_map numbered (row_above after (table_rows rows c.table)) → Filling rows c id after start now
+    → ((key : List Value) → rows_in (shown_of next.groups id) key ≡ come (is_key (kept_key c.rule p.1) key) p.0 (rows_in (shown_of now.groups id) key))
+    → ((k : ℕ) → k ≢ id → groups_of next.groups k ≡ groups_of now.groups k) → length next.groups ≡ length now.groups → now.looked ≤ next.looked
+    → Filling rows c id p.0 start next
+filling_goes_on rows c id after p start now next h s f came others count grows = record {
+  coming = λ key. ap (filled c.rule key (rows_above p.0 (table_rows rows c.table))) (came key)
+      ∙ sym (filled_next c.rule key (table_rows rows c.table) after p (rows_in (shown_of now.groups id) key) (table_rises 0 c.table rows h) s) ∙ f.coming key;
+  others = λ k n. others k n ∙ f.others k n;
+  count = count ∙ f.count;
+  grows = omega (arith, grows, f.grows);
+}
+
+pub filling_ends : (rows : List StoredRow) (c : Constraint) (id after : ℕ) (start now : Contents) → Rises 0 rows
+    → None ≡ option_map numbered (row_above after (table_rows rows c.table)) → Filling rows c id after start now
+    → (key : List Value) → rows_in (shown_of now.groups id) key ≡ numbers_of (filter (is_kept_under c key) rows)
+filling_ends rows c id after start now h s f key =
+    sym (filled_all c.rule key (table_rows rows c.table) after (rows_in (shown_of now.groups id) key) s) ∙ f.coming key
+    ∙ filled_is c key 0 rows [] h (λ m there. absurd (true≢false (sym there)))
+
+-- What is known of the constraint, its reference and its groups.
+pub record Given (rows : List StoredRow) (constraints : List Constraint) (groups : List (List GroupOf)) (id : ℕ) (c : Constraint) (reference : Option Reference) : Type 0 where
+  pub named : AllNamed constraints
+  pub at : slice_get constraints id ≡ Some c
+  pub is : IsReferring constraints c reference
+  pub shows : Show rows constraints (shown groups)
+
+-- The first row that violates is still to come.
+pub record Searching (rows : List StoredRow) (c : Constraint) (id after : ℕ) (reference : Option Reference) (start now : Contents) : Type 0 where
+  pub coming : (constraints : List Constraint) → Given rows constraints start.groups id c reference
+      → find (violates rows c) (rows_above after (table_rows rows c.table)) ≡ find (violates rows c) rows
+  pub kept : now.groups ≡ start.groups
+  pub grows : start.looked ≤ now.looked
+
+pub searching_begins : (rows : List StoredRow) (c : Constraint) (id : ℕ) (reference : Option Reference) (start : Contents) → Rises 0 rows → Searching rows c id 0 reference start start
+searching_begins rows c id reference start h = record {
+  coming = λ constraints given.
+      ap (λ (xs : List StoredRow). find (violates rows c) xs) (above_all 0 0 (table_rows rows c.table) (table_rises 0 c.table rows h) (omega arith))
+      ∙ found_in_table (violates rows c) c.table rows (λ r e. ap (λ b. b && not (satisfies rows c r)) e);
+  kept = refl;
+  grows = omega arith;
+}
+
+-- what is found from a row on whose test is known
+found_from : (rows : List StoredRow) (c : Constraint) (id after : ℕ) (reference : Option Reference) (p : ℕ × List Value) (start now : Contents) (said : Bool)
+    (constraints : List Constraint) → Rises 0 rows
+    → Some p ≡ option_map numbered (row_above after (table_rows rows c.table)) → now.groups ≡ start.groups → Given rows constraints start.groups id c reference
+    → ((constraints : List Constraint) → AllNamed constraints → slice_get constraints id ≡ Some c → IsReferring constraints c reference
+    → said ≡ violates_by constraints (shown now.groups) id c (kept_key c.rule p.1))
+    → (r : StoredRow) × (find (violates rows c) (rows_above after (table_rows rows c.table)) ≡ (if said then Some r else find (violates rows c) (rows_above p.0 (table_rows rows c.table)))) × (r.number ≡ p.0)
+found_from rows c id after reference p start now said constraints h s same given tells =
+    let f = found_at rows c.table after p h s in (
+      f.0,
+      ap (λ (xs : List StoredRow). find (violates rows c) xs) f.1
+          ∙ ap (λ b. if b then Some f.0 else find (violates rows c) (rows_above p.0 (table_rows rows c.table)))
+          (violates_at rows constraints start.groups id c p.0 f.0 h given.named given.shows given.at f.2 f.5
+          ∙ ap (λ v. violates_by constraints (shown start.groups) id c (kept_key c.rule v)) f.3
+          ∙ ap (λ gs. violates_by constraints (shown gs) id c (kept_key c.rule p.1)) (sym same)
+          ∙ sym (tells constraints given.named given.at given.is)),
+      f.4,
+    )
+
+pub searching_goes_on : (rows : List StoredRow) (c : Constraint) (id after : ℕ) (reference : Option Reference) (p : ℕ × List Value) (start now next : Contents) (said : Bool) → Rises 0 rows
+    → Some p ≡ option_map numbered (row_above after (table_rows rows c.table)) → Searching rows c id after reference start now
+    → ((constraints : List Constraint) → AllNamed constraints → slice_get constraints id ≡ Some c → IsReferring constraints c reference
+    → said ≡ violates_by constraints (shown now.groups) id c (kept_key c.rule p.1))
+    → next.groups ≡ now.groups → now.looked ≤ next.looked → said ≡ false → Searching rows c id p.0 reference start next
+searching_goes_on rows c id after reference p start now next said h s f tells kept grows not_so = record {
+  coming = λ constraints given.
+      let found = found_from rows c id after reference p start now said constraints h s f.kept given tells in
+      ap (λ b. if b then Some found.0 else find (violates rows c) (rows_above p.0 (table_rows rows c.table))) (sym not_so) ∙ sym found.1 ∙ f.coming constraints given;
+  kept = kept ∙ f.kept;
+  grows = omega (arith, grows, f.grows);
+}
+
+pub searching_found : (rows : List StoredRow) (c : Constraint) (id after : ℕ) (reference : Option Reference) (p : ℕ × List Value) (start now : Contents) (said : Bool) → Rises 0 rows
+    → Some p ≡ option_map numbered (row_above after (table_rows rows c.table)) → Searching rows c id after reference start now
+    → ((constraints : List Constraint) → AllNamed constraints → slice_get constraints id ≡ Some c → IsReferring constraints c reference
+    → said ≡ violates_by constraints (shown now.groups) id c (kept_key c.rule p.1))
+    → said ≡ true → (constraints : List Constraint) → Given rows constraints start.groups id c reference
+    → Some p.0 ≡ option_map (λ r. r.number) (find (violates rows c) rows)
+searching_found rows c id after reference p start now said h s f tells so constraints given =
+    let found = found_from rows c id after reference p start now said constraints h s f.kept given tells in
+    ap (λ n. Some n) (sym found.2)
+    ∙ ap (λ b. option_map (λ (r : StoredRow). r.number) (if b then Some found.0 else find (violates rows c) (rows_above p.0 (table_rows rows c.table)))) (sym so)
+    ∙ ap (option_map (λ (r : StoredRow). r.number)) (sym found.1 ∙ f.coming constraints given)
+
+pub searching_ends : (rows : List StoredRow) (c : Constraint) (id after : ℕ) (reference : Option Reference) (start now : Contents)
+    → None ≡ option_map numbered (row_above after (table_rows rows c.table)) → Searching rows c id after reference start now
+    → (constraints : List Constraint) → Given rows constraints start.groups id c reference
+    → None ≡ option_map (λ r. r.number) (find (violates rows c) rows)
+searching_ends rows c id after reference start now s f constraints given =
+    ap (λ (xs : List StoredRow). option_map (λ (r : StoredRow). r.number) (find (violates rows c) xs)) (sym (scan_none after (table_rows rows c.table) s))
+    ∙ ap (option_map (λ (r : StoredRow). r.number)) (f.coming constraints given)
+
+-- ---- the whole
+
+-- the key that the reference names has groups
+pub named_known : (olds : List Constraint) (c : Constraint) (old news : List (Option Reference)) (size : ℕ) → length old ≡ length olds → AllNamed (olds ++ c ∷ []) → AreReferences (olds ++ c ∷ []) (old ++ news)
+    → length olds < size → (r : Reference) → reference_at news 0 ≡ Some r → r.named < size
+named_known olds c old news size count all are less r e =
+    let is : IsReference (olds ++ c ∷ []) c r = (referring olds c old news count are).is r e in
+    let named = named_there (olds ++ c ∷ []) c r (length olds) all (added_at olds c) is in
+    let within : r.named < length (olds ++ c ∷ []) = slice_get_within (olds ++ c ∷ []) r.named named.0 named.1 in
+    omega (arith, within, length-append olds (c ∷ []), less)
