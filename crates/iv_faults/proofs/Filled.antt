@@ -1,8 +1,8 @@
 -- The groups of a constraint, filled row by row, and the first row that violates it.
-use Rattle.std.proofs.Common.{◌≡◌, refl, ℕ, zero, suc, ◌+◌, ◌<◌, ◌≤◌, Bool, true, false, ◌&&◌, ◌||◌, not, if◌then◌else◌, List, [], ◌∷◌, ◌++◌, length, map, filter, find, slice_get, option_map, Option, Some, None, sym, ap, subst, ◌∙◌, arith, ⊎_elim}
+use Rattle.std.proofs.Common.{◌≡◌, refl, ℕ, zero, suc, ◌<◌, ◌≤◌, Bool, true, false, ◌&&◌, ◌||◌, not, if◌then◌else◌, List, [], ◌∷◌, ◌++◌, length, map, filter, find, slice_get, option_map, Option, Some, None, sym, ap, subst, ◌∙◌, arith}
 use Rattle.std.specs.Bool.{◌==◌, nat_lt}
 use Rattle.std.specs.Prelude.{◌≢◌}
-use Rattle.std.proofs.lemmas.Bool.{true≢false, cases_lt, eqb-true, eq-eqb}
+use Rattle.std.proofs.lemmas.Bool.{true≢false, eqb-true, eq-eqb}
 use Rattle.std.proofs.lemmas.Bool.Decides.{nat_tests}
 use Rattle.iv_faults.specs.Words.{Value, StoredRow, Rule, Constraint, ForeignKey}
 use Rattle.iv_faults.specs.Words.rule
@@ -19,8 +19,7 @@ use Rattle.iv_marks.specs.Shown.{shown, shown_group, shown_of}
 use Rattle.iv_marks.proofs.Shown.{groups_shown}
 use Rattle.iv_laws_kept.specs.Numbers.{has, with_number}
 use Rattle.iv_laws_kept.specs.Kept.{AllNamed, Group, Show, is_kept_under, is_referenced, kept_key, null_key, null_key_where, is_free, rows_in, rows_under}
-use Rattle.iv_laws_kept.specs.Kept as kept
-use Rattle.iv_laws_kept.proofs.Holding.{key_at, violate_at}
+use Rattle.iv_laws_kept.proofs.Holding.{violate_at}
 use Rattle.iv_laws_kept.proofs.RisingNumbers.{has_append, has_head}
 use Rattle.iv_laws_kept.proofs.RowByRow.{violates_is}
 use Rattle.iv_laws_kept.proofs.Rows.{passes}

@@ -1,5 +1,5 @@
 -- What holds of a store that keeps groups and violations beside its rows.
-use Rattle.std.specs.Prelude.{◌≡◌, ℕ, ◌≤◌, ◌<◌, List, [], ◌∷◌, length, drop, filter, slice_get, Some, None}
+use Rattle.std.specs.Prelude.{◌≡◌, ℕ, ◌≤◌, ◌<◌, List, [], ◌∷◌, length, drop, filter, slice_get, Some}
 use Rattle.iv_index_store.specs.Words.{Value, StoredRow, Change, Table, Constraint}
 use Rattle.iv_store.specs.Stores.{StoreState, numbers_of}
 use Rattle.iv_laws.specs.RisingRows.{Every}
@@ -25,25 +25,21 @@ HasSizes constraints groups rows =
     (k : ℕ) (c : Constraint) (key : List Value)
     → slice_get constraints k ≡ Some c → length (numbers_of (filter (is_kept_under c key) rows)) ≤ size_of (groups_of groups k) key
 
--- how many changes were noted at the first mark: all, where there is none
-abbrev pub noted_first : List Change → List Saved → ℕ
-noted_first journal [] = length journal
-noted_first journal (m ∷ marks) = m.noted
-
--- The groups and the marks show the rows. And for every database that the journal leads back to, so from before each change that
--- was made since the first mark, each key holds at least as many rows without memory as have it there.
+-- The groups and the marks show the rows. And for every database that a mark leads back to, from before each change that was made
+-- since, each key holds at least as many rows without memory as have it there.
 pub record IsKept (h : History) (w : Watching) (groups : Contents) : Type 0 where
   pub shown : IsShownBy h.rows w groups
   pub watched : AreWatched w groups
   pub named : AllNamed w.constraints
-  pub sizes : (n : ℕ) → noted_first h.journal h.marks ≤ n → n ≤ length h.journal → HasSizes w.constraints groups.groups (rows_before_all (drop n h.journal) h.rows)
+  pub sizes : (place : ℕ) (m : Saved) (n : ℕ) → slice_get h.marks place ≡ Some m → m.noted ≤ n → n ≤ length h.journal
+      → HasSizes w.constraints groups.groups (rows_before_all (drop n h.journal) h.rows)
 
 -- the changes are of tables below this number
-abbrev pub AllBelow : ℕ → List Change → Type 0
-AllBelow tables [] = Unit {0}
-AllBelow tables (c ∷ cs) = (c.table < tables) × AllBelow tables cs
+abbrev pub OfTables : ℕ → List Change → Type 0
+OfTables tables [] = Unit {0}
+OfTables tables (c ∷ cs) = (c.table < tables) × OfTables tables cs
 
 -- Each row, and each change that is noted, is one of a table that was added.
 pub record HasTables (tables : ℕ) (h : History) : Type 0 where
   pub rows : Every (λ r. r.table < tables) h.rows
-  pub journal : AllBelow tables h.journal
+  pub journal : OfTables tables h.journal

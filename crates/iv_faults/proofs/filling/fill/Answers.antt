@@ -1,7 +1,7 @@
 use Rattle.std.proofs.Common.{◌≡◌, List, [], ◌∷◌, ◌++◌, ◌<◌, length, Option, sym, ap, subst, ◌∙◌}
-use Rattle.iv_faults.specs.Words.{StoredRow, Constraint}
-use Rattle.iv_laws_kept.specs.Kept.{Show, rows_in}
-use Rattle.iv_marks.specs.Shown.{shown, shown_of}
+use Rattle.iv_faults.specs.Words.{Constraint}
+use Rattle.iv_laws_kept.specs.Kept.{Show}
+use Rattle.iv_marks.specs.Shown.{shown}
 use Rattle.iv_faults.specs.declared.reference.Reference.{Reference}
 use Rattle.iv_faults.specs.References.{AreReferences, reference_at}
 use Rattle.iv_faults.specs.Violating.{IsReferring}

@@ -1,4 +1,4 @@
-use Rattle.std.proofs.Common.{ℕ, List, arith, sym, subst, ap, length, ◌≡◌, ◌<◌, ◌∙◌}
+use Rattle.std.proofs.Common.{ℕ, List, arith, sym, subst, ◌<◌, ◌∙◌}
 use Rattle.iv_value.specs.declared.value.Value.{Value}
 use Rattle.iv_expr.proofs.Scan.{scan_above, scan_small, table_rises}
 use Rattle.iv_faults.proofs.Filled.{filling_begins, filling_goes_on, filling_ends}

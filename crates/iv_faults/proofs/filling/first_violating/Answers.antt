@@ -1,4 +1,4 @@
-use Rattle.std.proofs.Common.{ℕ, List, arith, sym, subst, ap, length, ◌≡◌, ◌<◌, ◌∙◌}
+use Rattle.std.proofs.Common.{ℕ, List, arith, sym, subst, length, ◌<◌, ◌∙◌}
 use Rattle.iv_value.specs.declared.value.Value.{Value}
 use Rattle.iv_expr.proofs.Scan.{scan_above, scan_small, table_rises}
 use Rattle.iv_faults.specs.References.{reference_at}
