@@ -23,15 +23,15 @@ use Rattle.iv_laws_kept.proofs.Holding.{violate_at}
 use Rattle.iv_laws_kept.proofs.RisingNumbers.{has_append, has_head}
 use Rattle.iv_laws_kept.proofs.RowByRow.{violates_is}
 use Rattle.iv_laws_kept.proofs.Rows.{passes}
-use Rattle.iv_faults.specs.declared.reference.Reference.{Reference}
+use Rattle.iv_following.specs.declared.reference.Reference.{Reference}
 use Rattle.iv_faults.specs.Violating.{IsReferring, violates_by}
-use Rattle.iv_faults.specs.KeyGroups.{violate_by}
-use Rattle.iv_faults.specs.References.{AreReferences, IsReference, TellsReferenced, reference_at}
-use Rattle.iv_faults.specs.Sides.{come, is_key}
+use Rattle.iv_following.specs.KeyGroups.{violate_by}
+use Rattle.iv_following.specs.References.{AreReferences, IsReference, TellsReferenced, reference_at}
+use Rattle.iv_following.specs.Sides.{come, is_key}
 use Rattle.std.proofs.lemmas.List.{length-append}
 use Rattle.std.proofs.lemmas.Option.{slice_get_within}
-use Rattle.iv_faults.proofs.Follows.{named_there}
-use Rattle.iv_faults.proofs.Whole.{referenced_by, same_violating}
+use Rattle.iv_following.proofs.Follows.{named_there}
+use Rattle.iv_following.proofs.Whole.{referenced_by, same_violating}
 
 -- ---- rows by rising number
 

@@ -1,15 +1,3 @@
-pub mod Placed
-pub mod GroupsShown
-pub mod SideKeys
-pub mod Steps
-pub mod NoForeignKeys
-pub mod Watched
-pub mod Referenced
-pub mod Referring
-pub mod Turning
-pub mod Whole
-pub mod Follows
-pub mod Rooms
 pub mod Shows
 pub mod WatchTables
 pub mod WatchAppended

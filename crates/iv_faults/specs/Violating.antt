@@ -2,9 +2,9 @@
 use Rattle.std.specs.Prelude.{◌≡◌, ℕ, Bool, false, List, Option, Some, None}
 use Rattle.iv_faults.specs.Words.{Value, Constraint, ForeignKey}
 use Rattle.iv_faults.specs.Words.rule
-use Rattle.iv_faults.specs.declared.reference.Reference.{Reference}
+use Rattle.iv_following.specs.declared.reference.Reference.{Reference}
 use Rattle.iv_laws_kept.specs.Kept.{Groups, rows_under, violate}
-use Rattle.iv_faults.specs.References.{IsReference}
+use Rattle.iv_following.specs.References.{IsReference}
 
 -- There is a reference where the constraint is a foreign key, and it is that one's.
 pub record IsReferring (constraints : List Constraint) (c : Constraint) (reference : Option Reference) : Type 0 where

@@ -3,16 +3,9 @@
 
 mod faults;
 mod filling;
-mod following;
-mod kept_key;
 mod laws;
 mod naming;
-mod reference;
-mod shown;
-mod sides;
-mod step;
 mod table_constraints;
-mod turns;
 mod watching;
 
 pub use faults::Faults;

@@ -23,7 +23,7 @@ use Rattle.iv_rows.proofs.Rows.{row_after_set}
 use Rattle.iv_laws_kept.specs.Kept.{AllNamed, Show}
 use Rattle.iv_laws_kept.specs.Moves.{Holds, taken_back}
 use Rattle.iv_laws_kept.proofs.Moves.{row_after}
-use Rattle.iv_faults.specs.Sides.{IsPresent}
+use Rattle.iv_following.specs.Sides.{IsPresent}
 use Rattle.iv_faults.specs.Watching.{AreWatched, HasRoomBack, IsShownBy, Watching}
 use Rattle.iv_faults.proofs.Filled.{in_order}
 use Rattle.iv_faults.proofs.Rooming.{room_suffices}

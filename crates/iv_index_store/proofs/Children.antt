@@ -11,9 +11,9 @@ use Rattle.iv_key.specs.Keys.{holds_key, key_of, none_null}
 use Rattle.iv_laws.proofs.Keys.{all_same_is, and_first, and_second, false_true, same_test}
 use Rattle.iv_machine.specs.ReferentialActions.{Reference, foreign_key, reference}
 use Rattle.iv_marks.specs.Shown.{shown, shown_group}
-use Rattle.iv_faults.proofs.GroupsShown.{place_shown, rows_at_shown, rows_shown}
-use Rattle.iv_faults.proofs.Placed.{rows_at_key, within}
-use Rattle.iv_faults.proofs.Steps.{no_rows}
+use Rattle.iv_following.proofs.GroupsShown.{place_shown, rows_at_shown, rows_shown}
+use Rattle.iv_following.proofs.Placed.{rows_at_key, within}
+use Rattle.iv_following.proofs.Steps.{no_rows}
 use Rattle.std.proofs.lemmas.List.{length-map}
 use Rattle.iv_marks.proofs.Shown.{rows_under_shown}
 use Rattle.iv_laws_kept.specs.Kept.{is_free, is_kept_under, kept_key, null_key, null_key_where, rows_under}

@@ -3,7 +3,7 @@ use Rattle.std.proofs.Common.{◌≡◌, refl, ℕ, ◌+◌, ◌<◌, ◌≤◌,
 use Rattle.std.specs.Bool.{◌==◌}
 use Rattle.std.proofs.lemmas.Bool.{eqb-true, eq-eqb, true≢false}
 use Rattle.iv_index.specs.Groups.{Contents, groups_of, with_groups}
-use Rattle.iv_faults.proofs.GroupsShown.{others_after, own_after}
+use Rattle.iv_following.proofs.GroupsShown.{others_after, own_after}
 
 pub record Clearing (first next : ℕ) (start now : Contents) : Type 0 where
   pub cleared : (k : ℕ) → first ≤ k → k < next → groups_of now.groups k ≡ []

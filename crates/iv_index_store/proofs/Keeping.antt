@@ -21,7 +21,7 @@ use Rattle.iv_rows.proofs.Marks.{drop_all}
 use Rattle.iv_rows.proofs.Marks as rows
 use Rattle.iv_store.specs.Stores.{has_key}
 use Rattle.iv_faults.specs.Watching.{AreWatched, IsShownBy, NoneViolates, Watching}
-use Rattle.iv_faults.proofs.GroupsShown.{others_after}
+use Rattle.iv_following.proofs.GroupsShown.{others_after}
 use Rattle.iv_index.proofs.GroupsLaws.{constraints_stay}
 use Rattle.iv_faults.proofs.WatchAppended.{named_append}
 use Rattle.iv_index_store.proofs.Marks.{marked_at, removed_at}

@@ -58,10 +58,8 @@ pub fn add_table(
     groups.cover(end)?;
     clear(groups, first, end);
     faults.watch(groups, constraints)?;
-    match tables.push(table) {
-        Ok(()) => Ok(()),
-        Err(_) => unreachable!(),
-    }
+    tables.push_reserved(table);
+    Ok(())
 }
 
 // Fills the groups of a constraint and takes it up, unless a row violates it.

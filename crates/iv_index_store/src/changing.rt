@@ -6,7 +6,7 @@ ghost use Rattle.iv_machine.specs.Waves.{values_at};
 ghost use Rattle.iv_rows.specs.Histories.{after_change, at_mark, history_after, marked_databases, marked_of, noted_at, stepped_back};
 ghost use Rattle.iv_index_store.specs.Kept.{IsKept};
 
-use iv_expr::{Change, Rows};
+use iv_expr::Change;
 use iv_faults::Faults;
 use iv_index::Groups;
 use iv_rows::Versions;
@@ -33,7 +33,6 @@ pub fn make(
     ensures grows { groups.old.looked ≤ groups.new.looked }
     ensures looked { OnOk result (groups.new.looked ≤ groups.old.looked + 7 * length faults.old.constraints) }
 {
-    versions.known();
     faults.moved(groups, change)?;
     match versions.change(change) {
         Ok(()) => Ok(()),
@@ -64,7 +63,6 @@ fn step_back(
     ensures looked { groups.new.looked ≤ groups.old.looked + 7 * length faults.old.constraints
         * (length versions.old.journal - length versions.new.journal) }
 {
-    versions.known();
     match versions.last_change(place) {
         Some(change) => faults.moved_back(groups, change),
         None => return false,

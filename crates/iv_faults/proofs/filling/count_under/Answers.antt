@@ -1,6 +1,6 @@
 use Rattle.std.proofs.Common.{length, ap, sym, ◌∙◌}
 use Rattle.iv_index.specs.Groups.{groups_of}
-use Rattle.iv_faults.proofs.GroupsShown.{rows_shown}
+use Rattle.iv_following.proofs.GroupsShown.{rows_shown}
 use Rattle.iv_faults.proofs.filling.count_under.Goals as goal
 
 pub returns : goal.returns

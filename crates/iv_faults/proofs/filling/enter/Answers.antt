@@ -3,8 +3,8 @@ use Rattle.iv_value.specs.Values.{all_same}
 use Rattle.iv_laws_kept.specs.Kept.{rows_in}
 use Rattle.iv_laws_kept.specs.Numbers.{with_number}
 use Rattle.iv_marks.specs.Shown.{shown_of}
-use Rattle.iv_faults.specs.Sides.{come}
-use Rattle.iv_faults.proofs.Steps.{rows_change, rows_in_more}
+use Rattle.iv_following.specs.Sides.{come}
+use Rattle.iv_following.proofs.Steps.{rows_change, rows_in_more}
 use Rattle.iv_faults.proofs.filling.enter.Goals as goal
 
 pub returns-clause-rows : goal.returns-clause-rows

@@ -2,8 +2,8 @@ use Rattle.std.proofs.Common.{◌≡◌, List, [], ◌∷◌, ◌++◌, ◌<◌,
 use Rattle.iv_faults.specs.Words.{Constraint}
 use Rattle.iv_laws_kept.specs.Kept.{Show}
 use Rattle.iv_marks.specs.Shown.{shown}
-use Rattle.iv_faults.specs.declared.reference.Reference.{Reference}
-use Rattle.iv_faults.specs.References.{AreReferences, reference_at}
+use Rattle.iv_following.specs.declared.reference.Reference.{Reference}
+use Rattle.iv_following.specs.References.{AreReferences, reference_at}
 use Rattle.iv_faults.specs.Violating.{IsReferring}
 use Rattle.iv_faults.proofs.Filled.{added_at, all_shown, named_known, referring}
 use Rattle.iv_faults.proofs.filling.fill.Goals as goal

@@ -1,7 +1,7 @@
 use Rattle.std.proofs.Common.{ℕ, List, arith, sym, subst, length, ◌<◌, ◌∙◌}
 use Rattle.iv_value.specs.declared.value.Value.{Value}
 use Rattle.iv_expr.proofs.Scan.{scan_above, scan_small, table_rises}
-use Rattle.iv_faults.specs.References.{reference_at}
+use Rattle.iv_following.specs.References.{reference_at}
 use Rattle.iv_faults.proofs.Filled.{searching_begins, searching_goes_on, searching_found, searching_ends}
 use Rattle.iv_faults.proofs.filling.first_violating.Goals as goal
 

@@ -1,5 +1,5 @@
 use Rattle.std.proofs.Common.{◌-◌, ◌^◌}
-use Rattle.iv_faults.specs.References.{reference_at}
+use Rattle.iv_following.specs.References.{reference_at}
 use Rattle.iv_faults.proofs.Filled.{Searching}
 use Rattle.iv_faults.proofs.filling.first_violating.Given as goal
 

@@ -3,7 +3,7 @@ use Rattle.iv_laws_kept.specs.Kept.{rows_in}
 use Rattle.iv_marks.specs.Shown.{shown_of}
 use Rattle.iv_faults.specs.Violating.{violates_by}
 use Rattle.iv_marks.specs.Shown.{shown}
-use Rattle.iv_faults.specs.References.{reference_at}
+use Rattle.iv_following.specs.References.{reference_at}
 use Rattle.iv_faults.proofs.Filled.{told_violating}
 use Rattle.iv_faults.proofs.filling.is_violating.Goals as goal
 
