@@ -6,7 +6,7 @@ KINDS = {'SELECT': 'query', 'INSERT': 'rows', 'UPDATE': 'rows', 'DELETE': 'rows'
 
 def doubled(start, text, rows):
     """Statements that make so many rows of those that are there, k from 1 to `start`; {n} in the text is how many there are."""
-    counts = [start * 2 ** power for power in range(12) if start * 2 ** power < rows]
+    counts = [start * 2 ** power for power in range(17) if start * 2 ** power < rows]
     return [text.replace('{n}', str(count)) + ' WHERE k <= %d' % (rows - count) for count in counts]
 
 
@@ -75,7 +75,8 @@ def children_steps(rows):
     """What is done to parents and children."""
     return [
         'DELETE FROM p WHERE k = 1', 'DELETE FROM p WHERE k > 1 AND k < 4', 'UPDATE p SET k = k + 1', 'UPDATE p SET k = 9 - k',
-        'UPDATE p SET k = k + 20 WHERE k = 2', 'INSERT INTO p VALUES (1, 1)', 'INSERT INTO p VALUES (2, 2), (3, 3)', 'UPDATE c SET x = 3 WHERE x = 1', 'UPDATE c SET x = NULL WHERE k < 50',
+        'UPDATE p SET k = k + 20 WHERE k = 2', 'INSERT INTO p VALUES (1, 1)', 'INSERT INTO p VALUES (2, 2), (3, 3)',
+        'UPDATE c SET x = 3 WHERE x = 1', 'UPDATE c SET x = NULL WHERE k < 50',
         'DELETE FROM c WHERE k > %d' % (rows // 2), 'UPDATE c SET x = 2 WHERE x IS NULL', 'INSERT INTO c SELECT k + 5000, x FROM c WHERE k < 30',
         'UPDATE c SET x = 77 WHERE k = 7', 'DELETE FROM c WHERE x = 77', ['DELETE FROM p WHERE k = 3', 'INSERT INTO p VALUES (3, 3)'],
         ['SAVEPOINT x', 'DELETE FROM p WHERE k < 3', 'SELECT COUNT(*) FROM c', 'ROLLBACK TO SAVEPOINT x', 'SELECT COUNT(*) FROM c'],
