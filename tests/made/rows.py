@@ -143,7 +143,7 @@ def update_shift(chance, guess, table):
 
 
 def update_swap(chance, guess, table):
-    """Two columns that change places, or a row that takes the value of another one, and that one its."""
+    """Two columns that change places."""
     pairs = [(one, other) for one in range(len(table.columns)) for other in range(one) if table.columns[one].kind == table.columns[other].kind]
     if not pairs:
         return update_shift(chance, guess, table)
