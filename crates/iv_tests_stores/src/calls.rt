@@ -1,4 +1,5 @@
 //! Each call of a store.
+use crate::adding::{add_table, only};
 use crate::schema::{
     Ends, check_above, deferrable, foreign_key, modes_of, not_null, primary_key, row_of, table_of,
     unique,
@@ -15,7 +16,6 @@ use iv_store::Keeper;
 use iv_syntax::{ConstraintMode, MatchType};
 use iv_value::{Kind, Value};
 use std::alloc::Global;
-use std::slice;
 use std::test::Fail;
 
 // Gives a row of one column this integer, or null.
@@ -53,7 +53,7 @@ fn show_all<K: Keeper + Drop>(
 }
 
 // Adds a constraint, and shows the row that violates it, or that it was added.
-fn show_adding<K: Keeper + Drop>(
+fn show_adding_one<K: Keeper + Drop>(
     store: &mut Tested<K>,
     constraint: &Constraint,
     shown: &mut String,
@@ -65,14 +65,33 @@ fn show_adding<K: Keeper + Drop>(
     Ok(())
 }
 
+fn show_adding_each<K: Keeper + Drop>(
+    store: &mut Tested<K>,
+    constraints: &[Constraint],
+    shown: &mut String,
+) -> Result<(), Stopped> {
+    for constraint in constraints {
+        show_adding_one(store, constraint, shown)?;
+    }
+    Ok(())
+}
+
+fn show_adding<K: Keeper + Drop>(
+    store: &mut Tested<K>,
+    constraints: Result<Vec<Constraint>, Stopped>,
+    shown: &mut String,
+) -> Result<(), Stopped> {
+    let constraints = constraints?;
+    show_adding_each(store, constraints.as_slice(), shown)
+}
+
 // Table 0 of one column; table 1 of one column, with a key. Rows 1 to 4 of table 0 hold 1, 2, 2 and null; row 5, of
 // table 1, holds 1.
 fn fill_two<K: Keeper + Drop>(alloc: Global, store: &mut Tested<K>) -> Result<(), Stopped> {
-    let first = table_of(alloc, "T", &[Kind::Integer])?;
-    let second = table_of(alloc, "P", &[Kind::Integer])?;
-    let key = primary_key(alloc, "P_KEY", 1, &[0])?;
-    store.add_table(&first, &[])?;
-    store.add_table(&second, slice::from_ref(&key))?;
+    let kinds = [Kind::Integer];
+    let key = only(alloc, primary_key(alloc, "P_KEY", 1, &[0]));
+    add_table(store, table_of(alloc, "T", &kinds), Ok(Vec::new(alloc)))?;
+    add_table(store, table_of(alloc, "P", &kinds), key)?;
     for (number, integer) in [(1, Some(1)), (2, Some(2)), (3, Some(2)), (4, None)] {
         put(alloc, store, 0, number, integer)?;
     }
@@ -80,16 +99,14 @@ fn fill_two<K: Keeper + Drop>(alloc: Global, store: &mut Tested<K>) -> Result<()
 }
 
 // Constraints of table 0, each of which a row violates.
-fn show_refusals<K: Keeper + Drop>(
-    alloc: Global,
-    store: &mut Tested<K>,
-    shown: &mut String,
-) -> Result<(), Stopped> {
-    show_adding(store, &check_above(alloc, "ABOVE_1", 0, 0, 1)?, shown)?;
-    show_adding(store, &unique(alloc, "U", 0, &[0])?, shown)?;
-    show_adding(store, &primary_key(alloc, "T_KEY", 0, &[0])?, shown)?;
-    show_adding(store, &not_null(alloc, "NN", 0, 0)?, shown)?;
-    show_adding(store, &child(alloc, "FK", 0, 1)?, shown)
+fn violated(alloc: Global) -> Result<Vec<Constraint>, Stopped> {
+    let mut constraints = Vec::new(alloc);
+    constraints.push(check_above(alloc, "ABOVE_1", 0, 0, 1)?)?;
+    constraints.push(unique(alloc, "U", 0, &[0])?)?;
+    constraints.push(primary_key(alloc, "T_KEY", 0, &[0])?)?;
+    constraints.push(not_null(alloc, "NN", 0, 0)?)?;
+    constraints.push(child(alloc, "FK", 0, 1)?)?;
+    Ok(constraints)
 }
 
 // The same once no row violates them: they are the constraints 2 to 5, after CHECK (a > 0).
@@ -98,14 +115,19 @@ fn show_acceptances<K: Keeper + Drop>(
     store: &mut Tested<K>,
     shown: &mut String,
 ) -> Result<(), Stopped> {
-    show_adding(store, &check_above(alloc, "ABOVE_0", 0, 0, 0)?, shown)?;
+    let check = only(alloc, check_above(alloc, "ABOVE_0", 0, 0, 0));
+    show_adding(store, check, shown)?;
     store.set(0, 3, None)?;
-    show_adding(store, &unique(alloc, "U", 0, &[0])?, shown)?;
+    show_adding(store, only(alloc, unique(alloc, "U", 0, &[0])), shown)?;
     put(alloc, store, 1, 3, Some(2))?;
-    show_adding(store, &child(alloc, "FK", 0, 1)?, shown)?;
+    show_adding(store, only(alloc, child(alloc, "FK", 0, 1)), shown)?;
     store.set(0, 4, None)?;
-    show_adding(store, &not_null(alloc, "NN", 0, 0)?, shown)?;
-    show_adding(store, &primary_key(alloc, "T_KEY", 0, &[0])?, shown)
+    show_adding(store, only(alloc, not_null(alloc, "NN", 0, 0)), shown)?;
+    show_adding(
+        store,
+        only(alloc, primary_key(alloc, "T_KEY", 0, &[0])),
+        shown,
+    )
 }
 
 // What row 2 violates where it holds other values.
@@ -127,9 +149,8 @@ fn show_later_table<K: Keeper + Drop>(
     store: &mut Tested<K>,
     shown: &mut String,
 ) -> Result<(), Stopped> {
-    let table = table_of(alloc, "C", &[Kind::Integer])?;
-    let key = child(alloc, "LATER", 2, 1)?;
-    store.add_table(&table, slice::from_ref(&key))?;
+    let key = only(alloc, child(alloc, "LATER", 2, 1));
+    add_table(store, table_of(alloc, "C", &[Kind::Integer]), key)?;
     for integer in [2, 5] {
         put(alloc, store, 2, 7, Some(integer))?;
         show_all(alloc, store, shown)?;
@@ -146,7 +167,7 @@ impl Story for Adding {
         shown: &mut String,
     ) -> Result<(), Stopped> {
         fill_two(alloc, store)?;
-        show_refusals(alloc, store, shown)?;
+        show_adding(store, violated(alloc), shown)?;
         show_acceptances(alloc, store, shown)?;
         show_row_two(alloc, store, shown)?;
         show_later_table(alloc, store, shown)?;
@@ -172,13 +193,12 @@ fn constraints_are_added_where_no_row_violates_them(rt: HostRuntime) -> Result<(
 fn add_family<K: Keeper + Drop>(
     alloc: Global,
     store: &mut Tested<K>,
-    key: Constraint,
+    references: Result<Vec<Constraint>, Stopped>,
 ) -> Result<(), Stopped> {
-    let first = table_of(alloc, "P", &[Kind::Integer])?;
-    let second = table_of(alloc, "C", &[Kind::Integer])?;
-    let own = primary_key(alloc, "P_KEY", 0, &[0])?;
-    store.add_table(&first, slice::from_ref(&own))?;
-    store.add_table(&second, slice::from_ref(&key))
+    let kinds = [Kind::Integer];
+    let key = only(alloc, primary_key(alloc, "P_KEY", 0, &[0]));
+    add_table(store, table_of(alloc, "P", &kinds), key)?;
+    add_table(store, table_of(alloc, "C", &kinds), references)
 }
 
 // The rows that hold a key by a constraint.
@@ -216,7 +236,7 @@ impl Story for Children {
         store: &mut Tested<K>,
         shown: &mut String,
     ) -> Result<(), Stopped> {
-        add_family(alloc, store, child(alloc, "FK", 1, 0)?)?;
+        add_family(alloc, store, only(alloc, child(alloc, "FK", 1, 0)))?;
         for (table, number, integer) in [(0, 1, 1), (0, 2, 2), (1, 3, 1), (1, 4, 2)] {
             put(alloc, store, table, number, Some(integer))?;
         }
@@ -258,6 +278,12 @@ fn show_pending<K: Keeper + Drop>(
     show_by_mode(store.store(), modes, shown)
 }
 
+// The reference of table 1, deferred.
+fn deferred_child(alloc: Global) -> Result<Constraint, Stopped> {
+    let key = child(alloc, "FK", 1, 0)?;
+    Ok(deferrable(key, ConstraintMode::Deferred))
+}
+
 struct Pending;
 
 impl Story for Pending {
@@ -266,8 +292,7 @@ impl Story for Pending {
         store: &mut Tested<K>,
         shown: &mut String,
     ) -> Result<(), Stopped> {
-        let key = deferrable(child(alloc, "FK", 1, 0)?, ConstraintMode::Deferred);
-        add_family(alloc, store, key)?;
+        add_family(alloc, store, only(alloc, deferred_child(alloc)))?;
         let modes = modes_of(alloc, store.tables(), store.constraints())?;
         show_pending(alloc, store, &modes, shown)
     }
@@ -358,9 +383,8 @@ impl Story for Marks {
         store: &mut Tested<K>,
         shown: &mut String,
     ) -> Result<(), Stopped> {
-        let table = table_of(alloc, "T", &[Kind::Integer])?;
-        let key = unique(alloc, "U", 0, &[0])?;
-        store.add_table(&table, slice::from_ref(&key))?;
+        let key = only(alloc, unique(alloc, "U", 0, &[0]));
+        add_table(store, table_of(alloc, "T", &[Kind::Integer]), key)?;
         show_forth(alloc, store, shown)?;
         show_back(alloc, store, shown)?;
         show_settled(alloc, store, shown)

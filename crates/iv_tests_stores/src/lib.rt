@@ -2,9 +2,15 @@
 #![tactic(auto)]
 
 #[cfg(test)]
+mod adding;
+#[cfg(test)]
 mod asked;
 #[cfg(test)]
 mod calls;
+#[cfg(test)]
+mod numbers;
+#[cfg(test)]
+mod random;
 #[cfg(test)]
 mod schema;
 #[cfg(test)]

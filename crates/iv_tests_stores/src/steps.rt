@@ -1,4 +1,5 @@
 //! Changes one by one, each after a mark, and back over the marks, the last first. What is violated is shown after each.
+use crate::adding::{add_constraints, add_table, only};
 use crate::schema::{
     Ends, check_above, foreign_key, modes_of, not_null, primary_key, row_of, table_of, unique,
 };
@@ -6,7 +7,6 @@ use crate::shown::show_violations;
 use crate::stopped::Stopped;
 use crate::story::{Story, told};
 use crate::tested::Tested;
-use iv_catalogue::Constraint;
 use iv_machine::Which;
 use iv_modes::Modes;
 use iv_store::Keeper;
@@ -117,18 +117,9 @@ fn show_both_ways<K: Keeper + Drop>(
 
 // Two tables of two columns, without constraints.
 fn add_tables<K: Keeper + Drop>(alloc: Global, store: &mut Tested<K>) -> Result<(), Stopped> {
-    let first = table_of(alloc, "T", &[Kind::Integer, Kind::Integer])?;
-    let second = table_of(alloc, "C", &[Kind::Integer, Kind::Integer])?;
-    store.add_table(&first, &[])?;
-    store.add_table(&second, &[])
-}
-
-// Adds a constraint that no row violates.
-fn add<K: Keeper + Drop>(store: &mut Tested<K>, constraint: &Constraint) -> Result<(), Stopped> {
-    match store.add_constraint(constraint)? {
-        Some(_) => Err(Stopped::Unasked),
-        None => Ok(()),
-    }
+    let kinds = [Kind::Integer, Kind::Integer];
+    add_table(store, table_of(alloc, "T", &kinds), Ok(Vec::new(alloc)))?;
+    add_table(store, table_of(alloc, "C", &kinds), Ok(Vec::new(alloc)))
 }
 
 // Two tables, and a key of both columns of the first; the second references it.
@@ -139,7 +130,7 @@ fn add_family<K: Keeper + Drop>(
     key: &[u32],
 ) -> Result<(), Stopped> {
     add_tables(alloc, store)?;
-    add(store, &primary_key(alloc, "T_KEY", 0, &[0, 1])?)?;
+    add_constraints(store, only(alloc, primary_key(alloc, "T_KEY", 0, &[0, 1])))?;
     let ends = Ends {
         table: 1,
         columns: &[0, 1],
@@ -147,7 +138,7 @@ fn add_family<K: Keeper + Drop>(
         referenced: 0,
         key,
     };
-    add(store, &foreign_key(alloc, "FK", &ends)?)
+    add_constraints(store, only(alloc, foreign_key(alloc, "FK", &ends)))
 }
 
 struct UniqueColumn;
@@ -159,7 +150,7 @@ impl Story for UniqueColumn {
         shown: &mut String,
     ) -> Result<(), Stopped> {
         add_tables(alloc, store)?;
-        add(store, &unique(alloc, "U", 0, &[0])?)?;
+        add_constraints(store, only(alloc, unique(alloc, "U", 0, &[0])))?;
         let first = [
             put_one(1, Some(1)),
             put_one(2, Some(2)),
@@ -191,7 +182,7 @@ impl Story for UniquePair {
         shown: &mut String,
     ) -> Result<(), Stopped> {
         add_tables(alloc, store)?;
-        add(store, &unique(alloc, "U", 0, &[0, 1])?)?;
+        add_constraints(store, only(alloc, unique(alloc, "U", 0, &[0, 1])))?;
         let first = [put(0, 1, Some(1), Some(1)), put(0, 2, Some(1), Some(2))];
         let steps = [
             put(0, 2, Some(1), Some(1)),
@@ -225,7 +216,7 @@ impl Story for KeyColumn {
         shown: &mut String,
     ) -> Result<(), Stopped> {
         add_tables(alloc, store)?;
-        add(store, &primary_key(alloc, "T_KEY", 0, &[0])?)?;
+        add_constraints(store, only(alloc, primary_key(alloc, "T_KEY", 0, &[0])))?;
         let first = [
             put_one(1, Some(1)),
             put_one(2, Some(2)),
@@ -258,7 +249,7 @@ impl Story for NeverNull {
         shown: &mut String,
     ) -> Result<(), Stopped> {
         add_tables(alloc, store)?;
-        add(store, &not_null(alloc, "NN", 0, 0)?)?;
+        add_constraints(store, only(alloc, not_null(alloc, "NN", 0, 0)))?;
         let first = [put_one(1, Some(1)), put_one(2, Some(2))];
         let steps = [
             put_one(1, NULL),
@@ -287,7 +278,7 @@ impl Story for Above {
         shown: &mut String,
     ) -> Result<(), Stopped> {
         add_tables(alloc, store)?;
-        add(store, &check_above(alloc, "ABOVE_1", 0, 0, 1)?)?;
+        add_constraints(store, only(alloc, check_above(alloc, "ABOVE_1", 0, 0, 1)))?;
         let first = [put_one(1, Some(2)), put_one(2, Some(3))];
         let steps = [
             put_one(1, Some(1)),
@@ -412,7 +403,7 @@ impl Story for OwnTable {
         shown: &mut String,
     ) -> Result<(), Stopped> {
         add_tables(alloc, store)?;
-        add(store, &primary_key(alloc, "T_KEY", 0, &[0])?)?;
+        add_constraints(store, only(alloc, primary_key(alloc, "T_KEY", 0, &[0])))?;
         let ends = Ends {
             table: 0,
             columns: &[1],
@@ -420,7 +411,7 @@ impl Story for OwnTable {
             referenced: 0,
             key: &[0],
         };
-        add(store, &foreign_key(alloc, "FK", &ends)?)?;
+        add_constraints(store, only(alloc, foreign_key(alloc, "FK", &ends)))?;
         let first = [put(0, 1, Some(1), Some(1))];
         let steps = [
             put(0, 1, Some(2), Some(1)),
@@ -454,7 +445,7 @@ impl Story for SwappedParents {
         shown: &mut String,
     ) -> Result<(), Stopped> {
         add_tables(alloc, store)?;
-        add(store, &unique(alloc, "U", 0, &[0])?)?;
+        add_constraints(store, only(alloc, unique(alloc, "U", 0, &[0])))?;
         let ends = Ends {
             table: 1,
             columns: &[0],
@@ -462,7 +453,7 @@ impl Story for SwappedParents {
             referenced: 0,
             key: &[0],
         };
-        add(store, &foreign_key(alloc, "FK", &ends)?)?;
+        add_constraints(store, only(alloc, foreign_key(alloc, "FK", &ends)))?;
         let first = [
             put_one(1, Some(1)),
             put_one(2, Some(2)),
