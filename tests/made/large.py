@@ -38,7 +38,7 @@ def keyed_table(times, rows):
 
 def keys(chance):
     """Some hundred rows under keys."""
-    rows = chance.weighed((5, 200), (2, 300), (1, 600))
+    rows = chance.weighed((5, 200), (2, 300), (1, 400))
     times = chance.one(['', ' DEFERRABLE', ' INITIALLY DEFERRED']), chance.one(['', ' DEFERRABLE'])
     modes = ['SET CONSTRAINTS ALL DEFERRED', 'SET CONSTRAINTS ALL DEFERRED', 'SET CONSTRAINTS ALL IMMEDIATE']
     steps = [*keyed_steps(rows), *modes, ['COMMIT', 'START TRANSACTION'], ['ROLLBACK', 'START TRANSACTION']]
