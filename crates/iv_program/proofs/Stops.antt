@@ -7,7 +7,7 @@ use Rattle.iv_script.specs.Lengths.{Fits}
 use Rattle.iv_script.specs.declared.summary.RunFault.{RunFault}
 use Rattle.iv_script.specs.declared.summary.RunFault.TheVariants.{Read, TooLong, NotUtf8, Write, NoMemory}
 use Rattle.iv_script.specs.declared.summary.Summary.{Summary}
-use Rattle.sqlkeep.specs.Statuses.{status_of, Stopped, WritesLine}
+use Rattle.iv_program.specs.Statuses.{status_of, Stopped, WritesLine}
 
 -- what the contract of a run says of its answer, its script, its reader and its writer
 pub record Answered (longest : ℕ) (done : Result Summary RunFault) (bytes : Option (List ℕ))

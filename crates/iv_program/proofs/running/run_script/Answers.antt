@@ -1,6 +1,6 @@
 use Rattle.iv_script.specs.declared.read.TheConstants.{LONGEST}
-use Rattle.sqlkeep.proofs.Stops.{stopped_by, as_before}
-use Rattle.sqlkeep.proofs.running.run_script.Goals as goal
+use Rattle.iv_program.proofs.Stops.{stopped_by, as_before}
+use Rattle.iv_program.proofs.running.run_script.Goals as goal
 
 pub returns-clause-stopped : goal.returns-clause-stopped
 returns-clause-stopped g c =

@@ -3,13 +3,12 @@ ghost use Rattle.std.specs.Prelude.{◌≡◌, ◌<◌, ◌≤◌, IfErr, IfSome
 ghost use Rattle.iv_print.specs.Sinks.{FailsOnce, FailsNever};
 ghost use Rattle.iv_print.specs.Writing.{Writes};
 ghost use Rattle.iv_script.specs.Lengths.{Fits};
-ghost use Rattle.sqlkeep.specs.Statuses.{status_of, stop_line, Stopped, WritesLine, WroteTranscript};
+ghost use Rattle.iv_program.specs.Statuses.{status_of, stop_line, Stopped, WritesLine, WroteTranscript};
 
 use iv_machine::Limits;
-use iv_plain_store::PlainStore;
 use iv_print::write_all;
+use iv_run::Executor;
 use iv_script::{DeviceFault, LONGEST, RunFault, Sink, Source, Summary, run};
-use iv_session::Session;
 use std::alloc::Global;
 
 // Writes the line of a fault.
@@ -49,7 +48,7 @@ pub fn status<E: Sink>(faults: &mut E, done: Result<Summary, RunFault>) -> u8
 /// Runs the script that the reader gives, under these limits, and writes its transcript. The answer is the
 /// status: 0 where every statement was accepted, 1 where one was refused or the script has a fault, and 2 where it
 /// did not run to its end, which alone has a line on `faults`.
-pub fn run_script<R: Source, W: Sink, E: Sink>(
+pub fn run_script<X: Executor + Drop, R: Source, W: Sink, E: Sink>(
     alloc: Global,
     limits: Limits,
     reader: &mut R,
@@ -75,6 +74,6 @@ pub fn run_script<R: Source, W: Sink, E: Sink>(
         × WritesLine fault (E.state faults.old) (E.state faults.new) }
     ensures quiet { result < 2 → faults.new ≡ faults.old }
 {
-    let done = run::<Session<PlainStore>, R, W>(alloc, reader, writer, limits);
+    let done = run::<X, R, W>(alloc, reader, writer, limits);
     status(faults, done)
 }
