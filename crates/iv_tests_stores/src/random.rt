@@ -433,7 +433,41 @@ fn switch(modes: &mut Modes) -> Result<(), Stopped> {
     Ok(())
 }
 
-// All steps: in every second one the modes are switched.
+// A step: in every second one the modes are switched.
+fn shown_turn<K: Keeper + Drop>(
+    alloc: Global,
+    numbers: &mut Numbers,
+    store: &mut Tested<K>,
+    initial: &Modes,
+    switched: &Modes,
+    turn: u32,
+    tally: &mut Tally,
+) -> Result<String, Stopped> {
+    if turn % 2 == 0 {
+        shown_step(alloc, numbers, store, initial, tally)
+    } else {
+        shown_step(alloc, numbers, store, switched, tally)
+    }
+}
+
+// All steps.
+fn shown_turns<K: Keeper + Drop>(
+    alloc: Global,
+    numbers: &mut Numbers,
+    store: &mut Tested<K>,
+    initial: &Modes,
+    switched: &Modes,
+    tally: &mut Tally,
+) -> Result<Vec<String>, Stopped> {
+    let mut shown = Vec::new(alloc);
+    for turn in 0..STEPS {
+        let text = shown_turn(alloc, numbers, store, initial, switched, turn, tally)?;
+        shown.push(text)?;
+    }
+    Ok(shown)
+}
+
+// All steps, under the modes at the start of a transaction and others.
 fn shown_steps<K: Keeper + Drop>(
     alloc: Global,
     numbers: &mut Numbers,
@@ -443,12 +477,7 @@ fn shown_steps<K: Keeper + Drop>(
     let initial = modes_of(alloc, store.tables(), store.constraints())?;
     let mut switched = initial.copy()?;
     switch(&mut switched)?;
-    let mut shown = Vec::new(alloc);
-    for number in 0..STEPS {
-        let modes = if number % 2 == 0 { &initial } else { &switched };
-        shown.push(shown_step(alloc, numbers, store, modes, tally)?)?;
-    }
-    Ok(shown)
+    shown_turns(alloc, numbers, store, &initial, &switched, tally)
 }
 
 fn run_in<K: Keeper + Drop>(

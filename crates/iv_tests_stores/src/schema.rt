@@ -1,5 +1,6 @@
 //! Tables, constraints, rows and modes that tests are made of.
 ghost use Rattle.std.specs.Prelude.{◌≡◌};
+ghost use Rattle.iv_catalogue.specs.Catalogues.{has_constraint, has_table};
 
 use crate::stopped::Stopped;
 use iv_catalogue::{
@@ -139,10 +140,23 @@ pub fn row_of(alloc: Global, integers: &[Option<i64>]) -> Result<Row, Stopped> {
     Ok(Row::new(values)?)
 }
 
+#[tactic(auto, using(crate::proofs::Sets::found))]
+fn has_table(catalogue: &Catalogue, name: &str) -> bool
+    ensures { result ≡ has_table catalogue.now name.now }
+{
+    catalogue.table_named(name).is_some()
+}
+
+#[tactic(auto, using(crate::proofs::Sets::found))]
+fn has_constraint(catalogue: &Catalogue, name: &str) -> bool
+    ensures { result ≡ has_constraint catalogue.now name.now }
+{
+    catalogue.constraint_named(name).is_some()
+}
+
+#[tactic(auto, unfolding(iv_catalogue::specs::Names::has_repeated))]
 fn add_table(alloc: Global, catalogue: &mut Catalogue, table: &Table) -> Result<(), Stopped> {
-    if catalogue.tables().len() >= MOST_TABLES
-        || catalogue.table_named(table.name.as_str()).is_some()
-    {
+    if catalogue.tables().len() >= MOST_TABLES || has_table(catalogue, table.name.as_str()) {
         return Err(Stopped::Unasked);
     }
     let table = copy_table(alloc, table)?;
@@ -157,9 +171,7 @@ fn add_constraint(
 ) -> Result<(), Stopped> {
     if constraint.table.place() as usize >= catalogue.tables().len()
         || catalogue.constraints_of(constraint.table).len() >= MOST_CONSTRAINTS
-        || catalogue
-            .constraint_named(constraint.name.as_str())
-            .is_some()
+        || has_constraint(catalogue, constraint.name.as_str())
     {
         return Err(Stopped::Unasked);
     }
