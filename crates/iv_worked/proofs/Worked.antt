@@ -85,6 +85,8 @@ unfolding values_on_literals
 transactions = record {
   savepoint_of_a_used_name = refl;
   rollback_to_gives_numbers_back = refl;
+  rollback_leads_to_before_the_first_statement = refl;
+  savepoints_end_with_their_transaction = refl;
   rollback_to_gives_the_count_back = refl;
   committed_numbers_stay = refl;
   commit_ends_the_count = refl;
@@ -119,6 +121,7 @@ unfolding values_on_literals
 before_triggers = record {
   signal_of_a_before_trigger = refl;
   row_triggers_of_the_table_and_event = refl;
+  statement_trigger_with_a_condition = refl;
   text_too_long = refl;
   text_too_long_changes_nothing = refl;
   tables_are_seen_before_the_wave = refl;

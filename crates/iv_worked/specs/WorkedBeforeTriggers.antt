@@ -55,6 +55,13 @@ pub record WorkedBeforeTriggers : Type 0 where
       ∷ select_all 1 ∷ select_all 0 ∷ [])
       ≡ ok ∷ ok ∷ ok ∷ ok_rows 1 ∷ ok_rows 1 ∷ ok_rows 1 ∷ rows_of ((1 ∷ []) ∷ [])
       ∷ rows_of ((8 ∷ []) ∷ []) ∷ []
+  -- CREATE TABLE t (a INT); CREATE TRIGGER r BEFORE INSERT ON t WHEN (EXISTS (SELECT * FROM t)) SIGNAL 'stop'; INSERT
+  -- INTO t VALUES (1); INSERT INTO t VALUES (2); SELECT * FROM t;
+  pub statement_trigger_with_a_condition : answers (
+      create_table (integer_column ∷ []) []
+      ∷ create_trigger 0 0 Before event.Insert Statement (exists_c (Table 0) Always) (signals ∷ [])
+      ∷ insert_value 0 (number 1) ∷ insert_value 0 (number 2) ∷ select_all 0 ∷ [])
+      ≡ ok ∷ ok ∷ ok_rows 1 ∷ refused_in 0 (Signal 0 1) ∷ rows_of ((1 ∷ []) ∷ []) ∷ []
   -- A text that is too long for its column, in a SET, in VALUES and in UPDATE.
   pub text_too_long : answers texts_of_four_for_three
       ≡ ok ∷ ok ∷ ok_rows 1 ∷ refused_in 0 TextTooLong ∷ refused TextTooLong ∷ refused TextTooLong

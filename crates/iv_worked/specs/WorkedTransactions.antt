@@ -56,6 +56,15 @@ pub record WorkedTransactions : Type 0 where
   pub rollback_to_gives_numbers_back : answers back_to_a_savepoint
       ≡ ok ∷ ok ∷ ok_rows 1 ∷ ok ∷ ok_rows 1 ∷ ok_rows 1 ∷ ok ∷ refused (Violation (fault 0 2))
       ∷ ok_rows 1 ∷ ok ∷ []
+  -- CREATE TABLE t (a INT); INSERT INTO t VALUES (1); INSERT INTO t VALUES (2); ROLLBACK; SELECT COUNT(*) FROM t;
+  pub rollback_leads_to_before_the_first_statement : answers (
+      create_table (integer_column ∷ []) [] ∷ insert_value 0 (number 1) ∷ insert_value 0 (number 2)
+      ∷ rollback ∷ count_all 0 ∷ [])
+      ≡ ok ∷ ok_rows 1 ∷ ok_rows 1 ∷ ok ∷ count_row 0 ∷ []
+  -- START TRANSACTION; SAVEPOINT x; COMMIT; START TRANSACTION; ROLLBACK TO SAVEPOINT x; ROLLBACK;
+  pub savepoints_end_with_their_transaction : answers (
+      start ∷ savepoint (codes "X") ∷ commit ∷ start ∷ rollback_to (codes "X") ∷ rollback ∷ [])
+      ≡ ok ∷ ok ∷ ok ∷ ok ∷ refused UnknownSavepoint ∷ ok ∷ []
   -- ROLLBACK TO undoes two changes; then one is refused, and two are left, which ROLLBACK undoes
   pub rollback_to_gives_the_count_back : works back_to_a_savepoint
       ≡ idle ∷ idle ∷ work 1 0 ∷ idle ∷ work 1 0 ∷ work 1 0 ∷ work 0 2 ∷ work 1 1 ∷ work 1 0
