@@ -12,10 +12,10 @@ use Rattle.iv_laws_kept.specs.Moves.{moved, side_under}
 use Rattle.iv_laws_kept.specs.Numbers.{has, without}
 use Rattle.iv_laws_kept.proofs.Moves.{moved_is}
 use Rattle.iv_laws_kept.proofs.Rows.{has_filtered, passes}
-use Rattle.iv_faults.specs.Sides.{is_key, is_one_key, side_key}
+use Rattle.iv_following.specs.Sides.{is_key, is_one_key, side_key}
 use Rattle.iv_faults.specs.Watching.{RoomSuffices}
 use Rattle.iv_faults.proofs.Shows.{side_is_there}
-use Rattle.iv_faults.proofs.SideKeys.{under_is}
+use Rattle.iv_following.proofs.SideKeys.{under_is}
 
 -- a list without a number that it has is shorter
 no_longer : (n : ℕ) (numbers : List ℕ) → length (without n numbers) ≤ length numbers

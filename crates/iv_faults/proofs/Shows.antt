@@ -22,12 +22,12 @@ use Rattle.iv_laws_kept.specs.Numbers.{has}
 use Rattle.iv_laws_kept.proofs.Rows.{has_filtered, passes}
 use Rattle.iv_laws_kept.proofs.Moves.{changes_are_followed, changes_are_taken_back}
 use Rattle.iv_laws_kept.proofs.KeptIsScan.{kept_is_the_scan}
-use Rattle.iv_faults.specs.Sides.{IsPresent, side_key}
-use Rattle.iv_faults.specs.Steps.{IsReady}
-use Rattle.iv_faults.specs.Turns.{AllStay}
-use Rattle.iv_faults.specs.Following.{Followed}
+use Rattle.iv_following.specs.Sides.{IsPresent, side_key}
+use Rattle.iv_following.specs.Steps.{IsReady}
+use Rattle.iv_following.specs.Turns.{AllStay}
+use Rattle.iv_following.specs.Following.{Followed}
 use Rattle.iv_faults.specs.Watching.{HasRoomBack, IsShownBy, ShownRowsArePresent, Watching}
-use Rattle.iv_faults.proofs.Rooms.{stay_marked, stay_rows}
+use Rattle.iv_following.proofs.Rooms.{stay_marked, stay_rows}
 
 pub on_err : {A E : Type 0} (X : Type 0) (r : Result A E) → X → OnErr r X
 on_err X (Ok a) x = tt

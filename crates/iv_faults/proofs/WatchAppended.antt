@@ -13,10 +13,10 @@ use Rattle.iv_laws_kept.specs.Kept.{AllNamed, KeyConstraint, named_by, named_key
 use Rattle.iv_laws_kept.proofs.Naming.{named_of}
 use Rattle.iv_faults.specs.Words.{Constraint, Rule, ForeignKey}
 use Rattle.iv_faults.specs.Words.rule
-use Rattle.iv_faults.specs.declared.reference.Reference.{Reference}
-use Rattle.iv_faults.specs.Steps.{is_reference}
+use Rattle.iv_following.specs.declared.reference.Reference.{Reference}
+use Rattle.iv_following.specs.Steps.{is_reference}
 use Rattle.iv_faults.specs.declared.naming.Parts.{Parts}
-use Rattle.iv_faults.specs.References.{AreReferences, IsReference, reference_at}
+use Rattle.iv_following.specs.References.{AreReferences, IsReference, reference_at}
 use Rattle.iv_faults.specs.Watch.{AreReferencesOf, FindsKey, IsReferenceOf, as_reference}
 
 -- ---- constraints by their numbers

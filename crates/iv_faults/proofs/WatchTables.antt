@@ -12,8 +12,8 @@ use Rattle.iv_marks.specs.Marking.{NoRepeats}
 use Rattle.iv_faults.specs.Words.{Constraint, Rule}
 use Rattle.iv_faults.specs.Words.rule
 use Rattle.iv_faults.specs.declared.table_constraints.TableConstraints.{TableConstraints}
-use Rattle.iv_faults.specs.Steps.{is_reference}
-use Rattle.iv_faults.specs.Following.{AreMet, meets}
+use Rattle.iv_following.specs.Steps.{is_reference}
+use Rattle.iv_following.specs.Following.{AreMet, meets}
 use Rattle.iv_faults.specs.Watch.{AreTabled, numbers_at, with_constraint, with_key, with_reference}
 
 -- ---- lists of numbers

@@ -6,9 +6,9 @@ use Rattle.iv_laws_kept.specs.Kept.{KeyConstraint, named_key}
 use Rattle.iv_faults.specs.declared.table_constraints.TableConstraints.{TableConstraints}
 use Rattle.iv_faults.specs.declared.naming.NamedKey.{NamedKey}
 use Rattle.iv_faults.specs.declared.naming.Parts.{Parts}
-use Rattle.iv_faults.specs.declared.reference.Reference.{Reference}
-use Rattle.iv_faults.specs.Following.{AreMet}
-use Rattle.iv_faults.specs.References.{paired_with}
+use Rattle.iv_following.specs.declared.reference.Reference.{Reference}
+use Rattle.iv_following.specs.Following.{AreMet}
+use Rattle.iv_following.specs.References.{paired_with}
 
 -- ---- the constraints of each table
 

@@ -4,7 +4,7 @@ use Rattle.iv_catalogue.specs.declared.limits.TheConstants.{MOST_CONSTRAINTS, MO
 use Rattle.iv_machine.specs.Databases.{rows_after, violates}
 use Rattle.iv_store.specs.Stores.{numbers_of}
 use Rattle.iv_faults.specs.Words.{Value, StoredRow, Change, Constraint}
-use Rattle.iv_faults.specs.declared.reference.Reference.{Reference}
+use Rattle.iv_following.specs.declared.reference.Reference.{Reference}
 use Rattle.iv_faults.specs.declared.table_constraints.TableConstraints.{TableConstraints}
 use Rattle.iv_index.specs.Groups.{Contents, GroupOf, groups_of, room_of}
 use Rattle.iv_marks.specs.Shown.{shown}
@@ -14,9 +14,9 @@ use Rattle.iv_laws_kept.specs.Kept.{AllNamed, Show, is_kept_under}
 use Rattle.iv_marks.specs.Marking.{flag}
 use Rattle.iv_laws_kept.specs.Marks.{Marks, marks_of, AreMarked}
 use Rattle.iv_laws_kept.specs.Moves.{Holds, taken_back}
-use Rattle.iv_faults.specs.Sides.{IsPresent, side_key, stays_put}
-use Rattle.iv_faults.specs.Steps.{IsWatched}
-use Rattle.iv_faults.specs.References.{AreReferences}
+use Rattle.iv_following.specs.Sides.{IsPresent, side_key, stays_put}
+use Rattle.iv_following.specs.Steps.{IsWatched}
+use Rattle.iv_following.specs.References.{AreReferences}
 use Rattle.iv_faults.specs.Watch.{AreTabled}
 
 -- The constraints that are watched, and for each which of its groups are marked.

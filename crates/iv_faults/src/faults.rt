@@ -1,28 +1,27 @@
 //! Violations that are kept, change by change.
-ghost use Rattle.std.specs.Prelude.{◌≡◌, ℕ, ◌+◌, ◌-◌, ◌*◌, ◌^◌, ◌≤◌, [], ◌∷◌, ◌++◌, List, length, min, IfOk, OnOk, OnErr};
+ghost use Rattle.std.specs.Prelude.{◌≡◌, ◌≢◌, ℕ, ◌+◌, ◌-◌, ◌*◌, ◌^◌, ◌<◌, ◌≤◌, [], ◌∷◌, ◌++◌, List, find, length, min, option_map, IfOk, OnOk, OnErr};
 ghost use Rattle.iv_value.specs.declared.value.Value.{Value};
 ghost use Rattle.iv_expr.specs.declared.row.StoredRow.{StoredRow};
 ghost use Rattle.iv_catalogue.specs.declared.limits.TheConstants.{MOST_CONSTRAINTS, MOST_TABLES};
-ghost use Rattle.iv_machine.specs.Databases.{first, is_chosen, rows_after, scan};
+ghost use Rattle.iv_machine.specs.Databases.{first, is_chosen, rows_after, scan, violates};
 ghost use Rattle.iv_index.specs.Groups.{groups_of};
 ghost use Rattle.iv_index.specs.Laws.{size_of};
 ghost use Rattle.iv_marks.specs.Shown.{shown};
 ghost use Rattle.iv_laws_kept.specs.Kept.{AllNamed, KeysOnce, Show};
 ghost use Rattle.iv_laws_kept.specs.Marks.{AreMarked};
 ghost use Rattle.iv_laws_kept.specs.Moves.{Holds, taken_back};
-ghost use Rattle.iv_faults.specs.Following.{Followed};
-ghost use Rattle.iv_faults.specs.Sides.{IsPresent};
-ghost use Rattle.iv_faults.specs.Turns.{AllStay};
+ghost use Rattle.iv_following.specs.Following.{Followed};
+ghost use Rattle.iv_following.specs.Sides.{IsPresent};
+ghost use Rattle.iv_following.specs.Turns.{AllStay};
 ghost use Rattle.iv_faults.specs.Watch.{foreign_keys_of, keys_of};
 ghost use Rattle.iv_faults.specs.Watching.{AreWatched, HasRoomBack, IsShownBy, IsTakenUp, NoneViolates};
 
-use crate::following::{follow, make_room_and_follow};
-use crate::reference::Reference;
-use crate::sides::Sides;
+use crate::filling::fill;
 use crate::table_constraints::TableConstraints;
 use crate::watching::take_up;
 use iv_catalogue::{Constraint, Fault};
-use iv_expr::{Change, TableId};
+use iv_expr::{Change, Rows, TableId};
+use iv_following::{Reference, Sides, follow, make_room_and_follow};
 use iv_index::Groups;
 use iv_machine::Which;
 use iv_marks::ViolatingGroups;
@@ -154,6 +153,38 @@ impl Faults {
         ensures { result.now ≡ self.now.constraints }
     {
         self.constraints.as_slice()
+    }
+
+    /// Fills the groups of a constraint that is to be watched next with the rows of its table, and finds the first row
+    /// that violates it. It looks at each row of the table twice, and counts the look-ups.
+    pub fn fill<R: Rows>(
+        &self,
+        groups: &mut Groups,
+        constraint: &Constraint,
+        rows: &R,
+    ) -> Result<Option<u64>, AllocError>
+        requires named { AllNamed (self.now.constraints ++ constraint.now ∷ []) }
+        requires few { length self.now.constraints < MOST_TABLES * MOST_CONSTRAINTS }
+        requires known { length self.now.constraints < length groups.old.groups }
+        requires free { groups_of groups.old.groups (length self.now.constraints) ≡ [] }
+        requires shown { Show (R.rows rows.now) self.now.constraints (shown groups.old.groups) }
+        ensures shown { OnOk result (Show (R.rows rows.now) (self.now.constraints ++ constraint.now ∷ [])
+            (shown groups.new.groups)) }
+        ensures first { IfOk result (λ found. found ≡ option_map (λ r. r.number)
+            (find (violates (R.rows rows.now) constraint.now) (R.rows rows.now))) }
+        ensures others { (k : ℕ) → k ≢ length self.now.constraints
+            → groups_of groups.new.groups k ≡ groups_of groups.old.groups k }
+        ensures count { length groups.new.groups ≡ length groups.old.groups }
+        ensures grows { groups.old.looked ≤ groups.new.looked }
+    {
+        fill(
+            self.alloc,
+            groups,
+            self.constraints.as_slice(),
+            self.references.as_slice(),
+            constraint,
+            rows,
+        )
     }
 
     /// Takes up constraints that no row violates and whose groups are filled, all or none: their numbers go on from those

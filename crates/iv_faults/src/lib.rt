@@ -2,16 +2,10 @@
 #![tactic(auto)]
 
 mod faults;
-mod following;
-mod kept_key;
+mod filling;
 mod laws;
 mod naming;
-mod reference;
-mod shown;
-mod sides;
-mod step;
 mod table_constraints;
-mod turns;
 mod watching;
 
 pub use faults::Faults;

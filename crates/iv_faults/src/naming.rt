@@ -4,14 +4,13 @@ ghost use Rattle.std.specs.List.{enumerate_from, list_any};
 ghost use Rattle.iv_machine.specs.Databases.{first};
 ghost use Rattle.iv_store.specs.Stores.{all_among, are_same_columns, is_named_key};
 ghost use Rattle.iv_laws_kept.specs.Kept.{AllNamed, KeyConstraint, named_by, named_key};
-ghost use Rattle.iv_faults.specs.declared.reference.Reference.{Reference as Refers};
-ghost use Rattle.iv_faults.specs.References.{AreReferences, paired, paired_with};
+ghost use Rattle.iv_following.specs.declared.reference.Reference.{Reference as Refers};
+ghost use Rattle.iv_following.specs.References.{AreReferences, paired, paired_with};
 ghost use Rattle.iv_faults.specs.Watch.{AreReferencesOf, FindsKey, IsReferenceOf, IsReferenceTo, as_key, as_reference, reference_to};
 
-
-use crate::reference::Reference;
 use iv_catalogue::{Constraint, ForeignKey, Rule};
 use iv_copies::copy_foreign_key;
+use iv_following::Reference;
 use sqlite_items::Items;
 use std::alloc::{AllocError, Global};
 

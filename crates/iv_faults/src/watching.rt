@@ -7,12 +7,11 @@ ghost use Rattle.iv_laws_kept.specs.Marks.{marks_of};
 ghost use Rattle.iv_marks.specs.Marking.{flag};
 ghost use Rattle.iv_faults.specs.Watching.{IsTakenUp, MarksStay};
 
-
 use crate::naming::references_of;
-use crate::reference::Reference;
 use crate::table_constraints::{TableConstraints, with_constraints};
 use iv_catalogue::Constraint;
 use iv_copies::copy_constraints;
+use iv_following::Reference;
 use iv_index::Groups;
 use iv_marks::ViolatingGroups;
 use std::alloc::{AllocError, Global};

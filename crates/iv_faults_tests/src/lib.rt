@@ -2,6 +2,8 @@
 #![tactic(auto)]
 
 #[cfg(test)]
+mod foreign_key;
+#[cfg(test)]
 mod no_constraints;
 #[cfg(test)]
 mod rows;

@@ -3,7 +3,7 @@ ghost use Rattle.std.specs.Prelude.{[]};
 ghost use Rattle.iv_faults.specs.Watching.{AreWatched, IsShownBy};
 
 use crate::{rows, steps};
-use iv_catalogue::{Catalogue, Fault};
+use iv_catalogue::Fault;
 use iv_expr::TableId;
 use iv_faults::Faults;
 use iv_index::Groups;
@@ -12,14 +12,6 @@ use iv_modes::Modes;
 use iv_rows::Versions;
 use std::alloc::{AllocError, Global};
 use std::test::Fail;
-
-// The modes of no constraint.
-fn no_modes(alloc: Global) -> Result<Modes, AllocError> {
-    let catalogue = Catalogue::new(alloc);
-    let modes = Modes::initial(alloc, &catalogue);
-    drop(catalogue);
-    modes
-}
 
 // What is listed after each change of three rows, and after each that is taken back; then row 1 goes.
 fn listed(
@@ -52,7 +44,7 @@ fn told(groups: &Groups, faults: &Faults, modes: &Modes) -> (Option<Fault>, u64,
 
 #[test]
 fn no_change_violates(rt: HostRuntime) -> Result<(), Fail> {
-    let modes = no_modes(rt.alloc())?;
+    let modes = steps::no_modes(rt.alloc())?;
     let mut versions = Versions::new(rt.alloc());
     let mut groups = Groups::new(rt.alloc());
     let mut faults = Faults::new(rt.alloc());
@@ -71,7 +63,7 @@ fn no_change_violates(rt: HostRuntime) -> Result<(), Fail> {
 
 #[test]
 fn a_child_without_a_parent_violates_nothing(rt: HostRuntime) -> Result<(), Fail> {
-    let modes = no_modes(rt.alloc())?;
+    let modes = steps::no_modes(rt.alloc())?;
     let mut versions = Versions::new(rt.alloc());
     let mut groups = Groups::new(rt.alloc());
     let mut faults = Faults::new(rt.alloc());
@@ -86,7 +78,7 @@ fn a_child_without_a_parent_violates_nothing(rt: HostRuntime) -> Result<(), Fail
 
 #[test]
 fn nothing_is_told(rt: HostRuntime) -> Result<(), Fail> {
-    let modes = no_modes(rt.alloc())?;
+    let modes = steps::no_modes(rt.alloc())?;
     let groups = Groups::new(rt.alloc());
     let faults = Faults::new(rt.alloc());
     let (first, count, constraints) = told(&groups, &faults, &modes);

@@ -9,7 +9,7 @@ ghost use Rattle.iv_machine.specs.Databases.{row_at};
 ghost use Rattle.iv_machine.specs.Waves.{values_at};
 ghost use Rattle.iv_laws_kept.specs.Kept.{kept_key};
 ghost use Rattle.iv_laws_kept.specs.Moves.{taken_back};
-ghost use Rattle.iv_faults.specs.Sides.{side_key};
+ghost use Rattle.iv_following.specs.Sides.{side_key};
 ghost use Rattle.iv_faults.specs.Watching.{AreWatched, HasRoomBack, IsShownBy};
 
 use iv_catalogue::{Constraint, Rule};

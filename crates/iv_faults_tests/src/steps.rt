@@ -5,13 +5,21 @@ ghost use Rattle.iv_laws_kept.specs.Marks.{AreMarked};
 ghost use Rattle.iv_faults.specs.Watching.{AreWatched, IsShownBy};
 
 use crate::rows;
-use iv_catalogue::Fault;
+use iv_catalogue::{Catalogue, Fault};
 use iv_faults::Faults;
 use iv_index::Groups;
 use iv_machine::Which;
 use iv_modes::Modes;
 use iv_rows::Versions;
 use std::alloc::{AllocError, Global};
+
+/// The modes of no constraint.
+pub fn no_modes(alloc: Global) -> Result<Modes, AllocError> {
+    let catalogue = Catalogue::new(alloc);
+    let modes = Modes::initial(alloc, &catalogue);
+    drop(catalogue);
+    modes
+}
 
 // Violations as digits, two for each: its constraint's number from 1, and its row's.
 fn digits(faults: &[Fault]) -> u64 {
@@ -100,8 +108,7 @@ pub fn lower(
     Ok([three, two, one])
 }
 
-/// Row 1 of the table 1 comes with the integer 7, and then row 2 of the table 0 with it. The violations of deferred
-/// constraints after each.
+/// Row 1 of the table 1 comes with the integer 7, and then row 2 of the table 0 with it. All violations after each.
 pub fn child_first(
     alloc: Global,
     versions: &mut Versions,
@@ -116,8 +123,8 @@ pub fn child_first(
     ensures constraints { faults.new.constraints ≡ faults.old.constraints }
 {
     rows::put(alloc, versions, groups, faults, 1, 1, 7)?;
-    let child = listed(groups, faults, modes, Which::Deferred)?;
+    let child = listed(groups, faults, modes, Which::All)?;
     rows::put(alloc, versions, groups, faults, 0, 2, 7)?;
-    let both = listed(groups, faults, modes, Which::Deferred)?;
+    let both = listed(groups, faults, modes, Which::All)?;
     Ok([child, both])
 }

@@ -4,7 +4,7 @@ ghost use Rattle.iv_catalogue.specs.declared.constraint.Rule.TheVariants as rule
 ghost use Rattle.iv_faults.specs.Watching.{AreWatched, IsShownBy};
 
 use crate::{rows, steps};
-use iv_catalogue::{Catalogue, Constraint, Rule};
+use iv_catalogue::{Constraint, Rule};
 use iv_expr::TableId;
 use iv_faults::Faults;
 use iv_index::Groups;
@@ -46,14 +46,6 @@ fn watch_unique(alloc: Global, groups: &mut Groups, faults: &mut Faults) -> Resu
     Ok(())
 }
 
-// The modes of no constraint.
-fn no_modes(alloc: Global) -> Result<Modes, AllocError> {
-    let catalogue = Catalogue::new(alloc);
-    let modes = Modes::initial(alloc, &catalogue);
-    drop(catalogue);
-    modes
-}
-
 // What is listed after each change of three rows, and after each that is taken back.
 fn listed(
     alloc: Global,
@@ -82,7 +74,7 @@ fn listed_from_the_first(alloc: Global, modes: &Modes) -> Result<([u64; 3], [u64
 
 #[test]
 fn rows_share_their_value_for_a_while(rt: HostRuntime) -> Result<(), Fail> {
-    let modes = no_modes(rt.alloc())?;
+    let modes = steps::no_modes(rt.alloc())?;
     let said = listed_from_the_first(rt.alloc(), &modes);
     drop(modes);
     let (raised, lowered) = said?;

@@ -1,5 +1,5 @@
 //! The groups of all constraints.
-ghost use Rattle.std.specs.Prelude.{◌≡◌, ℕ, ◌-◌, ◌<◌, ◌≤◌, ◌^◌, [], length, min, max, true, false, IfOk, OnOk, OnErr, Some};
+ghost use Rattle.std.specs.Prelude.{◌≡◌, ℕ, ◌<◌, ◌≤◌, ◌^◌, [], length, min, max, true, false, IfOk, OnOk, OnErr, Some};
 ghost use Rattle.std.specs.Borrow.{sem};
 ghost use Rattle.iv_index.specs.Rows.{IsRising, has_row};
 ghost use Rattle.iv_index.specs.Groups.{AreSound, EachIsApart, EachIsFound, EachRises, counted, groups_of, place_in, room_of, rows_at, rows_of, with_groups, with_room_under, with_row_put, with_row_under, without_row_under};
@@ -31,7 +31,8 @@ impl Model for Groups {
 
 // Counts a look-up.
 fn count(looked: &mut u64)
-    ensures { looked.new ≡ counted looked.old }
+    ensures counted { looked.new ≡ counted looked.old }
+    ensures grows { looked.old ≤ looked.new }
 {
     *looked = looked.saturating_add(1);
 }
@@ -234,14 +235,12 @@ impl Groups {
     }
 
     /// Does nothing. Its contract tells what holds of the groups of every constraint: each is found under its key, no
-    /// two have one key, the rows of every key rise, and the count of look-ups is below 2^64.
+    /// two have one key, and the rows of every key rise.
     pub fn are_kept(&self)
         ensures found { (constraint : ℕ) → EachIsFound (groups_of self.now.groups constraint) }
         ensures apart { (constraint : ℕ) → EachIsApart (groups_of self.now.groups constraint) }
         ensures rising { (constraint : ℕ) → EachRises (groups_of self.now.groups constraint) }
-        ensures counted { self.now.looked ≤ 2 ^ 64 - 1 }
     {
-        let _ = self.looked;
         kept(self.indexes.as_slice());
     }
 
@@ -312,6 +311,7 @@ impl Groups {
         ensures place { result ≡ place_in (groups_of self.old.groups constraint) key.now }
         ensures groups { self.new.groups ≡ self.old.groups }
         ensures looked { self.new.looked ≡ counted self.old.looked }
+        ensures grows { self.old.looked ≤ self.new.looked }
     {
         count(&mut self.looked);
         place_under(self.indexes.as_slice(), constraint, key)
@@ -325,6 +325,7 @@ impl Groups {
             ≡ with_groups self.old.groups constraint (with_room_under key.now (groups_of self.old.groups constraint))) }
         ensures err { OnErr result (self.new.groups ≡ self.old.groups) }
         ensures looked { self.new.looked ≡ counted self.old.looked }
+        ensures grows { self.old.looked ≤ self.new.looked }
     {
         count(&mut self.looked);
         make_room_under(self.alloc, &mut self.indexes, constraint, key)
@@ -339,6 +340,7 @@ impl Groups {
             ≡ with_groups self.old.groups constraint (with_row_under key.now row (groups_of self.old.groups constraint))) }
         ensures err { OnErr result (self.new.groups ≡ self.old.groups) }
         ensures looked { self.new.looked ≡ counted self.old.looked }
+        ensures grows { self.old.looked ≤ self.new.looked }
     {
         count(&mut self.looked);
         add_under(self.alloc, &mut self.indexes, constraint, key, row)
@@ -353,6 +355,7 @@ impl Groups {
             ≡ with_groups self.old.groups constraint (with_row_put key.now row (groups_of self.old.groups constraint)) }
         ensures place { place_in (groups_of self.old.groups constraint) key.now ≡ Some result }
         ensures looked { self.new.looked ≡ counted self.old.looked }
+        ensures grows { self.old.looked ≤ self.new.looked }
     {
         count(&mut self.looked);
         put_under(&mut self.indexes, constraint, key, row)
@@ -366,6 +369,7 @@ impl Groups {
             ≡ with_groups self.old.groups constraint (without_row_under key.now row (groups_of self.old.groups constraint)) }
         ensures place { place_in (groups_of self.old.groups constraint) key.now ≡ Some result }
         ensures looked { self.new.looked ≡ counted self.old.looked }
+        ensures grows { self.old.looked ≤ self.new.looked }
     {
         count(&mut self.looked);
         remove_under(&mut self.indexes, constraint, key, row)

@@ -39,7 +39,7 @@ pub record Fits (h : History) (c : Change) : Type 0 where
   pub small : c.row ≤ last_row_number
   pub room : length h.journal < most_changes_in_a_transaction
 
-back : (h : History) (c : Change) → Sound h → Fits h c → rows_before c (set_row c.table c.row c.new h.rows) ≡ h.rows
+pub back : (h : History) (c : Change) → Sound h → Fits h c → rows_before c (set_row c.table c.row c.new h.rows) ≡ h.rows
 back h c s f = back_again c h.rows (rows_rise h s) f.current f.own
 
 marks_stay : (h : History) (c : Change) → Sound h → Fits h c → marked_databases (history_after h c) ≡ marked_databases h
@@ -215,6 +215,23 @@ made_of_last h c s i = by h.journal s.below s.made i where
 pub if_made : (h : History) (o : Option Change) → Sound h → o ≡ last_change h.journal → IfSome o (λ c. rows_after (rows_before c h.rows) (c ∷ []) ≡ h.rows)
 if_made h None s e = tt
 if_made h (Some c) s e = made_of_last h c s (sym e)
+
+-- the rows before the last change rise
+pub rises_before : (h : History) (c : Change) → Sound h → last_change h.journal ≡ Some c → Rises 0 (rows_before c h.rows)
+rises_before h c s i = by h.journal s.below i where
+  by : (j : List Change) → AllBelow h.next j → last_change j ≡ Some c → Rises 0 (rows_before c h.rows)
+  by [] b k = cc
+  by (x ∷ j) b k = ended (ends_of (x ∷ j) (omega arith)) where
+    ended : Ends (x ∷ j) → Rises 0 (rows_before c h.rows)
+    ended (ends left d e) =
+        let same : Some d ≡ Some c = sym (last_is (x ∷ j) left d e) ∙ k in
+        let it : d ≡ c = cc in
+        let below : (0 < c.row) × (c.row < h.next) = subst (λ (y : Change). (0 < y.row) × (y.row < h.next)) it (below_last h.next left d (subst (λ (l : List Change). AllBelow h.next l) e b)) in
+        rises 0 (rows_before c h.rows) h.next (set_rises h.rows h.next c.table c.row c.old s.base.rising below.0 below.1) s.base.next
+
+pub if_rises : (h : History) (o : Option Change) → Sound h → o ≡ last_change h.journal → IfSome o (λ c. Rises 0 (rows_before c h.rows))
+if_rises h None s e = tt
+if_rises h (Some c) s e = rises_before h c s (sym e)
 
 -- where a change is noted there is a last one
 pub never_none : (journal : List Change) → 0 < length journal → last_change journal ≡ None → ⊥

@@ -4,7 +4,7 @@ ghost use Rattle.iv_machine.specs.Databases.{row_at};
 ghost use Rattle.iv_machine.specs.Waves.{values_at};
 
 use crate::versions::Versions;
-use iv_expr::{Change, Row, TableId};
+use iv_expr::{Change, Row, Rows, TableId};
 use iv_machine::{LAST_ROW_NUMBER, MOST_CHANGES_IN_A_TRANSACTION};
 use iv_value::Value;
 use std::alloc::{AllocError, Global};
@@ -60,8 +60,8 @@ fn put(
 
 // The number of the next row of a table; where there is none, one that no row has.
 fn number_above(versions: &Versions, table: u32, number: u64) -> u64 {
-    match versions.row_above(TableId::new(table), number) {
-        Some(row) => row.number,
+    match versions.scan(TableId::new(table), number) {
+        Some((next, _)) => next,
         None => u64::MAX,
     }
 }

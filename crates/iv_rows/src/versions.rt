@@ -2,7 +2,7 @@
 ghost use Rattle.std.specs.Prelude.{◌≡◌, ◌+◌, ◌-◌, ◌<◌, ◌≤◌, ◌^◌, [], ◌∷◌, ◌++◌, Some, None, length, take, IfOk, IfSome, OnOk, OnErr};
 ghost use Rattle.std.specs.List.{remove};
 ghost use Rattle.std.specs.Option.{option_copied};
-ghost use Rattle.iv_expr.specs.Scopes.{Rises, row_above, table_rows};
+ghost use Rattle.iv_expr.specs.Scopes.{Rises};
 ghost use Rattle.iv_machine.specs.Bounds.{last_row_number, most_changes_in_a_transaction};
 ghost use Rattle.iv_machine.specs.Databases.{row_at, rows_after};
 ghost use Rattle.iv_machine.specs.Invariants.{Rising};
@@ -13,8 +13,9 @@ ghost use Rattle.iv_rows.specs.Histories.{marked_databases, marked_of, after_cha
 
 use crate::saved::Saved;
 use crate::slots::Slots;
-use iv_expr::{Change, StoredRow, TableId};
+use iv_expr::{Change, Rows, StoredRow, TableId};
 use iv_undo::Journal;
+use iv_value::Value;
 use std::alloc::{AllocError, Global};
 use std::marker::Model;
 
@@ -37,6 +38,21 @@ impl Model for Versions {
 
     ghost invariant = { λ v.
         Kept v.slots.slots v.slots.numbers v.next v.journal v.marks.items };
+}
+
+impl Rows for Versions {
+    ghost rows = { λ h. h.rows };
+
+    fn known(&self) {
+        self.slots.known();
+    }
+
+    fn scan(&self, table: TableId, after: u64) -> Option<(u64, &[Value])> {
+        match self.slots.row_above(table, after) {
+            Some(row) => Some((row.number, row.values.values())),
+            None => None,
+        }
+    }
 }
 
 // Notes a change and makes it.
@@ -95,13 +111,6 @@ impl Versions {
         }
     }
 
-    /// Does nothing: the rows are by rising number.
-    pub fn known(&self)
-        ensures { Rises 0 self.now.rows }
-    {
-        let _ = &self.slots;
-    }
-
     /// The number that the next new row takes.
     pub fn next(&self) -> u64
         ensures next { result ≡ self.now.next }
@@ -126,13 +135,6 @@ impl Versions {
         self.slots.row(number)
     }
 
-    /// The next row of a table above a number. It halves among the numbers of the table and among all rows.
-    pub fn row_above(&self, table: TableId, number: u64) -> Option<&StoredRow>
-        ensures { option_copied result ≡ row_above number (table_rows self.now.rows table) }
-    {
-        self.slots.row_above(table, number)
-    }
-
     /// Makes a change of one row. Where memory is refused, all is as before.
     pub fn change(&mut self, change: &Change) -> Result<(), AllocError>
         requires current { values_at self.old.rows change.now.row ≡ change.now.old }
@@ -144,6 +146,7 @@ impl Versions {
         ensures ok { OnOk result (self.new ≡ history_after self.old change.now) }
         ensures marked { OnOk result (marked_of self.new ≡
             after_change change.now (marked_of self.old)) }
+        ensures back { OnOk result (rows_before change.now self.new.rows ≡ self.old.rows) }
         ensures err { OnErr result (self.new ≡ self.old) }
     {
         self.slots.known();
@@ -176,6 +179,8 @@ impl Versions {
             (λ change. last_change self.now.journal ≡ Some change) }
         ensures made { IfSome (option_copied result) (λ change.
             rows_after (rows_before change self.now.rows) (change ∷ []) ≡ self.now.rows) }
+        ensures before { IfSome (option_copied result)
+            (λ change. Rises 0 (rows_before change self.now.rows)) }
         ensures above { IfSome result (λ _. noted_at self.now.marks place < length self.now.journal) }
         ensures none { result ≡ None → length self.now.journal ≤ noted_at self.now.marks place }
     {

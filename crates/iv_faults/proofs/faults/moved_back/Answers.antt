@@ -1,6 +1,6 @@
 use Rattle.std.proofs.Common.{sym, subst}
 use Rattle.iv_index.specs.Groups.{groups_of}
-use Rattle.iv_faults.specs.Steps.{IsReady}
+use Rattle.iv_following.specs.Steps.{IsReady}
 use Rattle.iv_faults.proofs.Shows.{ready_back}
 use Rattle.iv_faults.proofs.faults.moved_back.Goals as goal
 

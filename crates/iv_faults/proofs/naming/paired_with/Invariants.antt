@@ -1,5 +1,5 @@
 use Rattle.std.proofs.Common.{◌≡◌, ◌++◌, drop}
-use Rattle.iv_faults.specs.References.{paired_with}
+use Rattle.iv_following.specs.References.{paired_with}
 use Rattle.iv_faults.proofs.naming.paired_with.Given as goal
 
 abbrev pub invariant-loop-other : goal.invariant-loop-other

@@ -1,5 +1,5 @@
 use Rattle.std.proofs.Common.{◌++◌, List, Option, subst, sym}
-use Rattle.iv_faults.specs.declared.reference.Reference.{Reference}
+use Rattle.iv_following.specs.declared.reference.Reference.{Reference}
 use Rattle.iv_faults.specs.Watch.{AreReferencesOf}
 use Rattle.iv_faults.proofs.WatchAppended.{references_append, references_length}
 use Rattle.iv_faults.proofs.naming.references_of.Goals as goal

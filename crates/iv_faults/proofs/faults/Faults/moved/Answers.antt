@@ -1,7 +1,7 @@
 use Rattle.std.proofs.Common.{List, length, subst, sym}
 use Rattle.iv_faults.specs.Words.{StoredRow}
-use Rattle.iv_faults.specs.Following.{Followed}
-use Rattle.iv_faults.specs.Turns.{AllStay}
+use Rattle.iv_following.specs.Following.{Followed}
+use Rattle.iv_following.specs.Turns.{AllStay}
 use Rattle.iv_faults.specs.Watching.{IsShownBy}
 use Rattle.iv_faults.proofs.Shows.{on_err, shown_after, shown_still}
 use Rattle.iv_faults.proofs.faults.Faults.moved.Goals as goal

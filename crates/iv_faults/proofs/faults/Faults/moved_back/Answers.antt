@@ -1,7 +1,7 @@
 use Rattle.std.proofs.Common.{[], ◌∷◌, subst, sym}
 use Rattle.iv_machine.specs.Databases.{rows_after}
 use Rattle.iv_laws_kept.specs.Moves.{taken_back}
-use Rattle.iv_faults.specs.Following.{Followed}
+use Rattle.iv_following.specs.Following.{Followed}
 use Rattle.iv_faults.specs.Watching.{IsShownBy}
 use Rattle.iv_faults.proofs.Shows.{shown_back}
 use Rattle.iv_faults.proofs.faults.Faults.moved_back.Goals as goal

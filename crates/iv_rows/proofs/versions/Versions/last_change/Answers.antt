@@ -1,11 +1,12 @@
 use Rattle.std.proofs.Common.{◌≡◌, ◌∙◌, ◌<◌, ◌≤◌, ◌∷◌, [], Some, IfSome, length, arith, sym, ap, subst}
 use Rattle.std.specs.Prelude.{slice_get}
 use Rattle.std.specs.Option.{option_copied}
+use Rattle.iv_expr.specs.Scopes.{Rises}
 use Rattle.iv_machine.specs.Databases.{rows_after}
 use Rattle.iv_rows.specs.declared.saved.Saved.{Saved}
 use Rattle.iv_rows.specs.Histories.{History, history_of, noted_at, rows_before}
 use Rattle.iv_rows.proofs.Marks.{indexed, noted_is}
-use Rattle.iv_rows.proofs.Histories.{if_made, if_some, never_none}
+use Rattle.iv_rows.proofs.Histories.{if_made, if_rises, if_some, never_none}
 use Rattle.iv_rows.proofs.versions.Versions.last_change.Goals as goal
 
 pub returns-then-index-mark-clause-made : goal.returns-then-index-mark-clause-made
@@ -13,6 +14,12 @@ returns-then-index-mark-clause-made c =
     let s = c.self.inside in
     subst (λ (h : History). IfSome (option_copied c.last.result) (λ change. rows_after (rows_before change h.rows) (change ∷ []) ≡ h.rows)) c.self.view_is
     (if_made (history_of s.slots.slots s.next s.journal s.marks.items) (option_copied c.last.result) c.self.invariant.sound c.last.ensures)
+
+pub returns-then-index-mark-clause-before : goal.returns-then-index-mark-clause-before
+returns-then-index-mark-clause-before c =
+    let s = c.self.inside in
+    subst (λ (h : History). IfSome (option_copied c.last.result) (λ change. Rises 0 (rows_before change h.rows))) c.self.view_is
+    (if_rises (history_of s.slots.slots s.next s.journal s.marks.items) (option_copied c.last.result) c.self.invariant.sound c.last.ensures)
 
 pub returns-then-index-mark-clause-above : goal.returns-then-index-mark-clause-above
 returns-then-index-mark-clause-above c =

@@ -1,0 +1,80 @@
+//! A program that uses the library: accounts, a transfer that is refused at COMMIT, and one that is not.
+#![tactic(auto)]
+
+mod showing;
+
+use crate::showing::{show_outcome, show_pending};
+use iv_index_store::IndexStore;
+use iv_parse::script;
+use iv_session::{Limits, Session};
+use std::io;
+use std::process::ExitCode;
+
+// A session over the store that finds rows by their keys.
+type Database = Session<IndexStore>;
+
+const ACCOUNTS: &str =
+    "CREATE TABLE account (owner VARCHAR(20) PRIMARY KEY, balance INT CONSTRAINT solvent CHECK (balance >= 0) INITIALLY DEFERRED); INSERT INTO account VALUES ('Ann', 50), ('Bob', 20); COMMIT;";
+
+const TRANSFER: &str =
+    "UPDATE account SET balance = balance - 70 WHERE owner = 'Ann'; SAVEPOINT taken; UPDATE account SET balance = balance + 70 WHERE owner = 'Bob';";
+
+const TWICE: &str = "INSERT INTO account VALUES ('Ann', 1);";
+
+const BALANCES: &str = "SELECT owner, balance FROM account;";
+
+// Executes the statements of a text, and shows what each of them answers.
+fn run(rt: &HostRuntime, database: &mut Database, text: &str) -> io::Result<()> {
+    let parsed = script(rt.alloc(), text)?;
+    for statement in parsed.statements.as_slice() {
+        let outcome = database.execute(statement);
+        show_outcome(rt, database.catalogue(), &outcome)?;
+    }
+    match parsed.fault {
+        Some(fault) => println!(rt; "no statement at byte {}", fault.at),
+        None => Ok(()),
+    }
+}
+
+// Commits by the call, and shows the violation where it is refused.
+fn commit(rt: &HostRuntime, database: &mut Database) -> io::Result<()> {
+    match database.commit() {
+        Ok(()) => println!(rt; "committed"),
+        Err(fault) => {
+            println!(rt; "not committed, because of row {}", fault.row)?;
+            show_pending(rt, database.catalogue(), &[fault])
+        }
+    }
+}
+
+// What the accounts go through.
+fn transfers(rt: &HostRuntime, database: &mut Database) -> io::Result<()> {
+    run(rt, database, ACCOUNTS)?;
+    run(rt, database, TRANSFER)?;
+    let pending = database.pending()?;
+    show_pending(rt, database.catalogue(), pending.as_slice())?;
+    let back = database.rollback_to("TAKEN");
+    show_outcome(rt, database.catalogue(), &back)?;
+    let work = database.work();
+    println!(rt; "undone {}, keys looked up {}", work.undone, work.lookups)?;
+    commit(rt, database)?;
+    run(rt, database, TWICE)?;
+    run(rt, database, BALANCES)
+}
+
+fn main(rt: HostRuntime) -> io::Result<ExitCode> {
+    let Some(limits) = Limits::new(16, 65_536) else {
+        return Ok(ExitCode::from(2));
+    };
+    let mut database = match Database::new(rt.alloc(), limits) {
+        Ok(database) => database,
+        Err(_) => {
+            eprintln!(rt; "out of memory")?;
+            return Ok(ExitCode::from(2));
+        }
+    };
+    let shown = transfers(&rt, &mut database);
+    drop(database);
+    shown?;
+    Ok(ExitCode::from(0))
+}

@@ -1,0 +1,63 @@
+//! Answers of statements in words.
+use iv_catalogue::{Catalogue, Cause, Fault, Refusal};
+use iv_expr::Row;
+use iv_session::{Answer, Outcome};
+use iv_value::Value;
+use std::io;
+
+// A value of a row.
+fn show_value(rt: &HostRuntime, value: &Value) -> io::Result<()> {
+    match value {
+        Value::Null => print!(rt; " NULL"),
+        Value::Int(integer) => print!(rt; " {integer}"),
+        Value::Text(text) => print!(rt; " {}", text.as_str()),
+    }
+}
+
+// The rows of a SELECT, each on a line.
+fn show_rows(rt: &HostRuntime, rows: &[Row]) -> io::Result<()> {
+    for row in rows {
+        print!(rt; "row")?;
+        for value in row.values() {
+            show_value(rt, value)?;
+        }
+        println!(rt; "")?;
+    }
+    Ok(())
+}
+
+// A violation: the name of its constraint, and the number of its row.
+fn show_fault(rt: &HostRuntime, catalogue: &Catalogue, fault: &Fault) -> io::Result<()> {
+    match catalogue.constraint(fault.constraint) {
+        Some(constraint) => println!(rt; "row {} violates {}", fault.row, constraint.name.as_str()),
+        None => println!(rt; "row {} violates a constraint", fault.row),
+    }
+}
+
+/// The violations that COMMIT would find.
+pub fn show_pending(rt: &HostRuntime, catalogue: &Catalogue, faults: &[Fault]) -> io::Result<()> {
+    for fault in faults {
+        show_fault(rt, catalogue, fault)?;
+    }
+    Ok(())
+}
+
+// Why a statement was refused. Where memory was refused, the statement may be given once more.
+fn show_refusal(rt: &HostRuntime, catalogue: &Catalogue, refusal: &Refusal) -> io::Result<()> {
+    match &refusal.cause {
+        Cause::Violation(fault) => show_fault(rt, catalogue, fault),
+        Cause::CommitRefused(fault) => show_fault(rt, catalogue, fault),
+        Cause::OutOfMemory => println!(rt; "out of memory"),
+        cause => println!(rt; "refused: {cause:?}"),
+    }
+}
+
+/// What a statement answers.
+pub fn show_outcome(rt: &HostRuntime, catalogue: &Catalogue, outcome: &Outcome) -> io::Result<()> {
+    match outcome {
+        Ok(Answer::Done) => println!(rt; "done"),
+        Ok(Answer::Changed(count)) => println!(rt; "changed {count}"),
+        Ok(Answer::Rows(rows)) => show_rows(rt, rows.as_slice()),
+        Err(refusal) => show_refusal(rt, catalogue, refusal),
+    }
+}

@@ -1,0 +1,12 @@
+pub mod Placed
+pub mod GroupsShown
+pub mod SideKeys
+pub mod Steps
+pub mod NoForeignKeys
+pub mod Watched
+pub mod Referenced
+pub mod Referring
+pub mod Turning
+pub mod Whole
+pub mod Follows
+pub mod Rooms

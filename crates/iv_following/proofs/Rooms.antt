@@ -1,0 +1,138 @@
+-- Room for a change, and then the change.
+use Rattle.std.proofs.Common.{◌≡◌, refl, ℕ, ◌+◌, ◌<◌, ◌≤◌, Bool, true, false, ◌&&◌, not, if◌then◌else◌, List, length, slice_get, Option, Some, None, sym, ap, subst, ◌∙◌, arith}
+use Rattle.std.specs.Bool.{◌==◌}
+use Rattle.iv_following.specs.Words.{Value, Change, Constraint, ForeignKey}
+use Rattle.iv_laws.proofs.RowNumbers.{some_none}
+use Rattle.iv_index.specs.Groups.{Contents, groups_of, rows_of, room_of}
+use Rattle.iv_marks.specs.Shown.{shown, shown_of}
+use Rattle.iv_marks.proofs.Shown.{groups_shown, rows_in_shown}
+use Rattle.iv_laws_kept.specs.Kept.{groups_of as own_groups}
+use Rattle.iv_laws_kept.specs.Kept.{Groups, kept_key, rows_in, rows_under, in_order_of, can_be_key, is_empty, is_referenced, AllNamed}
+use Rattle.iv_laws_kept.specs.Marks.{Marks, marks_of, AreMarked}
+use Rattle.iv_laws_kept.specs.Moves.{rows_moved}
+use Rattle.iv_laws_kept.specs.Numbers.{has}
+use Rattle.iv_laws_kept.proofs.Naming.{Named, named_of}
+use Rattle.iv_following.specs.KeyGroups.{Marked}
+use Rattle.iv_following.specs.Sides.{IsPresent, side_key, stays_put}
+use Rattle.iv_following.specs.Steps.{IsReady}
+use Rattle.iv_following.specs.Turns.{AllStay, HasRoom}
+use Rattle.iv_following.specs.Following.{AreMet, Followed}
+use Rattle.iv_following.proofs.Follows.{met_either}
+use Rattle.iv_following.proofs.Steps.{marks_stay}
+use Rattle.iv_following.proofs.Whole.{parts_make_the_whole}
+
+-- ---- rows that stay, twice
+
+pub stay_then : (constraints : List Constraint) (a b most : ℕ) (start mid now : Contents) (marks between later : Marks) → a + b ≤ most
+    → AllStay constraints a start mid marks between → AllStay constraints b mid now between later → AllStay constraints most start now marks later
+stay_then constraints a b most start mid now marks between later less first second = record {
+  count = second.count ∙ first.count;
+  marks_count = second.marks_count ∙ first.marks_count;
+  stay = λ k c at. record {
+    rows = λ key. (second.stay k c at).rows key ∙ (first.stay k c at).rows key;
+    marked = λ referenced right. (second.stay k c at).marked referenced ((first.stay k c at).marked referenced right);
+  };
+  watched = λ k w. second.watched k (first.watched k w);
+  sizes = λ k key. omega (arith, first.sizes k key, second.sizes k key);
+  grows = omega (arith, first.grows, second.grows);
+  looked = omega (arith, first.looked, second.looked, less);
+}
+
+pub stay_more : (constraints : List Constraint) (a most : ℕ) (start now : Contents) (marks later : Marks) → a ≤ most → AllStay constraints a start now marks later → AllStay constraints most start now marks later
+stay_more constraints a most start now marks later less s = record {
+  count = s.count;
+  marks_count = s.marks_count;
+  stay = s.stay;
+  watched = s.watched;
+  sizes = s.sizes;
+  grows = s.grows;
+  looked = omega (arith, s.looked, less);
+}
+
+-- room that is there stays where the rows do
+pub room_stays : (constraints : List Constraint) (change : Change) (most : ℕ) (start now : Contents) (marks later : Marks) (k : ℕ) → AllStay constraints most start now marks later
+    → HasRoom constraints change k (groups_of start.groups k) → HasRoom constraints change k (groups_of now.groups k)
+room_stays constraints change most start now marks later k s room c key at moves new =
+    let rows : rows_of (groups_of now.groups k) key ≡ rows_of (groups_of start.groups k) key =
+    sym (rows_in_shown (groups_of now.groups k) key) ∙ (s.stay k c at).rows key ∙ rows_in_shown (groups_of start.groups k) key in
+    omega (arith, room c key at moves new, s.sizes k key, ap length rows)
+
+-- ---- marks
+
+-- keys are referenced as before
+same_referenced : (constraints : List Constraint) (most : ℕ) (start now : Contents) (marks later : Marks) (fk : ForeignKey) (key : List Value) → AllStay constraints most start now marks later → Named constraints fk
+    → is_referenced constraints (shown now.groups) fk key ≡ is_referenced constraints (shown start.groups) fk key
+same_referenced constraints most start now marks later fk key s n =
+    said (shown now.groups) ∙ ap (λ rows. can_be_key fk.key key && not (is_empty rows)) rows ∙ sym (said (shown start.groups))
+  where
+    said : (g : Groups) → is_referenced constraints g fk key ≡ (can_be_key fk.key key && not (is_empty (rows_under g n.key.id (in_order_of n.key.columns fk.key key))))
+    said g = ap (λ o. elim o [
+      | Some k ↦ can_be_key fk.key key && not (is_empty (rows_under g k.id (in_order_of k.columns fk.key key)))
+      | None ↦ false
+    ]) n.found
+
+    rows : rows_under (shown now.groups) n.key.id (in_order_of n.key.columns fk.key key) ≡ rows_under (shown start.groups) n.key.id (in_order_of n.key.columns fk.key key)
+    rows = ap (λ g. rows_in g (in_order_of n.key.columns fk.key key)) (groups_shown now.groups n.key.id)
+        ∙ (s.stay n.key.id n.constraint n.at).rows (in_order_of n.key.columns fk.key key)
+        ∙ ap (λ g. rows_in g (in_order_of n.key.columns fk.key key)) (sym (groups_shown start.groups n.key.id))
+
+pub stay_marked : (constraints : List Constraint) (most : ℕ) (start now : Contents) (marks later : Marks) → AllNamed constraints → AllStay constraints most start now marks later
+    → AreMarked constraints (shown start.groups) marks → AreMarked constraints (shown now.groups) later
+stay_marked constraints most start now marks later all s =
+    parts_make_the_whole constraints (shown start.groups) (shown now.groups) marks later
+    (λ id c referenced at e right. to_shown id referenced c ((s.stay id c at).marked referenced (from_shown id referenced c right)))
+    (λ id c fk at is right.
+    marks_stay (is_referenced constraints (shown start.groups) fk) (is_referenced constraints (shown now.groups) fk) c.rule (own_groups (shown now.groups) id) (own_groups (shown now.groups) id) (marks_of later id) refl
+    (λ other given. same_referenced constraints most start now marks later fk other s (named_of constraints id c fk all at is))
+    (to_shown id (is_referenced constraints (shown start.groups) fk) c ((s.stay id c at).marked (is_referenced constraints (shown start.groups) fk) (from_shown id (is_referenced constraints (shown start.groups) fk) c right))))
+  where
+    from_shown : (id : ℕ) (referenced : List Value → Bool) (c : Constraint) → Marked referenced c.rule (own_groups (shown start.groups) id) (marks_of marks id) → Marked referenced c.rule (shown_of start.groups id) (marks_of marks id)
+    from_shown id referenced c = subst (λ g. Marked referenced c.rule g (marks_of marks id)) (groups_shown start.groups id)
+
+    to_shown : (id : ℕ) (referenced : List Value → Bool) (c : Constraint) → Marked referenced c.rule (shown_of now.groups id) (marks_of later id) → Marked referenced c.rule (own_groups (shown now.groups) id) (marks_of later id)
+    to_shown id referenced c = subst (λ g. Marked referenced c.rule g (marks_of later id)) (sym (groups_shown now.groups id))
+
+-- the rows under a key are as before
+pub stay_rows : (constraints : List Constraint) (most : ℕ) (start now : Contents) (marks later : Marks) (id : ℕ) (c : Constraint) (key : List Value) → AllStay constraints most start now marks later
+    → slice_get constraints id ≡ Some c → rows_under (shown now.groups) id key ≡ rows_under (shown start.groups) id key
+stay_rows constraints most start now marks later id c key s at =
+    ap (λ g. rows_in g key) (groups_shown now.groups id) ∙ (s.stay id c at).rows key ∙ ap (λ g. rows_in g key) (sym (groups_shown start.groups id))
+
+-- ---- room and change
+
+-- after room was made the change can be made
+pub ready : (constraints : List Constraint) (change : Change) (keys foreign_keys : List ℕ) (most : ℕ) (start now : Contents) (marks later : Marks)
+    → AreMet constraints change.table keys foreign_keys → IsPresent constraints (shown start.groups) change → AllStay constraints most start now marks later
+    → ((k : ℕ) → has k keys ≡ true → HasRoom constraints change k (groups_of now.groups k)) → ((k : ℕ) → has k foreign_keys ≡ true → HasRoom constraints change k (groups_of now.groups k))
+    → (k : ℕ) (c : Constraint) → slice_get constraints k ≡ Some c → IsReady change c (groups_of now.groups k)
+ready constraints change keys foreign_keys most start now marks later met present s in_keys in_foreign_keys k c at = record {
+  present = λ key e.
+      ap (λ g. has change.row (rows_in g key)) (sym (groups_shown now.groups k))
+      ∙ ap (has change.row) (stay_rows constraints most start now marks later k c key s at) ∙ present k c key at e;
+  room_for = λ key moves e. by_table (change.table == c.table) refl key moves e;
+}
+  where
+    by_table : (b : Bool) → (change.table == c.table) ≡ b → (key : List Value) → stays_put c change ≡ false → side_key c change.table change.new ≡ Some key → 0 < room_of (groups_of now.groups k) key
+    by_table false t key moves e = absurd (some_none key (sym (sym (no_side change.new) ∙ e)))
+      where
+        no_side : (side : Option (List Value)) → side_key c change.table side ≡ None
+        no_side None = refl
+        no_side (Some values) = ap (λ b. if b then kept_key c.rule values else None) t
+    by_table true t key moves e = by_place (has k keys) refl
+      where
+        by_place : (b : Bool) → has k keys ≡ b → 0 < room_of (groups_of now.groups k) key
+        by_place true h = in_keys k h c key at moves e
+        by_place false h = in_foreign_keys k (met_either constraints change.table keys foreign_keys met k c at t h) c key at moves e
+
+pub then_followed : (constraints : List Constraint) (change : Change) (start mid now : Contents) (marks between later : Marks) → AllNamed constraints
+    → AllStay constraints (length constraints) start mid marks between → Followed constraints change 6 mid now between later → Followed constraints change 7 start now marks later
+then_followed constraints change start mid now marks between later all s f = record {
+  count = f.count ∙ s.count;
+  marks_count = f.marks_count ∙ s.marks_count;
+  follow = λ id c key at. f.follow id c key at ∙ ap (rows_moved c key change) (stay_rows constraints (length constraints) start mid marks between id c key s at);
+  marked = λ right. f.marked (stay_marked constraints (length constraints) start mid marks between all s right);
+  watched = λ k w. f.watched k (s.watched k w);
+  sizes = λ k key. omega (arith, s.sizes k key, f.sizes k key);
+  grows = omega (arith, s.grows, f.grows);
+  looked = omega (arith, s.looked, f.looked);
+}

@@ -1,0 +1,11 @@
+use Rattle.std.proofs.Common.{sym, ◌∙◌}
+use Rattle.iv_marks.specs.Shown.{shown_of}
+use Rattle.iv_following.specs.Sides.{is_one_key}
+use Rattle.iv_following.proofs.SideKeys.{stays_moved}
+use Rattle.iv_following.proofs.step.move_row.Goals as goal
+
+pub returns-then-is_one_key-clause-moved : goal.returns-then-is_one_key-clause-moved
+returns-then-is_one_key-clause-moved c = λ key.
+    stays_moved c.args.constraint.now c.args.change.now (shown_of c.args.groups.now.groups c.args.id) key
+    ((λ i. is_one_key (sym c.old_key-old.ensures i) (sym c.new_key-new.ensures i)) ∙ sym c.is_one_key.ensures ∙ c.if-is_one_key.true)
+    c.requires.ready.present (c.rows_rise.ensures c.args.id key)

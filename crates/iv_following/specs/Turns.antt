@@ -1,0 +1,65 @@
+-- Constraints that are changed one after the other.
+use Rattle.std.specs.Prelude.{◌≡◌, ℕ, ◌+◌, ◌*◌, ◌<◌, ◌≤◌, Bool, true, false, List, length, map, slice_get, Option, Some}
+use Rattle.iv_following.specs.Words.{Value, Change, Constraint}
+use Rattle.iv_index.specs.Groups.{GroupOf, Contents, groups_of, room_of}
+use Rattle.iv_index.specs.Laws.{size_of}
+use Rattle.iv_marks.specs.Shown.{shown_group, shown_of}
+use Rattle.iv_laws_kept.specs.Marks.{Marks, marks_of}
+use Rattle.iv_laws_kept.specs.Numbers.{has}
+use Rattle.iv_following.specs.References.{ReferenceMoved, reference_at}
+use Rattle.iv_following.specs.declared.reference.Reference.{Reference}
+use Rattle.iv_following.specs.Sides.{side_key, stays_put}
+use Rattle.iv_following.specs.Steps.{IsWatched, KeyMoved, RowsStay, is_reference}
+
+-- what a step leaves of one constraint's groups and marks, by its number
+abbrev pub Left : Type 1
+Left = ℕ → List GroupOf → List Bool → List GroupOf → List Bool → Type 0
+
+-- Each of the constraints of these numbers has been changed as this says, but the rest, which stand as at the start, as all others do.
+-- No key can hold fewer rows without memory, and for each constraint there were so many look-ups at most.
+pub record Turned (Leaves : Left) (most : ℕ) (places rest : List ℕ) (start now : Contents) (marks later : Marks) : Type 0 where
+  pub count : length now.groups ≡ length start.groups
+  pub marks_count : length later ≡ length marks
+  pub inside : (k : ℕ) → has k rest ≡ true → has k places ≡ true
+  pub done : (k : ℕ) → has k places ≡ true → has k rest ≡ false → Leaves k (groups_of start.groups k) (marks_of marks k) (groups_of now.groups k) (marks_of later k)
+  pub waiting : (k : ℕ) → has k rest ≡ true → (groups_of now.groups k ≡ groups_of start.groups k) × (marks_of later k ≡ marks_of marks k)
+  pub others : (k : ℕ) → has k places ≡ false → (groups_of now.groups k ≡ groups_of start.groups k) × (marks_of later k ≡ marks_of marks k)
+  pub watched : (k : ℕ) → IsWatched k start.groups marks → IsWatched k now.groups later
+  pub sizes : (k : ℕ) (key : List Value) → size_of (groups_of start.groups k) key ≤ size_of (groups_of now.groups k) key
+  pub grows : start.looked ≤ now.looked
+  pub looked : now.looked + most * length rest ≤ start.looked + most * length places
+
+-- the row has moved in the groups of a constraint that is no foreign key
+abbrev pub KeyTurn : List Constraint → Change → Left
+KeyTurn constraints change k groups marks after later =
+    (c : Constraint) → slice_get constraints k ≡ Some c → is_reference c.rule ≡ false → KeyMoved change c (map shown_group groups) marks (map shown_group after) later
+
+-- the row has moved in the groups of a foreign key, whose named key's groups are these
+abbrev pub ReferenceTurn : List Constraint → List (Option Reference) → Change → List (List GroupOf) → Left
+ReferenceTurn constraints references change all k groups marks after later =
+    (c : Constraint) (r : Reference) → slice_get constraints k ≡ Some c → reference_at references k ≡ Some r
+    → ReferenceMoved r change (shown_of all r.named) c (map shown_group groups) marks (map shown_group after) later
+
+-- no row has moved
+abbrev pub StayTurn : List Constraint → Left
+StayTurn constraints k groups marks after later =
+    (c : Constraint) → slice_get constraints k ≡ Some c → RowsStay c (map shown_group groups) marks (map shown_group after) later
+
+-- the new side of the change has room under its key, where it is another one than that of the old side
+abbrev pub HasRoom : List Constraint → Change → ℕ → List GroupOf → Type 0
+HasRoom constraints change k groups =
+    (c : Constraint) (key : List Value) → slice_get constraints k ≡ Some c → stays_put c change ≡ false → side_key c change.table change.new ≡ Some key → 0 < room_of groups key
+
+-- no row has moved, and the new side has room
+abbrev pub RoomTurn : List Constraint → Change → Left
+RoomTurn constraints change k groups marks after later = StayTurn constraints k groups marks after later × HasRoom constraints change k after
+
+-- No row of any constraint has moved, no key can hold fewer rows without memory, and there were so many look-ups at most.
+pub record AllStay (constraints : List Constraint) (most : ℕ) (start now : Contents) (marks later : Marks) : Type 0 where
+  pub count : length now.groups ≡ length start.groups
+  pub marks_count : length later ≡ length marks
+  pub stay : (k : ℕ) → StayTurn constraints k (groups_of start.groups k) (marks_of marks k) (groups_of now.groups k) (marks_of later k)
+  pub watched : (k : ℕ) → IsWatched k start.groups marks → IsWatched k now.groups later
+  pub sizes : (k : ℕ) (key : List Value) → size_of (groups_of start.groups k) key ≤ size_of (groups_of now.groups k) key
+  pub grows : start.looked ≤ now.looked
+  pub looked : now.looked ≤ start.looked + most

@@ -1,0 +1,97 @@
+//! A change of a row, followed by all constraints.
+ghost use Rattle.std.specs.Prelude.{◌≡◌, ℕ, ◌<◌, length, slice_get, Some, true, OnOk, OnErr};
+ghost use Rattle.iv_catalogue.specs.declared.constraint.Constraint.{Constraint};
+ghost use Rattle.iv_index.specs.Groups.{groups_of};
+ghost use Rattle.iv_laws_kept.specs.Kept.{AllNamed};
+ghost use Rattle.iv_laws_kept.specs.Numbers.{has};
+ghost use Rattle.iv_marks.specs.Shown.{shown};
+ghost use Rattle.iv_following.specs.Following.{AreMet, Followed};
+ghost use Rattle.iv_following.specs.References.{AreReferences};
+ghost use Rattle.iv_following.specs.Sides.{IsPresent};
+ghost use Rattle.iv_following.specs.Steps.{IsReady, IsWatched};
+ghost use Rattle.iv_following.specs.Turns.{AllStay, HasRoom};
+
+use crate::reference::Reference;
+use crate::sides::Sides;
+use crate::turns::{make_rooms, move_keys, move_references};
+use iv_catalogue::Constraint;
+use iv_index::Groups;
+use iv_marks::ViolatingGroups;
+use std::alloc::AllocError;
+
+/// Follows a change for which there is room. `keys` and `foreign_keys` are the numbers of the constraints that the rows
+/// of the change's table meet. It takes no memory, and six look-ups for each of them at most.
+pub fn follow(
+    groups: &mut Groups,
+    marks: &mut ViolatingGroups,
+    keys: &[u32],
+    foreign_keys: &[u32],
+    constraints: &[Constraint],
+    references: &[Option<Reference>],
+    change: &Sides<'_>,
+)
+    requires met { AreMet constraints.now change.now.table keys.now foreign_keys.now }
+    requires references { AreReferences constraints.now references.now }
+    requires named { AllNamed constraints.now }
+    requires watched { (k : ℕ) → k < length constraints.now → IsWatched k groups.old.groups marks.old }
+    requires ready { (k : ℕ) (c : Constraint) → slice_get constraints.now k ≡ Some c
+        → IsReady change.now c (groups_of groups.old.groups k) }
+    ensures { Followed constraints.now change.now 6 groups.old groups.new marks.old marks.new }
+{
+    move_keys(groups, marks, keys, constraints, change);
+    move_references(groups, marks, foreign_keys, constraints, references, change);
+}
+
+// Room for a change in all constraints that it concerns.
+fn make_all_rooms(
+    groups: &mut Groups,
+    marks: &mut ViolatingGroups,
+    keys: &[u32],
+    foreign_keys: &[u32],
+    constraints: &[Constraint],
+    change: &Sides<'_>,
+) -> Result<(), AllocError>
+    requires met { AreMet constraints.now change.now.table keys.now foreign_keys.now }
+    requires watched { (k : ℕ) → k < length constraints.now → IsWatched k groups.old.groups marks.old }
+    ensures keys { OnOk result ((k : ℕ) → has k keys.now ≡ true
+        → HasRoom constraints.now change.now k (groups_of groups.new.groups k)) }
+    ensures foreign_keys { OnOk result ((k : ℕ) → has k foreign_keys.now ≡ true
+        → HasRoom constraints.now change.now k (groups_of groups.new.groups k)) }
+    ensures stay { AllStay constraints.now (length constraints.now) groups.old groups.new marks.old marks.new }
+{
+    make_rooms(groups, marks, keys, constraints, change)?;
+    make_rooms(groups, marks, foreign_keys, constraints, change)?;
+    Ok(())
+}
+
+/// Makes room for a change and follows it. Where memory is refused no row moves. At most seven look-ups for each
+/// constraint that the rows of the change's table meet.
+pub fn make_room_and_follow(
+    groups: &mut Groups,
+    marks: &mut ViolatingGroups,
+    keys: &[u32],
+    foreign_keys: &[u32],
+    constraints: &[Constraint],
+    references: &[Option<Reference>],
+    change: &Sides<'_>,
+) -> Result<(), AllocError>
+    requires met { AreMet constraints.now change.now.table keys.now foreign_keys.now }
+    requires references { AreReferences constraints.now references.now }
+    requires named { AllNamed constraints.now }
+    requires watched { (k : ℕ) → k < length constraints.now → IsWatched k groups.old.groups marks.old }
+    requires present { IsPresent constraints.now (shown groups.old.groups) change.now }
+    ensures ok { OnOk result (Followed constraints.now change.now 7 groups.old groups.new marks.old marks.new) }
+    ensures err { OnErr result (AllStay constraints.now (length constraints.now) groups.old groups.new marks.old marks.new) }
+{
+    make_all_rooms(groups, marks, keys, foreign_keys, constraints, change)?;
+    follow(
+        groups,
+        marks,
+        keys,
+        foreign_keys,
+        constraints,
+        references,
+        change,
+    );
+    Ok(())
+}

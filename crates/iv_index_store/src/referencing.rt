@@ -1,0 +1,79 @@
+//! The rows that hold a key by a foreign key.
+ghost use Rattle.std.specs.Prelude.{◌≡◌, ◌+◌, ◌≤◌, [], List, filter, if◌then◌else◌, IfOk};
+ghost use Rattle.iv_value.specs.declared.value.Value.{Value};
+ghost use Rattle.iv_expr.specs.declared.row.StoredRow.{StoredRow};
+ghost use Rattle.iv_index.specs.Groups.{groups_of, rows_of};
+ghost use Rattle.iv_key.specs.Keys.{none_null};
+ghost use Rattle.iv_machine.specs.ReferentialActions.{reference};
+ghost use Rattle.iv_marks.specs.Shown.{shown};
+ghost use Rattle.iv_laws_kept.specs.Kept.{Show, is_kept_under, rows_under};
+ghost use Rattle.iv_store.specs.Stores.{numbers_by, numbers_of, reference_at};
+
+use iv_catalogue::{Constraint, Rule};
+use iv_index::Groups;
+use iv_key::Key;
+use std::alloc::{AllocError, Global};
+
+// The rows of a key of a constraint, where the key has no null.
+fn holders(
+    alloc: Global,
+    groups: &mut Groups,
+    id: usize,
+    key: &Key<'_>,
+) -> Result<Vec<u64>, AllocError>
+    ensures numbers { IfOk result (λ v. v.items
+        ≡ (if none_null key.now then rows_of (groups_of groups.old.groups id) key.now else [])) }
+    ensures kept { groups.new.groups ≡ groups.old.groups }
+    ensures grows { groups.old.looked ≤ groups.new.looked }
+    ensures looked { groups.new.looked ≤ groups.old.looked + 1 }
+{
+    if !key.none_null() {
+        return Ok(Vec::new(alloc));
+    }
+    match groups.place(id, key) {
+        Some(place) => Vec::from_slice(alloc, groups.rows_at(id, place)),
+        None => Ok(Vec::new(alloc)),
+    }
+}
+
+// The numbers of the rows that hold a key by a constraint, where it is a foreign key.
+fn children_by(
+    alloc: Global,
+    groups: &mut Groups,
+    id: usize,
+    constraint: &Constraint,
+    key: &Key<'_>,
+) -> Result<Vec<u64>, AllocError>
+    ensures numbers { IfOk result (λ v. (rows : List StoredRow)
+        → ((k : List Value) → rows_under (shown groups.old.groups) id k ≡ numbers_of (filter (is_kept_under constraint.now k) rows))
+        → v.items ≡ numbers_by rows key.now (reference (id, constraint.now))) }
+    ensures kept { groups.new.groups ≡ groups.old.groups }
+    ensures grows { groups.old.looked ≤ groups.new.looked }
+    ensures looked { groups.new.looked ≤ groups.old.looked + 1 }
+{
+    match &constraint.rule {
+        Rule::ForeignKey(_) => holders(alloc, groups, id, key),
+        _ => Ok(Vec::new(alloc)),
+    }
+}
+
+/// The numbers of the rows that hold a key by the constraint of this number, where it is a foreign key. One look-up at
+/// most, and as long as it takes to copy the numbers that it gives.
+pub fn children(
+    alloc: Global,
+    groups: &mut Groups,
+    constraints: &[Constraint],
+    id: usize,
+    key: &Key<'_>,
+) -> Result<Vec<u64>, AllocError>
+    ensures numbers { IfOk result (λ v. (rows : List StoredRow) → Show rows constraints.now (shown groups.old.groups)
+        → v.items ≡ numbers_by rows key.now (reference_at constraints.now id)) }
+    ensures kept { groups.new.groups ≡ groups.old.groups }
+    ensures grows { groups.old.looked ≤ groups.new.looked }
+    ensures looked { groups.new.looked ≤ groups.old.looked + 1 }
+{
+    match constraints.get(id) {
+        Some(constraint) => children_by(alloc, groups, id, constraint, key),
+        None => Ok(Vec::new(alloc)),
+    }
+}

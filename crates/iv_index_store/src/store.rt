@@ -1,0 +1,192 @@
+//! The store that keeps groups, violations and a journal.
+ghost use Rattle.std.specs.Prelude.{◌≡◌, length};
+
+use crate::adding;
+use crate::changing::{go_back, make};
+use crate::referencing::children;
+use iv_catalogue::{Constraint, ConstraintId, Fault, Table};
+use iv_expr::{Change, Rows, StoredRow, TableId};
+use iv_faults::Faults;
+use iv_index::Groups;
+use iv_key::Key;
+use iv_machine::Which;
+use iv_modes::Modes;
+use iv_rows::Versions;
+use iv_store::{AddFault, Keeper, Kin, Mark};
+use iv_value::Value;
+use std::alloc::{AllocError, Global};
+use std::marker::Model;
+
+/// A store that finds rows by number and by key, keeps the violations as rows change, and goes back to a mark by a
+/// journal. Contracts see it as what it holds; the count of look-ups is that of its groups.
+#[derive(Drop)]
+pub struct IndexStore {
+    alloc: Global,
+    tables: Vec<Table>,
+    versions: Versions,
+    groups: Groups,
+    faults: Faults,
+}
+
+impl Model for IndexStore {
+    ghost use Rattle.std.specs.Prelude.{length};
+    ghost use Rattle.std.specs.Coded.{codes};
+    ghost use Rattle.iv_expr.specs.contracts.tree.Cond as cond;
+    ghost use Rattle.iv_index_store.specs.Kept.{HasTables, IsKept, Store, state_of};
+
+    ghost Value = { Store };
+
+    ghost coded = { Prim.hlevel (codes, cond.the_row.coded) };
+
+    ghost view = { λ s. record {
+      state = state_of s.tables.items s.faults.constraints s.versions;
+      looked = s.groups.looked;
+    } };
+
+    ghost invariant = { λ s. IsKept s.versions s.faults s.groups × HasTables (length s.tables.items) s.versions };
+}
+
+impl Rows for IndexStore {
+    ghost rows = { λ s. s.state.base.rows };
+
+    fn known(&self) {
+        self.versions.known();
+    }
+
+    fn scan(&self, table: TableId, after: u64) -> Option<(u64, &[Value])> {
+        self.versions.scan(table, after)
+    }
+}
+
+impl Kin for IndexStore {
+    ghost view = { λ s. s.state };
+
+    ghost lookups = { λ s. s.looked };
+
+    fn allocator(&self) -> Global {
+        self.alloc
+    }
+
+    fn row(&self, number: u64) -> Option<&StoredRow> {
+        self.versions.row(number)
+    }
+
+    fn children(
+        &mut self,
+        foreign_key: ConstraintId,
+        key: &Key<'_>,
+    ) -> Result<Vec<u64>, AllocError> {
+        self.versions.known();
+        children(
+            self.alloc,
+            &mut self.groups,
+            self.faults.constraints(),
+            foreign_key.place() as usize,
+            key,
+        )
+    }
+
+    fn looked(&self) -> u64 {
+        self.groups.looked()
+    }
+}
+
+impl Keeper for IndexStore {
+    ghost use Rattle.std.specs.Prelude.{refl, true};
+
+    ghost sure = { true };
+
+    ghost rows_are = { λ k. refl };
+
+    fn new(alloc: Global) -> Self {
+        IndexStore {
+            alloc,
+            tables: Vec::new(alloc),
+            versions: Versions::new(alloc),
+            groups: Groups::new(alloc),
+            faults: Faults::new(alloc),
+        }
+    }
+
+    fn next_row(&self) -> u64 {
+        self.versions.next()
+    }
+
+    fn standing(&self) -> u64 {
+        self.versions.count()
+    }
+
+    fn add_table(&mut self, table: &Table, constraints: &[Constraint]) -> Result<(), AllocError> {
+        adding::add_table(
+            self.alloc,
+            &mut self.tables,
+            &mut self.groups,
+            &mut self.faults,
+            table,
+            constraints,
+        )
+    }
+
+    fn add_constraint(&mut self, constraint: &Constraint) -> Result<(), AddFault> {
+        adding::add_constraint(
+            &self.versions,
+            &mut self.groups,
+            &mut self.faults,
+            constraint,
+        )
+    }
+
+    fn change(&mut self, change: Change) -> Result<(), AllocError> {
+        make(
+            &mut self.versions,
+            &mut self.groups,
+            &mut self.faults,
+            &change,
+        )
+    }
+
+    fn first_fault(&self, modes: &Modes, which: Which) -> Option<Fault> {
+        self.faults.first(&self.groups, modes, which)
+    }
+
+    fn count_faults(&self, modes: &Modes, which: Which) -> u64 {
+        self.faults.count(&self.groups, modes, which)
+    }
+
+    fn list_faults(&self, modes: &Modes, which: Which) -> Result<Vec<Fault>, AllocError> {
+        self.faults.list(&self.groups, modes, which)
+    }
+
+    fn mark(&mut self) -> Result<Mark, AllocError> {
+        let place = self.versions.mark()?;
+        Ok(Mark::new(place))
+    }
+
+    fn undo_to(&mut self, mark: Mark) -> Result<(), AllocError> {
+        go_back(
+            &mut self.versions,
+            &mut self.groups,
+            &mut self.faults,
+            mark.place(),
+        );
+        Ok(())
+    }
+
+    fn undo(&mut self, mark: Mark) {
+        go_back(
+            &mut self.versions,
+            &mut self.groups,
+            &mut self.faults,
+            mark.place(),
+        );
+        self.versions.forget(mark.place());
+    }
+
+    fn forget(&mut self, mark: Mark) {
+        self.versions.forget(mark.place());
+    }
+
+    fn settle(&mut self) {
+        self.versions.settle();
+    }
+}

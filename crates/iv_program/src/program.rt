@@ -1,0 +1,98 @@
+//! From the words of the command line to the status of the process.
+ghost use Rattle.std.specs.Prelude.{◌≤◌};
+
+use crate::running::{run_script, status};
+use iv_options::{Options, WordsError, options};
+use iv_print::write_all;
+use iv_run::Executor;
+use iv_script::{RunFault, Sink, Std};
+use std::alloc::Global;
+use std::convert::AsStr;
+use std::env::Env;
+use std::fs::{File, Files};
+use std::io;
+use std::io::Input;
+
+// Writes the help to `writer`, and why words are refused to `faults`. A line that can't be written there changes no
+// status.
+fn refuse_words<W: Sink, E: Sink>(error: WordsError, writer: &mut W, faults: &mut E) -> u8
+    ensures { result ≤ 2 }
+{
+    match error {
+        WordsError::NoMemory => status(faults, Err(RunFault::NoMemory)),
+        WordsError::Help(text) => match write_all(writer, text.as_bytes()) {
+            Ok(()) => 0,
+            Err(_) => status(faults, Err(RunFault::Write)),
+        },
+        WordsError::Refused(text) => {
+            let _ = write_all(faults, text.as_bytes());
+            2
+        }
+    }
+}
+
+// Runs the script of the file, or of standard input where there is none.
+fn run_options<X: Executor + Drop, H: Files + Input, W: Sink, E: Sink>(
+    alloc: Global,
+    rt: &H,
+    options: Options<'_>,
+    writer: &mut W,
+    faults: &mut E,
+) -> u8
+    ensures { result ≤ 2 }
+{
+    let limits = options.limits;
+    let Some(file) = options.file else {
+        let mut reader = Std::new(rt.reader());
+        return run_script::<X, Std<H::Reader>, W, E>(alloc, limits, &mut reader, writer, faults);
+    };
+    match File::open(rt, file) {
+        Ok(file) => {
+            let mut reader = Std::new(file);
+            run_script::<X, Std<H::File>, W, E>(alloc, limits, &mut reader, writer, faults)
+        }
+        Err(_) => status(faults, Err(RunFault::Read)),
+    }
+}
+
+// All but ending the process: reads the words, of which the first is the program's name, opens the file, and runs the
+// script. The answer is the status of the process.
+fn go<X: Executor + Drop, H: Files + Input, S: AsStr, W: Sink, E: Sink>(
+    alloc: Global,
+    rt: &H,
+    words: &[S],
+    writer: &mut W,
+    faults: &mut E,
+) -> u8
+    ensures { result ≤ 2 }
+{
+    match options(alloc, words) {
+        Ok(options) => run_options::<X, H, W, E>(alloc, rt, options, writer, faults),
+        Err(error) => refuse_words(error, writer, faults),
+    }
+}
+
+// The words of the command line; a fault where they can't be had.
+fn words<H: Env + AllocGlobal>(rt: &H) -> Result<Vec<String>, RunFault> {
+    match std::env::args(rt) {
+        Ok(words) => Ok(words.collect(rt.alloc())?),
+        Err(error) if error.kind() == io::ErrorKind::OutOfMemory => Err(RunFault::NoMemory),
+        Err(_) => Err(RunFault::Read),
+    }
+}
+
+/// The whole program but for its end, in a database of this kind. `rt` gives the words of the command line, memory,
+/// the file that the words name, and standard input where they name none. The transcript goes to `writer`, and why a
+/// run didn't end goes to `faults`. The answer is the status of the process.
+pub fn run_program<X: Executor + Drop, H: Env + Files + Input + AllocGlobal, W: Sink, E: Sink>(
+    rt: &H,
+    writer: &mut W,
+    faults: &mut E,
+) -> u8
+    ensures { result ≤ 2 }
+{
+    match words(rt) {
+        Ok(words) => go::<X, H, String, W, E>(rt.alloc(), rt, words.as_slice(), writer, faults),
+        Err(fault) => status(faults, Err(fault)),
+    }
+}

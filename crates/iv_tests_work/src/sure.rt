@@ -1,0 +1,109 @@
+//! The way back to a savepoint, which is never refused for memory on the store that has a journal.
+ghost use Rattle.std.specs.Prelude.{◌≡◌, true, false};
+ghost use Rattle.iv_catalogue.specs.Refusals.{is_memory};
+ghost use Rattle.iv_session.specs.Sure.{is_rollback_to};
+
+use crate::shown::show;
+use iv_index_store::IndexStore;
+use iv_machine::Limits;
+use iv_parse::script;
+use iv_session::{Outcome, Session};
+use iv_syntax::Statement;
+use std::alloc::{AllocError, Global};
+use std::test::Fail;
+
+// Goes back as a call.
+fn roll_back_to(session: &mut Session<IndexStore>, name: &str) -> Outcome
+    ensures { is_memory result ≡ false }
+{
+    session.rollback_to(name)
+}
+
+// Goes back as a statement.
+fn execute_rollback_to(session: &mut Session<IndexStore>, statement: &Statement) -> Outcome
+    requires { is_rollback_to statement.now ≡ true }
+    ensures { is_memory result ≡ false }
+{
+    session.execute(statement)
+}
+
+// Runs a statement: one that goes back isn't refused for memory.
+fn execute(session: &mut Session<IndexStore>, statement: &Statement) -> Outcome
+    ensures { is_rollback_to statement.now ≡ true → is_memory result ≡ false }
+{
+    match statement {
+        Statement::RollbackTo(_) => execute_rollback_to(session, statement),
+        _ => session.execute(statement),
+    }
+}
+
+// Runs the statements of a text, and shows what each answers and undoes.
+fn show_text(
+    alloc: Global,
+    session: &mut Session<IndexStore>,
+    text: &str,
+    shown: &mut String,
+) -> Result<(), AllocError> {
+    let parsed = script(alloc, text)?;
+    for statement in parsed.statements.as_slice() {
+        show(&execute(session, statement), shown)?;
+        write!(shown, " {}; ", session.work().undone)?;
+    }
+    Ok(())
+}
+
+// Goes back as a call, and shows what it answers and undoes.
+fn show_back(
+    session: &mut Session<IndexStore>,
+    name: &str,
+    shown: &mut String,
+) -> Result<(), AllocError> {
+    show(&roll_back_to(session, name), shown)?;
+    write!(shown, " {}; ", session.work().undone)
+}
+
+// Back by the call and by the statement, to a savepoint and to none, in a transaction and outside of it.
+fn show_ways_back(
+    alloc: Global,
+    session: &mut Session<IndexStore>,
+    shown: &mut String,
+) -> Result<(), AllocError> {
+    show_text(alloc, session, "CREATE TABLE t (a INT PRIMARY KEY);", shown)?;
+    show_back(session, "S", shown)?;
+    show_text(
+        alloc,
+        session,
+        "INSERT INTO t VALUES (1); SAVEPOINT s; INSERT INTO t VALUES (2), (3);",
+        shown,
+    )?;
+    show_back(session, "S", shown)?;
+    show_back(session, "T", shown)?;
+    show_text(
+        alloc,
+        session,
+        "INSERT INTO t VALUES (2); ROLLBACK TO SAVEPOINT s; ROLLBACK TO SAVEPOINT t; COMMIT; ROLLBACK TO SAVEPOINT s; SELECT * FROM t;",
+        shown,
+    )
+}
+
+fn ways_back(alloc: Global) -> Result<String, Fail> {
+    let mut shown = String::new(alloc);
+    let Some(limits) = Limits::new(16, 65_536) else {
+        return Ok(shown);
+    };
+    let mut session = Session::<IndexStore>::new(alloc, limits)?;
+    let done = show_ways_back(alloc, &mut session, &mut shown);
+    drop(session);
+    done?;
+    Ok(shown)
+}
+
+#[test]
+fn a_session_goes_back_to_a_savepoint(rt: HostRuntime) -> Result<(), Fail> {
+    let shown = ways_back(rt.alloc())?;
+    let wanted =
+        "done 0; no transaction 0; changed 1 0; done 0; changed 2 0; done 2; unknown savepoint 0; \
+                  changed 1 0; done 1; unknown savepoint 0; done 0; no transaction 0; rows 1 0; ";
+    assert_eq!(rt; shown.as_str(), wanted);
+    Ok(())
+}
