@@ -229,6 +229,7 @@ def main():
     makers = {kind: lambda size, parts=parts: of_statements(*parts, size) for kind, parts in KINDS.items()}
     makers['one INSERT of many tuples'] = lambda size: of_tuples('a INT, b VARCHAR(99)', size)
     makers['one INSERT of many tuples, with a key'] = lambda size: of_tuples('a INT PRIMARY KEY, b VARCHAR(99)', size)
+    # `map` takes its function at once; a generator would take it when it is run, and so that of the last kind for all.
     kinds = [(kind, map(make, [size * 1024 for size in sizes])) for kind, make in makers.items()]
     print_table(words, ['for KiB', *('%d' % size for size in sizes)], kinds)
     kinds = [(kind, map(of_rows, itertools.repeat(make), [whole // part for part in parts])) for kind, (whole, make) in ROWS.items()]
