@@ -12,7 +12,7 @@ ghost use Rattle.iv_row_laws.specs.RowFits.{BodyFits, StatementFits, changes_fit
 ghost use Rattle.iv_transitions.specs.ByTable.{ByTableAndEvent, after_firings, all_firings};
 ghost use Rattle.iv_row_laws.specs.Changing.{AnswersAt, StoreFits, UnlessMemory, database_and_size, with_database};
 ghost use Rattle.iv_waves.specs.Applying.{Proposes};
-ghost use Rattle.iv_waves.specs.Lookups.{LooksUp};
+ghost use Rattle.iv_store.specs.Lookups.{LooksUp};
 ghost use Rattle.iv_exec.specs.Firing.{ActionFits, AreParts, AreTransitions, CanFire};
 ghost use Rattle.iv_exec.specs.Steps.{body_run_where_true, finished, innermost, standing, waves_and_after};
 

@@ -11,7 +11,7 @@ ghost use Rattle.iv_transitions.specs.ByTable.{ByTableAndEvent};
 ghost use Rattle.iv_row_laws.specs.RowFits.{StatementFits, changes_fit};
 ghost use Rattle.iv_row_laws.specs.Changing.{AnswersAt, StoreFits, UnlessMemory, with_database};
 ghost use Rattle.iv_waves.specs.Applying.{Proposes};
-ghost use Rattle.iv_waves.specs.Lookups.{LooksUp};
+ghost use Rattle.iv_store.specs.Lookups.{LooksUp};
 ghost use Rattle.iv_exec.specs.Firing.{AreParts};
 ghost use Rattle.iv_exec.specs.Settled.{Settles};
 ghost use Rattle.iv_exec.specs.Steps.{allowed_wave};

@@ -4,7 +4,7 @@ use Rattle.std.proofs.Math.Nat.{mul-add}
 use Rattle.iv_store.specs.Stores.{StoreState}
 use Rattle.iv_triggers.proofs.Answers.{unless_memory}
 use Rattle.iv_row_laws.specs.Changing.{with_database}
-use Rattle.iv_waves.specs.Lookups.{LooksUp}
+use Rattle.iv_store.specs.Lookups.{LooksUp}
 
 pub none_looked : (s : StoreState) (n : ℕ) → LooksUp s n s n
 none_looked s n = record { more = omega arith; looked = omega arith }

@@ -1,4 +1,3 @@
 pub mod Applying
-pub mod Lookups
 pub mod Standing
 pub mod Steps

@@ -9,7 +9,7 @@ ghost use Rattle.iv_row_laws.specs.Changing.{AnswersAt, StoreFits, UnlessMemory,
 ghost use Rattle.iv_waves.specs.Applying.{Applicable, Proposes};
 ghost use Rattle.iv_waves.specs.Standing.{Standing};
 ghost use Rattle.iv_waves.specs.Steps.{followed_by};
-ghost use Rattle.iv_waves.specs.Lookups.{LooksUp};
+ghost use Rattle.iv_store.specs.Lookups.{LooksUp};
 
 use crate::applying::apply_all;
 use crate::entering::enter;

@@ -4,7 +4,7 @@ use Rattle.iv_machine.specs.Levels.{Firing, body_run, firings_run, nested_level,
 use Rattle.iv_machine.specs.BeforeTriggers.{placed_statements}
 use Rattle.iv_transitions.specs.ByTable.{all_firings}
 use Rattle.iv_row_laws.specs.Changing.{StoreFits, with_database}
-use Rattle.iv_waves.specs.Lookups.{LooksUp}
+use Rattle.iv_store.specs.Lookups.{LooksUp}
 use Rattle.iv_exec.specs.Steps.{standing}
 use Rattle.iv_exec.proofs.level.+level.Given as goal
 

@@ -2,7 +2,7 @@ use Rattle.std.proofs.Common.{◌≡◌}
 use Rattle.iv_expr.specs.Changes.{wave_of}
 use Rattle.iv_machine.specs.Waves.{settled_waves}
 use Rattle.iv_row_laws.specs.Changing.{with_database}
-use Rattle.iv_waves.specs.Lookups.{LooksUp}
+use Rattle.iv_store.specs.Lookups.{LooksUp}
 use Rattle.iv_waves.specs.Standing.{Standing}
 use Rattle.iv_waves.proofs.Rounds.{after_waves}
 use Rattle.iv_waves.proofs.settling.settle.Given as goal
