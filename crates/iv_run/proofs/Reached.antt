@@ -30,6 +30,7 @@ use Rattle.iv_catalogue.specs.declared.plan.Trigger.{Trigger}
 use Rattle.iv_machine.specs.declared.answer.Answer.{Answer}
 use Rattle.iv_machine.specs.declared.answer.Answer.TheVariants.{Done}
 use Rattle.iv_machine.specs.declared.database.Database.{Database}
+use Rattle.iv_machine.specs.Bounds.{Bounds}
 use Rattle.iv_machine.specs.Context.{Failure}
 use Rattle.iv_machine.specs.Databases.{first, scan}
 use Rattle.iv_machine.specs.Levels.{Finished, level}
@@ -43,7 +44,7 @@ use Rattle.iv_fitting.proofs.Pointwise.{parts_of}
 use Rattle.iv_fitting.proofs.Schemas.{tables_fit}
 use Rattle.iv_fitting.proofs.Staying.{empty_suits, schemas_stay}
 use Rattle.iv_fitting.proofs.Triggers.{triggers_fit}
-use Rattle.iv_laws.specs.Reached.{BodyFits, FitsSchema, IsThere, SchemaPlanFits}
+use Rattle.iv_laws.specs.Reached.{BodyFits, FitsSchema, IsThere, SchemaPlanFits, planned}
 use Rattle.iv_laws.proofs.Planned.{planned_reachable}
 use Rattle.iv_laws.proofs.ReachedStates.{Reachable, empty_reachable, reachable_is_sound}
 use Rattle.iv_run.specs.Laws.{ReachedStatesAreSound}
@@ -165,11 +166,11 @@ pub record IsReached (s : State) : Type 0 where
   pub reachable : Reachable s
   pub suits : SchemaSuits s.schema
 
-step_reached : (s : State) (st : Statement) → IsReached s → IsReached (step s st).state
+pub step_reached : (s : State) (st : Statement) → IsReached s → IsReached (step s st).state
 step_reached s st h = unless (transaction_cause (is_open s) (occasion_of st)) refl where
-  planned : (r : Result Plan Refusal) → resolution s.schema st ≡ r → transaction_cause (is_open s) (occasion_of st) ≡ None → IsReached (resolution_outcome s r).state
-  planned (Err e) is may = h
-  planned (Ok p) is may = record {
+  by_plan : (r : Result Plan Refusal) → resolution s.schema st ≡ r → transaction_cause (is_open s) (occasion_of st) ≡ None → IsReached (resolution_outcome s r).state
+  by_plan (Err e) is may = h
+  by_plan (Ok p) is may = record {
     reachable = subst (λ o. Reachable (outcome_unless s o (plan_outcome s p)).state)
         (ap (transaction_cause (is_open s)) (plans_keep s.schema st p is) ∙ may)
         (planned_reachable s p (plan_fits s.schema st p h.suits is) h.reachable);
@@ -178,7 +179,21 @@ step_reached s st h = unless (transaction_cause (is_open s) (occasion_of st)) re
 
   unless : (o : Option Cause) → transaction_cause (is_open s) (occasion_of st) ≡ o → IsReached (outcome_unless s o (resolution_outcome s (resolution s.schema st))).state
   unless (Some cause) is = h
-  unless None is = planned (resolution s.schema st) refl is
+  unless None is = by_plan (resolution s.schema st) refl is
+
+-- so does a statement of transaction management, whatever names are in it
+pub control_reached : (s : State) (t : TransactionPlan) → IsReached s → IsReached (planned s (plan.Transaction t)).state
+control_reached s t h = record {
+  reachable = planned_reachable s (plan.Transaction t) tt h.reachable;
+  suits = unless (transaction_cause (is_open s) (plan_occasion (plan.Transaction t)));
+} where
+  unless : (o : Option Cause) → SchemaSuits (outcome_unless s o (transaction_outcome s t)).state.schema
+  unless (Some cause) = h.suits
+  unless None = subst SchemaSuits (sym (transaction_schema s t)) h.suits
+
+-- at the start
+pub empty_reached : (limits : Bounds) → IsReached (empty_state limits)
+empty_reached limits = record { reachable = empty_reachable limits; suits = empty_suits }
 
 run_reached : (s : State) (sts : List Statement) → IsReached s → IsReached (run s sts).1
 run_reached s [] h = h
@@ -187,4 +202,4 @@ run_reached s (st ∷ sts) h = run_reached (step s st).state sts (step_reached s
 pub reached : ReachedStatesAreSound
 reached limits sts =
     reachable_is_sound (run (empty_state limits) sts).1
-    (run_reached (empty_state limits) sts (record { reachable = empty_reachable limits; suits = empty_suits })).reachable
+    (run_reached (empty_state limits) sts (empty_reached limits)).reachable

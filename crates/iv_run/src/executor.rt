@@ -1,7 +1,8 @@
 //! What executes statements as `step` says.
-ghost use Rattle.std.specs.Prelude.{◌≡◌, IfOk, is_some};
+ghost use Rattle.std.specs.Prelude.{◌≡◌, true, false, IfOk, is_some};
+ghost use Rattle.iv_catalogue.specs.Refusals.{is_memory};
 ghost use Rattle.iv_machine.specs.Machine.{State, empty_state};
-ghost use Rattle.iv_run.specs.Step.{Executes};
+ghost use Rattle.iv_run.specs.Step.{Executes, takes_no_memory};
 
 use iv_catalogue::{Catalogue, Refusal};
 use iv_machine::{Answer, Limits};
@@ -33,5 +34,7 @@ pub trait Executor {
     /// Executes a statement. The answer and the state after it are those of the machine, or memory was refused and
     /// the state is as before.
     fn execute(&mut self, statement: &Statement) -> Outcome
-        ensures step { Executes (state self.old) statement.now result (state self.new) };
+        ensures step { Executes (state self.old) statement.now result (state self.new) }
+        ensures sure { takes_no_memory (state self.old) statement.now ≡ true
+            → is_memory result ≡ false };
 }

@@ -10,13 +10,13 @@ use Rattle.iv_catalogue.specs.declared.cause.Refusal.{Refusal}
 use Rattle.iv_machine.specs.declared.answer.Answer.{Answer}
 use Rattle.iv_catalogue.specs.Refusals.{is_memory, out_of_memory}
 use Rattle.iv_machine.specs.Machine.{State, Outcome, Starved, may_run_triggers}
-use Rattle.iv_run.specs.Step.{step, Executes}
+use Rattle.iv_run.specs.Step.{step, takes_no_memory, Executes}
 use Rattle.iv_print.specs.Lines.{line}
 use Rattle.iv_print.specs.Sinks.{SinkState, FailsNever}
 use Rattle.iv_print.specs.Writing.{Writes}
 use Rattle.iv_print.proofs.WriteLemmas.{never_then}
 use Rattle.iv_script.specs.declared.statements.Tally.{Tally}
-use Rattle.iv_script.specs.Transcript.{Memory, granted, denied, Ran, following, outcome, lines, accepted_of, refused_of, run_from, starved_count}
+use Rattle.iv_script.specs.Transcript.{Memory, IsDue, AreDue, granted, denied, Ran, following, outcome, lines, accepted_of, refused_of, run_from, starved_count}
 use Rattle.iv_script.specs.Running.{RanOne, RanAll}
 
 -- ---- one statement
@@ -24,12 +24,13 @@ use Rattle.iv_script.specs.Running.{RanOne, RanAll}
 -- the answer and the state are those of the machine, with the memory that this says
 pub record Did (old new : State) (st : Statement) (r : Result Answer Refusal) : Type 0 where
   pub memory : Memory
+  pub due : IsDue memory old st
   pub counted : (if is_memory r then 1 else 0) ≡ starved_count (memory ∷ [])
   pub answer_is : r ≡ (outcome memory old st).answer
   pub state_is : new ≡ (outcome memory old st).state
 
 did_plain : (old new : State) (st : Statement) (r : Result Answer Refusal) → is_memory r ≡ false → (r ≡ (step old st).answer) × (new ≡ (step old st).state) → Did old new st r
-did_plain old new st r m e = record { memory = granted; counted = ap (λ b. if b then 1 else 0) m; answer_is = e.0; state_is = e.1 }
+did_plain old new st r m e = record { memory = granted; due = tt; counted = ap (λ b. if b then 1 else 0) m; answer_is = e.0; state_is = e.1 }
 
 -- the refusal OutOfMemory, where a trigger may have run or not
 denied_is : (may : Bool) (t : Option ℕ)
@@ -38,47 +39,54 @@ denied_is : (may : Bool) (t : Option ℕ)
 denied_is true t h = refl
 denied_is false t h = h refl
 
+-- what would never be refused memory, and was, takes some
+is_due : (b : Bool) → (b ≡ true → true ≡ false) → b ≡ false
+is_due true sure = sure refl
+is_due false sure = refl
+
 did_denied : (old new : State) (st : Statement) (t : Option ℕ) → Starved old st (Err (record { cause = cause.OutOfMemory; trigger = t })) new
-    → Did old new st (Err (record { cause = cause.OutOfMemory; trigger = t }))
-did_denied old new st t e = record { memory = denied t; counted = refl; answer_is = denied_is (may_run_triggers old st) t e.1; state_is = e.0 }
+    → (takes_no_memory old st ≡ true → true ≡ false) → Did old new st (Err (record { cause = cause.OutOfMemory; trigger = t }))
+did_denied old new st t e sure = record { memory = denied t; due = is_due (takes_no_memory old st) sure; counted = refl; answer_is = denied_is (may_run_triggers old st) t e.1; state_is = e.0 }
 
-did_refused : (old new : State) (st : Statement) (c : Cause) (t : Option ℕ) → Executes old st (Err (record { cause = c; trigger = t })) new → Did old new st (Err (record { cause = c; trigger = t }))
-did_refused old new st cause.OutOfMemory t e = did_denied old new st t e
-did_refused old new st cause.Unknown t e = did_plain old new st (Err (record { cause = cause.Unknown; trigger = t })) refl e
-did_refused old new st cause.Duplicate t e = did_plain old new st (Err (record { cause = cause.Duplicate; trigger = t })) refl e
-did_refused old new st cause.SchemaFault t e = did_plain old new st (Err (record { cause = cause.SchemaFault; trigger = t })) refl e
-did_refused old new st cause.InTransaction t e = did_plain old new st (Err (record { cause = cause.InTransaction; trigger = t })) refl e
-did_refused old new st cause.NoTransaction t e = did_plain old new st (Err (record { cause = cause.NoTransaction; trigger = t })) refl e
-did_refused old new st cause.ActiveTransaction t e = did_plain old new st (Err (record { cause = cause.ActiveTransaction; trigger = t })) refl e
-did_refused old new st cause.UnknownSavepoint t e = did_plain old new st (Err (record { cause = cause.UnknownSavepoint; trigger = t })) refl e
-did_refused old new st (cause.NotDeferrable k) t e = did_plain old new st (Err (record { cause = cause.NotDeferrable k; trigger = t })) refl e
-did_refused old new st cause.WrongShape t e = did_plain old new st (Err (record { cause = cause.WrongShape; trigger = t })) refl e
-did_refused old new st cause.NumberOutOfRange t e = did_plain old new st (Err (record { cause = cause.NumberOutOfRange; trigger = t })) refl e
-did_refused old new st cause.TextTooLong t e = did_plain old new st (Err (record { cause = cause.TextTooLong; trigger = t })) refl e
-did_refused old new st (cause.Restrict f) t e = did_plain old new st (Err (record { cause = cause.Restrict f; trigger = t })) refl e
-did_refused old new st (cause.Violation f) t e = did_plain old new st (Err (record { cause = cause.Violation f; trigger = t })) refl e
-did_refused old new st (cause.ActionConflict f) t e = did_plain old new st (Err (record { cause = cause.ActionConflict f; trigger = t })) refl e
-did_refused old new st (cause.Signal k p) t e = did_plain old new st (Err (record { cause = cause.Signal k p; trigger = t })) refl e
-did_refused old new st (cause.DepthLimit k) t e = did_plain old new st (Err (record { cause = cause.DepthLimit k; trigger = t })) refl e
-did_refused old new st cause.TooManyChanges t e = did_plain old new st (Err (record { cause = cause.TooManyChanges; trigger = t })) refl e
-did_refused old new st cause.TransactionTooLarge t e = did_plain old new st (Err (record { cause = cause.TransactionTooLarge; trigger = t })) refl e
-did_refused old new st (cause.CommitRefused f) t e = did_plain old new st (Err (record { cause = cause.CommitRefused f; trigger = t })) refl e
-did_refused old new st (cause.AddRefused n) t e = did_plain old new st (Err (record { cause = cause.AddRefused n; trigger = t })) refl e
-did_refused old new st cause.Limit t e = did_plain old new st (Err (record { cause = cause.Limit; trigger = t })) refl e
+did_refused : (old new : State) (st : Statement) (c : Cause) (t : Option ℕ) → Executes old st (Err (record { cause = c; trigger = t })) new
+    → (takes_no_memory old st ≡ true → is_memory {A = Answer} (Err (record { cause = c; trigger = t })) ≡ false) → Did old new st (Err (record { cause = c; trigger = t }))
+did_refused old new st cause.OutOfMemory t e sure = did_denied old new st t e sure
+did_refused old new st cause.Unknown t e sure = did_plain old new st (Err (record { cause = cause.Unknown; trigger = t })) refl e
+did_refused old new st cause.Duplicate t e sure = did_plain old new st (Err (record { cause = cause.Duplicate; trigger = t })) refl e
+did_refused old new st cause.SchemaFault t e sure = did_plain old new st (Err (record { cause = cause.SchemaFault; trigger = t })) refl e
+did_refused old new st cause.InTransaction t e sure = did_plain old new st (Err (record { cause = cause.InTransaction; trigger = t })) refl e
+did_refused old new st cause.NoTransaction t e sure = did_plain old new st (Err (record { cause = cause.NoTransaction; trigger = t })) refl e
+did_refused old new st cause.ActiveTransaction t e sure = did_plain old new st (Err (record { cause = cause.ActiveTransaction; trigger = t })) refl e
+did_refused old new st cause.UnknownSavepoint t e sure = did_plain old new st (Err (record { cause = cause.UnknownSavepoint; trigger = t })) refl e
+did_refused old new st (cause.NotDeferrable k) t e sure = did_plain old new st (Err (record { cause = cause.NotDeferrable k; trigger = t })) refl e
+did_refused old new st cause.WrongShape t e sure = did_plain old new st (Err (record { cause = cause.WrongShape; trigger = t })) refl e
+did_refused old new st cause.NumberOutOfRange t e sure = did_plain old new st (Err (record { cause = cause.NumberOutOfRange; trigger = t })) refl e
+did_refused old new st cause.TextTooLong t e sure = did_plain old new st (Err (record { cause = cause.TextTooLong; trigger = t })) refl e
+did_refused old new st (cause.Restrict f) t e sure = did_plain old new st (Err (record { cause = cause.Restrict f; trigger = t })) refl e
+did_refused old new st (cause.Violation f) t e sure = did_plain old new st (Err (record { cause = cause.Violation f; trigger = t })) refl e
+did_refused old new st (cause.ActionConflict f) t e sure = did_plain old new st (Err (record { cause = cause.ActionConflict f; trigger = t })) refl e
+did_refused old new st (cause.Signal k p) t e sure = did_plain old new st (Err (record { cause = cause.Signal k p; trigger = t })) refl e
+did_refused old new st (cause.DepthLimit k) t e sure = did_plain old new st (Err (record { cause = cause.DepthLimit k; trigger = t })) refl e
+did_refused old new st cause.TooManyChanges t e sure = did_plain old new st (Err (record { cause = cause.TooManyChanges; trigger = t })) refl e
+did_refused old new st cause.TransactionTooLarge t e sure = did_plain old new st (Err (record { cause = cause.TransactionTooLarge; trigger = t })) refl e
+did_refused old new st (cause.CommitRefused f) t e sure = did_plain old new st (Err (record { cause = cause.CommitRefused f; trigger = t })) refl e
+did_refused old new st (cause.AddRefused n) t e sure = did_plain old new st (Err (record { cause = cause.AddRefused n; trigger = t })) refl e
+did_refused old new st cause.Limit t e sure = did_plain old new st (Err (record { cause = cause.Limit; trigger = t })) refl e
 
-pub did : (old new : State) (st : Statement) (r : Result Answer Refusal) → Executes old st r new → Did old new st r
-did old new st (Ok a) e = did_plain old new st (Ok a) refl e
-did old new st (Err r) e = did_refused old new st r.cause r.trigger e
+pub did : (old new : State) (st : Statement) (r : Result Answer Refusal) → Executes old st r new → (takes_no_memory old st ≡ true → is_memory r ≡ false) → Did old new st r
+did old new st (Ok a) e sure = did_plain old new st (Ok a) refl e
+did old new st (Err r) e sure = did_refused old new st r.cause r.trigger e sure
 
 -- a statement's lines were written, and its outcome was counted
 pub ran_one : (n : ℕ) (old new : State) (st : Statement) (r : Result Answer Refusal) (schema : Schema) (tally tally_then : Tally) (before after : SinkState)
-    → Executes old st r new → schema ≡ new.schema → Writes before after (Ok tt) (line n r schema)
+    → Executes old st r new → (takes_no_memory old st ≡ true → is_memory r ≡ false) → schema ≡ new.schema → Writes before after (Ok tt) (line n r schema)
     → tally_then.accepted ≡ tally.accepted + accepted_of r → tally_then.refused ≡ tally.refused + refused_of r → tally_then.starved ≡ tally.starved + (if is_memory r then 1 else 0)
     → RanOne n old new st tally tally_then before after
-ran_one n old new st r schema tally tally_then before after e q w a f s =
-    let d : Did old new st r = did old new st r e in
+ran_one n old new st r schema tally tally_then before after e sure q w a f s =
+    let d : Did old new st r = did old new st r e sure in
     record {
       memory = d.memory;
+      due = d.due;
       state_is = d.state_is;
       accepted_is = a ∙ ap (λ x. tally.accepted + accepted_of x) d.answer_is;
       refused_is = f ∙ ap (λ x. tally.refused + refused_of x) d.answer_is;
@@ -121,6 +129,7 @@ pub record Onward (old now : State) (all rest : List Statement) (n : ℕ) (tally
   pub memory : List Memory
   pub written : List ℕ
   pub each : length memory ≡ n
+  pub due : (more : List Memory) → AreDue now rest more → AreDue old all (memory ++ more)
   pub starved_is : starved_count memory ≡ tally.starved
   pub appended : Appends before.contents after.contents written
   pub onward : (more : List Memory) → run_from old 0 all (memory ++ more) ≡ following written tally.accepted tally.refused (run_from now n rest more)
@@ -131,6 +140,7 @@ onward_start s all tally a p q z = record {
   memory = [];
   written = [];
   each = refl;
+  due = λ more left. left;
   starved_is = sym z;
   appended = Appends-nil a.contents;
   onward = λ more. rw (p, q) (following_none (run_from s 0 all more));
@@ -145,6 +155,9 @@ onward_more old now new all left rest st n t u a before after w e r =
       memory = w.memory ++ r.memory ∷ [];
       written = w.written ++ lines (n + 1) o;
       each = omega (arith, length-append w.memory (r.memory ∷ []), w.each);
+      due = λ more left.
+          subst (AreDue old all) (sym (append_assoc w.memory (r.memory ∷ []) more))
+          (w.due (r.memory ∷ more) (subst (λ l. AreDue now l (r.memory ∷ more)) (sym e) (r.due, subst (λ s. AreDue s rest more) r.state_is left)));
       starved_is = counted_more w.memory r.memory ∙ ap (λ z. z + starved_count (r.memory ∷ [])) w.starved_is ∙ sym r.starved_is;
       appended = Appends-trans a.contents before.contents after.contents w.written (lines (n + 1) o) w.appended r.appended;
       onward = λ more.
@@ -165,6 +178,7 @@ onward_end old now all rest n t a b w e q =
     record {
       memory = w.memory;
       each = w.each ∙ q;
+      due = subst (AreDue old all) (append-nil w.memory) (w.due [] (subst (λ l. AreDue now l []) (sym e) tt));
       starved_is = w.starved_is;
       accepted_is = ap (λ r. r.accepted) done ∙ none_more t.accepted;
       refused_is = ap (λ r. r.refused) done ∙ none_more t.refused;

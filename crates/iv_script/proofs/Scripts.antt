@@ -22,6 +22,7 @@ pub ran_parsed : (old new : State) (sts : List Statement) (fault : Option ℕ) (
 ran_parsed old new sts fault tally b0 b1 b2 b3 r p q = record {
   memory = r.memory;
   each = r.each;
+  due = r.due;
   starved_is = r.starved_is;
   accepted_is = r.accepted_is;
   refused_is = r.refused_is;
@@ -43,6 +44,7 @@ ran_script bytes limits sts fault tally a b s r = record {
   memory = r.memory;
   is_script = s;
   each = r.each;
+  due = r.due;
   starved_is = r.starved_is;
   accepted_is = r.accepted_is;
   refused_is = r.refused_is;

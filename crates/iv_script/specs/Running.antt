@@ -5,12 +5,13 @@ use Rattle.iv_syntax.specs.declared.statement.Statement.{Statement}
 use Rattle.iv_machine.specs.Machine.{State}
 use Rattle.iv_print.specs.Sinks.{SinkState, FailsNever}
 use Rattle.iv_script.specs.declared.statements.Tally.{Tally}
-use Rattle.iv_script.specs.Transcript.{Memory, outcome, lines, accepted_of, refused_of, run_from, starved_count, closing_lines}
+use Rattle.iv_script.specs.Transcript.{Memory, IsDue, AreDue, outcome, lines, accepted_of, refused_of, run_from, starved_count, closing_lines}
 
 -- one statement ran, with or without memory: its lines were written, and this is the state after it
 pub record RanOne (n : ℕ) (old new : State) (st : Statement) (tally tally_then : Tally)
     (before after : SinkState) : Type 0 where
   pub memory : Memory
+  pub due : IsDue memory old st
   pub state_is : new ≡ (outcome memory old st).state
   pub accepted_is : tally_then.accepted
       ≡ tally.accepted + accepted_of (outcome memory old st).answer
@@ -24,6 +25,7 @@ pub record RanAll (old new : State) (sts : List Statement) (tally : Tally)
     (before after : SinkState) : Type 0 where
   pub memory : List Memory
   pub each : length memory ≡ length sts
+  pub due : AreDue old sts memory
   pub starved_is : starved_count memory ≡ tally.starved
   pub accepted_is : (run_from old 0 sts memory).accepted ≡ tally.accepted
   pub refused_is : (run_from old 0 sts memory).refused ≡ tally.refused
@@ -36,6 +38,7 @@ pub record RanParsed (old : State) (sts : List Statement) (fault : Option ℕ) (
     (before after : SinkState) : Type 0 where
   pub memory : List Memory
   pub each : length memory ≡ length sts
+  pub due : AreDue old sts memory
   pub starved_is : starved_count memory ≡ tally.starved
   pub accepted_is : (run_from old 0 sts memory).accepted ≡ tally.accepted
   pub refused_is : (run_from old 0 sts memory).refused ≡ tally.refused

@@ -8,7 +8,7 @@ use Rattle.iv_catalogue.specs.declared.cause.Refusal.{Refusal}
 use Rattle.iv_machine.specs.declared.answer.Answer.{Answer}
 use Rattle.iv_machine.specs.Bounds.{Bounds}
 use Rattle.iv_machine.specs.Machine.{State, Outcome, no_work, may_run_triggers, empty_state}
-use Rattle.iv_run.specs.Step.{step}
+use Rattle.iv_run.specs.Step.{step, takes_no_memory}
 use Rattle.iv_print.specs.Lines.{line}
 use Rattle.iv_print.specs.Sinks.{SinkState}
 use Rattle.iv_script.specs.declared.summary.Summary.{Summary}
@@ -56,6 +56,12 @@ abbrev pub outcome : Memory → State → Statement → Outcome
 outcome granted s st = step s st
 outcome (denied trigger) s st = starved_outcome s st trigger
 
+-- Memory is refused only to a statement that takes some: not to COMMIT or ROLLBACK, nor to one that is refused for the transaction
+-- that is open or isn't.
+abbrev pub IsDue : Memory → State → Statement → Type 0
+IsDue granted s st = Unit {0}
+IsDue (denied trigger) s st = takes_no_memory s st ≡ false
+
 -- the lines of a statement's outcome, with the catalogue as it is directly after it
 abbrev pub lines : ℕ → Outcome → List ℕ
 lines n o = line n o.answer o.state.schema
@@ -76,6 +82,11 @@ run_from s n (st ∷ sts) memory =
     let o : Outcome = outcome (first_memory memory) s st in
     following (lines (n + 1) o) (accepted_of o.answer) (refused_of o.answer)
     (run_from o.state (n + 1) sts (later_memory memory))
+
+-- so for each of the statements that run from this state
+abbrev pub AreDue : State → List Statement → List Memory → Type 0
+AreDue s [] memory = Unit {0}
+AreDue s (st ∷ sts) memory = IsDue (first_memory memory) s st × AreDue (outcome (first_memory memory) s st).state sts (later_memory memory)
 
 -- the line of a fault after so many statements
 abbrev pub fault_line : ℕ → Option ℕ → List ℕ
@@ -109,14 +120,15 @@ abbrev pub fault_place : Summary → Option ℕ
 fault_place summary = option_map (λ f. f.at) summary.fault
 
 -- The transcript of these bytes was appended, and the summary says how many statements were
--- accepted and refused, and the fault. For each statement it is chosen whether it is refused
--- memory, and as many are as the summary says.
+-- accepted and refused, and the fault. For each statement that takes memory it is chosen whether it
+-- is refused it, and as many are as the summary says.
 pub record RanScript (bytes : List ℕ) (limits : Bounds) (summary : Summary)
     (before after : SinkState) : Type 0 where
   pub statements : List Statement
   pub memory : List Memory
   pub is_script : IsScript bytes statements (fault_place summary)
   pub each : length memory ≡ length statements
+  pub due : AreDue (empty_state limits) statements memory
   pub starved_is : starved_count memory ≡ summary.starved
   pub accepted_is : (run_from (empty_state limits) 0 statements memory).accepted ≡ summary.accepted
   pub refused_is : (run_from (empty_state limits) 0 statements memory).refused ≡ summary.refused

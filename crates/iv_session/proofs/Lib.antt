@@ -1,1 +1,3 @@
 pub mod AllRan
+pub mod Sound
+pub mod Few

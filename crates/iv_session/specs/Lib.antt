@@ -1,3 +1,4 @@
 pub mod Words
 pub mod Sure
 pub mod RunningAll
+pub mod FewLookups

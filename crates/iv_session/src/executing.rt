@@ -6,7 +6,10 @@ ghost use Rattle.iv_resolution.specs.Resolution.{resolution};
 ghost use Rattle.iv_run.specs.Step.{Executes, step, takes_no_memory};
 ghost use Rattle.iv_state.specs.Performing.{Runs};
 ghost use Rattle.iv_session.specs.RunningAll.{IsRunOf};
+ghost use Rattle.iv_session.specs.FewLookups.{FewLookups, defines_schema};
 ghost use Rattle.iv_session.specs.Sure.{is_rollback_to};
+ghost use Rattle.iv_row_laws.specs.Changing.{UnlessMemory};
+ghost use Rattle.iv_state.specs.Looking.{LooksUpFew};
 
 use crate::levels::Levels;
 use crate::session::Session;
@@ -22,9 +25,11 @@ impl<K: Keeper + Drop> Session<K> {
     // Resolves a statement and does what it means.
     fn resolve_and_perform(&mut self, statement: &Statement) -> Outcome
         requires { transaction_cause (is_open self.old.state) (occasion_of statement.now) ≡ None }
-        ensures { Runs self.old.state statement.now
+        ensures runs { Runs self.old.state statement.now
             (resolution_outcome self.old.state (resolution self.old.state.schema statement.now))
             result self.new }
+        ensures looked { defines_schema statement.now ≡ false
+            → UnlessMemory result (LooksUpFew self.old self.new) }
     {
         self.state.clear_work();
         match resolve(self.state.allocator(), self.state.catalogue(), statement) {
@@ -37,6 +42,8 @@ impl<K: Keeper + Drop> Session<K> {
     fn run(&mut self, statement: &Statement) -> Outcome
         ensures runs { Runs self.old.state statement.now
             (step self.old.state statement.now) result self.new }
+        ensures looked { defines_schema statement.now ≡ false
+            → UnlessMemory result (LooksUpFew self.old self.new) }
         ensures sure { takes_no_memory self.old.state statement.now ≡ true
             → is_memory result ≡ false }
         ensures sure_store { K.sure ≡ true → is_rollback_to statement.now ≡ true
@@ -71,6 +78,9 @@ impl<K: Keeper + Drop> Session<K> {
         ensures work { MatchBool (is_memory result) (Unit {0}) (self.new.work
             ≡ (step self.old.state statement.now).work) }
         ensures lookups { self.new.lookups ≡ self.new.looked - self.old.looked }
+        // one that doesn't change the schema
+        ensures bounded { defines_schema statement.now ≡ false
+            → UnlessMemory result (FewLookups self.old.state self.new) }
         // a store that counts no look-up
         ensures unlooked { ((store : K) → K.lookups store ≡ 0) → self.new.lookups ≡ 0 }
     {

@@ -6,6 +6,7 @@ ghost use Rattle.iv_machine.specs.Databases.{is_chosen, scan};
 ghost use Rattle.iv_machine.specs.Machine.{commit_outcome, empty_state, inside, is_open, no_work, outcome_unless, rollback_outcome, rollback_to_outcome, savepoint_named, transaction_cause};
 ghost use Rattle.iv_state.specs.Ending.{commit_answer};
 ghost use Rattle.iv_state.specs.Performing.{Performs};
+ghost use Rattle.iv_session.specs.FewLookups.{FewLookups};
 
 use iv_catalogue::{Catalogue, Fault};
 use iv_machine::Limits;
@@ -26,12 +27,16 @@ impl<K: Keeper + Drop> Model for Session<K> {
     ghost use Rattle.iv_expr.specs.contracts.tree.Cond as cond;
     ghost use Rattle.iv_expr.specs.contracts.tree.Expr as expr;
     ghost use Rattle.std.specs.Coded.{codes};
+    ghost use Rattle.iv_run.proofs.Reached.{IsReached};
 
     ghost Value = { Seen };
 
     ghost coded = { Prim.hlevel (codes, cond.the_row.coded, expr.the_row.coded) };
 
     ghost view = { λ s. s.state };
+
+    // The state is one that statements reach from an empty one.
+    ghost invariant = { λ s. IsReached s.state.state };
 }
 
 impl<K: Keeper + Drop> Session<K> {
@@ -54,7 +59,11 @@ impl<K: Keeper + Drop> Session<K> {
 
     /// Whether a transaction is open.
     pub fn in_transaction(&self) -> bool
-        ensures { result ≡ is_some self.now.state.start }
+        ensures open { result ≡ is_some self.now.state.start }
+        // Outside a transaction no constraint is violated.
+        ensures unviolated { result ≡ false →
+            scan self.now.state.database.rows self.now.state.schema.constraints
+            (is_chosen self.now.state.modes All) ≡ [] }
     {
         self.state.in_transaction()
     }
@@ -91,6 +100,7 @@ impl<K: Keeper + Drop> Session<K> {
     pub fn rollback(&mut self)
         ensures state { self.new.state ≡ (rollback_outcome self.old.state).state }
         ensures work { self.new.work ≡ (rollback_outcome self.old.state).work }
+        ensures bounded { FewLookups self.old.state self.new }
         ensures lookups { self.new.lookups ≡ self.new.looked - self.old.looked }
         ensures unlooked { ((store : K) → K.lookups store ≡ 0) → self.new.lookups ≡ 0 }
     {
@@ -103,11 +113,12 @@ impl<K: Keeper + Drop> Session<K> {
         ensures answer { commit_answer result ≡ (commit_outcome self.old.state).answer }
         ensures state { self.new.state ≡ (commit_outcome self.old.state).state }
         ensures work { self.new.work ≡ (commit_outcome self.old.state).work }
+        ensures bounded { FewLookups self.old.state self.new }
         ensures lookups { self.new.lookups ≡ self.new.looked - self.old.looked }
         ensures unlooked { ((store : K) → K.lookups store ≡ 0) → self.new.lookups ≡ 0 }
-        // Inside a transaction it is accepted exactly where the scan of all constraints is empty.
-        ensures accepted { OnOk result (is_open self.old.state ≡ true →
-            scan self.old.state.database.rows self.old.state.schema.constraints
+        // It is accepted exactly where the scan of all constraints is empty.
+        ensures accepted { OnOk result
+            (scan self.old.state.database.rows self.old.state.schema.constraints
             (is_chosen self.old.state.modes All) ≡ []) }
         ensures refused { OnErr result
             (scan self.old.state.database.rows self.old.state.schema.constraints
@@ -120,6 +131,7 @@ impl<K: Keeper + Drop> Session<K> {
     /// those of the machine, or memory was refused and the state is as before. Outside a transaction it takes
     /// no memory, and on a store that goes back to a mark without memory it never takes any.
     pub fn rollback_to(&mut self, name: &str) -> Outcome
+        ensures bounded { FewLookups self.old.state self.new }
         ensures lookups { self.new.lookups ≡ self.new.looked - self.old.looked }
         ensures unlooked { ((store : K) → K.lookups store ≡ 0) → self.new.lookups ≡ 0 }
         ensures sure { is_open self.old.state ≡ false → is_memory result ≡ false }

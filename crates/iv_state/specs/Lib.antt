@@ -6,3 +6,4 @@ pub mod Fits
 pub mod Kept
 pub mod Performing
 pub mod Saving
+pub mod Looking

@@ -94,8 +94,9 @@ impl<K: Keeper + Drop> SessionState<K> {
     // Sets the modes of these constraints.
     fn set_modes(&mut self, ids: &[ConstraintId], mode: ConstraintMode) -> Outcome
         requires { is_open self.old.state ≡ true }
-        ensures { Performs self.old.state
+        ensures performs { Performs self.old.state
             (set_constraints_outcome self.old.state ids.now mode) result self.new }
+        ensures still { self.new.looked ≡ self.old.looked }
     {
         self.work = Work::none();
         let mut modes = self.modes().copy()?;
@@ -114,9 +115,10 @@ impl<K: Keeper + Drop> SessionState<K> {
     // SET CONSTRAINTS.
     pub(crate) fn set_constraints(&mut self, set: &ConstraintSet, mode: ConstraintMode) -> Outcome
         requires { is_open self.old.state ≡ true }
-        ensures { Performs self.old.state
+        ensures performs { Performs self.old.state
             (set_constraints_outcome self.old.state
             (constraints_meant self.old.state.schema set.now) mode) result self.new }
+        ensures still { self.new.looked ≡ self.old.looked }
     {
         match set {
             ConstraintSet::All => {

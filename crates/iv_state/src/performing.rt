@@ -3,7 +3,9 @@ ghost use Rattle.std.specs.Prelude.{◌≡◌, true, false, None};
 ghost use Rattle.iv_catalogue.specs.Refusals.{is_memory, refusal_answer};
 ghost use Rattle.iv_machine.specs.Machine.{change_outcome, commit_outcome, is_open, no_work, occasion_of, query_outcome, rollback_outcome, schema_outcome, transaction_cause, transaction_occasion, transaction_outcome};
 ghost use Rattle.iv_fitting.specs.PlanShapes.{data_suits, plain_shape};
+ghost use Rattle.iv_row_laws.specs.Changing.{UnlessMemory};
 ghost use Rattle.iv_state.specs.Fits.{PlanFits, SchemaFits};
+ghost use Rattle.iv_state.specs.Looking.{LooksUpFew, is_definition};
 ghost use Rattle.iv_state.specs.Performing.{Follows, Performs, PerformsPlan};
 
 use crate::changes::DataStatements;
@@ -19,6 +21,7 @@ impl<K: Keeper + Drop> SessionState<K> {
     /// COMMIT as a statement ("Commit statement").
     pub fn commit_statement(&mut self) -> Outcome
         ensures performs { Performs self.old.state (commit_outcome self.old.state) result self.new }
+        ensures looked { LooksUpFew self.old self.new }
         ensures sure { is_memory result ≡ false }
     {
         match self.commit() {
@@ -31,6 +34,7 @@ impl<K: Keeper + Drop> SessionState<K> {
     pub fn rollback_statement(&mut self) -> Outcome
         ensures performs { Performs self.old.state
             (rollback_outcome self.old.state) result self.new }
+        ensures looked { LooksUpFew self.old self.new }
         ensures sure { is_memory result ≡ false }
     {
         self.rollback();
@@ -41,8 +45,9 @@ impl<K: Keeper + Drop> SessionState<K> {
     pub(crate) fn transact(&mut self, plan: &TransactionPlan) -> Outcome
         requires { transaction_cause (is_open self.old.state) (transaction_occasion plan.now)
             ≡ None }
-        ensures { Performs self.old.state
+        ensures performs { Performs self.old.state
             (transaction_outcome self.old.state plan.now) result self.new }
+        ensures looked { LooksUpFew self.old self.new }
     {
         match plan {
             TransactionPlan::Start => self.start(),
@@ -75,7 +80,9 @@ impl<K: Keeper + Drop> SessionState<K> {
     fn change_whole<D: DataStatements>(&mut self, statement: DataStatement) -> Outcome
         requires { data_suits self.old.state.schema.tables
             (plain_shape self.old.state.schema.tables) statement ≡ true }
-        ensures { Follows self.old.state (change_outcome self.old.state statement) result self.new }
+        ensures follows { Follows self.old.state
+            (change_outcome self.old.state statement) result self.new }
+        ensures looked { UnlessMemory result (LooksUpFew self.old self.new) }
     {
         let answer = self.change::<D>(&statement);
         drop(statement);
@@ -84,7 +91,9 @@ impl<K: Keeper + Drop> SessionState<K> {
 
     // A query that is handed over.
     fn query_whole(&mut self, plan: QueryPlan) -> Outcome
-        ensures { Performs self.old.state (query_outcome self.old.state plan) result self.new }
+        ensures performs { Performs self.old.state
+            (query_outcome self.old.state plan) result self.new }
+        ensures still { self.new.looked ≡ self.old.looked }
     {
         let answer = self.query(&plan);
         drop(plan);
@@ -94,8 +103,9 @@ impl<K: Keeper + Drop> SessionState<K> {
     // A statement of transaction management that is handed over.
     fn transact_whole(&mut self, plan: TransactionPlan) -> Outcome
         requires { transaction_cause (is_open self.old.state) (transaction_occasion plan) ≡ None }
-        ensures { Performs self.old.state
+        ensures performs { Performs self.old.state
             (transaction_outcome self.old.state plan) result self.new }
+        ensures looked { LooksUpFew self.old self.new }
     {
         let answer = self.transact(&plan);
         drop(plan);
@@ -105,7 +115,9 @@ impl<K: Keeper + Drop> SessionState<K> {
     /// Does what a resolved statement means. Data statements run as `D` says.
     pub fn perform<D: DataStatements>(&mut self, plan: Plan) -> Outcome
         requires { PlanFits self.old.state plan }
-        ensures { PerformsPlan self.old.state plan result self.new }
+        ensures performs { PerformsPlan self.old.state plan result self.new }
+        ensures looked { is_definition plan ≡ false
+            → UnlessMemory result (LooksUpFew self.old self.new) }
     {
         match plan {
             Plan::Schema(definition) => self.define(definition),
@@ -138,6 +150,7 @@ impl<K: Keeper + Drop> SessionState<K> {
     pub fn refuse_now(&mut self, cause: Cause) -> Outcome
         ensures answer { result ≡ refusal_answer cause }
         ensures state { self.new.state ≡ self.old.state }
+        ensures still { self.new.looked ≡ self.old.looked }
         ensures work { self.new.work ≡ no_work }
     {
         self.work = Work::none();

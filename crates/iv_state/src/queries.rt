@@ -1,4 +1,5 @@
 //! SELECT.
+ghost use Rattle.std.specs.Prelude.{◌≡◌};
 ghost use Rattle.iv_machine.specs.Machine.{query_outcome};
 ghost use Rattle.iv_state.specs.Performing.{Performs};
 
@@ -12,7 +13,9 @@ use iv_store::Keeper;
 impl<K: Keeper + Drop> SessionState<K> {
     // SELECT.
     pub(crate) fn query(&mut self, plan: &QueryPlan) -> Outcome
-        ensures { Performs self.old.state (query_outcome self.old.state plan.now) result self.new }
+        ensures performs { Performs self.old.state
+            (query_outcome self.old.state plan.now) result self.new }
+        ensures still { self.new.looked ≡ self.old.looked }
     {
         self.work = Work::none();
         match select(&self.store, plan) {

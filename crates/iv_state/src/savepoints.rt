@@ -8,6 +8,7 @@ ghost use Rattle.iv_machine.specs.declared.answer.Answer.TheVariants.{Done};
 ghost use Rattle.iv_machine.specs.Machine.{accept, inside, is_open, outcome_unless, with_transaction, state_with_savepoint, release_outcome, rollback_to_outcome, savepoint_named, transaction_cause};
 ghost use Rattle.iv_store.specs.Stores.{store_without_mark};
 ghost use Rattle.iv_state.specs.Kept.{brought_back, current};
+ghost use Rattle.iv_state.specs.Looking.{LooksUpFew};
 ghost use Rattle.iv_state.specs.Performing.{Performs};
 ghost use Rattle.iv_state.specs.Saving.{IsWithout, last_named, with_marks};
 
@@ -116,8 +117,9 @@ impl<K: Keeper + Drop> SessionState<K> {
     // START TRANSACTION, and what a data statement begins.
     pub(crate) fn start(&mut self) -> Outcome
         requires { is_open self.old.state ≡ false }
-        ensures { Performs self.old.state
+        ensures performs { Performs self.old.state
             (accept (with_transaction self.old.state) Done) result self.new }
+        ensures still { self.new.looked ≡ self.old.looked }
     {
         let _ = self.store.mark()?;
         self.active = true;
@@ -128,8 +130,9 @@ impl<K: Keeper + Drop> SessionState<K> {
     // SAVEPOINT.
     pub(crate) fn savepoint(&mut self, name: &Name) -> Outcome
         requires { is_open self.old.state ≡ true }
-        ensures { Performs self.old.state
+        ensures performs { Performs self.old.state
             (accept (state_with_savepoint self.old.state name.now) Done) result self.new }
+        ensures still { self.new.looked ≡ self.old.looked }
     {
         let own = name.clone()?;
         let modes = copied(&self.changed)?;
@@ -147,9 +150,10 @@ impl<K: Keeper + Drop> SessionState<K> {
     // RELEASE SAVEPOINT.
     pub(crate) fn release(&mut self, name: &Name) -> Outcome
         requires { is_open self.old.state ≡ true }
-        ensures { Performs self.old.state
+        ensures performs { Performs self.old.state
             (release_outcome self.old.state (savepoint_named name.now self.old.state.savepoints))
             result self.new }
+        ensures still { self.new.looked ≡ self.old.looked }
     {
         self.work = Work::none();
         match last_named(self.saves.as_slice(), name.as_str()) {
@@ -164,6 +168,7 @@ impl<K: Keeper + Drop> SessionState<K> {
     // ROLLBACK TO SAVEPOINT.
     pub(crate) fn back_to(&mut self, name: &str) -> Outcome
         requires { is_open self.old.state ≡ true }
+        ensures looked { LooksUpFew self.old self.new }
         ensures sure_store { K.sure ≡ true → is_memory result ≡ false }
         ensures performs { Performs self.old.state
             (rollback_to_outcome self.old.state
@@ -188,6 +193,7 @@ impl<K: Keeper + Drop> SessionState<K> {
             (outcome_unless self.old.state (transaction_cause (is_open self.old.state) inside)
             (rollback_to_outcome self.old.state
             (savepoint_named name.now self.old.state.savepoints))) result self.new }
+        ensures looked { LooksUpFew self.old self.new }
         ensures sure { is_open self.old.state ≡ false → is_memory result ≡ false }
         ensures sure_store { K.sure ≡ true → is_memory result ≡ false }
     {
@@ -202,6 +208,7 @@ impl<K: Keeper + Drop> SessionState<K> {
     /// those of the machine, or memory was refused and the state is as before. Outside a transaction it takes
     /// no memory, and on a store that goes back to a mark without memory it never takes any.
     pub fn rollback_to(&mut self, name: &str) -> Outcome
+        ensures looked { LooksUpFew self.old self.new }
         ensures lookups { self.new.lookups ≡ self.new.looked - self.old.looked }
         ensures unlooked { ((store : K) → K.lookups store ≡ 0) → self.new.lookups ≡ 0 }
         ensures sure { is_open self.old.state ≡ false → is_memory result ≡ false }

@@ -4,6 +4,7 @@ ghost use Rattle.iv_machine.specs.declared.database.Which.TheVariants.{All, Defe
 ghost use Rattle.iv_machine.specs.Databases.{is_chosen, scan};
 ghost use Rattle.iv_machine.specs.Machine.{commit_outcome, first_violation, is_open, no_work, rollback_outcome, state_at_end};
 ghost use Rattle.iv_state.specs.Ending.{commit_answer};
+ghost use Rattle.iv_state.specs.Looking.{LookedUp, LooksUpFew};
 
 use crate::session_state::{SessionState, Work};
 use iv_catalogue::Fault;
@@ -120,7 +121,9 @@ impl<K: Keeper + Drop> SessionState<K> {
 
     // Ends the transaction with the database from its start.
     fn undo_transaction(&mut self)
-        ensures { self.new.state ≡ (rollback_outcome self.old.state).state }
+        ensures state { self.new.state ≡ (rollback_outcome self.old.state).state }
+        ensures looked { LookedUp (length self.old.state.schema.constraints)
+            (rollback_outcome self.old.state).work self.old.looked self.new.looked }
     {
         if self.active {
             self.store.undo(Mark::new(0));
@@ -136,6 +139,7 @@ impl<K: Keeper + Drop> SessionState<K> {
     pub fn rollback(&mut self)
         ensures state { self.new.state ≡ (rollback_outcome self.old.state).state }
         ensures work { self.new.work ≡ (rollback_outcome self.old.state).work }
+        ensures looked { LooksUpFew self.old self.new }
         ensures lookups { self.new.lookups ≡ self.new.looked - self.old.looked }
         ensures unlooked { ((store : K) → K.lookups store ≡ 0) → self.new.lookups ≡ 0 }
     {
@@ -151,6 +155,7 @@ impl<K: Keeper + Drop> SessionState<K> {
             (if is_open self.old.state then state_at_end self.old.state self.old.state.database else
             self.old.state) }
         ensures work { self.new.work ≡ no_work }
+        ensures still { self.new.looked ≡ self.old.looked }
         ensures lookups { self.new.lookups ≡ self.new.looked - self.old.looked }
         ensures unlooked { ((store : K) → K.lookups store ≡ 0) → self.new.lookups ≡ 0 }
     {
@@ -169,6 +174,7 @@ impl<K: Keeper + Drop> SessionState<K> {
         ensures answer { commit_answer result ≡ (commit_outcome self.old.state).answer }
         ensures state { self.new.state ≡ (commit_outcome self.old.state).state }
         ensures work { self.new.work ≡ (commit_outcome self.old.state).work }
+        ensures looked { LooksUpFew self.old self.new }
         ensures lookups { self.new.lookups ≡ self.new.looked - self.old.looked }
         ensures unlooked { ((store : K) → K.lookups store ≡ 0) → self.new.lookups ≡ 0 }
         // Inside a transaction it is accepted exactly where the scan of all constraints is empty.

@@ -15,9 +15,9 @@ perform-requires g c =
     (subst (λ (y : State). transaction_cause (is_open y) (occasion_of c.args.statement.now) ≡ None) (sym same) c.requires)
     (sym {b = resolution c.clear_work.new.self.state.schema c.args.statement.now} (c.in-Ok.ensures ∙ ap (λ (x : Schema). resolution x c.args.statement.now) c.catalogue.ensures.now))
 
-pub returns-in-Ok : goal.returns-in-Ok
-returns-in-Ok g c =
+pub returns-in-Ok-clause-runs : goal.returns-in-Ok-clause-runs
+returns-in-Ok-clause-runs g c =
     let same : c.clear_work.new.self.state ≡ c.args.self.now.state = c.clear_work.ensures.state ∙ ap (λ (x : Seen). x.state) c.self.view_is in
     subst (λ (y : State). Runs y c.args.statement.now (resolution_outcome y (resolution y.schema c.args.statement.now)) c.perform.result c.perform.new.self) same
     (runs_of c.clear_work.new.self.state c.args.statement.now c.in-Ok.plan c.perform.result c.perform.new.self
-    (c.in-Ok.ensures ∙ ap (λ (x : Schema). resolution x c.args.statement.now) c.catalogue.ensures.now) c.perform.ensures)
+    (c.in-Ok.ensures ∙ ap (λ (x : Schema). resolution x c.args.statement.now) c.catalogue.ensures.now) c.perform.ensures.performs)

@@ -4,8 +4,8 @@ use Rattle.iv_state.specs.Kept.{Parts, parts, current, state_of}
 use Rattle.iv_state.proofs.Changed.{change_refused, stored, none_is}
 use Rattle.iv_state.proofs.session_state.SessionState.change.Goals as goal
 
-pub returns-in-Err : goal.returns-in-Err
-returns-in-Err g c =
+pub returns-in-Err-clause-follows : goal.returns-in-Err-clause-follows
+returns-in-Err-clause-follows g c =
     let h : Parts = parts g.K.Kin.view c.self.inside in
     let changes : Changes (not h.active) h.store (said_of h.schema (current h.initial h.changed).modes h.limits c.args.statement.now h.store.base) (Err c.in-Err.refusal)
     (g.K.Kin.view c.run_change.new.store) (record { changes = c.run_change.new.work.changes; undone = c.run_change.new.work.undone }) =

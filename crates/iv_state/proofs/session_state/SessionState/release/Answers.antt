@@ -15,8 +15,8 @@ invariant_of-self g c =
     released_kept h c.in-Some.place c.take_from.new.saves.items (g.K.Kin.view c.take_from.new.store) a (subst (λ b. StandsAs b h) a c.self.invariant.stands)
     (rw (← c.as_slice.ensures.value) c.in-Some.ensures.within) c.take_from.ensures.saves c.take_from.ensures.store c.self.invariant
 
-pub returns-in-Some : goal.returns-in-Some
-returns-in-Some g c =
+pub returns-in-Some-clause-performs : goal.returns-in-Some-clause-performs
+returns-in-Some-clause-performs g c =
     let h : Parts = parts g.K.Kin.view c.self.inside in
     let a : h.active ≡ true = open_is h.active h.store (ap (λ x. is_open x.state) c.self.view_is ∙ c.requires) in
     let o : IsOpen h = subst (λ b. StandsAs b h) a c.self.invariant.stands in
@@ -31,8 +31,8 @@ returns-in-Some g c =
       ap (λ w. record { changes = w.changes; undone = w.undone }) c.none-self-inside.ensures,
     )
 
-pub returns-in-None : goal.returns-in-None
-returns-in-None g c =
+pub returns-in-None-clause-performs : goal.returns-in-None-clause-performs
+returns-in-None-clause-performs g c =
     let h : Parts = parts g.K.Kin.view c.self.inside in
     let at : last_named c.args.name.now h.saves ≡ None =
     ap (λ l. last_named c.args.name.now l) (sym c.as_slice.ensures.value) ∙ ap (λ n. last_named n c.as_slice.result.now) (sym c.as_str.ensures)

@@ -17,8 +17,8 @@ invariant_of-self-2 g c =
     saved_kept h c.args.name.now s c.take_named.new.saves.items c.push.new.self.items (g.K.Kin.view c.take_named.new.store) a
     (subst (λ b. StandsAs b h) a c.self.invariant.stands) c.in_ok-modes.ensures w c.in-Ok.ensures.items c.self.invariant
 
-pub returns : goal.returns
-returns g c =
+pub returns-clause-performs : goal.returns-clause-performs
+returns-clause-performs g c =
     let h : Parts = parts g.K.Kin.view c.self.inside in
     let s : Saved = record { name = c.in_ok-own.own; modes = c.in_ok-modes.modes } in
     let a : h.active ≡ true = open_is h.active h.store (ap (λ x. is_open x.state) c.self.view_is ∙ c.requires) in

@@ -23,8 +23,8 @@ invariant_of-self-in-None g c =
       stands = subst (λ b. StandsAs b (record h { changed = Some c.set.new.self })) (sym a) (record { marks = o.marks; modes = m; saved = modes_changed h.schema.constraints (is_some h.changed) h.saves o.saved; fit = o.fit });
     }
 
-pub returns-in-Err : goal.returns-in-Err
-returns-in-Err g c =
+pub returns-in-Err-clause-performs : goal.returns-in-Err-clause-performs
+returns-in-Err-clause-performs g c =
     let h : Parts = parts g.K.Kin.view c.self.inside in
     let s : State = c.args.self.now.state in
     let v : state_of h ≡ s = ap (λ x. x.state) c.self.view_is in
@@ -35,8 +35,8 @@ returns-in-Err g c =
     (ap (λ (x : ModeMap). x.deferrable) c.in_ok-modes.ensures ∙ c.modes.ensures.settable ∙ ap (λ (y : State). map (λ k. k.deferrable) y.schema.constraints) v) c.in-Err.ensures.refused)
     refl c.refuse.ensures v w
 
-pub returns-in-Some : goal.returns-in-Some
-returns-in-Some g c =
+pub returns-in-Some-clause-performs : goal.returns-in-Some-clause-performs
+returns-in-Some-clause-performs g c =
     let h : Parts = parts g.K.Kin.view c.self.inside in
     let s : State = c.args.self.now.state in
     let v : state_of h ≡ s = ap (λ x. x.state) c.self.view_is in
@@ -51,8 +51,8 @@ returns-in-Some g c =
     refuse_performs s (set_constraints_outcome s c.args.ids.now c.args.mode) (Violation c.in-Some.fault) c.refuse-in-Some.result x
     (seen ∙ ap (λ (o : Option Fault). refuse_first s Violation o (accept (record s { modes = c.set.new.self.modes }) Done)) c.in-Some.is) refl c.refuse-in-Some.ensures v w
 
-pub returns-in-None : goal.returns-in-None
-returns-in-None g c =
+pub returns-in-None-clause-performs : goal.returns-in-None-clause-performs
+returns-in-None-clause-performs g c =
     let h : Parts = parts g.K.Kin.view c.self.inside in
     let s : State = c.args.self.now.state in
     let v : state_of h ≡ s = ap (λ x. x.state) c.self.view_is in

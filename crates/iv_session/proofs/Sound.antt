@@ -1,0 +1,33 @@
+-- A session's state is one that statements reach.
+use Rattle.std.proofs.Common.{◌≡◌, Bool, true, false, [], None, Some, Option, Result, Err, refl, sym, ap, subst, ◌∙◌, MatchBool, is_some}
+use Rattle.iv_session.specs.Words.{Statement, Refusal, Answer}
+use Rattle.iv_catalogue.specs.declared.plan.TransactionPlan.{TransactionPlan}
+use Rattle.iv_catalogue.specs.declared.plan.Plan.TheVariants as plan
+use Rattle.iv_catalogue.specs.Refusals.{is_memory, out_of_memory}
+use Rattle.iv_laws.specs.Reached.{planned}
+use Rattle.iv_laws.proofs.ReachedStates.{reachable_is_sound}
+use Rattle.iv_machine.specs.declared.database.Which.TheVariants.{All}
+use Rattle.iv_machine.specs.Databases.{is_chosen, scan}
+use Rattle.iv_machine.specs.Machine.{State, may_run_triggers}
+use Rattle.iv_run.specs.Step.{step}
+use Rattle.iv_run.proofs.Reached.{IsReached, control_reached, step_reached}
+use Rattle.iv_state.specs.Kept.{Seen}
+use Rattle.iv_state.specs.Performing.{Did, Performs, Runs}
+
+-- a statement leads to such a state, or memory was refused and the state stays
+pub runs_reached : (s : State) (st : Statement) (r : Result Answer Refusal) (x : Seen) → IsReached s → Runs s st (step s st) r x → IsReached x.state
+runs_reached s st r x h runs = by (is_memory r) runs where
+  by : (b : Bool) → MatchBool b ((x.state ≡ s) × (may_run_triggers s st ≡ false → r ≡ Err out_of_memory)) (Did (step s st) r x) → IsReached x.state
+  by true k = subst IsReached (sym k.0) h
+  by false k = subst IsReached (sym k.1) (step_reached s st h)
+
+-- so does a call that is a statement of transaction management
+pub performs_reached : (s : State) (t : TransactionPlan) (r : Result Answer Refusal) (x : Seen) → IsReached s → Performs s (planned s (plan.Transaction t)) r x → IsReached x.state
+performs_reached s t r x h performs = by (is_memory r) performs where
+  by : (b : Bool) → MatchBool b ((x.state ≡ s) × (r ≡ Err out_of_memory)) (Did (planned s (plan.Transaction t)) r x) → IsReached x.state
+  by true k = subst IsReached (sym k.0) h
+  by false k = subst IsReached (sym k.1) (control_reached s t h)
+
+-- outside a transaction no constraint is violated
+pub unviolated : (s : State) → IsReached s → s.start ≡ None → scan s.database.rows s.schema.constraints (is_chosen s.modes All) ≡ []
+unviolated s h e = ((reachable_is_sound s h.reachable).outside e).unviolated
