@@ -7,3 +7,4 @@ pub mod Performed
 pub mod Firsts
 pub mod Fitting
 pub mod Defined
+pub mod ByName

@@ -5,7 +5,7 @@ use Rattle.std.specs.Str.{bytes_eq}
 use Rattle.std.proofs.lemmas.List.Edits.{length-remove}
 use Rattle.iv_state.specs.Words.{Database}
 use Rattle.iv_store.specs.Stores.{StoreState, marked_database, store_without_mark}
-use Rattle.iv_state.specs.declared.session_state.Saved.{Saved}
+use Rattle.iv_state.specs.Saved.{Saved}
 use Rattle.iv_state.specs.Kept.{later}
 use Rattle.iv_state.specs.Saving.{last_from, last_named, saves_without, marks_without, with_marks, IsWithout}
 

@@ -7,7 +7,7 @@ use Rattle.iv_machine.specs.Bounds.{Bounds}
 use Rattle.iv_machine.specs.Machine.{Savepoint, State, Work}
 use Rattle.iv_modes.specs.ModeMaps.{ModeMap, initial_map}
 use Rattle.iv_store.specs.Stores.{StoreState, marked_database}
-use Rattle.iv_state.specs.declared.session_state.Saved.{Saved}
+use Rattle.iv_state.specs.Saved.{Saved}
 use Rattle.iv_state.specs.declared.session_state.SessionState.TheInside.{Inside}
 use Rattle.iv_row_laws.specs.Changing.{StoreFits}
 use Rattle.iv_row_laws.specs.RowFits.{rows_fit}
@@ -80,7 +80,7 @@ parts view s = record {
   initial = s.initial;
   changed = s.changed;
   active = s.active;
-  saves = s.saves.items;
+  saves = s.saves.saves;
 }
 
 -- what a session is seen as, by what its store is seen as and the keys that were looked up in it

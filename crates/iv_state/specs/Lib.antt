@@ -1,4 +1,5 @@
 pub mod Words
+pub mod Saved
 pub mod Changing
 pub mod Deferring
 pub mod Ending

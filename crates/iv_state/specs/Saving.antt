@@ -3,7 +3,7 @@ use Rattle.std.specs.Prelude.{◌≡◌, ℕ, ◌+◌, ◌<◌, not, if◌then�
 use Rattle.std.specs.Str.{bytes_eq}
 use Rattle.iv_state.specs.Words.{Database}
 use Rattle.iv_store.specs.Stores.{StoreState, marked_database}
-use Rattle.iv_state.specs.declared.session_state.Saved.{Saved}
+use Rattle.iv_state.specs.Saved.{Saved}
 use Rattle.iv_state.specs.Kept.{later}
 
 -- the last place of the name among these, of which the first has this place, or what was found before them

@@ -5,6 +5,7 @@ mod changes;
 mod deferring;
 mod performing;
 mod queries;
+mod savepoint_list;
 mod savepoints;
 mod schema;
 mod session_state;

@@ -1,7 +1,6 @@
 //! Savepoints.
-ghost use Rattle.std.specs.Prelude.{◌≡◌, ◌+◌, ◌-◌, ◌<◌, ◌≤◌, length, take, true, false, IfOk, IfSome, Ok, Err, Some, if◌then◌else◌};
+ghost use Rattle.std.specs.Prelude.{◌≡◌, ◌+◌, ◌-◌, ◌<◌, ◌≤◌, ◌^◌, length, take, true, false, IfOk, IfSome, Ok, Err, None};
 ghost use Rattle.std.specs.List.{remove};
-ghost use Rattle.std.specs.Vec.{vec_capacity};
 ghost use Rattle.iv_catalogue.specs.declared.cause.Cause.TheVariants.{UnknownSavepoint};
 ghost use Rattle.iv_catalogue.specs.Refusals.{is_memory, refusal_answer};
 ghost use Rattle.iv_machine.specs.declared.answer.Answer.TheVariants.{Done};
@@ -13,7 +12,8 @@ ghost use Rattle.iv_state.specs.Performing.{Performs};
 ghost use Rattle.iv_state.specs.Saving.{IsWithout, last_named, with_marks};
 
 use crate::changes::modes_now;
-use crate::session_state::{Saved, SessionState, Work};
+use crate::savepoint_list::SavepointList;
+use crate::session_state::{SessionState, Work};
 use iv_catalogue::{Cause, Refusal};
 use iv_machine::Answer;
 use iv_modes::Modes;
@@ -43,59 +43,39 @@ fn bring_back(changed: &mut Option<Modes>, initial: &Modes, saved: &Option<Modes
     }
 }
 
-// The place where the test holds, or what was found before it.
-fn place_or(holds: bool, place: usize, found: Option<usize>) -> Option<usize>
-    ensures place { result ≡ (if holds then Some place else found) }
-{
-    if holds { Some(place) } else { found }
-}
-
-// The place of the newest savepoint of this name.
-fn last_named(saves: &[Saved], name: &str) -> Option<usize>
-    ensures place { result ≡ last_named name.now saves.now }
-    ensures within { IfSome result (λ place. place < length saves.now) }
-{
-    let mut found = None;
-    let mut at = 0usize;
-    for save in saves {
-        found = place_or(name == save.name.as_str(), at, found);
-        at += 1;
-    }
-    found
-}
-
 // Takes a savepoint out, with its mark.
-fn take_out<K: Keeper>(store: &mut K, saves: &mut Vec<Saved>, place: usize)
-    requires there { place < length saves.old.items }
-    requires room { length saves.old.items < length (K.view store.old).marks }
-    ensures saves { saves.new.items ≡ remove saves.old.items place }
+fn take_out<K: Keeper>(store: &mut K, saves: &mut SavepointList, place: usize)
+    requires there { place < length saves.old.saves }
+    requires small { place < 2 ^ 63 }
+    requires room { length saves.old.saves < length (K.view store.old).marks }
+    ensures saves { saves.new.saves ≡ remove saves.old.saves place }
     ensures store { K.view store.new ≡ store_without_mark (K.view store.old) (place + 1) }
-    ensures capacity { vec_capacity saves.new ≡ vec_capacity saves.old }
+    ensures room { saves.old.room ≤ saves.new.room }
     ensures unlooked { K.lookups store.new ≡ K.lookups store.old }
 {
     store.forget(Mark::new(place + 1));
-    drop(saves.remove(place));
+    saves.remove(place);
 }
 
 // Takes the savepoints of a name out, with their marks.
-fn take_named<K: Keeper>(store: &mut K, saves: &mut Vec<Saved>, name: &str)
-    requires { length saves.old.items < length (K.view store.old).marks }
-    ensures without { IsWithout name.now saves.old.items (K.view store.old) saves.new.items
+fn take_named<K: Keeper>(store: &mut K, saves: &mut SavepointList, name: &str)
+    requires { length saves.old.saves < length (K.view store.old).marks }
+    ensures without { IsWithout name.now saves.old.saves (K.view store.old) saves.new.saves
         (K.view store.new) }
-    ensures fewer { length saves.new.items ≤ length saves.old.items }
-    ensures capacity { vec_capacity saves.new ≡ vec_capacity saves.old }
+    ensures none { last_named name.now saves.new.saves ≡ None }
+    ensures room { saves.old.room ≤ saves.new.room }
     ensures unlooked { K.lookups store.new ≡ K.lookups store.old }
 {
-    while let Some(place) = last_named(saves.as_slice(), name) {
+    while let Some(place) = saves.place_of(name) {
         take_out(store, saves, place);
     }
 }
 
 // Takes the savepoints from this place on out, with their marks.
-fn take_from<K: Keeper>(store: &mut K, saves: &mut Vec<Saved>, place: usize)
-    requires there { place ≤ length saves.old.items }
-    requires room { length (K.view store.old).marks ≡ length saves.old.items + 1 }
-    ensures saves { saves.new.items ≡ take place saves.old.items }
+fn take_from<K: Keeper>(store: &mut K, saves: &mut SavepointList, place: usize)
+    requires there { place ≤ length saves.old.saves }
+    requires room { length (K.view store.old).marks ≡ length saves.old.saves + 1 }
+    ensures saves { saves.new.saves ≡ take place saves.old.saves }
     ensures store { K.view store.new
         ≡ with_marks (K.view store.old) (take (place + 1) (K.view store.old).marks) }
     ensures unlooked { K.lookups store.new ≡ K.lookups store.old }
@@ -134,15 +114,12 @@ impl<K: Keeper + Drop> SessionState<K> {
             (accept (state_with_savepoint self.old.state name.now) Done) result self.new }
         ensures still { self.new.looked ≡ self.old.looked }
     {
-        let own = name.clone()?;
+        let own = String::from_str(self.store.allocator(), name.as_str())?;
         let modes = copied(&self.changed)?;
-        self.saves.reserve(1)?;
+        self.saves.make_room()?;
         let _ = self.store.mark()?;
         take_named(&mut self.store, &mut self.saves, name.as_str());
-        match self.saves.push(Saved { name: own, modes }) {
-            Ok(()) => {}
-            Err(_) => unreachable!(),
-        }
+        self.saves.push(own, modes);
         self.work = Work::none();
         Ok(Answer::Done)
     }
@@ -156,7 +133,7 @@ impl<K: Keeper + Drop> SessionState<K> {
         ensures still { self.new.looked ≡ self.old.looked }
     {
         self.work = Work::none();
-        match last_named(self.saves.as_slice(), name.as_str()) {
+        match self.saves.place_of(name.as_str()) {
             Some(place) => {
                 take_from(&mut self.store, &mut self.saves, place);
                 Ok(Answer::Done)
@@ -175,13 +152,13 @@ impl<K: Keeper + Drop> SessionState<K> {
             (savepoint_named name.now self.old.state.savepoints)) result self.new }
     {
         self.work = Work::none();
-        let place = match last_named(self.saves.as_slice(), name) {
+        let place = match self.saves.place_of(name) {
             Some(place) => place,
             None => return refuse(Cause::UnknownSavepoint),
         };
         let standing = self.store.standing();
         self.store.undo_to(Mark::new(place + 1))?;
-        bring_back(&mut self.changed, &self.initial, &self.saves[place].modes);
+        bring_back(&mut self.changed, &self.initial, self.saves.modes_at(place));
         self.saves.truncate(place + 1);
         self.work.undone = standing.saturating_sub(self.store.standing());
         Ok(Answer::Done)

@@ -3,11 +3,11 @@ ghost use Rattle.std.specs.Prelude.{◌≡◌, IfOk, is_some, ◌-◌};
 ghost use Rattle.iv_machine.specs.Machine.{empty_state, no_work};
 ghost use Rattle.iv_fitting.specs.ConstraintShapes.{SchemaSuits};
 
+use crate::savepoint_list::SavepointList;
 use iv_catalogue::Catalogue;
 use iv_machine::Limits;
 use iv_modes::Modes;
 use iv_store::Keeper;
-use iv_syntax::Name;
 use std::alloc::{AllocError, Global};
 use std::marker::Model;
 
@@ -33,13 +33,6 @@ impl Work {
     }
 }
 
-// A savepoint: its name, and the modes that it has where SET CONSTRAINTS had changed them.
-#[derive(Drop)]
-pub(crate) struct Saved {
-    pub(crate) name: Name,
-    pub(crate) modes: Option<Modes>,
-}
-
 /// The state of a session, seen as the machine's, with the work of the last call.
 ///
 /// The start of the transaction is the first mark of the store, and each savepoint of it has the next one.
@@ -54,8 +47,7 @@ pub struct SessionState<K: Keeper + Drop> {
     // ROLLBACK TO SAVEPOINT sets them in place.
     pub(crate) changed: Option<Modes>,
     pub(crate) active: bool,
-    // The savepoints, the oldest first.
-    pub(crate) saves: Vec<Saved>,
+    pub(crate) saves: SavepointList,
     pub(crate) work: Work,
 }
 
@@ -95,7 +87,7 @@ impl<K: Keeper + Drop> SessionState<K> {
             initial,
             changed: None,
             active: false,
-            saves: Vec::new(alloc),
+            saves: SavepointList::new(alloc),
             work: Work::none(),
         })
     }

@@ -1,12 +1,13 @@
-use Rattle.std.proofs.Common.{◌≡◌, ◌+◌, ◌-◌, ◌≤◌, length, take}
+use Rattle.std.proofs.Common.{◌≡◌, ◌+◌, ◌-◌, ◌<◌, ◌≤◌, ◌^◌, length, take}
 use Rattle.iv_state.specs.Saving.{with_marks}
 use Rattle.iv_state.proofs.savepoints.take_from.Given as goal
 
 abbrev pub invariant-loop-left : goal.invariant-loop-left
 invariant-loop-left g l = record {
   above : l.place ≤ l.left;
-  below : l.left ≤ length l.initial.saves.items;
-  saves : l.saves.items ≡ take l.left l.initial.saves.items;
+  below : l.left ≤ length l.initial.saves.saves;
+  small : l.left < 2 ^ 63;
+  saves : l.saves.saves ≡ take l.left l.initial.saves.saves;
   store : g.K.Kin.view l.store ≡ with_marks (g.K.Kin.view l.initial.store) (take (l.left + 1) (g.K.Kin.view l.initial.store).marks);
   unlooked : g.K.Kin.lookups l.store ≡ g.K.Kin.lookups l.initial.store;
 }
