@@ -56,7 +56,7 @@ impl NameIndex {
         Ok(())
     }
 
-    /// Keeps the first names, so many of them. It takes no memory.
+    /// Keeps the first `count` names. It takes no memory.
     pub fn truncate(&mut self, count: usize)
         ensures { self.new ≡ take count self.old }
     {

@@ -118,7 +118,7 @@ impl<T: Named + Drop> NamedList<T> {
         }
     }
 
-    /// Keeps the first items, so many of them. It takes no memory.
+    /// Keeps the first `count` items. It takes no memory.
     pub fn truncate(&mut self, count: usize)
         ensures { self.new ≡ take count self.old }
     {

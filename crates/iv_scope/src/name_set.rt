@@ -50,8 +50,8 @@ impl NameSet {
     }
 }
 
-/// Adds a name to the set, and says whether it was there. The clause is that of a loop: for whatever names are to come, one of all of
-/// them comes again where this one does or one of those.
+/// Adds a name to the set, and says whether it was there. The clause serves a loop: whatever names follow, some name comes twice where
+/// this one was there, or where one of those that follow comes twice.
 #[tactic(auto, using(crate::proofs::Sets::one_added))]
 pub fn comes_again(alloc: Global, set: &mut NameSet, name: &str) -> Result<bool, AllocError>
     ensures { IfOk result (λ found. (names : List (List ℕ))

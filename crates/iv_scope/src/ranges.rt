@@ -19,7 +19,8 @@ pub enum Ranges<'a> {
     Within(&'a str, Columns<'a>, Origin, &'a Ranges<'a>),
 }
 
-/// A column of a range that so many ranges are inside of, or of a row variable.
+/// A column of a range or of a row variable. `outward` counts the ranges between the place of the name and that
+/// range.
 #[derive(Clone, Copy)]
 pub struct Found {
     pub origin: Origin,

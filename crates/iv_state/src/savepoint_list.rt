@@ -95,7 +95,7 @@ impl SavepointList {
         let _ = self.modes.shift_remove_index(place);
     }
 
-    // Keeps the oldest, so many of them.
+    // Keeps the oldest `count`.
     pub(crate) fn truncate(&mut self, count: usize)
         ensures { self.new.saves ≡ take count self.old.saves }
     {

@@ -53,7 +53,7 @@ fn asked_of_one<'a>(
     asked(question, own, catalogue, outside, &written)
 }
 
-/// Whether the constraint for itself deserves the cause.
+/// Whether a table constraint deserves the cause, whatever stands beside it.
 pub fn asked_of_constraint<'a>(
     question: Question,
     own: &'a Own<'a>,

@@ -72,7 +72,7 @@ pub fn column_constraint<'a>(
     }
 }
 
-/// A constraint for itself.
+/// A table constraint as it is written.
 pub fn table_constraint<'a>(constraint: &'a TableConstraint) -> WrittenConstraint<'a>
     ensures { constraint_seen result ≡ table_constraint constraint.entry.now }
 {

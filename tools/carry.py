@@ -1,0 +1,92 @@
+#!/usr/bin/env python3
+"""Carries the digests of edits over a renaming, without trying the edits again.
+
+  tools/carry.py COMMIT NAMES
+
+NAMES is a file with a line `OLD NEW` for each word that was renamed: crates, files, types and functions. The tree of the
+commit is laid out in a folder of its own, each old word is replaced there by its new one, in texts and in paths, and
+the files are laid out anew. Where what a crate's digest is made of is then the same as in this checkout, and the digest
+held at the commit, its edits were refused over these sources but for the names, and the digest is written anew. The
+last line is `N carried, N stale`; the edits of a stale crate have to be tried."""
+import os
+import re
+import subprocess
+import sys
+import tempfile
+
+ROOT = os.path.dirname(os.path.dirname(os.path.realpath(__file__)))
+sys.path.insert(0, os.path.join(ROOT, "tests"))
+import edits
+
+
+def run(words, folder):
+    return subprocess.run(words, cwd=folder, check=True, capture_output=True).stdout
+
+
+def names_of(path):
+    """The new word of each old one."""
+    with open(path, encoding="utf-8") as lines:
+        return dict(line.split() for line in lines if line.strip())
+
+
+def renamed(text, names):
+    """A text with new words in place of old ones; a word has letters, digits and underscores."""
+    return re.sub(r"\w+", lambda word: names.get(word[0], word[0]), text)
+
+
+def rename_tree(root, names):
+    """Replaces the words in the texts and in the paths of a tree, files before the folders that they are in."""
+    for place, _, files in os.walk(root, topdown=False):
+        for file in files:
+            path = os.path.join(place, file)
+            try:
+                with open(path, encoding="utf-8") as source:
+                    text = source.read()
+            except UnicodeDecodeError:
+                continue
+            new = os.path.join(place, renamed(file, names))
+            os.rename(path, new)
+            with open(new, "w", encoding="utf-8") as target:
+                target.write(renamed(text, names))
+        if place != root:
+            os.rename(place, os.path.join(os.path.dirname(place), renamed(os.path.basename(place), names)))
+
+
+def lay_out(root):
+    """Lays out the files of each crate: names stand in another order where they are others."""
+    crates = os.path.join(root, "crates")
+    for crate in sorted(os.listdir(crates)):
+        subprocess.run(["rt", "fmt"], cwd=os.path.join(crates, crate), check=True, capture_output=True)
+
+
+def digests_in(root):
+    """The digests that hold in a tree: those written there that are those of its sources."""
+    script = os.path.join(root, "tests", "edits.py")
+    code = f"import sys; sys.path.insert(0, {os.path.dirname(script)!r}); import edits\nfor crate, known in edits.digests().items():\n    print(crate, int(known == edits.digest_of(crate)), edits.digest_of(crate))"
+    return {crate: (held == "1", digest) for crate, held, digest in (line.split() for line in run([sys.executable, "-c", code], root).decode().splitlines())}
+
+
+def main():
+    if len(sys.argv) != 3:
+        raise SystemExit(__doc__)
+    names = names_of(sys.argv[2])
+    with tempfile.TemporaryDirectory(prefix="carry-") as root:
+        archive = run(["git", "archive", sys.argv[1]], ROOT)
+        subprocess.run(["tar", "-x"], cwd=root, input=archive, check=True)
+        held = {names.get(crate, crate) for crate, (holds, _) in digests_in(root).items() if holds}
+        rename_tree(root, names)
+        lay_out(root)
+        before = {crate: digest for crate, (_, digest) in digests_in(root).items()}
+    crates = sorted(os.listdir(os.path.join(ROOT, "tests", "edits")))
+    crates = [crate for crate in crates if os.path.isdir(os.path.join(ROOT, "tests", "edits", crate))]
+    carried = [crate for crate in crates if crate in held and before.get(crate) == edits.digest_of(crate)]
+    edits.remember(carried)
+    for crate in crates:
+        if crate not in carried:
+            print(f"{crate}: its edits have to be tried")
+    print(f"{len(carried)} carried, {len(crates) - len(carried)} stale")
+    return 0
+
+
+if __name__ == "__main__":
+    sys.exit(main())
