@@ -59,9 +59,13 @@ impl Rows for IndexStore {
 }
 
 impl Kin for IndexStore {
+    ghost use Rattle.std.specs.Prelude.{true};
+
     ghost view = { λ s. s.state };
 
     ghost lookups = { λ s. s.looked };
+
+    ghost counts = { true };
 
     fn allocator(&self) -> Global {
         self.alloc

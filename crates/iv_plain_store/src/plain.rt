@@ -65,9 +65,13 @@ impl Rows for PlainStore {
 }
 
 impl Kin for PlainStore {
+    ghost use Rattle.std.specs.Prelude.{false};
+
     ghost view = { λ s. s };
 
     ghost lookups = { λ _. 0 };
+
+    ghost counts = { false };
 
     fn allocator(&self) -> Global {
         self.alloc
