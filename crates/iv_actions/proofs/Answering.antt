@@ -1,5 +1,5 @@
 -- What `next_wave` answers, where its parts answer what they promise.
-use Rattle.std.proofs.Common.{◌≡◌, ℕ, ◌+◌, ◌*◌, ◌≤◌, List, [], ◌∷◌, length, map, filter, Option, Some, None, Result, sym, ap, subst, ◌∙◌, arith}
+use Rattle.std.proofs.Common.{◌≡◌, ℕ, ◌+◌, ◌*◌, ◌≤◌, List, [], ◌∷◌, length, map, filter, Bool, true, false, if◌then◌else◌, is_some, Option, Some, None, Result, sym, ap, subst, ◌∙◌, arith}
 use Rattle.std.specs.List.{cons_option}
 use Rattle.std.proofs.Math.Nat.{mul-le-mul_right}
 use Rattle.iv_expr.specs.declared.row.Change.{Change}
@@ -7,9 +7,11 @@ use Rattle.iv_expr.specs.Changes.{Wave}
 use Rattle.iv_catalogue.specs.Catalogues.{Schema}
 use Rattle.iv_catalogue.specs.declared.cause.Refusal.{Refusal}
 use Rattle.iv_catalogue.specs.declared.constraint.Constraint.{Constraint}
+use Rattle.iv_catalogue.specs.declared.constraint.ForeignKey.{ForeignKey}
 use Rattle.iv_machine.specs.declared.database.Database.{Database}
 use Rattle.iv_machine.specs.Context.{Context}
-use Rattle.iv_machine.specs.ReferentialActions.{Reference, reference, references, following_wave}
+use Rattle.iv_machine.specs.ReferentialActions.{Reference, foreign_key, references, following_wave}
+use Rattle.iv_store.specs.Lookups.{foreign_keys}
 use Rattle.iv_store.specs.Stores.{StoreState, RisingNumbers}
 use Rattle.iv_laws.proofs.Members.{In, of_filter}
 use Rattle.iv_action_laws.specs.RowByRow.{is_among, LedTo}
@@ -56,20 +58,31 @@ answered catalogue s s2 changes xs numbers answer kept are up all tells before c
 
 -- ---- look-ups
 
-few : (changes : List Change) (id : ℕ) (constraints : List Constraint) → length (losing_from changes id constraints) ≤ length constraints
+-- of the foreign keys, some do something
+few : (changes : List Change) (id : ℕ) (constraints : List Constraint) → length (losing_from changes id constraints) ≤ foreign_keys constraints
 few changes id [] = omega arith
-few changes id (c ∷ constraints) = by_option (losing_where changes (reference (id, c))) (few changes (id + 1) constraints)
+few changes id (c ∷ constraints) = by_key (foreign_key c.rule) (few changes (id + 1) constraints)
   where
-    by_option : (o : Option Losing) → length (losing_from changes (id + 1) constraints) ≤ length constraints
-        → length (cons_option o (losing_from changes (id + 1) constraints)) ≤ length (c ∷ constraints)
-    by_option None h = omega (arith, h)
-    by_option (Some x) h = omega (arith, h)
+    left : List Losing
+    left = losing_from changes (id + 1) constraints
+
+    others : List Constraint
+    others = filter (λ (k : Constraint). is_some (foreign_key k.rule)) constraints
+
+    by_test : (b : Bool) (x : Losing) → length left ≤ length others → length (cons_option (if b then Some x else None) left) ≤ length (c ∷ others)
+    by_test true x h = omega (arith, h)
+    by_test false x h = omega (arith, h)
+
+    by_key : (o : Option ForeignKey) → length left ≤ length others
+        → length (cons_option (losing_where changes (elim o [ Some fk ↦ Some (record { id = id; table = c.table; key = fk }) | None ↦ None ])) left) ≤ length (if is_some o then c ∷ others else others)
+    by_key None h = h
+    by_key (Some fk) h = by_test (acts_in changes (record { id = id; table = c.table; key = fk })) (under_wave changes (record { id = id; table = c.table; key = fk })) h
 
 pub looked_at_most : (xs : List Losing) (changes others : List Change) (constraints : List Constraint) (new old : ℕ)
     → xs ≡ losing_from changes 0 constraints → changes ≡ others
-    → new ≤ old + length xs * length changes → new ≤ old + length constraints * length others
+    → new ≤ old + length xs * length changes → new ≤ old + foreign_keys constraints * length others
 looked_at_most xs changes others constraints new old are same h =
-    let less : length xs ≤ length constraints = subst (λ l. length l ≤ length constraints) (sym are) (few changes 0 constraints) in
-    let times : length xs * length others ≤ length constraints * length others = mul-le-mul_right (length others) less in
+    let less : length xs ≤ foreign_keys constraints = subst (λ l. length l ≤ foreign_keys constraints) (sym are) (few changes 0 constraints) in
+    let times : length xs * length others ≤ foreign_keys constraints * length others = mul-le-mul_right (length others) less in
     let here : new ≤ old + length xs * length others = subst (λ l. new ≤ old + length xs * length l) same h in
     omega (arith, times, here)

@@ -5,6 +5,7 @@ ghost use Rattle.iv_expr.specs.Changes.{RisingChanges, last_row};
 ghost use Rattle.iv_machine.specs.declared.database.Database.{Database};
 ghost use Rattle.iv_machine.specs.Context.{Context};
 ghost use Rattle.iv_machine.specs.ReferentialActions.{following_wave};
+ghost use Rattle.iv_store.specs.Lookups.{foreign_keys};
 ghost use Rattle.iv_store.specs.Stores.{RisingNumbers};
 ghost use Rattle.iv_action_laws.specs.RowByRow.{earlier, least, LedTo};
 ghost use Rattle.iv_actions.specs.Following.{restricted_at, effects_at, conflict_at, change_at, answer_among};
@@ -245,7 +246,7 @@ pub fn next_wave<K: Kin>(store: &mut K, catalogue: &Catalogue, wave: &Wave) -> R
         → LedTo before wave.now.changes (K.view store.old).base
         → AnswersWave result (following_wave context before (K.view store.old).base) }
     ensures looked { K.lookups store.new ≤ K.lookups store.old
-        + length catalogue.now.constraints * length wave.now.changes }
+        + foreign_keys catalogue.now.constraints * length wave.now.changes }
     ensures kept { K.view store.new ≡ K.view store.old }
 {
     let alloc = store.allocator();

@@ -22,13 +22,13 @@ use iv_catalogue::{BodyStatement, Catalogue, Cause, DataStatement, Refusal, Trig
 use iv_expr::{Change, Frame};
 use iv_machine::Limits;
 use iv_modes::Modes;
-use iv_store::Keeper;
+use iv_store::ChangeableRows;
 use iv_transitions::{Fires, Transitions, firings};
 use iv_triggers::Context;
 
 // A statement at a place of a trigger's body. SET is for BEFORE triggers alone.
 #[cycle(level)]
-fn run_statement<K: Keeper>(
+fn run_statement<K: ChangeableRows>(
     store: &mut K,
     context: &Context<'_>,
     trigger: &Trigger,
@@ -64,7 +64,7 @@ fn run_statement<K: Keeper>(
 
 // A data statement of a trigger's body.
 #[cycle(level)]
-fn nested<K: Keeper>(
+fn nested<K: ChangeableRows>(
     store: &mut K,
     context: &Context<'_>,
     trigger: TriggerId,
@@ -96,7 +96,7 @@ fn nested<K: Keeper>(
 
 // The statements of a trigger's body, in their order.
 #[cycle(level)]
-fn run_body<K: Keeper>(
+fn run_body<K: ChangeableRows>(
     store: &mut K,
     context: &Context<'_>,
     trigger: &Trigger,
@@ -137,7 +137,7 @@ fn run_body<K: Keeper>(
 
 // The body of a trigger, where its WHEN is true.
 #[cycle(level)]
-fn run_where_true<K: Keeper>(
+fn run_where_true<K: ChangeableRows>(
     store: &mut K,
     context: &Context<'_>,
     trigger: &Trigger,
@@ -180,7 +180,7 @@ fn innermost(trigger: TriggerId, inner: Option<TriggerId>) -> Option<TriggerId>
 
 // A trigger at one firing. A refusal names it, unless the refusal comes from another trigger that it fires.
 #[cycle(level)]
-fn fire<K: Keeper>(
+fn fire<K: ChangeableRows>(
     store: &mut K,
     context: &Context<'_>,
     trigger: &Trigger,
@@ -212,7 +212,7 @@ fn fire<K: Keeper>(
 
 // A row trigger at each of its transitions, which it is lent.
 #[cycle(level)]
-fn fire_rows<K: Keeper>(
+fn fire_rows<K: ChangeableRows>(
     store: &mut K,
     context: &Context<'_>,
     trigger: &Trigger,
@@ -246,7 +246,7 @@ fn fire_rows<K: Keeper>(
 
 // A statement trigger, which is lent its transitions.
 #[cycle(level)]
-fn fire_once<K: Keeper>(
+fn fire_once<K: ChangeableRows>(
     store: &mut K,
     context: &Context<'_>,
     trigger: &Trigger,
@@ -276,7 +276,7 @@ fn fire_once<K: Keeper>(
 
 // A trigger, as often as it fires.
 #[cycle(level)]
-fn fire_trigger<K: Keeper>(
+fn fire_trigger<K: ChangeableRows>(
     store: &mut K,
     context: &Context<'_>,
     statement: &DataStatement,
@@ -319,7 +319,7 @@ fn fire_trigger<K: Keeper>(
 
 // These triggers, by creation.
 #[cycle(level)]
-fn fire_all<K: Keeper>(
+fn fire_all<K: ChangeableRows>(
     store: &mut K,
     context: &Context<'_>,
     statement: &DataStatement,
@@ -363,7 +363,7 @@ fn fire_all<K: Keeper>(
 
 // The check of the immediate constraints, and the AFTER triggers.
 #[cycle(level)]
-fn finish<K: Keeper>(
+fn finish<K: ChangeableRows>(
     store: &mut K,
     context: &Context<'_>,
     statement: &DataStatement,
@@ -402,7 +402,7 @@ fn finish<K: Keeper>(
 
 // The waves of a statement from what it proposes on, and what comes after them.
 #[cycle(level)]
-fn run_waves<K: Keeper>(
+fn run_waves<K: ChangeableRows>(
     store: &mut K,
     context: &Context<'_>,
     statement: &DataStatement,
@@ -437,7 +437,7 @@ fn run_waves<K: Keeper>(
 
 // A data statement, of a script or of a trigger's body. It takes one from the budget for itself.
 #[cycle(level)]
-fn run_level<K: Keeper>(
+fn run_level<K: ChangeableRows>(
     store: &mut K,
     context: &Context<'_>,
     statement: &DataStatement,
@@ -473,7 +473,7 @@ fn run_level<K: Keeper>(
 /// ("Insert statement", "Update statement: searched", "Delete statement: searched"). Where it is refused,
 /// the store is left with what it changed so far, so that the count of its changes is exact; the caller undoes
 /// it to a mark that it made before.
-pub fn change<K: Keeper>(
+pub fn change<K: ChangeableRows>(
     store: &mut K,
     statement: &DataStatement,
     catalogue: &Catalogue,

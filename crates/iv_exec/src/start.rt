@@ -20,7 +20,7 @@ use iv_catalogue::{Cause, DataStatement, Refusal, Trigger};
 use iv_expr::{Change, Frame, Scope, TableId, Wave};
 use iv_machine::Which;
 use iv_proposals::proposed;
-use iv_store::Keeper;
+use iv_store::ChangeableRows;
 use iv_syntax::TriggerEvent;
 use iv_transitions::{Transitions, transitions, transitions_of};
 use iv_triggers::{Context, before_statement, holds};
@@ -48,7 +48,7 @@ fn event_of(statement: &DataStatement) -> TriggerEvent
 }
 
 /// What a statement proposes, unless a BEFORE statement trigger refuses it.
-pub fn allowed<'x, K: Keeper>(
+pub fn allowed<'x, K: ChangeableRows>(
     store: &'x K,
     context: &Context<'_>,
     statement: &DataStatement,
@@ -79,7 +79,7 @@ pub fn allowed<'x, K: Keeper>(
 }
 
 /// Refused with the first violation of an immediate constraint.
-pub fn check<K: Keeper>(store: &K, context: &Context<'_>) -> Result<(), Refusal>
+pub fn check<K: ChangeableRows>(store: &K, context: &Context<'_>) -> Result<(), Refusal>
     requires { (K.view store.now).constraints ≡ context.now.schema.constraints }
     ensures { AnswersAt (λ _. tt) (K.view store.now).base.count result
         (immediate_check context.now (K.view store.now).base) }
@@ -101,7 +101,7 @@ fn net_changes(alloc: Global, waves: &[Wave]) -> Result<Transitions, AllocError>
 
 /// Applies the changes that a statement proposes and what follows from them, and answers their net changes by
 /// table and event.
-pub fn settle_waves<K: Keeper>(
+pub fn settle_waves<K: ChangeableRows>(
     store: &mut K,
     context: &Context<'_>,
     budget: &mut u64,
@@ -125,7 +125,7 @@ pub fn settle_waves<K: Keeper>(
 }
 
 /// Whether the WHEN of a trigger takes effect.
-pub fn takes_effect<'x, K: Keeper>(
+pub fn takes_effect<'x, K: ChangeableRows>(
     store: &'x K,
     trigger: &Trigger,
     frame: &'x Frame<'x>,

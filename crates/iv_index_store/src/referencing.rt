@@ -7,6 +7,7 @@ ghost use Rattle.iv_key.specs.Keys.{none_null};
 ghost use Rattle.iv_machine.specs.ReferentialActions.{reference};
 ghost use Rattle.iv_marks.specs.Shown.{shown};
 ghost use Rattle.iv_laws_kept.specs.Kept.{Show, is_kept_under, rows_under};
+ghost use Rattle.iv_store.specs.Lookups.{counted, counted_by};
 ghost use Rattle.iv_store.specs.Stores.{numbers_by, numbers_of, reference_at};
 
 use iv_catalogue::{Constraint, Rule};
@@ -26,6 +27,8 @@ fn holders(
     ensures kept { groups.new.groups ≡ groups.old.groups }
     ensures grows { groups.old.looked ≤ groups.new.looked }
     ensures looked { groups.new.looked ≤ groups.old.looked + 1 }
+    ensures counted { groups.new.looked ≡
+        (if none_null key.now then counted groups.old.looked else groups.old.looked) }
 {
     if !key.none_null() {
         return Ok(Vec::new(alloc));
@@ -50,6 +53,8 @@ fn children_by(
     ensures kept { groups.new.groups ≡ groups.old.groups }
     ensures grows { groups.old.looked ≤ groups.new.looked }
     ensures looked { groups.new.looked ≤ groups.old.looked + 1 }
+    ensures counted { groups.new.looked ≡
+        counted_by key.now (reference (id, constraint.now)) groups.old.looked }
 {
     match &constraint.rule {
         Rule::ForeignKey(_) => holders(alloc, groups, id, key),
@@ -57,8 +62,9 @@ fn children_by(
     }
 }
 
-/// The numbers of the rows that hold a key by the constraint of this number, where it is a foreign key. One look-up at
-/// most, and as long as it takes to copy the numbers that it gives.
+/// The numbers of the rows that hold a key by the constraint of this number, where it is a foreign key. One look-up,
+/// unless there is no such foreign key or the key has a null, and as long as it takes to copy the numbers that it
+/// gives.
 pub fn children(
     alloc: Global,
     groups: &mut Groups,
@@ -71,6 +77,8 @@ pub fn children(
     ensures kept { groups.new.groups ≡ groups.old.groups }
     ensures grows { groups.old.looked ≤ groups.new.looked }
     ensures looked { groups.new.looked ≤ groups.old.looked + 1 }
+    ensures counted { groups.new.looked ≡
+        counted_by key.now (reference_at constraints.now id) groups.old.looked }
 {
     match constraints.get(id) {
         Some(constraint) => children_by(alloc, groups, id, constraint, key),

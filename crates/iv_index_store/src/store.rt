@@ -12,7 +12,7 @@ use iv_key::Key;
 use iv_machine::Which;
 use iv_modes::Modes;
 use iv_rows::Versions;
-use iv_store::{AddFault, Keeper, Kin, Mark};
+use iv_store::{AddFault, ChangeableRows, Keeper, Kin, Mark};
 use iv_value::Value;
 use std::alloc::{AllocError, Global};
 use std::marker::Model;
@@ -59,9 +59,13 @@ impl Rows for IndexStore {
 }
 
 impl Kin for IndexStore {
+    ghost use Rattle.std.specs.Prelude.{true};
+
     ghost view = { λ s. s.state };
 
     ghost lookups = { λ s. s.looked };
+
+    ghost counts = { true };
 
     fn allocator(&self) -> Global {
         self.alloc
@@ -91,12 +95,37 @@ impl Kin for IndexStore {
     }
 }
 
-impl Keeper for IndexStore {
-    ghost use Rattle.std.specs.Prelude.{refl, true};
-
-    ghost sure = { true };
+impl ChangeableRows for IndexStore {
+    ghost use Rattle.std.specs.Prelude.{refl};
 
     ghost rows_are = { λ k. refl };
+
+    fn next_row(&self) -> u64 {
+        self.versions.next()
+    }
+
+    fn standing(&self) -> u64 {
+        self.versions.count()
+    }
+
+    fn change(&mut self, change: Change) -> Result<(), AllocError> {
+        make(
+            &mut self.versions,
+            &mut self.groups,
+            &mut self.faults,
+            &change,
+        )
+    }
+
+    fn first_fault(&self, modes: &Modes, which: Which) -> Option<Fault> {
+        self.faults.first(&self.groups, modes, which)
+    }
+}
+
+impl Keeper for IndexStore {
+    ghost use Rattle.std.specs.Prelude.{true};
+
+    ghost sure = { true };
 
     fn new(alloc: Global) -> Self {
         IndexStore {
@@ -106,14 +135,6 @@ impl Keeper for IndexStore {
             groups: Groups::new(alloc),
             faults: Faults::new(alloc),
         }
-    }
-
-    fn next_row(&self) -> u64 {
-        self.versions.next()
-    }
-
-    fn standing(&self) -> u64 {
-        self.versions.count()
     }
 
     fn add_table(&mut self, table: &Table, constraints: &[Constraint]) -> Result<(), AllocError> {
@@ -134,19 +155,6 @@ impl Keeper for IndexStore {
             &mut self.faults,
             constraint,
         )
-    }
-
-    fn change(&mut self, change: Change) -> Result<(), AllocError> {
-        make(
-            &mut self.versions,
-            &mut self.groups,
-            &mut self.faults,
-            &change,
-        )
-    }
-
-    fn first_fault(&self, modes: &Modes, which: Which) -> Option<Fault> {
-        self.faults.first(&self.groups, modes, which)
     }
 
     fn count_faults(&self, modes: &Modes, which: Which) -> u64 {

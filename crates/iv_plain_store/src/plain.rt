@@ -13,7 +13,7 @@ use iv_expr::{Change, Rows, StoredRow, TableId};
 use iv_key::Key;
 use iv_machine::{Which, count_faults, first_violating, list_faults};
 use iv_modes::Modes;
-use iv_store::{AddFault, Keeper, Kin, Mark};
+use iv_store::{AddFault, ChangeableRows, Keeper, Kin, Mark};
 use iv_value::Value;
 use std::alloc::{AllocError, Global};
 use std::marker::Model;
@@ -65,9 +65,13 @@ impl Rows for PlainStore {
 }
 
 impl Kin for PlainStore {
+    ghost use Rattle.std.specs.Prelude.{false};
+
     ghost view = { λ s. s };
 
     ghost lookups = { λ _. 0 };
+
+    ghost counts = { false };
 
     fn allocator(&self) -> Global {
         self.alloc
@@ -156,23 +160,10 @@ impl PlainStore {
     }
 }
 
-impl Keeper for PlainStore {
-    ghost use Rattle.std.specs.Prelude.{refl, false};
-
-    ghost sure = { false };
+impl ChangeableRows for PlainStore {
+    ghost use Rattle.std.specs.Prelude.{refl};
 
     ghost rows_are = { λ k. refl };
-
-    fn new(alloc: Global) -> Self {
-        PlainStore {
-            alloc,
-            tables: Vec::new(alloc),
-            constraints: Vec::new(alloc),
-            database: PlainDatabase::new(alloc),
-            marks: Vec::new(alloc),
-            touched: Vec::new(alloc),
-        }
-    }
 
     fn next_row(&self) -> u64 {
         self.database.next()
@@ -180,17 +171,6 @@ impl Keeper for PlainStore {
 
     fn standing(&self) -> u64 {
         self.database.count()
-    }
-
-    fn add_table(&mut self, table: &Table, constraints: &[Constraint]) -> Result<(), AllocError> {
-        self.push_table(table, constraints)
-    }
-
-    fn add_constraint(&mut self, constraint: &Constraint) -> Result<(), AddFault> {
-        match first_violating(self.database.rows(), constraint) {
-            Some(row) => Err(AddFault::Row(row)),
-            None => Ok(self.push_constraint(constraint)?),
-        }
     }
 
     fn change(&mut self, change: Change) -> Result<(), AllocError> {
@@ -206,6 +186,34 @@ impl Keeper for PlainStore {
             modes.as_slice(),
             which,
         )
+    }
+}
+
+impl Keeper for PlainStore {
+    ghost use Rattle.std.specs.Prelude.{false};
+
+    ghost sure = { false };
+
+    fn new(alloc: Global) -> Self {
+        PlainStore {
+            alloc,
+            tables: Vec::new(alloc),
+            constraints: Vec::new(alloc),
+            database: PlainDatabase::new(alloc),
+            marks: Vec::new(alloc),
+            touched: Vec::new(alloc),
+        }
+    }
+
+    fn add_table(&mut self, table: &Table, constraints: &[Constraint]) -> Result<(), AllocError> {
+        self.push_table(table, constraints)
+    }
+
+    fn add_constraint(&mut self, constraint: &Constraint) -> Result<(), AddFault> {
+        match first_violating(self.database.rows(), constraint) {
+            Some(row) => Err(AddFault::Row(row)),
+            None => Ok(self.push_constraint(constraint)?),
+        }
     }
 
     fn count_faults(&self, modes: &Modes, which: Which) -> u64 {

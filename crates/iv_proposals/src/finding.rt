@@ -11,7 +11,7 @@ ghost use Rattle.iv_proposals.specs.Steps.{added_of_numbers, added_of_row, numbe
 
 use iv_catalogue::{Cause, Refusal};
 use iv_expr::{Change, Cond, Row, Rows, Scope, Side, TableId};
-use iv_store::{Keeper, Kin};
+use iv_store::{ChangeableRows, Kin};
 use iv_triggers::holds;
 use iv_value::Value;
 use std::alloc::Global;
@@ -149,7 +149,7 @@ pub fn rows_numbered<K: Kin>(store: &K, numbers: &[u64]) -> Result<Vec<Row>, Cau
 }
 
 /// The rows of a table where a condition is true; they share their values.
-pub fn rows_where<K: Keeper>(
+pub fn rows_where<K: ChangeableRows>(
     store: &K,
     scope: &Scope<'_, K>,
     table: TableId,

@@ -12,7 +12,7 @@ use crate::finding::{push, rows_where, sides_where};
 use crate::making::{row_of_copies, row_of_expressions};
 use iv_catalogue::{Cause, InsertColumns, InsertRows, Outputs};
 use iv_expr::{Change, Cond, Expr, Range, Row, Rows, Scope, TableId};
-use iv_store::Keeper;
+use iv_store::ChangeableRows;
 use iv_triggers::Context;
 use sqlite_items::Items;
 use std::alloc::Global;
@@ -200,7 +200,7 @@ fn insert_rows<R: Rows>(
 }
 
 // The rows of a range where a condition is true.
-fn rows_of_range<K: Keeper>(
+fn rows_of_range<K: ChangeableRows>(
     store: &K,
     scope: &Scope<'_, K>,
     range: Range,
@@ -219,7 +219,7 @@ fn rows_of_range<K: Keeper>(
 }
 
 /// The insertions that an INSERT proposes.
-pub fn insertions<K: Keeper>(
+pub fn insertions<K: ChangeableRows>(
     store: &K,
     context: &Context<'_>,
     scope: &Scope<'_, K>,

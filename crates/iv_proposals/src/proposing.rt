@@ -7,13 +7,13 @@ use crate::inserting::insertions;
 use crate::updating::{deletions, updates};
 use iv_catalogue::{Cause, DataStatement};
 use iv_expr::{Change, Frame, Scope};
-use iv_store::Keeper;
+use iv_store::ChangeableRows;
 use iv_triggers::Context;
 
 /// The changes that a data statement proposes, in the order of its rows; new rows have no number yet. The
 /// condition is taken at all rows before any value is made. Each row takes the time of its own values beside
 /// its condition and its look-up, and no row is copied to look at it.
-pub fn proposed<'x, K: Keeper>(
+pub fn proposed<'x, K: ChangeableRows>(
     store: &'x K,
     context: &Context<'_>,
     frame: &'x Frame<'x>,

@@ -14,7 +14,7 @@ use crate::finding::{count_where, push, rows_where};
 use crate::making::row_of;
 use iv_catalogue::{Cause, Outputs, QueryPlan};
 use iv_expr::{Cond, Expr, Frame, Row, Rows, Scope, TableId, eval};
-use iv_store::Keeper;
+use iv_store::ChangeableRows;
 use iv_triggers::cause_of;
 use iv_value::Value;
 use sqlite_items::Items;
@@ -125,7 +125,7 @@ fn outputs_of_rows<R: Rows>(
 }
 
 // The rows of the whole rows or of the values of expressions where a condition is true.
-fn select_rows<K: Keeper>(
+fn select_rows<K: ChangeableRows>(
     store: &K,
     scope: &Scope<'_, K>,
     table: TableId,
@@ -178,7 +178,7 @@ fn select_count<R: Rows>(
     }
 }
 
-fn select_from<K: Keeper>(
+fn select_from<K: ChangeableRows>(
     store: &K,
     scope: &Scope<'_, K>,
     query: &QueryPlan,
@@ -201,7 +201,7 @@ fn select_from<K: Keeper>(
 
 /// The rows of a query, by number; whole rows share their values with the store. `COUNT(*)` gives one row of
 /// one integer, and takes memory for that row alone.
-pub fn select<K: Keeper>(store: &K, query: &QueryPlan) -> Result<Items<Row>, Cause>
+pub fn select<K: ChangeableRows>(store: &K, query: &QueryPlan) -> Result<Items<Row>, Cause>
     ensures { AnswersCause (λ rows. rows) result
         (rows_selected (K.view store.now).base.rows query.now) }
 {

@@ -13,7 +13,7 @@ use crate::finding::{numbers_where, push};
 use crate::making::{row_of, set};
 use iv_catalogue::{Cause, Refusal, Setting};
 use iv_expr::{Change, Cond, Row, Rows, Scope, StoredRow, TableId};
-use iv_store::{Keeper, Kin};
+use iv_store::{ChangeableRows, Kin};
 use iv_triggers::{Context, stored_value};
 use iv_value::Value;
 use std::alloc::{AllocError, Global};
@@ -154,7 +154,7 @@ fn push_update<R: Rows>(
 }
 
 // Adds the update of the row of a number, where it is there.
-fn update_number<K: Keeper>(
+fn update_number<K: ChangeableRows>(
     store: &K,
     context: &Context<'_>,
     scope: &Scope<'_, K>,
@@ -172,7 +172,7 @@ fn update_number<K: Keeper>(
     }
 }
 
-fn update_numbers<K: Keeper>(
+fn update_numbers<K: ChangeableRows>(
     store: &K,
     context: &Context<'_>,
     scope: &Scope<'_, K>,
@@ -195,7 +195,7 @@ fn update_numbers<K: Keeper>(
 }
 
 /// The updates that an UPDATE proposes, by row number.
-pub fn updates<K: Keeper>(
+pub fn updates<K: ChangeableRows>(
     store: &K,
     context: &Context<'_>,
     scope: &Scope<'_, K>,
@@ -248,7 +248,7 @@ fn delete_numbers<K: Kin>(store: &K, numbers: &[u64]) -> Result<Vec<Change>, Cau
 }
 
 /// The deletions that a DELETE proposes, by row number.
-pub fn deletions<K: Keeper>(
+pub fn deletions<K: ChangeableRows>(
     store: &K,
     scope: &Scope<'_, K>,
     table: TableId,

@@ -7,11 +7,11 @@ ghost use Rattle.iv_row_laws.specs.Changing.{with_database};
 ghost use Rattle.iv_waves.specs.Applying.{Applicable, IsNext};
 
 use iv_expr::Change;
-use iv_store::Keeper;
+use iv_store::ChangeableRows;
 use std::alloc::AllocError;
 
 // Makes one change; its rows are shared.
-fn apply<K: Keeper>(store: &mut K, change: &Change) -> Result<(), AllocError>
+fn apply<K: ChangeableRows>(store: &mut K, change: &Change) -> Result<(), AllocError>
     requires { IsNext (K.view store.old) change.now }
     ensures ok { OnOk result (K.view store.new ≡ store_after (K.view store.old) change.now) }
     ensures err { OnErr result (K.view store.new ≡ K.view store.old) }
@@ -23,7 +23,7 @@ fn apply<K: Keeper>(store: &mut K, change: &Change) -> Result<(), AllocError>
 }
 
 // Makes the changes of a wave, one after another. Where memory is refused, some are made.
-pub fn apply_all<K: Keeper>(store: &mut K, changes: &[Change]) -> Result<(), AllocError>
+pub fn apply_all<K: ChangeableRows>(store: &mut K, changes: &[Change]) -> Result<(), AllocError>
     requires { Applicable (K.view store.old).tables (K.view store.old).base changes.now }
     ensures applied { OnOk result ((K.view store.new).base ≡
         database_after (K.view store.old).base (wave_of changes.now)) }

@@ -9,12 +9,12 @@ use crate::numbering::number;
 use iv_catalogue::{Cause, Refusal};
 use iv_expr::{Change, Wave};
 use iv_machine::MOST_CHANGES_IN_A_TRANSACTION;
-use iv_store::Keeper;
+use iv_store::ChangeableRows;
 use iv_triggers::{Context, before_rows};
 
 // The budget, the changes of the transaction and the row numbers are tested in this order; then the BEFORE
 // row triggers run.
-fn prepare<K: Keeper>(
+fn prepare<K: ChangeableRows>(
     store: &K,
     context: &Context<'_>,
     budget: u64,
@@ -38,7 +38,7 @@ fn prepare<K: Keeper>(
 }
 
 // The wave that is applied.
-pub fn enter<K: Keeper>(
+pub fn enter<K: ChangeableRows>(
     store: &K,
     context: &Context<'_>,
     budget: u64,

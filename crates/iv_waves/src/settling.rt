@@ -16,7 +16,7 @@ use crate::entering::enter;
 use iv_actions::next_wave;
 use iv_catalogue::Refusal;
 use iv_expr::{Change, Wave};
-use iv_store::Keeper;
+use iv_store::ChangeableRows;
 use iv_triggers::Context;
 use std::alloc::AllocError;
 
@@ -28,7 +28,7 @@ struct AppliedWave {
 }
 
 // Applies a wave, and finds what follows it.
-fn follow<K: Keeper>(
+fn follow<K: ChangeableRows>(
     store: &mut K,
     context: &Context<'_>,
     wave: Wave,
@@ -54,7 +54,7 @@ fn follow<K: Keeper>(
 }
 
 // One wave: what is applied of it, and what follows.
-fn one_wave<K: Keeper>(
+fn one_wave<K: ChangeableRows>(
     store: &mut K,
     context: &Context<'_>,
     budget: u64,
@@ -90,7 +90,7 @@ fn add(waves: &mut Vec<Wave>, wave: Wave) -> Result<(), AllocError>
 /// Applies the changes that a statement proposes, and what follows from them by referential actions, wave
 /// after wave, and answers the waves as they were applied. The budget is what the statement may still
 /// change. Where it is refused, some waves may have been applied, and the store is to be undone.
-pub fn settle<K: Keeper>(
+pub fn settle<K: ChangeableRows>(
     store: &mut K,
     context: &Context<'_>,
     budget: &mut u64,

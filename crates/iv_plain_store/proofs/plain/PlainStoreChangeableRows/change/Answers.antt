@@ -6,7 +6,7 @@ use Rattle.iv_machine.specs.Databases.{database_after, row_at}
 use Rattle.iv_store.specs.Stores.{StoreState}
 use Rattle.iv_plain_store.specs.Suspects.{Watched, with_table}
 use Rattle.iv_plain_store.proofs.Suspects.{watched_after, watched_touched}
-use Rattle.iv_plain_store.proofs.plain.PlainStoreKeeper.change.Goals as goal
+use Rattle.iv_plain_store.proofs.plain.PlainStoreChangeableRows.change.Goals as goal
 
 -- what holds after either answer
 either : {A E : Type 0} (W : Database → Type 0) (r : Result A E) (new done old : Database) → OnOk r (new ≡ done) → OnErr r (new ≡ old) → W done → W old → W new

@@ -1,7 +1,7 @@
 use Rattle.std.proofs.Common.{◌<◌, length, sym, subst}
 use Rattle.iv_index_store.specs.Kept.{Store}
 use Rattle.iv_index_store.proofs.Tables.{tables_made}
-use Rattle.iv_index_store.proofs.store.IndexStoreKeeper.change.Goals as goal
+use Rattle.iv_index_store.proofs.store.IndexStoreChangeableRows.change.Goals as goal
 
 pub invariant_of-self : goal.invariant_of-self
 invariant_of-self c =
