@@ -5,13 +5,13 @@ use iv_exec::change;
 use iv_machine::Limits;
 use iv_modes::Modes;
 use iv_state::DataStatements;
-use iv_store::Keeper;
+use iv_store::ChangeableRows;
 
 // A data statement of a script is a level.
 pub(crate) struct Levels;
 
 impl DataStatements for Levels {
-    fn change<K: Keeper>(
+    fn change<K: ChangeableRows>(
         store: &mut K,
         statement: &DataStatement,
         catalogue: &Catalogue,

@@ -15,15 +15,15 @@ use iv_catalogue::{Catalogue, Cause, DataStatement, Refusal};
 use iv_machine::{Answer, Limits};
 use iv_modes::Modes;
 use iv_run::Outcome;
-use iv_store::Keeper;
+use iv_store::{ChangeableRows, Keeper};
 
 /// How data statements change a store.
 pub trait DataStatements {
     /// INSERT, UPDATE or DELETE of a script, with all that follows from it, and how many rows it changed itself
     /// ("Insert statement", "Update statement: searched", "Delete statement: searched"). Where it is refused,
     /// the store is left with what it changed so far, so that the count of its changes is exact; the caller
-    /// undoes it to a mark that it made before.
-    fn change<K: Keeper>(
+    /// undoes it to a mark that it made before. What is lent has no call for marks.
+    fn change<K: ChangeableRows>(
         store: &mut K,
         statement: &DataStatement,
         catalogue: &Catalogue,
