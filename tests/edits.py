@@ -10,11 +10,12 @@ one. A round is made on a copy of the crate, over the work that a check kept, an
 edited function as refused. The last line is `N passed, N failed`.
 
 The file tests/edits/DIGESTS has a digest for each crate whose edits were all refused: of the edits, of the crate and of
-what it depends on, without tests, comments and the breaks of lines of code; of the crates below also without private
-functions, tactics and the bodies of functions that have a contract, and without imports for these, since a proof above
-sees the contracts of public functions alone. Where it is still the same the edits aren't tried again, except with --all; where they are tried and all
+the modules that it names in the crates below, and they in turn, without tests, comments and the breaks of lines of code;
+of the crates below also without private functions, tactics and the bodies of functions that have a contract, and without
+imports for these, since a proof above sees the contracts of public functions alone. Where it is still the same the edits aren't tried again, except with --all; where they are tried and all
 are refused it is written anew. A crate that is tried is proved first where its kept work is missing or old."""
 import argparse
+import functools
 import hashlib
 import os
 import re
@@ -37,6 +38,9 @@ PRIVATE = re.compile(r"^(?:pub\([a-z]+\) )?(?:const )?fn .*?(?:^| )\{\n.*?^\}\n"
 TACTIC = re.compile(r"^ *#!?\[tactic\(.*?\)\]\n", re.M | re.S)
 IMPORT = re.compile(r"^ *(?:ghost )?use ([^;{]*)(?:\{([^}]*)\})?;\n", re.M)
 COMMENTS = {".rt": "//", ".antt": "--"}
+# How a proof and code name a module of a crate of the repository.
+PROOF_PATH = re.compile(r"\bRattle\.(iv_\w+)\.(specs|proofs)\.([\w.◌+-]*\w)")
+CODE_PATH = re.compile(r"\b(iv_\w+|crate)((?:::\w+)+)")
 IMPLEMENTS = re.compile(r"^impl\b(?:<[^{]*?>)? *(?:[\w:<>, ]+ for )?(\w+)", re.M)
 
 
@@ -135,18 +139,69 @@ def bare(path, from_above=False):
     return re.sub(r"(\brecord \{[^{}]*); \}", r"\1 }", text.replace("[ | ", "[ "))
 
 
+def files_in(folder):
+    """The files of a folder and of those in it, without tests."""
+    found = []
+    for place, names, files in os.walk(folder):
+        names[:] = sorted(name for name in names if name != "tests")
+        found += [os.path.join(place, file) for file in files if file != "tests.rt"]
+    return found
+
+
+def module(folder, parts, suffix):
+    """The file of the longest path that is one, among those that begin a dotted path."""
+    for length in range(len(parts), 0, -1):
+        path = os.path.join(folder, *parts[:length]) + suffix
+        if os.path.exists(path):
+            return [path]
+    return []
+
+
+@functools.lru_cache(maxsize=None)
+def named_in(path):
+    """The files of the repository's crates that a file names by their modules; of a crate that its code names, all code."""
+    text = "\n".join(line for line in read(path).splitlines() if not line.lstrip().startswith(COMMENTS.get(os.path.splitext(path)[1], "--")))
+    found = set()
+    for crate, kind, rest in PROOF_PATH.findall(text):
+        folder, parts = os.path.join(ROOT, "crates", crate), rest.split(".")
+        if kind == "specs" and parts[0] in ("declared", "contracts"):
+            files = module(os.path.join(folder, "src"), parts[1:], ".rt")
+        else:
+            files = module(os.path.join(folder, kind), parts, ".antt")
+        found.update(files or files_in(os.path.join(folder, "src")) + files_in(os.path.join(folder, "specs")))
+    for crate, rest in CODE_PATH.findall(text) if path.endswith(".rt") else []:
+        own = os.path.relpath(path, os.path.join(ROOT, "crates")).split(os.sep)[0]
+        folder, parts = os.path.join(ROOT, "crates", own if crate == "crate" else crate), rest.split("::")[1:]
+        if parts[:1] == ["proofs"]:
+            found.update(module(os.path.join(folder, "proofs"), parts[1:], ".antt"))
+        elif crate == "crate":
+            found.update(module(os.path.join(folder, "src"), parts, ".rt") or files_in(os.path.join(folder, "src")))
+        elif os.path.isdir(folder):
+            found.update(files_in(os.path.join(folder, "src")))
+    return frozenset(found)
+
+
+def reached(files):
+    """These files, and those that they name, and so on."""
+    found, left = set(), list(files)
+    while left:
+        path = left.pop()
+        if path not in found:
+            found.add(path)
+            left += named_in(path)
+    return found
+
+
 def digest_of(crate):
-    """A digest of a crate's edits, of the crate, and of the sources and definitions that it depends on, without tests."""
-    folders = [os.path.join(HERE, "edits", crate), os.path.join(ROOT, "crates", crate, "proofs")]
-    folders += [os.path.join(ROOT, "crates", name, part) for name in below(crate) for part in ("src", "specs")]
+    """A digest of a crate's edits, of the crate, and of the code and definitions that it names in the crates below it, and they in
+    turn, without tests. Proofs of the crates below are no part of it, but what they name is."""
+    folder = os.path.join(ROOT, "crates", crate)
+    own = [path for part in ("src", "specs", "proofs") for path in files_in(os.path.join(folder, part)) if path.endswith((".rt", ".antt"))]
+    lower = [path for path in reached(own) if not path.startswith((os.path.join(folder, ""), os.path.join(ROOT, "tests"))) and "proofs" not in os.path.relpath(path, ROOT).split(os.sep)]
     digest = hashlib.sha256()
-    for folder in sorted(folders):
-        for place, names, files in os.walk(folder):
-            names[:] = sorted(name for name in names if name != "tests")
-            for file in sorted(file for file in files if file != "tests.rt"):
-                path = os.path.relpath(os.path.join(place, file), ROOT)
-                from_above = not path.startswith((f"crates/{crate}/", f"tests/edits/{crate}/"))
-                digest.update(path.encode() + b"\0" + bare(os.path.join(ROOT, path), from_above).encode() + b"\0")
+    for path in sorted({*files_in(os.path.join(HERE, "edits", crate)), *own, *lower}):
+        from_above = path in lower
+        digest.update(os.path.relpath(path, ROOT).encode() + b"\0" + bare(path, from_above).encode() + b"\0")
     return digest.hexdigest()
 
 
