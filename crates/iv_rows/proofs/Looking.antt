@@ -55,7 +55,7 @@ none_left low bound (s ∷ rows) h none = by (below_tells low s.number) (none_le
   by (inr f) more = above_later low s rows f.0 ∙ more
 
 -- where there is no row above a number up to another, the next one above is the same
-skipped : (low n bound : ℕ) (rows : List StoredRow) → Rises bound rows → low ≤ n → ((m : ℕ) (s : StoredRow) → row_at rows m ≡ Some s → low < m → n < m)
+pub skipped : (low n bound : ℕ) (rows : List StoredRow) → Rises bound rows → low ≤ n → ((m : ℕ) (s : StoredRow) → row_at rows m ≡ Some s → low < m → n < m)
     → row_above low rows ≡ row_above n rows
 skipped low n bound [] h le none = refl
 skipped low n bound (s ∷ rows) h le none =
@@ -127,7 +127,7 @@ first_is low bound rows (n ∷ numbers) h k all = by (row_at rows n) refl (λ w.
 
 -- ---- the rows of a table
 
-table_at : (low t n : ℕ) (rows : List StoredRow) → Rises low rows → row_at (table_rows rows t) n ≡ row_of t (row_at rows n)
+pub table_at : (low t n : ℕ) (rows : List StoredRow) → Rises low rows → row_at (table_rows rows t) n ≡ row_of t (row_at rows n)
 table_at low t n [] h = refl
 table_at low t n (s ∷ rows) h = by (decided (s.table == t)) (same_tells s.number n) (table_at s.number t n rows h.2) where
   by : ((s.table == t) ≡ true) ⊎ ((s.table == t) ≡ false) → (((s.number == n) ≡ true) × (s.number ≡ n)) ⊎ (((s.number == n) ≡ false) × (s.number ≡ n → ⊥))

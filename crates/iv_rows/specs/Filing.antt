@@ -1,5 +1,5 @@
 -- The numbers under which the rows of each table are looked for. There may be more of them than rows.
-use Rattle.std.specs.Prelude.{◌≡◌, ℕ, ◌≤◌, Bool, true, if◌then◌else◌, ◌==◌, nat_lt, List, [], ◌∷◌, slice_get, Option, Some, None}
+use Rattle.std.specs.Prelude.{◌≡◌, ℕ, ◌<◌, ◌≤◌, Bool, true, if◌then◌else◌, ◌==◌, nat_lt, List, [], ◌∷◌, slice_get, Option, Some, None}
 use Rattle.iv_value.specs.declared.value.Value.{Value}
 use Rattle.iv_expr.specs.declared.row.StoredRow.{StoredRow}
 use Rattle.iv_machine.specs.Databases.{row_at}
@@ -60,6 +60,21 @@ Covers rows numbers = (n : ℕ) (r : StoredRow) → row_at rows n ≡ Some r →
 pub record Files (slots : List Slot) (numbers : List (List ℕ)) : Type 0 where
   pub rises : SlotsRise 0 slots
   pub covers : Covers (live_rows slots) numbers
+
+-- ---- the numbers up to which no row is there
+
+-- the number of a table, or 0
+abbrev pub passed_for : List ℕ → ℕ → ℕ
+passed_for passed t = elim (slice_get passed t) [ Some n ↦ n | None ↦ 0 ]
+
+-- up to its table's number no row is there
+abbrev pub NonePassed : List StoredRow → List ℕ → Type 0
+NonePassed rows passed = (n : ℕ) (r : StoredRow) → row_at rows n ≡ Some r → passed_for passed r.table < n
+
+-- What holds of slots, the numbers that their rows are filed under, and those up to which no row is there.
+pub record Holds (slots : List Slot) (numbers : List (List ℕ)) (passed : List ℕ) : Type 0 where
+  pub files : Files slots numbers
+  pub none : NonePassed (live_rows slots) passed
 
 -- the slots, and for each table the numbers under which its rows are looked for
 pub record Filed : Type 0 where

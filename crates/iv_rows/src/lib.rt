@@ -2,7 +2,9 @@
 #![tactic(auto)]
 
 mod filing;
+mod look;
 mod numbers;
+mod passed;
 mod place;
 mod saved;
 mod set;

@@ -7,13 +7,13 @@ ghost use Rattle.iv_rows.specs.InSlots.{live_rows, has_slot_for, slots_without, 
 ghost use Rattle.iv_rows.specs.Filing.{is_filed_for, StaysFiled, Files};
 
 use crate::filing::{file, keep_numbers};
+use crate::look::{last_before, next_above};
 use crate::numbers::Numbers;
+use crate::passed::{lower, pass, passed_for, reach};
 use crate::place::{live_at, place};
 use crate::set::{empty, keep_live, put, replace};
 use crate::slot::Slot;
-use crate::walk::first_of;
 use iv_expr::{Row, StoredRow, TableId};
-use sqlite_items::at;
 use std::alloc::{AllocError, Global};
 use std::marker::Model;
 
@@ -23,18 +23,20 @@ use std::marker::Model;
 pub struct Slots {
     slots: Vec<Slot>,
     numbers: Vec<Numbers>,
+    // For each table a number up to which none of its rows is there: looks begin above it.
+    passed: Vec<u64>,
     // How often a row was taken out since the slots were swept.
     emptied: usize,
 }
 
 impl Model for Slots {
-    ghost use Rattle.iv_rows.specs.Filing.{Filed, Files};
+    ghost use Rattle.iv_rows.specs.Filing.{Filed, Holds};
 
     ghost Value = { Filed };
 
     ghost view = { λ s. record { slots = s.slots.items; numbers = s.numbers.items } };
 
-    ghost invariant = { λ s. Files s.slots.items s.numbers.items };
+    ghost invariant = { λ s. Holds s.slots.items s.numbers.items s.passed.items };
 }
 
 impl Slots {
@@ -45,6 +47,7 @@ impl Slots {
         Slots {
             slots: Vec::new(alloc),
             numbers: Vec::new(alloc),
+            passed: Vec::new(alloc),
             emptied: 0,
         }
     }
@@ -65,28 +68,29 @@ impl Slots {
         live_at(slots, place(slots, number), number)
     }
 
-    /// The first row of a table above a number. It halves once among the numbers of the table and once among the
-    /// slots, then walks along both.
+    /// The first row of a table above a number. It begins above the numbers up to which no row of the table is there.
     pub fn row_above(&self, table: TableId, number: u64) -> Option<&StoredRow>
         ensures { option_copied result ≡ row_above number (table_rows (live_rows self.now.slots) table) }
     {
-        match at(self.numbers.as_slice(), table.place() as usize) {
-            Some(numbers) => {
-                let slots = self.slots.as_slice();
-                let from = place(slots, number.saturating_add(1));
-                first_of(slots, table, from, numbers.above(number))
-            }
-            None => None,
-        }
+        let from = number.max(passed_for(self.passed.as_slice(), table));
+        next_above(self.slots.as_slice(), self.numbers.as_slice(), table, from)
     }
 
-    // Takes the row of a number out, where there is one: its slot stays.
-    fn take_out(&mut self, number: u64)
+    // Takes the row of a number out, where there is one: its slot stays. Then looks for the first row of the table.
+    fn take_out(&mut self, table: TableId, number: u64)
         ensures slots { self.new.slots ≡ slots_without number self.old.slots }
         ensures numbers { self.new.numbers ≡ self.old.numbers }
     {
         empty(&mut self.slots, number);
         self.emptied = self.emptied.saturating_add(1);
+        let passed = passed_for(self.passed.as_slice(), table);
+        let last = last_before(
+            self.slots.as_slice(),
+            self.numbers.as_slice(),
+            table,
+            passed,
+        );
+        pass(&mut self.passed, table, last);
     }
 
     /// Sets the row of a number to these values, or takes it out. Where memory is refused, all rows stay.
@@ -105,6 +109,8 @@ impl Slots {
         match values {
             Some(values) => {
                 file(&mut self.numbers, table, number)?;
+                reach(&mut self.passed, table)?;
+                lower(&mut self.passed, table, number);
                 let row = StoredRow {
                     table,
                     number,
@@ -113,7 +119,7 @@ impl Slots {
                 put(&mut self.slots, row)
             }
             None => {
-                self.take_out(number);
+                self.take_out(table, number);
                 Ok(())
             }
         }
@@ -135,9 +141,10 @@ impl Slots {
                     number,
                     values,
                 };
+                lower(&mut self.passed, table, number);
                 replace(&mut self.slots, row);
             }
-            None => self.take_out(number),
+            None => self.take_out(table, number),
         }
     }
 
