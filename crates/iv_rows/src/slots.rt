@@ -141,7 +141,7 @@ impl Slots {
                     number,
                     values,
                 };
-                lower(&mut self.passed, table, number);
+                lower(&mut self.passed, row.table, row.number);
                 replace(&mut self.slots, row);
             }
             None => self.take_out(table, number),
