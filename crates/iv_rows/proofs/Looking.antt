@@ -79,7 +79,7 @@ first_under rows [] = None
 first_under rows (n ∷ numbers) = elim (row_at rows n) [ Some r ↦ Some r | None ↦ first_under rows numbers ]
 
 -- a number of rising ones is the first, or among the others
-among : (n m : ℕ) (numbers : List ℕ) → is_number m (n ∷ numbers) ≡ true → (n ≡ m) ⊎ (is_number m numbers ≡ true)
+pub among : (n m : ℕ) (numbers : List ℕ) → is_number m (n ∷ numbers) ≡ true → (n ≡ m) ⊎ (is_number m numbers ≡ true)
 among n m numbers e = elim (same_tells n m) [
   | inl q ↦ inl q.1
   | inr d ↦ inr (sym (ap (λ b. b || is_number m numbers) d.0) ∙ e)

@@ -1,63 +1,47 @@
--- The numbers up to which no row of a table is there.
-use Rattle.std.proofs.Common.{◌≡◌, ℕ, zero, suc, ◌<◌, ◌≤◌, ◌-◌, ◌++◌, ◌⊎◌, inl, inr, max, true, false, if◌then◌else◌, ◌==◌, Option, Some, None, List, [], ◌∷◌, slice_set, arith, refl, ap, sym, subst, ◌∙◌}
-use Rattle.std.specs.Prelude.{nat_lt}
+-- Numbers under which no row of a table is there: what is known of them after a change, and a look that passes them.
+use Rattle.std.proofs.Common.{◌≡◌, ℕ, zero, suc, ◌<◌, ◌≤◌, ◌-◌, ◌⊎◌, inl, inr, true, false, if◌then◌else◌, ◌==◌, Option, Some, None, List, [], ◌∷◌, get_or, length, arith, refl, ap, sym, subst, ◌∙◌}
+use Rattle.std.specs.Prelude.{nat_lt, slice_get}
+use Rattle.std.proofs.lemmas.List.Sums.{prefix_len-le-length}
 use Rattle.iv_expr.specs.declared.row.StoredRow.{StoredRow}
 use Rattle.iv_expr.specs.Scopes.{Rises, row_above, table_rows}
 use Rattle.iv_machine.specs.Databases.{row_at}
 use Rattle.iv_rows.specs.declared.slot.Slot.{Slot}
 use Rattle.iv_rows.specs.InSlots.{live_rows, slots_with, slots_without}
-use Rattle.iv_rows.specs.Filing.{Files, NonePassed, passed_for, row_of}
-use Rattle.iv_rows.proofs.ByNumber.{below_tells, same_tells}
-use Rattle.iv_rows.proofs.Rows.{passed, found_above, found_with, found_without, part_rises}
+use Rattle.iv_rows.specs.ByNumber.{place_by}
+use Rattle.iv_rows.specs.Filing.{itself, NumbersRise, is_number, Files, row_of}
+use Rattle.iv_rows.proofs.ByNumber.{below_tells, same_tells, never_falls, before_place}
+use Rattle.iv_rows.proofs.Rows.{passed, found_above, found_with, found_without, gone_without, part_rises}
 use Rattle.iv_rows.proofs.SlotLaws.{live_with, live_without, live_rises}
-use Rattle.iv_rows.proofs.Looking.{skipped, table_at}
+use Rattle.iv_rows.proofs.Looking.{skipped, table_at, among}
 
--- ---- a table's number is set
+-- ---- what holds of the table and the number of each row
 
-pub set_stays : (numbers : List ℕ) (k number t n : ℕ) → (t ≡ k → number < n) → passed_for numbers t < n → passed_for (slice_set numbers k number) t < n
-set_stays [] zero number t n f h = h
-set_stays [] (suc k) number t n f h = h
-set_stays (x ∷ numbers) zero number zero n f h = f refl
-set_stays (x ∷ numbers) zero number (suc t) n f h = h
-set_stays (x ∷ numbers) (suc k) number zero n f h = h
-set_stays (x ∷ numbers) (suc k) number (suc t) n f h = set_stays numbers k number t n (λ e. f (ap suc e)) h
+abbrev Throughout : (ℕ → ℕ → Type 0) → List StoredRow → Type 0
+Throughout P rows = (n : ℕ) (r : StoredRow) → row_at rows n ≡ Some r → P r.table n
 
-pub set_below : (numbers : List ℕ) (k number n : ℕ) → 0 < n → number < n → passed_for (slice_set numbers k number) k < n
-set_below [] zero number n l h = l
-set_below [] (suc k) number n l h = l
-set_below (x ∷ numbers) zero number n l h = h
-set_below (x ∷ numbers) (suc k) number n l h = set_below numbers k number n l h
+-- more is known of the rows of one table
+pub none_more : (P Q : ℕ → ℕ → Type 0) (W : ℕ → Type 0) (rows : List StoredRow) (t : ℕ)
+    → ((n : ℕ) (r : StoredRow) → row_at rows n ≡ Some r → r.table ≡ t → W n) → ((u n : ℕ) → (u ≡ t → W n) → P u n → Q u n) → Throughout P rows
+    → Throughout Q rows
+none_more P Q W rows t f s h n r e = s r.table n (λ q. f n r e q) (h n r e)
 
--- one more number, which is 0
-pub one_more : (numbers more : List ℕ) (t : ℕ) → passed_for (numbers ++ 0 ∷ []) t ≡ passed_for numbers t
-one_more [] more zero = refl
-one_more [] more (suc t) = refl
-one_more (x ∷ numbers) more zero = refl
-one_more (x ∷ numbers) more (suc t) = one_more numbers more t
+pub none_stay : (P Q : ℕ → ℕ → Type 0) (rows : List StoredRow) → ((t n : ℕ) → P t n → Q t n) → Throughout P rows → Throughout Q rows
+none_stay P Q rows s h n r e = s r.table n (h n r e)
 
--- ---- no row is there up to its table's number
-
-pub none_raised : (rows : List StoredRow) (t number : ℕ) (old new : List ℕ)
-    → ((n : ℕ) (r : StoredRow) → row_at rows n ≡ Some r → r.table ≡ t → passed_for old t < n → number < n)
-    → ((u n : ℕ) → (u ≡ t → number < n) → passed_for old u < n → passed_for new u < n) → NonePassed rows old
-    → NonePassed rows new
-none_raised rows t number old new f s h n r e = s r.table n (λ q. f n r e q (subst (λ u. passed_for old u < n) q (h n r e))) (h n r e)
-
-pub none_stay : (rows : List StoredRow) (old new : List ℕ) → ((t n : ℕ) → passed_for old t < n → passed_for new t < n) → NonePassed rows old
-    → NonePassed rows new
-none_stay rows old new s h n r e = s r.table n (h n r e)
-
-pub none_with : (x : StoredRow) (slots : List Slot) (numbers : List (List ℕ)) (passed : List ℕ) → Files slots numbers
-    → passed_for passed x.table < x.number → NonePassed (live_rows slots) passed
-    → NonePassed (live_rows (slots_with x slots)) passed
-none_with x slots numbers passed f l h n r e = elim (found_with x n (live_rows slots) r (sym (ap (λ rows. row_at rows n) (live_with 0 x slots f.rises)) ∙ e)) [
-  | inl a ↦ subst (λ (q : StoredRow). passed_for passed q.table < n) a.0 (subst (λ k. passed_for passed x.table < k) a.1 l)
+pub none_with : (P : ℕ → ℕ → Type 0) (x : StoredRow) (slots : List Slot) (numbers : List (List ℕ)) → Files slots numbers → P x.table x.number
+    → Throughout P (live_rows slots)
+    → Throughout P (live_rows (slots_with x slots))
+none_with P x slots numbers f l h n r e = elim (found_with x n (live_rows slots) r (sym (ap (λ rows. row_at rows n) (live_with 0 x slots f.rises)) ∙ e)) [
+  | inl a ↦ subst (λ (q : StoredRow). P q.table n) a.0 (subst (λ k. P x.table k) a.1 l)
   | inr b ↦ h n r b
 ]
 
-pub none_without : (m : ℕ) (slots : List Slot) (passed : List ℕ) → NonePassed (live_rows slots) passed → NonePassed (live_rows (slots_without m slots)) passed
-none_without m slots passed h n r e =
-    h n r (found_without m n (live_rows slots) r (sym (ap (λ rows. row_at rows n) (live_without m slots)) ∙ e))
+pub none_without : (P : ℕ → ℕ → Type 0) (m : ℕ) (slots : List Slot) → Throughout P (live_rows slots) → Throughout P (live_rows (slots_without m slots))
+none_without P m slots h n r e = h n r (found_without m n (live_rows slots) r (sym (ap (λ rows. row_at rows n) (live_without m slots)) ∙ e))
+
+-- the row that was taken out isn't there
+pub gone : (m : ℕ) (slots : List Slot) → row_at (live_rows (slots_without m slots)) m ≡ None
+gone m slots = ap (λ rows. row_at rows m) (live_without m slots) ∙ gone_without m (live_rows slots)
 
 -- ---- the first row of a table above a number
 
@@ -99,16 +83,14 @@ of_table t n rows r h e = by (row_at rows n) refl (sym (table_at 0 t n rows h) �
     | inr d ↦ (let bad : None ≡ Some r = sym (ap (λ b. if b then Some s else None) d.0) ∙ k in cc)
   ]
 
--- a look that begins above the table's number finds the same
-pub look_later : (t number : ℕ) (slots : List Slot) (numbers : List (List ℕ)) (passed : List ℕ) → Files slots numbers → NonePassed (live_rows slots) passed
-    → row_above (max number (passed_for passed t)) (table_rows (live_rows slots) t) ≡ row_above number (table_rows (live_rows slots) t)
-look_later t number slots numbers passed f h =
+-- a look that begins above numbers under which no row of the table is there finds the same
+pub look_later : (t number from : ℕ) (slots : List Slot) (numbers : List (List ℕ)) → Files slots numbers → number ≤ from
+    → ((n : ℕ) (r : StoredRow) → row_at (live_rows slots) n ≡ Some r → r.table ≡ t → number < n → from < n)
+    → row_above from (table_rows (live_rows slots) t) ≡ row_above number (table_rows (live_rows slots) t)
+look_later t number from slots numbers f le h =
     let rises : Rises 0 (live_rows slots) = live_rises 0 slots f.rises in
-    sym (skipped number (max number (passed_for passed t)) 0 (table_rows (live_rows slots) t) (part_rises 0 (λ r. r.table == t) (live_rows slots) rises)
-    (omega arith)
-    (λ m r e l. let own : (row_at (live_rows slots) m ≡ Some r) × (r.table ≡ t) = of_table t m (live_rows slots) r rises e in
-    let beyond : passed_for passed t < m = subst (λ k. passed_for passed k < m) own.1 (h m r own.0) in
-    omega (arith, beyond, l)))
+    sym (skipped number from 0 (table_rows (live_rows slots) t) (part_rises 0 (λ r. r.table == t) (live_rows slots) rises) le
+    (λ m r e l. let own : (row_at (live_rows slots) m ≡ Some r) × (r.table ≡ t) = of_table t m (live_rows slots) r rises e in h m r own.0 own.1 l))
 
 -- what a look above a number says of all rows of the table
 pub last_of : (t number : ℕ) (rows : List StoredRow) (s : StoredRow) → Rises 0 rows → Some s ≡ row_above number (table_rows rows t)
@@ -123,3 +105,36 @@ pub none_of : (t number last : ℕ) (rows : List StoredRow) → Rises 0 rows →
 none_of t number last rows h e n r g q l =
     absurd (subst (NotAbove n) (sym e)
     (above_first 0 number n (table_rows rows t) r (part_rises 0 (λ r. r.table == t) rows h) (in_table t n rows r h g q) l))
+
+-- ---- the last number below one
+
+got : (numbers : List ℕ) (k : ℕ) → get_or numbers k 0 ≡ elim (slice_get numbers k) [ Some m ↦ m | None ↦ 0 ]
+got [] k = refl
+got (m ∷ numbers) zero = refl
+got (m ∷ numbers) (suc k) = got numbers k
+
+index_of : (n : ℕ) (numbers : List ℕ) → is_number n numbers ≡ true → (k : ℕ) × (slice_get numbers k ≡ Some n)
+index_of n [] e = cc
+index_of n (m ∷ numbers) e = by (among m n numbers e) (index_of n numbers) where
+  by : (m ≡ n) ⊎ (is_number n numbers ≡ true) → (is_number n numbers ≡ true → (k : ℕ) × (slice_get numbers k ≡ Some n))
+      → (k : ℕ) × (slice_get (m ∷ numbers) k ≡ Some n)
+  by (inl q) more = (zero, ap (λ k. Some k) q)
+  by (inr f) more = let w = more f in (suc w.0, w.1)
+
+pub last_below : (low before : ℕ) (numbers : List ℕ) → NumbersRise low numbers → (n : ℕ) → is_number n numbers ≡ true → n < before
+    → n ≤ elim (slice_get numbers (place_by itself before numbers - 1)) [ Some m ↦ m | None ↦ 0 ]
+last_below low before numbers h n e l =
+    let w : (k : ℕ) × (slice_get numbers k ≡ Some n) = index_of n numbers e in
+    let inside : w.0 < place_by itself before numbers = before_place itself low before numbers w.0 n h w.1 l in
+    let within : place_by itself before numbers ≤ length numbers = prefix_len-le-length (λ m. nat_lt m before) numbers in
+    let up : get_or numbers w.0 0 ≤ get_or numbers (place_by itself before numbers - 1) 0 =
+    never_falls itself low numbers h w.0 (place_by itself before numbers - 1) 0 (omega (arith, inside)) (omega (arith, inside, within)) in
+    let is : get_or numbers w.0 0 ≡ n = got numbers w.0 ∙ ap (λ o. elim o [ Some m ↦ m | None ↦ 0 ]) w.1 in
+    subst (λ k. n ≤ k) (got numbers (place_by itself before numbers - 1)) (omega (arith, up, is))
+
+pub none_below : (low before : ℕ) (numbers : List ℕ) → NumbersRise low numbers → place_by itself before numbers ≡ 0 → (n : ℕ) → is_number n numbers ≡ true
+    → n < before → ⊥
+none_below low before numbers h p n e l =
+    let w : (k : ℕ) × (slice_get numbers k ≡ Some n) = index_of n numbers e in
+    let inside : w.0 < place_by itself before numbers = before_place itself low before numbers w.0 n h w.1 l in
+    omega (arith, inside, p)

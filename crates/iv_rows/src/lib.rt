@@ -2,6 +2,7 @@
 #![tactic(auto)]
 
 mod filing;
+mod gap;
 mod look;
 mod numbers;
 mod passed;

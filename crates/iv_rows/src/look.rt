@@ -1,12 +1,13 @@
 //! A look for the next row of a table.
-ghost use Rattle.std.specs.Prelude.{◌≡◌, ◌<◌, ℕ, Some};
+ghost use Rattle.std.specs.Prelude.{◌≡◌, ◌<◌, ◌≤◌, ℕ, true, Some, None};
 ghost use Rattle.std.specs.Option.{option_copied};
 ghost use Rattle.iv_expr.specs.Scopes.{row_above, table_rows};
 ghost use Rattle.iv_expr.specs.declared.row.StoredRow.{StoredRow};
 ghost use Rattle.iv_machine.specs.Databases.{row_at};
 ghost use Rattle.iv_rows.specs.InSlots.{live_rows};
-ghost use Rattle.iv_rows.specs.Filing.{Files};
+ghost use Rattle.iv_rows.specs.Filing.{Files, IsOutside, is_filed};
 
+use crate::gap::{Gap, beyond, widened};
 use crate::numbers::Numbers;
 use crate::place::place;
 use crate::slot::Slot;
@@ -34,8 +35,8 @@ pub fn next_above<'a>(
     }
 }
 
-/// The greatest number up to which no row of a table is above this one.
-pub fn last_before(slots: &[Slot], numbers: &[Numbers], table: TableId, number: u64) -> u64
+/// A number up to which no row of a table is above this one: that before the next row.
+fn last_before(slots: &[Slot], numbers: &[Numbers], table: TableId, number: u64) -> u64
     requires { Files slots.now numbers.now }
     ensures { (n : ℕ) (r : StoredRow) → row_at (live_rows slots.now) n ≡ Some r →
         r.table ≡ table → number < n → result < n }
@@ -44,4 +45,40 @@ pub fn last_before(slots: &[Slot], numbers: &[Numbers], table: TableId, number: 
         Some(row) => row.number.saturating_sub(1),
         None => u64::MAX,
     }
+}
+
+/// A number up to which no row of a table is above the one that was passed.
+pub fn passed_now(slots: &[Slot], numbers: &[Numbers], table: TableId, passed: u64, gap: Gap) -> u64
+    requires files { Files slots.now numbers.now }
+    requires between { (n : ℕ) (r : StoredRow) → row_at (live_rows slots.now) n ≡ Some r →
+        r.table ≡ table → IsOutside gap n }
+    ensures { (n : ℕ) (r : StoredRow) → row_at (live_rows slots.now) n ≡ Some r →
+        r.table ≡ table → passed < n → result < n }
+{
+    last_before(slots, numbers, table, beyond(gap, passed))
+}
+
+// The last number below one under which a row of a table is looked for, or 0.
+fn filed_below(numbers: &[Numbers], table: TableId, before: u64) -> u64
+    ensures { (n : ℕ) → is_filed numbers.now table n ≡ true → n < before → n ≤ result }
+{
+    match at(numbers, table.place() as usize) {
+        Some(numbers) => numbers.below(before),
+        None => 0,
+    }
+}
+
+/// The gap of a table after the row of a number was taken out, which was between these rows: the one before it may be
+/// taken out too, the one after it is there.
+pub fn gap_now(slots: &[Slot], numbers: &[Numbers], table: TableId, number: u64, gap: Gap) -> Gap
+    requires files { Files slots.now numbers.now }
+    requires gone { row_at (live_rows slots.now) number ≡ None }
+    requires between { (n : ℕ) (r : StoredRow) → row_at (live_rows slots.now) n ≡ Some r →
+        r.table ≡ table → IsOutside gap n }
+    ensures { (n : ℕ) (r : StoredRow) → row_at (live_rows slots.now) n ≡ Some r →
+        r.table ≡ table → IsOutside result n }
+{
+    let after = filed_below(numbers, table, number);
+    let last = last_before(slots, numbers, table, beyond(gap, number));
+    widened(gap, after, number, last.saturating_add(1))
 }

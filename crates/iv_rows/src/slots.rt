@@ -7,7 +7,8 @@ ghost use Rattle.iv_rows.specs.InSlots.{live_rows, has_slot_for, slots_without, 
 ghost use Rattle.iv_rows.specs.Filing.{is_filed_for, StaysFiled, Files};
 
 use crate::filing::{file, keep_numbers};
-use crate::look::{last_before, next_above};
+use crate::gap::{Gap, beyond, cut, gap_for, make_gaps, set_gap};
+use crate::look::{gap_now, next_above, passed_now};
 use crate::numbers::Numbers;
 use crate::passed::{lower, pass, passed_for, reach};
 use crate::place::{live_at, place};
@@ -25,6 +26,8 @@ pub struct Slots {
     numbers: Vec<Numbers>,
     // For each table a number up to which none of its rows is there: looks begin above it.
     passed: Vec<u64>,
+    // For each table two numbers between which none of its rows is there: a look from there begins at their end.
+    gaps: Vec<Gap>,
     // How often a row was taken out since the slots were swept.
     emptied: usize,
 }
@@ -36,7 +39,7 @@ impl Model for Slots {
 
     ghost view = { λ s. record { slots = s.slots.items; numbers = s.numbers.items } };
 
-    ghost invariant = { λ s. Holds s.slots.items s.numbers.items s.passed.items };
+    ghost invariant = { λ s. Holds s.slots.items s.numbers.items s.passed.items s.gaps.items };
 }
 
 impl Slots {
@@ -48,6 +51,7 @@ impl Slots {
             slots: Vec::new(alloc),
             numbers: Vec::new(alloc),
             passed: Vec::new(alloc),
+            gaps: Vec::new(alloc),
             emptied: 0,
         }
     }
@@ -68,29 +72,31 @@ impl Slots {
         live_at(slots, place(slots, number), number)
     }
 
-    /// The first row of a table above a number. It begins above the numbers up to which no row of the table is there.
+    /// The first row of a table above a number. It passes the numbers of which it is known that no row is there.
     pub fn row_above(&self, table: TableId, number: u64) -> Option<&StoredRow>
         ensures { option_copied result ≡ row_above number (table_rows (live_rows self.now.slots) table) }
     {
-        let from = number.max(passed_for(self.passed.as_slice(), table));
+        let passed = passed_for(self.passed.as_slice(), table);
+        let gap = gap_for(self.gaps.as_slice(), table);
+        let from = beyond(gap, number.max(passed));
         next_above(self.slots.as_slice(), self.numbers.as_slice(), table, from)
     }
 
-    // Takes the row of a number out, where there is one: its slot stays. Then looks for the first row of the table.
+    // Takes the row of a number out, where there is one: its slot stays.
     fn take_out(&mut self, table: TableId, number: u64)
         ensures slots { self.new.slots ≡ slots_without number self.old.slots }
         ensures numbers { self.new.numbers ≡ self.old.numbers }
     {
         empty(&mut self.slots, number);
         self.emptied = self.emptied.saturating_add(1);
-        let passed = passed_for(self.passed.as_slice(), table);
-        let last = last_before(
-            self.slots.as_slice(),
-            self.numbers.as_slice(),
-            table,
-            passed,
-        );
-        pass(&mut self.passed, table, last);
+        let old = passed_for(self.passed.as_slice(), table);
+        let gap = gap_for(self.gaps.as_slice(), table);
+        let slots = self.slots.as_slice();
+        let numbers = self.numbers.as_slice();
+        let passed = passed_now(slots, numbers, table, old, gap);
+        let wider = gap_now(slots, numbers, table, number, gap);
+        pass(&mut self.passed, table, passed);
+        set_gap(&mut self.gaps, table, wider);
     }
 
     /// Sets the row of a number to these values, or takes it out. Where memory is refused, all rows stay.
@@ -110,7 +116,9 @@ impl Slots {
             Some(values) => {
                 file(&mut self.numbers, table, number)?;
                 reach(&mut self.passed, table)?;
+                make_gaps(&mut self.gaps, table)?;
                 lower(&mut self.passed, table, number);
+                cut(&mut self.gaps, table, number);
                 let row = StoredRow {
                     table,
                     number,
@@ -142,6 +150,7 @@ impl Slots {
                     values,
                 };
                 lower(&mut self.passed, row.table, row.number);
+                cut(&mut self.gaps, row.table, row.number);
                 replace(&mut self.slots, row);
             }
             None => self.take_out(table, number),

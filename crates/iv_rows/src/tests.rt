@@ -227,3 +227,51 @@ fn a_look_begins_at_the_first_row(rt: HostRuntime) -> Result<(), Fail> {
     assert_eq!(rt; next, [5, 4]);
     Ok(())
 }
+
+// Six rows and a mark.
+fn six_and_a_mark(alloc: Global, versions: &mut Versions) -> Result<(), AllocError>
+    ensures { IfOk result (λ _. 0 < length versions.new.marks) }
+{
+    for number in 1..7 {
+        put(alloc, versions, 0, number * 2, 7)?;
+    }
+    versions.mark()?;
+    Ok(())
+}
+
+// Three rows are taken out after the first, one of them comes back, and one comes in between. What is there after the
+// first two, after the third, with the one that is back and with the new one, and back at the mark.
+fn in_a_gap(alloc: Global, versions: &mut Versions) -> Result<[[u64; 3]; 5], AllocError> {
+    six_and_a_mark(alloc, versions)?;
+    set(versions, 0, 4, None)?;
+    set(versions, 0, 6, None)?;
+    let two_gone = numbers(versions, 0);
+    set(versions, 0, 8, None)?;
+    let three_gone = numbers(versions, 0);
+    put(alloc, versions, 0, 6, 8)?;
+    let one_back = numbers(versions, 0);
+    put(alloc, versions, 0, 5, 8)?;
+    let one_more = numbers(versions, 0);
+    versions.undo_to(0);
+    Ok([
+        two_gone,
+        three_gone,
+        one_back,
+        one_more,
+        numbers(versions, 0),
+    ])
+}
+
+#[test]
+fn a_look_passes_a_gap(rt: HostRuntime) -> Result<(), Fail> {
+    let mut versions = Versions::new(rt.alloc());
+    let seen = in_a_gap(rt.alloc(), &mut versions);
+    drop(versions);
+    let rows = seen?;
+    assert_eq!(rt; rows[0], [2, 8, 10]);
+    assert_eq!(rt; rows[1], [2, 10, 12]);
+    assert_eq!(rt; rows[2], [2, 6, 10]);
+    assert_eq!(rt; rows[3], [2, 5, 6]);
+    assert_eq!(rt; rows[4], [2, 4, 6]);
+    Ok(())
+}

@@ -2,7 +2,7 @@ use Rattle.std.proofs.Common.{◌≡◌, ◌∙◌, List, ap, sym, subst}
 use Rattle.iv_expr.specs.declared.row.StoredRow.{StoredRow}
 use Rattle.iv_rows.specs.declared.slot.Slot.{Slot}
 use Rattle.iv_rows.specs.InSlots.{SlotsRise, live_rows, swept, has_slot}
-use Rattle.iv_rows.specs.Filing.{Filed, Files, StaysWhere, NonePassed}
+use Rattle.iv_rows.specs.Filing.{Filed, Files, StaysWhere, NonePassed, NoneBetween}
 use Rattle.iv_rows.proofs.SlotLaws.{live_swept, swept_rises}
 use Rattle.iv_rows.proofs.FilingLaws.{files_swept}
 use Rattle.iv_rows.proofs.slots.Slots.sweep.Goals as goal
@@ -23,6 +23,7 @@ invariant_of-self c =
       files = subst (λ (l : List Slot). Files l c.keep_numbers.new.numbers.items) (sym c.keep_live.ensures)
           (files_swept s.slots.items s.numbers.items c.keep_numbers.new.numbers.items stays c.self.invariant.files);
       none = subst (λ (rows : List StoredRow). NonePassed rows s.passed.items) (sym live) c.self.invariant.none;
+      between = subst (λ (rows : List StoredRow). NoneBetween rows s.gaps.items) (sym live) c.self.invariant.between;
     }
 
 pub returns-then-len-self : goal.returns-then-len-self
