@@ -85,7 +85,7 @@ among n m numbers e = elim (same_tells n m) [
   | inr d ↦ inr (sym (ap (λ b. b || is_number m numbers) d.0) ∙ e)
 ]
 
-number_above : (low m : ℕ) (numbers : List ℕ) → NumbersRise low numbers → is_number m numbers ≡ true → low < m
+pub number_above : (low m : ℕ) (numbers : List ℕ) → NumbersRise low numbers → is_number m numbers ≡ true → low < m
 number_above low m [] h e = cc
 number_above low m (n ∷ numbers) h e = by (among n m numbers e) (λ f. number_above n m numbers h.2 f) where
   by : (n ≡ m) ⊎ (is_number m numbers ≡ true) → (is_number m numbers ≡ true → n < m) → low < m
@@ -151,7 +151,7 @@ firsts t rows (n ∷ numbers) h =
     ap (λ o. elim o [ Some r ↦ Some r | None ↦ first_under (table_rows rows t) numbers ]) (table_at 0 t n rows h)
     ∙ ap (λ (w : Option StoredRow). elim (row_of t (row_at rows n)) [ Some r ↦ Some r | None ↦ w ]) (firsts t rows numbers h)
 
-above_has : (after m : ℕ) (numbers : List ℕ) → after < m → is_number m numbers ≡ true → is_number m (numbers_above after numbers) ≡ true
+pub above_has : (after m : ℕ) (numbers : List ℕ) → after < m → is_number m numbers ≡ true → is_number m (numbers_above after numbers) ≡ true
 above_has after m [] l e = e
 above_has after m (n ∷ numbers) l e = by (below_tells after n) (λ f. above_has after m numbers l f) where
   by : ((nat_lt after n ≡ true) × (after < n)) ⊎ ((nat_lt after n ≡ false) × (n ≤ after))

@@ -12,7 +12,7 @@ use Rattle.iv_rows.specs.Filing.{itself, NumbersRise, is_number, Files, row_of}
 use Rattle.iv_rows.proofs.ByNumber.{below_tells, same_tells, never_falls, before_place}
 use Rattle.iv_rows.proofs.Rows.{passed, found_above, found_with, found_without, gone_without, part_rises}
 use Rattle.iv_rows.proofs.SlotLaws.{live_with, live_without, live_rises}
-use Rattle.iv_rows.proofs.Looking.{skipped, table_at, among}
+use Rattle.iv_rows.proofs.Looking.{skipped, table_at, among, number_above}
 
 -- ---- what holds of the table and the number of each row
 
@@ -138,3 +138,19 @@ none_below low before numbers h p n e l =
     let w : (k : ℕ) × (slice_get numbers k ≡ Some n) = index_of n numbers e in
     let inside : w.0 < place_by itself before numbers = before_place itself low before numbers w.0 n h w.1 l in
     omega (arith, inside, p)
+
+-- ---- the first number above one
+
+pub first_above : (low first : ℕ) (numbers : List ℕ) → NumbersRise low numbers → slice_get numbers 0 ≡ Some first → (n : ℕ) → is_number n numbers ≡ true
+    → first ≤ n
+first_above low first [] h e n i = cc
+first_above low first (m ∷ numbers) h e n i = subst (λ k. k ≤ n) is (elim (among m n numbers i) [
+  | inl q ↦ omega (arith, q)
+  | inr f ↦ (let further : m < n = number_above m n numbers h.2 f in omega (arith, further))
+]) where
+  is : m ≡ first
+  is = cc
+
+pub has_first : (n : ℕ) (numbers : List ℕ) → slice_get numbers 0 ≡ None → is_number n numbers ≡ true → ⊥
+has_first n [] e i = cc
+has_first n (m ∷ numbers) e i = cc

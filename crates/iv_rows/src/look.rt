@@ -68,8 +68,31 @@ fn filed_below(numbers: &[Numbers], table: TableId, before: u64) -> u64
     }
 }
 
-/// The gap of a table after the row of a number was taken out, which was between these rows: the one before it may be
-/// taken out too, the one after it is there.
+// The first number above one under which a row of a table is looked for, or the greatest there is.
+fn filed_above(numbers: &[Numbers], table: TableId, after: u64) -> u64
+    ensures { (n : ℕ) → is_filed numbers.now table n ≡ true → after < n → result ≤ n }
+{
+    match at(numbers, table.place() as usize) {
+        Some(numbers) => numbers.next(after),
+        None => u64::MAX,
+    }
+}
+
+// A number such that no row of a table is between this one and that one: the next one that is filed, or that of the
+// next row.
+fn row_after(slots: &[Slot], numbers: &[Numbers], table: TableId, number: u64, far: bool) -> u64
+    requires { Files slots.now numbers.now }
+    ensures { (n : ℕ) (r : StoredRow) → row_at (live_rows slots.now) n ≡ Some r →
+        r.table ≡ table → number < n → result ≤ n }
+{
+    if far {
+        last_before(slots, numbers, table, number).saturating_add(1)
+    } else {
+        filed_above(numbers, table, number)
+    }
+}
+
+/// The gap of a table after the row of a number was taken out. Where it ended at this row, it goes on to the next row.
 pub fn gap_now(slots: &[Slot], numbers: &[Numbers], table: TableId, number: u64, gap: Gap) -> Gap
     requires files { Files slots.now numbers.now }
     requires gone { row_at (live_rows slots.now) number ≡ None }
@@ -79,6 +102,6 @@ pub fn gap_now(slots: &[Slot], numbers: &[Numbers], table: TableId, number: u64,
         r.table ≡ table → IsOutside result n }
 {
     let after = filed_below(numbers, table, number);
-    let last = last_before(slots, numbers, table, beyond(gap, number));
-    widened(gap, after, number, last.saturating_add(1))
+    let before = row_after(slots, numbers, table, number, gap.before == number);
+    widened(gap, after, number, before)
 }

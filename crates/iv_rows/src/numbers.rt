@@ -106,6 +106,16 @@ impl Numbers {
         }
     }
 
+    /// The first number above one, or the greatest there is.
+    pub fn next(&self, after: u64) -> u64
+        ensures { (n : ℕ) → is_number n self.now ≡ true → after < n → result ≤ n }
+    {
+        match at(self.above(after), 0) {
+            Some(number) => *number,
+            None => u64::MAX,
+        }
+    }
+
     /// Adds a number, unless it is there.
     pub fn add(&mut self, number: u64) -> Result<(), AllocError>
         requires positive { 0 < number }

@@ -1,7 +1,7 @@
-use Rattle.std.proofs.Common.{◌≡◌, ◌∙◌, ◌<◌, ◌≤◌, true, Some, None, arith, sym, ap, subst}
+use Rattle.std.proofs.Common.{◌≡◌, ◌∙◌, ◌<◌, ◌≤◌, true, Some, None, sym, ap, subst}
+use Rattle.iv_rows.specs.Filing.{is_filed}
 use Rattle.iv_machine.specs.Databases.{row_at}
 use Rattle.iv_rows.specs.InSlots.{live_rows}
-use Rattle.iv_rows.specs.Filing.{is_filed}
 use Rattle.iv_rows.proofs.look.gap_now.Goals as goal
 
 pub returns : goal.returns
@@ -11,7 +11,4 @@ returns c n r e q =
     λ same. (let bad : None ≡ Some r = sym c.requires.gone ∙ sym (ap (row_at rows) same) ∙ e in cc) in
     let before : n < c.args.number → n ≤ c.filed_below-after.result =
     λ l. c.filed_below-after.ensures n (subst (λ t. is_filed c.args.numbers.now t n ≡ true) q (c.requires.files.covers n r e)) l in
-    let later : c.args.number < n → c.saturating_add.result ≤ n =
-    λ l. (let last : c.last_before-last.result < n = c.last_before-last.ensures n r e q (c.beyond.ensures.none n l (c.requires.between n r e q)) in
-    omega (arith, last, c.saturating_add.ensures)) in
-    c.widened.ensures n other before later (c.requires.between n r e q)
+    c.widened.ensures n other before (c.row_after-before.ensures n r e q) (c.requires.between n r e q)
