@@ -4,6 +4,7 @@ pub mod OneChange
 pub mod SlotLaws
 pub mod FilingLaws
 pub mod Looking
+pub mod Passing
 pub mod Thinning
 pub mod Marks
 pub mod Histories

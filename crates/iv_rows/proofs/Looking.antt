@@ -55,7 +55,7 @@ none_left low bound (s ∷ rows) h none = by (below_tells low s.number) (none_le
   by (inr f) more = above_later low s rows f.0 ∙ more
 
 -- where there is no row above a number up to another, the next one above is the same
-skipped : (low n bound : ℕ) (rows : List StoredRow) → Rises bound rows → low ≤ n → ((m : ℕ) (s : StoredRow) → row_at rows m ≡ Some s → low < m → n < m)
+pub skipped : (low n bound : ℕ) (rows : List StoredRow) → Rises bound rows → low ≤ n → ((m : ℕ) (s : StoredRow) → row_at rows m ≡ Some s → low < m → n < m)
     → row_above low rows ≡ row_above n rows
 skipped low n bound [] h le none = refl
 skipped low n bound (s ∷ rows) h le none =
@@ -79,13 +79,13 @@ first_under rows [] = None
 first_under rows (n ∷ numbers) = elim (row_at rows n) [ Some r ↦ Some r | None ↦ first_under rows numbers ]
 
 -- a number of rising ones is the first, or among the others
-among : (n m : ℕ) (numbers : List ℕ) → is_number m (n ∷ numbers) ≡ true → (n ≡ m) ⊎ (is_number m numbers ≡ true)
+pub among : (n m : ℕ) (numbers : List ℕ) → is_number m (n ∷ numbers) ≡ true → (n ≡ m) ⊎ (is_number m numbers ≡ true)
 among n m numbers e = elim (same_tells n m) [
   | inl q ↦ inl q.1
   | inr d ↦ inr (sym (ap (λ b. b || is_number m numbers) d.0) ∙ e)
 ]
 
-number_above : (low m : ℕ) (numbers : List ℕ) → NumbersRise low numbers → is_number m numbers ≡ true → low < m
+pub number_above : (low m : ℕ) (numbers : List ℕ) → NumbersRise low numbers → is_number m numbers ≡ true → low < m
 number_above low m [] h e = cc
 number_above low m (n ∷ numbers) h e = by (among n m numbers e) (λ f. number_above n m numbers h.2 f) where
   by : (n ≡ m) ⊎ (is_number m numbers ≡ true) → (is_number m numbers ≡ true → n < m) → low < m
@@ -127,7 +127,7 @@ first_is low bound rows (n ∷ numbers) h k all = by (row_at rows n) refl (λ w.
 
 -- ---- the rows of a table
 
-table_at : (low t n : ℕ) (rows : List StoredRow) → Rises low rows → row_at (table_rows rows t) n ≡ row_of t (row_at rows n)
+pub table_at : (low t n : ℕ) (rows : List StoredRow) → Rises low rows → row_at (table_rows rows t) n ≡ row_of t (row_at rows n)
 table_at low t n [] h = refl
 table_at low t n (s ∷ rows) h = by (decided (s.table == t)) (same_tells s.number n) (table_at s.number t n rows h.2) where
   by : ((s.table == t) ≡ true) ⊎ ((s.table == t) ≡ false) → (((s.number == n) ≡ true) × (s.number ≡ n)) ⊎ (((s.number == n) ≡ false) × (s.number ≡ n → ⊥))
@@ -151,7 +151,7 @@ firsts t rows (n ∷ numbers) h =
     ap (λ o. elim o [ Some r ↦ Some r | None ↦ first_under (table_rows rows t) numbers ]) (table_at 0 t n rows h)
     ∙ ap (λ (w : Option StoredRow). elim (row_of t (row_at rows n)) [ Some r ↦ Some r | None ↦ w ]) (firsts t rows numbers h)
 
-above_has : (after m : ℕ) (numbers : List ℕ) → after < m → is_number m numbers ≡ true → is_number m (numbers_above after numbers) ≡ true
+pub above_has : (after m : ℕ) (numbers : List ℕ) → after < m → is_number m numbers ≡ true → is_number m (numbers_above after numbers) ≡ true
 above_has after m [] l e = e
 above_has after m (n ∷ numbers) l e = by (below_tells after n) (λ f. above_has after m numbers l f) where
   by : ((nat_lt after n ≡ true) × (after < n)) ⊎ ((nat_lt after n ≡ false) × (n ≤ after))

@@ -123,6 +123,17 @@ all_others low n (r ∷ rows) h le =
     let l : n < r.number = omega (arith, h.0, le) in
     without_other n r rows (less n r.number l).2 ∙ ap (λ l. r ∷ l) (all_others r.number n rows h.2 (omega (arith, l)))
 
+-- a row that is left out isn't found
+pub gone_without : (n : ℕ) (rows : List StoredRow) → row_at (without_row n rows) n ≡ None
+gone_without n [] = refl
+gone_without n (r ∷ rows) = by (same_tells n r.number) (same_tells r.number n) (gone_without n rows) where
+  by : (((n == r.number) ≡ true) × (n ≡ r.number)) ⊎ (((n == r.number) ≡ false) × (n ≡ r.number → ⊥))
+      → (((r.number == n) ≡ true) × (r.number ≡ n)) ⊎ (((r.number == n) ≡ false) × (r.number ≡ n → ⊥)) → row_at (without_row n rows) n ≡ None
+      → row_at (without_row n (r ∷ rows)) n ≡ None
+  by (inl a) b more = ap (λ k. row_at k n) (without_this n r rows a.0) ∙ more
+  by (inr d) (inl b) more = absurd (d.1 (sym b.1))
+  by (inr d) (inr b) more = ap (λ k. row_at k n) (without_other n r rows d.0) ∙ passed n r (without_row n rows) b.0 ∙ more
+
 -- what is found without a row was found before
 pub found_without : (m n : ℕ) (rows : List StoredRow) (r : StoredRow) → row_at (without_row m rows) n ≡ Some r → row_at rows n ≡ Some r
 found_without m n [] r e = e

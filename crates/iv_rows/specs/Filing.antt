@@ -1,8 +1,9 @@
 -- The numbers under which the rows of each table are looked for. There may be more of them than rows.
-use Rattle.std.specs.Prelude.{◌≡◌, ℕ, ◌≤◌, Bool, true, if◌then◌else◌, ◌==◌, nat_lt, List, [], ◌∷◌, slice_get, Option, Some, None}
+use Rattle.std.specs.Prelude.{◌≡◌, ℕ, ◌<◌, ◌≤◌, ◌⊎◌, Bool, true, if◌then◌else◌, ◌==◌, nat_lt, List, [], ◌∷◌, slice_get, Option, Some, None}
 use Rattle.iv_value.specs.declared.value.Value.{Value}
 use Rattle.iv_expr.specs.declared.row.StoredRow.{StoredRow}
 use Rattle.iv_machine.specs.Databases.{row_at}
+use Rattle.iv_rows.specs.declared.gap.Gap.{Gap}
 use Rattle.iv_rows.specs.declared.slot.Slot.{Slot}
 use Rattle.iv_rows.specs.ByNumber.{RiseBy, with_item, has_number, place_by}
 use Rattle.iv_rows.specs.InSlots.{SlotsRise, slot_number, live_rows}
@@ -60,6 +61,36 @@ Covers rows numbers = (n : ℕ) (r : StoredRow) → row_at rows n ≡ Some r →
 pub record Files (slots : List Slot) (numbers : List (List ℕ)) : Type 0 where
   pub rises : SlotsRise 0 slots
   pub covers : Covers (live_rows slots) numbers
+
+-- ---- the numbers up to which no row is there
+
+-- the number of a table, or 0
+abbrev pub passed_for : List ℕ → ℕ → ℕ
+passed_for passed t = elim (slice_get passed t) [ Some n ↦ n | None ↦ 0 ]
+
+-- up to its table's number no row is there
+abbrev pub NonePassed : List StoredRow → List ℕ → Type 0
+NonePassed rows passed = (n : ℕ) (r : StoredRow) → row_at rows n ≡ Some r → passed_for passed r.table < n
+
+-- ---- numbers between which no row is there
+
+-- the gap of a table, or an empty one
+abbrev pub gap_for : List Gap → ℕ → Gap
+gap_for gaps t = elim (slice_get gaps t) [ Some g ↦ g | None ↦ record { after = 0; before = 0 } ]
+
+-- a number isn't in this gap
+abbrev pub IsOutside : Gap → ℕ → Type 0
+IsOutside gap n = (n ≤ gap.after) ⊎ (gap.before ≤ n)
+
+-- in its table's gap no row is there
+abbrev pub NoneBetween : List StoredRow → List Gap → Type 0
+NoneBetween rows gaps = (n : ℕ) (r : StoredRow) → row_at rows n ≡ Some r → IsOutside (gap_for gaps r.table) n
+
+-- What holds of slots, the numbers that their rows are filed under, and where no row is there.
+pub record Holds (slots : List Slot) (numbers : List (List ℕ)) (passed : List ℕ) (gaps : List Gap) : Type 0 where
+  pub files : Files slots numbers
+  pub none : NonePassed (live_rows slots) passed
+  pub between : NoneBetween (live_rows slots) gaps
 
 -- the slots, and for each table the numbers under which its rows are looked for
 pub record Filed : Type 0 where

@@ -2,7 +2,10 @@
 #![tactic(auto)]
 
 mod filing;
+mod gap;
+mod look;
 mod numbers;
+mod passed;
 mod place;
 mod saved;
 mod set;

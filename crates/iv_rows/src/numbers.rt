@@ -1,8 +1,8 @@
 //! The numbers under which the rows of one table are looked for.
-ghost use Rattle.std.specs.Prelude.{◌≡◌, ◌<◌, ◌≤◌, ◌^◌, ◌==◌, false, [], filter, length, slice_get, unwrap_or, option_map, OnOk, OnErr};
+ghost use Rattle.std.specs.Prelude.{◌≡◌, ◌<◌, ◌≤◌, ◌^◌, ◌==◌, ℕ, true, false, [], filter, length, slice_get, unwrap_or, option_map, OnOk, OnErr};
 ghost use Rattle.iv_rows.specs.ByNumber.{place_by};
 ghost use Rattle.iv_rows.specs.InSlots.{SlotsRise, has_slot};
-ghost use Rattle.iv_rows.specs.Filing.{NumbersRise, itself, numbers_above, with_number};
+ghost use Rattle.iv_rows.specs.Filing.{NumbersRise, itself, is_number, numbers_above, with_number};
 
 use crate::place::has_number;
 use crate::slot::Slot;
@@ -89,6 +89,31 @@ impl Numbers {
     {
         let from = place(self.numbers.as_slice(), after.saturating_add(1));
         &self.numbers[from..]
+    }
+
+    /// The last number below one, or 0.
+    pub fn below(&self, before: u64) -> u64
+        ensures { (n : ℕ) → is_number n self.now ≡ true → n < before → n ≤ result }
+    {
+        let numbers = self.numbers.as_slice();
+        let place = place(numbers, before);
+        if place == 0 {
+            return 0;
+        }
+        match at(numbers, place - 1) {
+            Some(number) => *number,
+            None => 0,
+        }
+    }
+
+    /// The first number above one, or the greatest there is.
+    pub fn next(&self, after: u64) -> u64
+        ensures { (n : ℕ) → is_number n self.now ≡ true → after < n → result ≤ n }
+    {
+        match at(self.above(after), 0) {
+            Some(number) => *number,
+            None => u64::MAX,
+        }
     }
 
     /// Adds a number, unless it is there.

@@ -7,13 +7,14 @@ ghost use Rattle.iv_rows.specs.InSlots.{live_rows, has_slot_for, slots_without, 
 ghost use Rattle.iv_rows.specs.Filing.{is_filed_for, StaysFiled, Files};
 
 use crate::filing::{file, keep_numbers};
+use crate::gap::{Gap, beyond, cut, gap_for, make_gaps, set_gap};
+use crate::look::{gap_now, next_above, passed_now};
 use crate::numbers::Numbers;
+use crate::passed::{lower, pass, passed_for, reach};
 use crate::place::{live_at, place};
 use crate::set::{empty, keep_live, put, replace};
 use crate::slot::Slot;
-use crate::walk::first_of;
 use iv_expr::{Row, StoredRow, TableId};
-use sqlite_items::at;
 use std::alloc::{AllocError, Global};
 use std::marker::Model;
 
@@ -23,18 +24,22 @@ use std::marker::Model;
 pub struct Slots {
     slots: Vec<Slot>,
     numbers: Vec<Numbers>,
+    // For each table a number up to which none of its rows is there: looks begin above it.
+    passed: Vec<u64>,
+    // For each table two numbers between which none of its rows is there: a look from there begins at their end.
+    gaps: Vec<Gap>,
     // How often a row was taken out since the slots were swept.
     emptied: usize,
 }
 
 impl Model for Slots {
-    ghost use Rattle.iv_rows.specs.Filing.{Filed, Files};
+    ghost use Rattle.iv_rows.specs.Filing.{Filed, Holds};
 
     ghost Value = { Filed };
 
     ghost view = { λ s. record { slots = s.slots.items; numbers = s.numbers.items } };
 
-    ghost invariant = { λ s. Files s.slots.items s.numbers.items };
+    ghost invariant = { λ s. Holds s.slots.items s.numbers.items s.passed.items s.gaps.items };
 }
 
 impl Slots {
@@ -45,6 +50,8 @@ impl Slots {
         Slots {
             slots: Vec::new(alloc),
             numbers: Vec::new(alloc),
+            passed: Vec::new(alloc),
+            gaps: Vec::new(alloc),
             emptied: 0,
         }
     }
@@ -65,28 +72,31 @@ impl Slots {
         live_at(slots, place(slots, number), number)
     }
 
-    /// The first row of a table above a number. It halves once among the numbers of the table and once among the
-    /// slots, then walks along both.
+    /// The first row of a table above a number. It passes the numbers of which it is known that no row is there.
     pub fn row_above(&self, table: TableId, number: u64) -> Option<&StoredRow>
         ensures { option_copied result ≡ row_above number (table_rows (live_rows self.now.slots) table) }
     {
-        match at(self.numbers.as_slice(), table.place() as usize) {
-            Some(numbers) => {
-                let slots = self.slots.as_slice();
-                let from = place(slots, number.saturating_add(1));
-                first_of(slots, table, from, numbers.above(number))
-            }
-            None => None,
-        }
+        let passed = passed_for(self.passed.as_slice(), table);
+        let gap = gap_for(self.gaps.as_slice(), table);
+        let from = beyond(gap, number.max(passed));
+        next_above(self.slots.as_slice(), self.numbers.as_slice(), table, from)
     }
 
     // Takes the row of a number out, where there is one: its slot stays.
-    fn take_out(&mut self, number: u64)
+    fn take_out(&mut self, table: TableId, number: u64)
         ensures slots { self.new.slots ≡ slots_without number self.old.slots }
         ensures numbers { self.new.numbers ≡ self.old.numbers }
     {
         empty(&mut self.slots, number);
         self.emptied = self.emptied.saturating_add(1);
+        let old = passed_for(self.passed.as_slice(), table);
+        let gap = gap_for(self.gaps.as_slice(), table);
+        let slots = self.slots.as_slice();
+        let numbers = self.numbers.as_slice();
+        let passed = passed_now(slots, numbers, table, old, gap);
+        let wider = gap_now(slots, numbers, table, number, gap);
+        pass(&mut self.passed, table, passed);
+        set_gap(&mut self.gaps, table, wider);
     }
 
     /// Sets the row of a number to these values, or takes it out. Where memory is refused, all rows stay.
@@ -105,6 +115,10 @@ impl Slots {
         match values {
             Some(values) => {
                 file(&mut self.numbers, table, number)?;
+                reach(&mut self.passed, table)?;
+                make_gaps(&mut self.gaps, table)?;
+                lower(&mut self.passed, table, number);
+                cut(&mut self.gaps, table, number);
                 let row = StoredRow {
                     table,
                     number,
@@ -113,7 +127,7 @@ impl Slots {
                 put(&mut self.slots, row)
             }
             None => {
-                self.take_out(number);
+                self.take_out(table, number);
                 Ok(())
             }
         }
@@ -135,9 +149,11 @@ impl Slots {
                     number,
                     values,
                 };
+                lower(&mut self.passed, row.table, row.number);
+                cut(&mut self.gaps, row.table, row.number);
                 replace(&mut self.slots, row);
             }
-            None => self.take_out(number),
+            None => self.take_out(table, number),
         }
     }
 

@@ -182,3 +182,96 @@ fn slots_are_given_up(rt: HostRuntime) -> Result<(), Fail> {
     assert_eq!(rt; counts, [5, 1]);
     Ok(())
 }
+
+// Four rows and a mark; the first two are taken out, and one comes in before all. What is there after the first, after
+// both, with the new one and back at the mark; and which row comes after the fourth, and after the third again.
+fn at_the_front(
+    alloc: Global,
+    versions: &mut Versions,
+) -> Result<([[u64; 3]; 4], [u64; 2]), AllocError> {
+    four_and_a_mark(alloc, versions)?;
+    set(versions, 0, 2, None)?;
+    let one_gone = numbers(versions, 0);
+    set(versions, 0, 3, None)?;
+    let two_gone = numbers(versions, 0);
+    let after_fourth = number_above(versions, 0, 4);
+    put(alloc, versions, 0, 1, 8)?;
+    let one_more = numbers(versions, 0);
+    versions.undo_to(0);
+    let rows = [one_gone, two_gone, one_more, numbers(versions, 0)];
+    Ok((rows, [after_fourth, number_above(versions, 0, 3)]))
+}
+
+// The rows 2 to 5 and a mark.
+fn four_and_a_mark(alloc: Global, versions: &mut Versions) -> Result<(), AllocError>
+    ensures { IfOk result (λ _. 0 < length versions.new.marks) }
+{
+    for number in 2..6 {
+        put(alloc, versions, 0, number, 7)?;
+    }
+    versions.mark()?;
+    Ok(())
+}
+
+#[test]
+fn a_look_begins_at_the_first_row(rt: HostRuntime) -> Result<(), Fail> {
+    let mut versions = Versions::new(rt.alloc());
+    let seen = at_the_front(rt.alloc(), &mut versions);
+    drop(versions);
+    let (rows, next) = seen?;
+    let none = u64::MAX;
+    assert_eq!(rt; rows[0], [3, 4, 5]);
+    assert_eq!(rt; rows[1], [4, 5, none]);
+    assert_eq!(rt; rows[2], [1, 4, 5]);
+    assert_eq!(rt; rows[3], [2, 3, 4]);
+    assert_eq!(rt; next, [5, 4]);
+    Ok(())
+}
+
+// Six rows and a mark.
+fn six_and_a_mark(alloc: Global, versions: &mut Versions) -> Result<(), AllocError>
+    ensures { IfOk result (λ _. 0 < length versions.new.marks) }
+{
+    for number in 1..7 {
+        put(alloc, versions, 0, number * 2, 7)?;
+    }
+    versions.mark()?;
+    Ok(())
+}
+
+// Three rows are taken out after the first, one of them comes back, and one comes in between. What is there after the
+// first two, after the third, with the one that is back and with the new one, and back at the mark.
+fn in_a_gap(alloc: Global, versions: &mut Versions) -> Result<[[u64; 3]; 5], AllocError> {
+    six_and_a_mark(alloc, versions)?;
+    set(versions, 0, 4, None)?;
+    set(versions, 0, 6, None)?;
+    let two_gone = numbers(versions, 0);
+    set(versions, 0, 8, None)?;
+    let three_gone = numbers(versions, 0);
+    put(alloc, versions, 0, 6, 8)?;
+    let one_back = numbers(versions, 0);
+    put(alloc, versions, 0, 5, 8)?;
+    let one_more = numbers(versions, 0);
+    versions.undo_to(0);
+    Ok([
+        two_gone,
+        three_gone,
+        one_back,
+        one_more,
+        numbers(versions, 0),
+    ])
+}
+
+#[test]
+fn a_look_passes_a_gap(rt: HostRuntime) -> Result<(), Fail> {
+    let mut versions = Versions::new(rt.alloc());
+    let seen = in_a_gap(rt.alloc(), &mut versions);
+    drop(versions);
+    let rows = seen?;
+    assert_eq!(rt; rows[0], [2, 8, 10]);
+    assert_eq!(rt; rows[1], [2, 10, 12]);
+    assert_eq!(rt; rows[2], [2, 6, 10]);
+    assert_eq!(rt; rows[3], [2, 5, 6]);
+    assert_eq!(rt; rows[4], [2, 4, 6]);
+    Ok(())
+}

@@ -1,41 +1,32 @@
-use Rattle.std.proofs.Common.{◌≡◌, ◌∙◌, ◌≤◌, ◌+◌, ℕ, List, Some, None, sym, ap, subst, arith}
-use Rattle.std.specs.Option.{option_copied}
-use Rattle.std.specs.Prelude.{slice_get}
+use Rattle.std.proofs.Common.{◌≡◌, ◌∙◌, ◌<◌, ◌≤◌, ℕ, List, Some, arith, sym, ap, subst}
+use Rattle.iv_expr.specs.declared.row.StoredRow.{StoredRow}
 use Rattle.iv_expr.specs.Scopes.{row_above, table_rows}
+use Rattle.iv_machine.specs.Databases.{row_at}
+use Rattle.iv_rows.specs.declared.gap.Gap.{Gap}
 use Rattle.iv_rows.specs.declared.slot.Slot.{Slot}
 use Rattle.iv_rows.specs.InSlots.{live_rows}
-use Rattle.iv_rows.specs.Filing.{Filed, NumbersRise, IsAhead, first_of}
-use Rattle.iv_rows.proofs.FilingLaws.{above_rises}
-use Rattle.iv_rows.proofs.Looking.{ahead_above, told_next, told_none}
+use Rattle.iv_rows.specs.Filing.{Filed, Files, passed_for, gap_for, IsOutside}
+use Rattle.iv_rows.proofs.Passing.{look_later}
 use Rattle.iv_rows.proofs.slots.Slots.row_above.Goals as goal
 
-pub first_of-requires-clause-ahead : goal.first_of-requires-clause-ahead
-first_of-requires-clause-ahead c =
-    let above : NumbersRise c.args.number c.above.result.now =
-    subst (λ (l : List ℕ). NumbersRise c.args.number l) (sym c.above.ensures.numbers)
-    (above_rises 0 c.args.number c.in-Some.numbers.now c.above.ensures.rise) in
-    let near : c.saturating_add.result ≤ c.args.number + 1 = omega (arith, c.saturating_add.ensures) in
-    subst (λ k. IsAhead c.as_slice-slots.result.now k c.above.result.now) (sym c.place-from.ensures.value)
-    (ahead_above c.as_slice-slots.result.now c.args.number c.saturating_add.result c.above.result.now near above)
-
-pub returns-in-Some : goal.returns-in-Some
-returns-in-Some c =
+pub next_above-requires : goal.next_above-requires
+next_above-requires c =
     let s = c.self.inside in
-    let there : slice_get s.numbers.items c.args.table ≡ Some c.in-Some.numbers.now =
-    ap (λ k. slice_get s.numbers.items k) (sym c.place.ensures) ∙ ap (λ (l : List (List ℕ)). slice_get l c.place.result) (sym c.as_slice.ensures.value)
-    ∙ sym c.at.ensures
-    ∙ ap option_copied c.in-Some.is in
-    c.first_of.ensures ∙ ap (λ (l : List Slot). first_of (live_rows l) c.args.table c.above.result.now) c.as_slice-slots.ensures.value
-    ∙ told_next c.args.table c.args.number s.slots.items s.numbers.items c.in-Some.numbers.now c.above.result.now c.self.invariant there c.above.ensures.rise
-    c.above.ensures.numbers
-    ∙ ap (λ (v : Filed). row_above c.args.number (table_rows (live_rows v.slots) c.args.table)) c.self.view_is
+    subst (λ (l : List Slot). Files l c.as_slice-4.result.now) (sym c.as_slice-3.ensures.value)
+    (subst (λ (l : List (List ℕ)). Files s.slots.items l) (sym c.as_slice-4.ensures.value) c.self.invariant.files)
 
-pub returns-in-None : goal.returns-in-None
-returns-in-None c =
+pub returns : goal.returns
+returns c =
     let s = c.self.inside in
-    let none : slice_get s.numbers.items c.args.table ≡ None =
-    ap (λ k. slice_get s.numbers.items k) (sym c.place.ensures) ∙ ap (λ (l : List (List ℕ)). slice_get l c.place.result) (sym c.as_slice.ensures.value)
-    ∙ sym c.at.ensures
-    ∙ ap option_copied c.in-None.is in
-    told_none c.args.table c.args.number s.slots.items s.numbers.items c.self.invariant none
+    let passed : c.passed_for-passed.result ≡ passed_for s.passed.items c.args.table =
+    c.passed_for-passed.ensures ∙ ap (λ l. passed_for l c.args.table) c.as_slice.ensures.value in
+    let gap : c.gap_for-gap.result ≡ gap_for s.gaps.items c.args.table = c.gap_for-gap.ensures ∙ ap (λ l. gap_for l c.args.table) c.as_slice-2.ensures.value in
+    let least : c.args.number ≤ c.beyond-from.result = omega (arith, c.beyond-from.ensures.least, c.max.ensures) in
+    let none : (n : ℕ) (r : StoredRow) → row_at (live_rows s.slots.items) n ≡ Some r → r.table ≡ c.args.table → c.args.number < n → c.beyond-from.result < n =
+    λ n r e q l. (let above : passed_for s.passed.items c.args.table < n = subst (λ t. passed_for s.passed.items t < n) q (c.self.invariant.none n r e) in
+    c.beyond-from.ensures.none n (omega (arith, c.max.ensures, passed, above, l))
+    (subst (λ (g : Gap). IsOutside g n) (sym gap) (subst (λ t. IsOutside (gap_for s.gaps.items t) n) q (c.self.invariant.between n r e)))) in
+    c.next_above.ensures
+    ∙ ap (λ (l : List Slot). row_above c.beyond-from.result (table_rows (live_rows l) c.args.table)) c.as_slice-3.ensures.value
+    ∙ look_later c.args.table c.args.number c.beyond-from.result s.slots.items s.numbers.items c.self.invariant.files least none
     ∙ ap (λ (v : Filed). row_above c.args.number (table_rows (live_rows v.slots) c.args.table)) c.self.view_is
