@@ -34,13 +34,6 @@ pub finished_is : (run : Runs) (w : Context) (d : DataStatement) (parts : List (
 finished_is run w d parts net triggers at r check h e fired =
     ap (then_fired run w d net at) check ∙ ap (λ xs. firings_run run xs at) (sym (same_firings w d parts net triggers h e)) ∙ fired
 
-pub finished_refused : (memory : Bool) (run : Runs) (w : Context) (d : DataStatement) (parts : List (List Change)) (net : Wave) (triggers : List Trigger) (at : Standing) (f : Failure)
-    → immediate_check w at.database ≡ Ok tt → ByTableAndEvent parts net.changes → triggers ≡ w.schema.triggers
-    → MatchBool memory (Unit {0}) (firings_run run (all_firings d parts triggers) at ≡ Err f) → MatchBool memory (Unit {0}) (finished run w d net at ≡ Err f)
-finished_refused memory run w d parts net triggers at f check h e fired =
-    unless_memory memory (firings_run run (all_firings d parts triggers) at ≡ Err f) (finished run w d net at ≡ Err f)
-    (finished_is run w d parts net triggers at (Err f) check h e) fired
-
 -- ---- the waves and what comes after them
 
 abbrev done : ℕ → Standing → Finished
@@ -123,13 +116,6 @@ pub level_done : (deeper : ℕ) (w : Context) (d : DataStatement) (f : Frame) (d
 level_done deeper w d f db budget wave r e a h =
     level_opens deeper w d f db budget e ∙ ap (λ x. and_then x (waves_and_after (nested_level deeper w) w d db (budget - 1))) a ∙ h
 
-pub level_refused : (memory : Bool) (deeper : ℕ) (w : Context) (d : DataStatement) (f : Frame) (db : Database) (budget : ℕ) (wave : Wave) (failure : Failure) → (budget ≡ 0 → ⊥)
-    → allowed_wave w d f db ≡ Ok wave → MatchBool memory (Unit {0}) (waves_and_after (nested_level deeper w) w d db (budget - 1) wave ≡ Err failure)
-    → MatchBool memory (Unit {0}) (level deeper w d f db budget ≡ Err failure)
-level_refused memory deeper w d f db budget wave failure e a h =
-    unless_memory memory (waves_and_after (nested_level deeper w) w d db (budget - 1) wave ≡ Err failure) (level deeper w d f db budget ≡ Err failure)
-    (level_done deeper w d f db budget wave (Err failure) e a) h
-
 pub level_not_allowed : (memory : Bool) (deeper : ℕ) (w : Context) (d : DataStatement) (f : Frame) (db : Database) (budget : ℕ) (failure : Failure) → (budget ≡ 0 → ⊥)
     → MatchBool memory (Unit {0}) (allowed_wave w d f db ≡ Err failure) → MatchBool memory (Unit {0}) (level deeper w d f db budget ≡ Err failure)
 level_not_allowed memory deeper w d f db budget failure e h =
@@ -143,9 +129,3 @@ nested_opens zero w trigger d f db budget e = absurd (e refl)
 nested_opens (suc deeper) w trigger d f db budget e =
     let less : suc deeper - 1 ≡ deeper = omega arith in
     ap (λ n. level n w d f db budget) (sym less)
-
-pub nested_refused : (memory : Bool) (deeper : ℕ) (w : Context) (trigger : ℕ) (d : DataStatement) (f : Frame) (db : Database) (budget : ℕ) (failure : Failure) → (deeper ≡ 0 → ⊥)
-    → MatchBool memory (Unit {0}) (level (deeper - 1) w d f db budget ≡ Err failure) → MatchBool memory (Unit {0}) (nested_level deeper w trigger d f db budget ≡ Err failure)
-nested_refused memory deeper w trigger d f db budget failure e h =
-    unless_memory memory (level (deeper - 1) w d f db budget ≡ Err failure) (nested_level deeper w trigger d f db budget ≡ Err failure)
-    (λ x. nested_opens deeper w trigger d f db budget e ∙ x) h

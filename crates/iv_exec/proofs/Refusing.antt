@@ -1,5 +1,5 @@
 -- A step that is refused is the refusal of the whole.
-use Rattle.std.proofs.Common.{◌≡◌, refl, ℕ, true, false, if◌then◌else◌, Some, None, is_none, Result, Ok, Err, MatchBool, ap, ◌∙◌}
+use Rattle.std.proofs.Common.{◌≡◌, refl, ℕ, true, false, if◌then◌else◌, Some, None, is_none, Result, Ok, Err, MatchBool, ap, subst, ◌∙◌}
 use Rattle.iv_expr.specs.Evaluation.{and_then}
 use Rattle.iv_catalogue.specs.Refusals.{is_memory_cause}
 use Rattle.iv_catalogue.specs.declared.cause.Cause.{Cause}
@@ -7,7 +7,12 @@ use Rattle.iv_catalogue.specs.declared.cause.Refusal.{Refusal}
 use Rattle.iv_machine.specs.declared.database.Database.{Database}
 use Rattle.iv_machine.specs.Context.{Failure, over, inside_trigger}
 use Rattle.iv_triggers.proofs.Answers.{anyway, unless_memory}
+use Rattle.iv_row_laws.specs.Changing.{AnswersAt}
 use Rattle.iv_exec.specs.Steps.{innermost}
+
+-- what is answered of one text is answered of the same in other words
+pub answers_as : {A B : Type 0} (view : A → B) (count : ℕ) (r : Result A Refusal) (said other : Result B Failure) → said ≡ other → AnswersAt view count r said → AnswersAt view count r other
+answers_as {B = B} view count r said other e h = subst (λ (x : Result B Failure). AnswersAt view count r x) e h
 
 pub refused_then : {A B : Type 0} (r : Refusal) (f : Failure) (said : Result A Failure) (g : A → Result B Failure)
     → MatchBool (is_memory_cause r.cause) (Unit {0}) (said ≡ Err f) → MatchBool (is_memory_cause r.cause) (Unit {0}) (and_then said g ≡ Err f)

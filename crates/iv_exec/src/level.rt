@@ -51,12 +51,12 @@ fn run_statement<K: ChangeableRows>(
     ensures store { OnOk result (StoreFits context.now.schema (K.view store.new)) }
 {
     match statement {
-        BodyStatement::Data(statement) => match nested(
-            store, &*context, trigger.id, statement, &*frame, deeper, budget,
-        ) {
-            Ok(_) => Ok(()),
-            Err(refusal) => Err(refusal),
-        },
+        BodyStatement::Data(statement) => {
+            nested(
+                store, &*context, trigger.id, statement, &*frame, deeper, budget,
+            )?;
+            Ok(())
+        }
         BodyStatement::Signal(_) => Err(Refusal::of(Cause::Signal(trigger.id, place))),
         BodyStatement::Set(_) => Ok(()),
     }
@@ -88,10 +88,7 @@ fn nested<K: ChangeableRows>(
     if deeper == 0 {
         return Err(Refusal::of(Cause::DepthLimit(trigger)));
     }
-    match run_level(store, &*context, statement, &*frame, deeper - 1, budget) {
-        Ok(size) => Ok(size),
-        Err(refusal) => Err(refusal),
-    }
+    run_level(store, &*context, statement, &*frame, deeper - 1, budget)
 }
 
 // The statements of a trigger's body, in their order.
@@ -122,15 +119,11 @@ fn run_body<K: ChangeableRows>(
     let mut place = 1u32;
     while at < body.len() {
         let statement = statement_at(&*context, &*frame, body, at);
-        match run_statement(
+        run_statement(
             store, &*context, trigger, &*frame, place, statement, deeper, budget,
-        ) {
-            Ok(()) => {
-                at += 1;
-                place += 1;
-            }
-            Err(refusal) => return Err(refusal),
-        }
+        )?;
+        at += 1;
+        place += 1;
     }
     Ok(())
 }
@@ -159,10 +152,7 @@ fn run_where_true<K: ChangeableRows>(
     ensures store { OnOk result (StoreFits context.now.schema (K.view store.new)) }
 {
     match takes_effect(&*store, trigger, &*frame) {
-        Ok(true) => match run_body(store, &*context, trigger, &*frame, deeper, budget) {
-            Ok(()) => Ok(()),
-            Err(refusal) => Err(refusal),
-        },
+        Ok(true) => run_body(store, &*context, trigger, &*frame, deeper, budget),
         Ok(false) => Ok(()),
         Err(cause) => Err(Refusal::of(cause)),
     }
@@ -236,10 +226,8 @@ fn fire_rows<K: ChangeableRows>(
     let mut at = 0usize;
     while at < transitions.len() {
         let frame = row_frame(&*context, trigger, transitions, at);
-        match fire(store, &*context, trigger, &frame, deeper, budget) {
-            Ok(()) => at += 1,
-            Err(refusal) => return Err(refusal),
-        }
+        fire(store, &*context, trigger, &frame, deeper, budget)?;
+        at += 1;
     }
     Ok(())
 }
@@ -268,10 +256,7 @@ fn fire_once<K: ChangeableRows>(
     ensures store { OnOk result (StoreFits context.now.schema (K.view store.new)) }
 {
     let frame = statement_frame(&*context, trigger, transitions);
-    match fire(store, &*context, trigger, &frame, deeper, budget) {
-        Ok(()) => Ok(()),
-        Err(refusal) => Err(refusal),
-    }
+    fire(store, &*context, trigger, &frame, deeper, budget)
 }
 
 // A trigger, as often as it fires.
@@ -302,17 +287,11 @@ fn fire_trigger<K: ChangeableRows>(
         Fires::Never => Ok(()),
         Fires::Once(changes) => {
             are_transitions(&*context, trigger, &*transitions, changes);
-            match fire_once(store, &*context, trigger, changes, deeper, budget) {
-                Ok(()) => Ok(()),
-                Err(refusal) => Err(refusal),
-            }
+            fire_once(store, &*context, trigger, changes, deeper, budget)
         }
         Fires::EachRow(changes) => {
             are_transitions(&*context, trigger, &*transitions, changes);
-            match fire_rows(store, &*context, trigger, changes, deeper, budget) {
-                Ok(()) => Ok(()),
-                Err(refusal) => Err(refusal),
-            }
+            fire_rows(store, &*context, trigger, changes, deeper, budget)
         }
     }
 }
@@ -345,7 +324,7 @@ fn fire_all<K: ChangeableRows>(
     let mut at = 0usize;
     while at < triggers.len() {
         let trigger = trigger_at(&*context, triggers, at);
-        match fire_trigger(
+        fire_trigger(
             store,
             &*context,
             statement,
@@ -353,10 +332,8 @@ fn fire_all<K: ChangeableRows>(
             &*transitions,
             deeper,
             budget,
-        ) {
-            Ok(()) => at += 1,
-            Err(refusal) => return Err(refusal),
-        }
+        )?;
+        at += 1;
     }
     Ok(())
 }
@@ -383,21 +360,16 @@ fn finish<K: ChangeableRows>(
         (K.view store.old) (K.lookups store.old) (K.view store.new) (K.lookups store.new)) }
     ensures store { OnOk result (StoreFits context.now.schema (K.view store.new)) }
 {
-    match check(&*store, &*context) {
-        Ok(()) => match fire_all(
-            store,
-            &*context,
-            statement,
-            context.catalogue().triggers(),
-            &*transitions,
-            deeper,
-            budget,
-        ) {
-            Ok(()) => Ok(()),
-            Err(refusal) => Err(refusal),
-        },
-        Err(refusal) => Err(refusal),
-    }
+    check(&*store, &*context)?;
+    fire_all(
+        store,
+        &*context,
+        statement,
+        context.catalogue().triggers(),
+        &*transitions,
+        deeper,
+        budget,
+    )
 }
 
 // The waves of a statement from what it proposes on, and what comes after them.
@@ -424,15 +396,9 @@ fn run_waves<K: ChangeableRows>(
     ensures store { OnOk result (StoreFits context.now.schema (K.view store.new)) }
 {
     let size = changes.len() as u64;
-    match settle_waves(store, &*context, budget, changes) {
-        Ok(transitions) => {
-            match finish(store, &*context, statement, &transitions, deeper, budget) {
-                Ok(()) => Ok(size),
-                Err(refusal) => Err(refusal),
-            }
-        }
-        Err(refusal) => Err(refusal),
-    }
+    let transitions = settle_waves(store, &*context, budget, changes)?;
+    finish(store, &*context, statement, &transitions, deeper, budget)?;
+    Ok(size)
 }
 
 // A data statement, of a script or of a trigger's body. It takes one from the budget for itself.
@@ -460,13 +426,8 @@ fn run_level<K: ChangeableRows>(
         return Err(Refusal::of(Cause::TooManyChanges));
     }
     *budget -= 1;
-    match allowed(&*store, &*context, statement, &*frame) {
-        Ok(changes) => match run_waves(store, &*context, statement, changes, deeper, budget) {
-            Ok(size) => Ok(size),
-            Err(refusal) => Err(refusal),
-        },
-        Err(refusal) => Err(refusal),
-    }
+    let changes = allowed(&*store, &*context, statement, &*frame)?;
+    run_waves(store, &*context, statement, changes, deeper, budget)
 }
 
 /// INSERT, UPDATE or DELETE of a script, with all that follows from it, and how many rows it changed itself
@@ -496,15 +457,12 @@ pub fn change<K: ChangeableRows>(
     let context = Context { catalogue, modes };
     let frame = Frame::none();
     let mut budget = u64::from(limits.changes());
-    match run_level(
+    run_level(
         store,
         &context,
         statement,
         &frame,
         limits.depth() - 1,
         &mut budget,
-    ) {
-        Ok(size) => Ok(size),
-        Err(refusal) => Err(refusal),
-    }
+    )
 }

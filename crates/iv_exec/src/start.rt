@@ -65,15 +65,10 @@ pub fn allowed<'x, K: ChangeableRows>(
         (λ changes. Proposes context.now (K.view store.now).base changes.items) }
 {
     match proposed(store, context, frame, statement) {
-        Ok(changes) => match before_statement(
-            context,
-            store,
-            table_of(statement),
-            event_of(statement),
-        ) {
-            Ok(()) => Ok(changes),
-            Err(refusal) => Err(refusal),
-        },
+        Ok(changes) => {
+            before_statement(context, store, table_of(statement), event_of(statement))?;
+            Ok(changes)
+        }
         Err(cause) => Err(Refusal::of(cause)),
     }
 }
@@ -118,10 +113,8 @@ pub fn settle_waves<K: ChangeableRows>(
         (K.view store.old) (K.lookups store.old) (K.view store.new) (K.lookups store.new)) }
     ensures store { OnOk result (StoreFits context.now.schema (K.view store.new)) }
 {
-    match settle(store, context, budget, changes) {
-        Ok(waves) => Ok(net_changes(store.allocator(), waves.as_slice())?),
-        Err(refusal) => Err(refusal),
-    }
+    let waves = settle(store, context, budget, changes)?;
+    Ok(net_changes(store.allocator(), waves.as_slice())?)
 }
 
 /// Whether the WHEN of a trigger takes effect.

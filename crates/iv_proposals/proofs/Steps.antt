@@ -1,5 +1,5 @@
 -- A call after another, under the relation for refused memory.
-use Rattle.std.proofs.Common.{◌≡◌, ◌∙◌, refl, Result, Ok, Err, MatchBool, List, ◌∷◌, ap, sym, subst}
+use Rattle.std.proofs.Common.{◌≡◌, ◌∙◌, refl, Result, Ok, Err, MatchBool, IsErrAnd, List, ◌∷◌, ap, sym, subst}
 use Rattle.iv_value.specs.declared.value.Value.{Value}
 use Rattle.iv_expr.specs.Scopes.{Scope, within}
 use Rattle.iv_expr.specs.Evaluation.{and_then}
@@ -23,6 +23,16 @@ pub after_err : {B C : Type 0} (said : Result B Cause) (x : Result C Cause) (k :
     → said ≡ and_then x k → MatchBool (is_memory_cause cause) (Unit {0}) (x ≡ Err cause) → MatchBool (is_memory_cause cause) (Unit {0}) (said ≡ Err cause)
 after_err {C = C} said x k cause e h =
     unless_memory (is_memory_cause cause) (x ≡ Err cause) (said ≡ Err cause) (λ o. e ∙ ap (λ (y : Result C Cause). and_then y k) o) h
+
+-- a refusal that is told on as it is
+pub told_on : {A B : Type 0} (view : A → B) (r : Result A Cause) (cause : Cause) (said : Result B Cause) → IsErrAnd r (λ y. y ≡ cause)
+    → MatchBool (is_memory_cause cause) (Unit {0}) (said ≡ Err cause) → AnswersCause view r said
+told_on view (Ok a) cause said h m = absurd h
+told_on view (Err y) cause said h m = subst (λ (x : Cause). MatchBool (is_memory_cause x) (Unit {0}) (said ≡ Err x)) (sym h) m
+
+pub refused_as : {A : Type 0} (r : Result A Cause) (cause : Cause) → IsErrAnd r (λ y. y ≡ cause) → r ≡ Err cause
+refused_as (Ok a) cause h = absurd h
+refused_as (Err y) cause h = ap (λ x. Err x) h
 
 -- a refusal as it is, of what takes no memory
 pub exactly : {B : Type 0} (said : Result B Cause) (cause : Cause) → said ≡ Err cause → MatchBool (is_memory_cause cause) (Unit {0}) (said ≡ Err cause)

@@ -46,10 +46,10 @@ fn take_number<R: Rows>(
     ensures { AnswersCause (λ _. found.new.items) result
         (number_taken scope.now filter.now number row.now found.old.items) }
 {
-    match holds_at(filter, row, scope) {
-        Ok(true) => push(found, number),
-        Ok(false) => Ok(()),
-        Err(cause) => Err(cause),
+    if holds_at(filter, row, scope)? {
+        push(found, number)
+    } else {
+        Ok(())
     }
 }
 
@@ -68,9 +68,7 @@ pub fn numbers_where<R: Rows>(
     (&*scope).known();
     while let Some((number, row)) = (&*scope).scan(table, after) {
         after = number;
-        if let Err(cause) = take_number(&*scope, filter, number, row, &mut found) {
-            return Err(cause);
-        }
+        take_number(&*scope, filter, number, row, &mut found)?;
     }
     Ok(found)
 }
@@ -85,10 +83,10 @@ fn count_row<R: Rows>(
     ensures answer { result ≡ row_counted scope.now filter.now row.now found }
     ensures grows { IfOk result (λ more. more ≤ found + 1) }
 {
-    match holds_at(filter, row, scope) {
-        Ok(true) => Ok(found + 1),
-        Ok(false) => Ok(found),
-        Err(cause) => Err(cause),
+    if holds_at(filter, row, scope)? {
+        Ok(found + 1)
+    } else {
+        Ok(found)
     }
 }
 
@@ -107,10 +105,7 @@ pub fn count_where<R: Rows>(
     (&*scope).known();
     while let Some((number, row)) = (&*scope).scan(table, after) {
         after = number;
-        match count_row(&*scope, filter, row, found) {
-            Ok(more) => found = more,
-            Err(cause) => return Err(cause),
-        }
+        found = count_row(&*scope, filter, row, found)?;
     }
     Ok(Value::Int(found as i64))
 }
@@ -138,12 +133,8 @@ pub fn rows_numbered<K: Kin>(store: &K, numbers: &[u64]) -> Result<Vec<Row>, Cau
         (added_of_numbers (λ r. Ok r.values) (K.view store.now).base.rows numbers.now) }
 {
     let mut rows = Vec::new(store.allocator());
-    let mut at = 0usize;
-    while at < numbers.len() {
-        match push_row(store, numbers[at], &mut rows) {
-            Ok(()) => at += 1,
-            Err(cause) => return Err(cause),
-        }
+    for number in numbers {
+        push_row(store, *number, &mut rows)?;
     }
     Ok(rows)
 }
@@ -161,10 +152,8 @@ pub fn rows_where<K: ChangeableRows>(
         (λ found. Ok (contents found))) }
 {
     (&*scope).known();
-    match numbers_where(store.allocator(), scope, table, filter) {
-        Ok(numbers) => rows_numbered(store, numbers.as_slice()),
-        Err(cause) => Err(cause),
-    }
+    let numbers = numbers_where(store.allocator(), scope, table, filter)?;
+    rows_numbered(store, numbers.as_slice())
 }
 
 // ---- transition tables
@@ -187,13 +176,12 @@ fn take_row<R: Rows>(
     ensures { AnswersCause (λ _. found.new.items) result
         (row_taken scope.now filter.now row.now found.old.items) }
 {
-    match holds_at(filter, row.values(), scope) {
-        Ok(true) => match row.clone() {
-            Ok(copy) => push(found, copy),
-            Err(error) => Err(Refusal::from(error).cause),
-        },
-        Ok(false) => Ok(()),
-        Err(cause) => Err(cause),
+    if !holds_at(filter, row.values(), scope)? {
+        return Ok(());
+    }
+    match row.clone() {
+        Ok(copy) => push(found, copy),
+        Err(error) => Err(Refusal::from(error).cause),
     }
 }
 
@@ -225,12 +213,8 @@ pub fn sides_where<R: Rows>(
         (sides_taken scope.now filter.now side changes.now) }
 {
     let mut found = Vec::new(alloc);
-    let mut at = 0usize;
-    while at < changes.len() {
-        match take_side(&*scope, filter, side, &changes[at], &mut found) {
-            Ok(()) => at += 1,
-            Err(cause) => return Err(cause),
-        }
+    for change in changes {
+        take_side(&*scope, filter, side, change, &mut found)?;
     }
     Ok(found)
 }

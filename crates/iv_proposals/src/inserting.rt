@@ -42,10 +42,8 @@ fn insertion_of_tuple<R: Rows>(
     ensures { AnswersCause (λ c. c) result
         (insertion_of context.now table listed.now (map (value scope.now) tuple.now)) }
 {
-    match row_of_expressions(alloc, context, table, listed, tuple, scope) {
-        Ok(row) => Ok(insertion(table, row)),
-        Err(cause) => Err(cause),
-    }
+    let row = row_of_expressions(alloc, context, table, listed, tuple, scope)?;
+    Ok(insertion(table, row))
 }
 
 fn insert_tuple<R: Rows>(
@@ -60,10 +58,8 @@ fn insert_tuple<R: Rows>(
         (added (λ t. insertion_of context.now table listed.now (map (value scope.now) t))
         tuple.now changes.old.items) }
 {
-    match insertion_of_tuple(*changes.allocator(), context, scope, table, listed, tuple) {
-        Ok(change) => push(changes, change),
-        Err(cause) => Err(cause),
-    }
+    let change = insertion_of_tuple(*changes.allocator(), context, scope, table, listed, tuple)?;
+    push(changes, change)
 }
 
 // The insertions of the tuples of VALUES.
@@ -80,19 +76,15 @@ fn insert_tuples<R: Rows>(
         tuples.now) }
 {
     let mut changes = Vec::new(alloc);
-    let mut at = 0usize;
-    while at < tuples.len() {
-        match insert_tuple(
+    for tuple in tuples {
+        insert_tuple(
             context,
             scope,
             table,
             listed,
-            tuples[at].as_slice(),
+            tuple.as_slice(),
             &mut changes,
-        ) {
-            Ok(()) => at += 1,
-            Err(cause) => return Err(cause),
-        }
+        )?;
     }
     Ok(changes)
 }
@@ -140,10 +132,8 @@ fn insertion_of_row<R: Rows>(
     ensures { AnswersCause (λ c. c) result
         (insertion_of context.now table listed.now (outputs_of scope.now outputs.now row.now)) }
 {
-    match row_of_outputs(alloc, context, scope, table, listed, outputs, row) {
-        Ok(row) => Ok(insertion(table, row)),
-        Err(cause) => Err(cause),
-    }
+    let row = row_of_outputs(alloc, context, scope, table, listed, outputs, row)?;
+    Ok(insertion(table, row))
 }
 
 fn insert_row<R: Rows>(
@@ -160,10 +150,8 @@ fn insert_row<R: Rows>(
         row.now changes.old.items) }
 {
     let alloc = *changes.allocator();
-    match insertion_of_row(alloc, context, scope, table, listed, outputs, row) {
-        Ok(change) => push(changes, change),
-        Err(cause) => Err(cause),
-    }
+    let change = insertion_of_row(alloc, context, scope, table, listed, outputs, row)?;
+    push(changes, change)
 }
 
 // The insertions of what a query gives of these rows.
@@ -181,20 +169,8 @@ fn insert_rows<R: Rows>(
         (outputs_of scope.now outputs.now r)) rows.now) }
 {
     let mut changes = Vec::new(alloc);
-    let mut at = 0usize;
-    while at < rows.len() {
-        match insert_row(
-            context,
-            scope,
-            table,
-            listed,
-            outputs,
-            &rows[at],
-            &mut changes,
-        ) {
-            Ok(()) => at += 1,
-            Err(cause) => return Err(cause),
-        }
+    for row in rows {
+        insert_row(context, scope, table, listed, outputs, row, &mut changes)?;
     }
     Ok(changes)
 }
@@ -240,8 +216,9 @@ pub fn insertions<K: ChangeableRows>(
             outputs,
             range,
             filter,
-        } => match rows_of_range(store, scope, *range, filter) {
-            Ok(rows) => insert_rows(
+        } => {
+            let rows = rows_of_range(store, scope, *range, filter)?;
+            insert_rows(
                 alloc,
                 context,
                 scope,
@@ -249,8 +226,7 @@ pub fn insertions<K: ChangeableRows>(
                 listed,
                 outputs,
                 rows.as_slice(),
-            ),
-            Err(cause) => Err(cause),
-        },
+            )
+        }
     }
 }

@@ -70,10 +70,10 @@ fn place_expression<R: Rows>(
         (value scope.now expression.now) row.old.items) }
 {
     match target(listed, at) {
-        Some(column) => match stored_value(context, table, column, expression, scope) {
-            Ok(value) => place(listed, row, column, value),
-            Err(cause) => Err(cause),
-        },
+        Some(column) => {
+            let value = stored_value(context, table, column, expression, scope)?;
+            place(listed, row, column, value)
+        }
         None => Ok(()),
     }
 }
@@ -90,12 +90,8 @@ fn place_expressions<R: Rows>(
         (all_placed context.now table listed.now
         (map (value scope.now) expressions.now) row.old.items) }
 {
-    let mut at = 0usize;
-    while at < expressions.len() {
-        match place_expression(context, table, listed, at, &expressions[at], scope, row) {
-            Ok(()) => at += 1,
-            Err(cause) => return Err(cause),
-        }
+    for (at, expression) in expressions.iter().enumerate() {
+        place_expression(context, table, listed, at, expression, scope, row)?;
     }
     Ok(())
 }
@@ -114,10 +110,10 @@ fn place_copy(
         (Ok value.now) row.old.items) }
 {
     match target(listed, at) {
-        Some(column) => match stored_copy(context, table, column, value) {
-            Ok(value) => place(listed, row, column, value),
-            Err(cause) => Err(cause),
-        },
+        Some(column) => {
+            let value = stored_copy(context, table, column, value)?;
+            place(listed, row, column, value)
+        }
         None => Ok(()),
     }
 }
@@ -132,12 +128,8 @@ fn place_copies(
     ensures { AnswersCause (λ _. row.new.items) result
         (all_placed context.now table listed.now (map (λ v. Ok v) values.now) row.old.items) }
 {
-    let mut at = 0usize;
-    while at < values.len() {
-        match place_copy(context, table, listed, at, &values[at], row) {
-            Ok(()) => at += 1,
-            Err(cause) => return Err(cause),
-        }
+    for (at, value) in values.iter().enumerate() {
+        place_copy(context, table, listed, at, value, row)?;
     }
     Ok(())
 }
@@ -203,20 +195,9 @@ pub fn row_of_expressions<R: Rows>(
     ensures { AnswersCause (λ r. r) result
         (row_made context.now table listed.now (map (value scope.now) expressions.now)) }
 {
-    match begin(alloc, context, table, listed) {
-        Ok(mut row) => match place_expressions(
-            context,
-            table,
-            listed,
-            expressions,
-            scope,
-            &mut row,
-        ) {
-            Ok(()) => row_of(row),
-            Err(cause) => Err(cause),
-        },
-        Err(cause) => Err(cause),
-    }
+    let mut row = begin(alloc, context, table, listed)?;
+    place_expressions(context, table, listed, expressions, scope, &mut row)?;
+    row_of(row)
 }
 
 /// The row of copies of these values.
@@ -230,11 +211,7 @@ pub fn row_of_copies(
     ensures { AnswersCause (λ r. r) result
         (row_made context.now table listed.now (map (λ v. Ok v) values.now)) }
 {
-    match begin(alloc, context, table, listed) {
-        Ok(mut row) => match place_copies(context, table, listed, values, &mut row) {
-            Ok(()) => row_of(row),
-            Err(cause) => Err(cause),
-        },
-        Err(cause) => Err(cause),
-    }
+    let mut row = begin(alloc, context, table, listed)?;
+    place_copies(context, table, listed, values, &mut row)?;
+    row_of(row)
 }

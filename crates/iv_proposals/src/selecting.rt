@@ -44,12 +44,8 @@ fn outputs_at<R: Rows>(
         (all_added (λ e. with_cause (value scope.now e)) expressions.now) }
 {
     let mut values = Vec::new(alloc);
-    let mut at = 0usize;
-    while at < expressions.len() {
-        match push_output(scope, &expressions[at], &mut values) {
-            Ok(()) => at += 1,
-            Err(cause) => return Err(cause),
-        }
+    for expression in expressions {
+        push_output(scope, expression, &mut values)?;
     }
     Ok(values)
 }
@@ -65,10 +61,8 @@ fn output_row<R: Rows>(
         (output_at scope.now expressions.now row.now) }
 {
     let ranges = (&*scope).ranges_with(row.values());
-    match outputs_at(alloc, &(&*scope).over(&ranges), expressions) {
-        Ok(values) => row_of(values),
-        Err(cause) => Err(cause),
-    }
+    let values = outputs_at(alloc, &(&*scope).over(&ranges), expressions)?;
+    row_of(values)
 }
 
 fn push_output_row<R: Rows>(
@@ -80,10 +74,8 @@ fn push_output_row<R: Rows>(
     ensures { AnswersCause (λ _. rows.new.items) result
         (added (output_at scope.now expressions.now) row.now rows.old.items) }
 {
-    match output_row(*rows.allocator(), scope, expressions, row) {
-        Ok(output) => push(rows, output),
-        Err(cause) => Err(cause),
-    }
+    let output = output_row(*rows.allocator(), scope, expressions, row)?;
+    push(rows, output)
 }
 
 fn output_rows<R: Rows>(
@@ -96,12 +88,8 @@ fn output_rows<R: Rows>(
         (all_added (output_at scope.now expressions.now) rows.now) }
 {
     let mut outputs = Vec::new(alloc);
-    let mut at = 0usize;
-    while at < rows.len() {
-        match push_output_row(scope, expressions, &rows[at], &mut outputs) {
-            Ok(()) => at += 1,
-            Err(cause) => return Err(cause),
-        }
+    for row in rows {
+        push_output_row(scope, expressions, row, &mut outputs)?;
     }
     Ok(outputs)
 }
@@ -137,10 +125,8 @@ fn select_rows<K: ChangeableRows>(
         (and_then (matching_rows scope.now filter.now (table_rows scope.now.rows table))
         (each (λ r. output_row scope.now outputs.now r.values))) }
 {
-    match rows_where(store, scope, table, filter) {
-        Ok(rows) => outputs_of_rows(store.allocator(), scope, outputs, rows),
-        Err(cause) => Err(cause),
-    }
+    let rows = rows_where(store, scope, table, filter)?;
+    outputs_of_rows(store.allocator(), scope, outputs, rows)
 }
 
 // One row of one value.
@@ -149,16 +135,10 @@ fn one_value(alloc: Global, value: Value) -> Result<Vec<Row>, Cause>
 {
     let mut values = Vec::new(alloc);
     let mut rows = Vec::new(alloc);
-    match push(&mut values, value) {
-        Ok(()) => match row_of(values) {
-            Ok(row) => match push(&mut rows, row) {
-                Ok(()) => Ok(rows),
-                Err(cause) => Err(cause),
-            },
-            Err(cause) => Err(cause),
-        },
-        Err(cause) => Err(cause),
-    }
+    push(&mut values, value)?;
+    let row = row_of(values)?;
+    push(&mut rows, row)?;
+    Ok(rows)
 }
 
 // COUNT(*): one row of one integer.
@@ -172,10 +152,8 @@ fn select_count<R: Rows>(
         (and_then (matching_rows scope.now filter.now (table_rows scope.now.rows table)) (λ found.
         Ok ((variant.Int (pos (length found)) ∷ []) ∷ []))) }
 {
-    match count_where(scope, table, filter) {
-        Ok(count) => one_value(alloc, count),
-        Err(cause) => Err(cause),
-    }
+    let count = count_where(scope, table, filter)?;
+    one_value(alloc, count)
 }
 
 fn select_from<K: ChangeableRows>(
@@ -207,8 +185,6 @@ pub fn select<K: ChangeableRows>(store: &K, query: &QueryPlan) -> Result<Items<R
 {
     let frame = Frame::none();
     let scope = Scope::new(store, &frame);
-    match select_from(store, &scope, query) {
-        Ok(rows) => Ok(Items::from_vec(rows)),
-        Err(cause) => Err(cause),
-    }
+    let rows = select_from(store, &scope, query)?;
+    Ok(Items::from_vec(rows))
 }

@@ -42,13 +42,9 @@ fn place_setting<R: Rows>(
         (setting_placed context.now table scope.now setting.now row.old.items) }
 {
     let column = setting.column as usize;
-    match stored_value(context, table, column, &setting.value, scope) {
-        Ok(value) => {
-            set(row, column, value);
-            Ok(())
-        }
-        Err(cause) => Err(cause),
-    }
+    let value = stored_value(context, table, column, &setting.value, scope)?;
+    set(row, column, value);
+    Ok(())
 }
 
 fn place_settings<R: Rows>(
@@ -61,12 +57,8 @@ fn place_settings<R: Rows>(
     ensures { AnswersCause (λ _. row.new.items) result
         (in_turn (setting_placed context.now table scope.now) settings.now row.old.items) }
 {
-    let mut at = 0usize;
-    while at < settings.len() {
-        match place_setting(context, table, scope, &settings[at], row) {
-            Ok(()) => at += 1,
-            Err(cause) => return Err(cause),
-        }
+    for setting in settings {
+        place_setting(context, table, scope, setting, row)?;
     }
     Ok(())
 }
@@ -84,10 +76,10 @@ fn updated<R: Rows>(
         (in_turn (setting_placed context.now table scope.now) settings.now row.now) }
 {
     match copied(alloc, row) {
-        Ok(mut values) => match place_settings(context, table, scope, settings, &mut values) {
-            Ok(()) => row_of(values),
-            Err(cause) => Err(cause),
-        },
+        Ok(mut values) => {
+            place_settings(context, table, scope, settings, &mut values)?;
+            row_of(values)
+        }
         Err(error) => Err(Refusal::from(error).cause),
     }
 }
@@ -124,17 +116,15 @@ fn update_of<R: Rows>(
 {
     let values = row.values.values();
     let ranges = (&*scope).ranges_with(values);
-    match updated(
+    let new = updated(
         alloc,
         context,
         row.table,
         &(&*scope).over(&ranges),
         settings,
         values,
-    ) {
-        Ok(new) => changed(row, Some(new)),
-        Err(cause) => Err(cause),
-    }
+    )?;
+    changed(row, Some(new))
 }
 
 fn push_update<R: Rows>(
@@ -147,10 +137,8 @@ fn push_update<R: Rows>(
     ensures { AnswersCause (λ _. changes.new.items) result
         (added (update_of context.now scope.now settings.now) row.now changes.old.items) }
 {
-    match update_of(*changes.allocator(), context, scope, settings, row) {
-        Ok(change) => push(changes, change),
-        Err(cause) => Err(cause),
-    }
+    let change = update_of(*changes.allocator(), context, scope, settings, row)?;
+    push(changes, change)
 }
 
 // Adds the update of the row of a number, where it is there.
@@ -184,12 +172,8 @@ fn update_numbers<K: ChangeableRows>(
         (K.view store.now).base.rows numbers.now) }
 {
     let mut changes = Vec::new(store.allocator());
-    let mut at = 0usize;
-    while at < numbers.len() {
-        match update_number(store, context, scope, settings, numbers[at], &mut changes) {
-            Ok(()) => at += 1,
-            Err(cause) => return Err(cause),
-        }
+    for number in numbers {
+        update_number(store, context, scope, settings, *number, &mut changes)?;
     }
     Ok(changes)
 }
@@ -209,10 +193,8 @@ pub fn updates<K: ChangeableRows>(
         (each (update_of context.now scope.now settings.now))) }
 {
     (&*scope).known();
-    match numbers_where(store.allocator(), scope, table, filter) {
-        Ok(numbers) => update_numbers(store, context, scope, settings, numbers.as_slice()),
-        Err(cause) => Err(cause),
-    }
+    let numbers = numbers_where(store.allocator(), scope, table, filter)?;
+    update_numbers(store, context, scope, settings, numbers.as_slice())
 }
 
 // ---- DELETE
@@ -224,10 +206,10 @@ fn delete_number<K: Kin>(store: &K, number: u64, changes: &mut Vec<Change>) -> R
         (row_at (K.view store.now).base.rows number) changes.old.items) }
 {
     match store.row(number) {
-        Some(row) => match changed(row, None) {
-            Ok(change) => push(changes, change),
-            Err(cause) => Err(cause),
-        },
+        Some(row) => {
+            let change = changed(row, None)?;
+            push(changes, change)
+        }
         None => Ok(()),
     }
 }
@@ -237,12 +219,8 @@ fn delete_numbers<K: Kin>(store: &K, numbers: &[u64]) -> Result<Vec<Change>, Cau
         (added_of_numbers (λ r. Ok (deletion r)) (K.view store.now).base.rows numbers.now) }
 {
     let mut changes = Vec::new(store.allocator());
-    let mut at = 0usize;
-    while at < numbers.len() {
-        match delete_number(store, numbers[at], &mut changes) {
-            Ok(()) => at += 1,
-            Err(cause) => return Err(cause),
-        }
+    for number in numbers {
+        delete_number(store, *number, &mut changes)?;
     }
     Ok(changes)
 }
@@ -260,8 +238,6 @@ pub fn deletions<K: ChangeableRows>(
         (λ found. Ok (map deletion found))) }
 {
     (&*scope).known();
-    match numbers_where(store.allocator(), scope, table, filter) {
-        Ok(numbers) => delete_numbers(store, numbers.as_slice()),
-        Err(cause) => Err(cause),
-    }
+    let numbers = numbers_where(store.allocator(), scope, table, filter)?;
+    delete_numbers(store, numbers.as_slice())
 }

@@ -91,12 +91,10 @@ fn set<R: Rows>(
     ensures { AnswersCause (λ _. change.exit.now) result
         (change_after_set context.now (R.rows rows.now) setting.now change.entry.now) }
 {
-    match value_of_set(context, rows, setting, &*change) {
-        Ok(value) => match set_new_value(alloc, change, setting.column, value) {
-            Ok(()) => Ok(()),
-            Err(error) => Err(Refusal::from(error).cause),
-        },
-        Err(cause) => Err(cause),
+    let value = value_of_set(context, rows, setting, &*change)?;
+    match set_new_value(alloc, change, setting.column, value) {
+        Ok(()) => Ok(()),
+        Err(error) => Err(Refusal::from(error).cause),
     }
 }
 
@@ -135,16 +133,10 @@ fn run_body<R: Rows>(
         (placed_statements trigger.now) change.entry.now) }
 {
     let body = trigger.body.as_slice();
-    let mut at = 0usize;
     let mut place = 1u32;
-    while at < body.len() {
-        match run_statement(alloc, context, rows, trigger, place, &body[at], change) {
-            Ok(()) => {
-                at += 1;
-                place += 1;
-            }
-            Err(cause) => return Err(cause),
-        }
+    for statement in body {
+        run_statement(alloc, context, rows, trigger, place, statement, change)?;
+        place += 1;
     }
     Ok(())
 }
@@ -172,10 +164,10 @@ fn run_at_row<R: Rows>(
     ensures { AnswersCause (λ _. change.exit.now) result
         (before_row_run context.now (R.rows rows.now) trigger.now change.entry.now) }
 {
-    match fires(rows, trigger, &*change) {
-        Ok(true) => run_body(alloc, context, rows, trigger, change),
-        Ok(false) => Ok(()),
-        Err(cause) => Err(cause),
+    if fires(rows, trigger, &*change)? {
+        run_body(alloc, context, rows, trigger, change)
+    } else {
+        Ok(())
     }
 }
 
@@ -220,10 +212,8 @@ fn run_at_each<R: Rows>(
 {
     let mut at = 0usize;
     while at < changes.len() {
-        match run_at_change(alloc, context, rows, trigger, &mut changes[at]) {
-            Ok(()) => at += 1,
-            Err(refusal) => return Err(refusal),
-        }
+        run_at_change(alloc, context, rows, trigger, &mut changes[at])?;
+        at += 1;
     }
     Ok(())
 }
@@ -247,10 +237,8 @@ fn run_all<R: Rows>(
         [] => Ok(()),
         [trigger, rest @ ..] => {
             if is_before_row(trigger) {
-                match run_at_each(alloc, context, rows, trigger, changes) {
-                    Ok(()) => run_all(alloc, context, rows, rest, changes),
-                    Err(refusal) => Err(refusal),
-                }
+                run_at_each(alloc, context, rows, trigger, changes)?;
+                run_all(alloc, context, rows, rest, changes)
             } else {
                 run_all(alloc, context, rows, rest, changes)
             }
@@ -301,13 +289,11 @@ fn unless_signal(trigger: &Trigger) -> Result<(), Cause>
     ensures { result ≡ unless_signal trigger.now }
 {
     let body = trigger.body.as_slice();
-    let mut at = 0usize;
     let mut place = 1u32;
-    while at < body.len() {
-        if is_signal(&body[at]) {
+    for statement in body {
+        if is_signal(statement) {
             return Err(Cause::Signal(trigger.id, place));
         }
-        at += 1;
         place += 1;
     }
     Ok(())
@@ -318,10 +304,10 @@ fn run_for_statement<R: Rows>(rows: &R, trigger: &Trigger) -> Result<(), Cause>
     requires { length trigger.now.body ≤ MOST_BODY_STATEMENTS }
     ensures { result ≡ before_statement_run (R.rows rows.now) trigger.now }
 {
-    match fires_for_statement(rows, trigger) {
-        Ok(true) => unless_signal(trigger),
-        Ok(false) => Ok(()),
-        Err(cause) => Err(cause),
+    if fires_for_statement(rows, trigger)? {
+        unless_signal(trigger)
+    } else {
+        Ok(())
     }
 }
 
@@ -361,10 +347,8 @@ fn run_statement_triggers<R: Rows>(
         [] => Ok(()),
         [trigger, rest @ ..] => {
             if is_meant(table, event, trigger) {
-                match run_named(rows, trigger) {
-                    Ok(()) => run_statement_triggers(rows, rest, table, event),
-                    Err(refusal) => Err(refusal),
-                }
+                run_named(rows, trigger)?;
+                run_statement_triggers(rows, rest, table, event)
             } else {
                 run_statement_triggers(rows, rest, table, event)
             }

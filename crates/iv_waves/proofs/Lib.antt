@@ -2,5 +2,6 @@ pub mod Applied
 pub mod Entered
 pub mod Followed
 pub mod Looking
+pub mod ToldOn
 pub mod Rows
 pub mod Rounds

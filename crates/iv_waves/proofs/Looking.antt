@@ -1,13 +1,33 @@
 -- How many keys are looked up over several steps.
-use Rattle.std.proofs.Common.{◌≡◌, ℕ, ◌+◌, ◌-◌, ◌*◌, ◌≤◌, Bool, length, MatchBool, ap, subst, ◌∙◌, arith}
-use Rattle.std.proofs.Math.Nat.{mul-add}
-use Rattle.iv_store.specs.Stores.{StoreState}
+use Rattle.std.proofs.Common.{◌≡◌, ℕ, ◌+◌, ◌-◌, ◌*◌, ◌≤◌, Bool, List, length, is_some, MatchBool, ap, subst, ◌∙◌, arith}
+use Rattle.std.proofs.Math.Nat.{add-mul, mul-add, mul-le-mul_right}
+use Rattle.iv_catalogue.specs.declared.constraint.Constraint.{Constraint}
+use Rattle.iv_catalogue.proofs.TriggerNumbers.{length_filter}
+use Rattle.iv_machine.specs.ReferentialActions.{foreign_key}
+use Rattle.iv_store.specs.Stores.{StoreState, most_lookups}
 use Rattle.iv_triggers.proofs.Answers.{unless_memory}
 use Rattle.iv_row_laws.specs.Changing.{with_database}
-use Rattle.iv_store.specs.Lookups.{LooksUp}
+use Rattle.iv_store.specs.Lookups.{LooksUp, foreign_keys}
 
 pub none_looked : (s : StoreState) (n : ℕ) → LooksUp s n s n
 none_looked s n = record { more = omega arith; looked = omega arith }
+
+fewer : (constraints : List Constraint) → foreign_keys constraints ≤ length constraints
+fewer constraints = length_filter (λ (c : Constraint). is_some (foreign_key c.rule)) constraints
+
+-- so many changes were made, and what follows them was found
+pub looked_on : (a b c : StoreState) (changes : ℕ) (constraints : List Constraint) (n m k : ℕ) → constraints ≡ a.constraints
+    → b.base.count ≡ a.base.count + changes → c ≡ b
+    → m ≤ n + most_lookups * length a.constraints * changes → k ≤ m + foreign_keys constraints * changes → LooksUp a n c k
+looked_on a b c changes constraints n m k same count kept h g =
+    let few : foreign_keys constraints ≤ length a.constraints = subst (λ l. foreign_keys constraints ≤ length l) same (fewer constraints) in
+    let times : foreign_keys constraints * changes ≤ length a.constraints * changes = mul-le-mul_right changes few in
+    let eight : 8 * length a.constraints ≡ 7 * length a.constraints + length a.constraints = omega arith in
+    let split : 8 * length a.constraints * changes ≡ 7 * length a.constraints * changes + length a.constraints * changes =
+    ap (λ x. x * changes) eight ∙ add-mul (7 * length a.constraints) (length a.constraints) changes in
+    let made : c.base.count ≡ a.base.count + changes = ap (λ s. s.base.count) kept ∙ count in
+    let number : changes ≡ c.base.count - a.base.count = omega (arith, made) in
+    record { more = omega (arith, made); looked = subst (λ x. k ≤ n + 8 * length a.constraints * x) number (omega (arith, h, g, times, split)) }
 
 -- from a first store to a second, and from there to a third
 pub looked_both : (a b c : StoreState) (n m k : ℕ) → b ≡ with_database a b.base → LooksUp a n b m → LooksUp b m c k → LooksUp a n c k

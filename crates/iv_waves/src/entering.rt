@@ -49,8 +49,6 @@ pub fn enter<K: ChangeableRows>(
         (wave_as_applied context.now (K.view store.now).base budget (wave_of changes.items)) }
 {
     let mut changes = changes;
-    match prepare(store, context, budget, changes.as_mut_slice()) {
-        Ok(()) => Ok(Wave::from_vec(changes)),
-        Err(refusal) => Err(refusal),
-    }
+    prepare(store, context, budget, changes.as_mut_slice())?;
+    Ok(Wave::from_vec(changes))
 }

@@ -47,10 +47,8 @@ fn follow<K: ChangeableRows>(
         (K.view store.new) (K.lookups store.new)) }
 {
     apply_all(store, wave.changes())?;
-    match next_wave(store, context.catalogue(), &wave) {
-        Ok(next) => Ok(AppliedWave { wave, next }),
-        Err(refusal) => Err(refusal),
-    }
+    let next = next_wave(store, context.catalogue(), &wave)?;
+    Ok(AppliedWave { wave, next })
 }
 
 // One wave: what is applied of it, and what follows.
@@ -71,13 +69,8 @@ fn one_wave<K: ChangeableRows>(
         (LooksUp (K.view store.old) (K.lookups store.old)
         (K.view store.new) (K.lookups store.new)) }
 {
-    match enter(&*store, context, budget, changes) {
-        Ok(wave) => match follow(store, context, wave) {
-            Ok(applied) => Ok(applied),
-            Err(refusal) => Err(refusal),
-        },
-        Err(refusal) => Err(refusal),
-    }
+    let wave = enter(&*store, context, budget, changes)?;
+    follow(store, context, wave)
 }
 
 fn add(waves: &mut Vec<Wave>, wave: Wave) -> Result<(), AllocError>
@@ -119,15 +112,11 @@ pub fn settle<K: ChangeableRows>(
     let mut waves = Vec::new(store.allocator());
     let mut changes = changes;
     while !changes.is_empty() {
-        match one_wave(store, context, *budget, changes) {
-            Ok(applied) => {
-                let AppliedWave { wave, next } = applied;
-                *budget -= wave.changes().len() as u64;
-                add(&mut waves, wave)?;
-                changes = next.into_vec();
-            }
-            Err(refusal) => return Err(refusal),
-        }
+        let applied = one_wave(store, context, *budget, changes)?;
+        let AppliedWave { wave, next } = applied;
+        *budget -= wave.changes().len() as u64;
+        add(&mut waves, wave)?;
+        changes = next.into_vec();
     }
     Ok(waves)
 }

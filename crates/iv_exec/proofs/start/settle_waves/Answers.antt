@@ -4,14 +4,14 @@ use Rattle.iv_machine.specs.Waves.{net_wave}
 use Rattle.iv_row_laws.proofs.NetRows.{net_changes_fit}
 use Rattle.iv_exec.proofs.start.settle_waves.Goals as goal
 
-pub returns-in_ok-net_changes-in-Ok-clause-parts : goal.returns-in_ok-net_changes-in-Ok-clause-parts
-returns-in_ok-net_changes-in-Ok-clause-parts g c =
+pub returns-clause-parts : goal.returns-clause-parts
+returns-clause-parts g c =
     let old = (g.K.Kin.view c.args.store.now).base in
     let last = (g.K.Kin.view c.settle.new.store).base in
     let waves = c.as_slice.result.now in
-    let chain = subst (λ l. Chain old l last) (sym c.as_slice.ensures.value) c.in-Ok.ensures.chain in
+    let chain = subst (λ l. Chain old l last) (sym c.as_slice.ensures.value) c.in_ok-waves.ensures.chain in
     record {
       net = net_wave old.rows last.rows waves;
-      fit = net_changes_fit c.args.context.now.schema.tables old last waves chain c.requires.store.rows c.in-Ok.ensures.store.rows;
-      by_table = c.in_ok-net_changes-in-Ok.ensures old last chain;
+      fit = net_changes_fit c.args.context.now.schema.tables old last waves chain c.requires.store.rows c.in_ok-waves.ensures.store.rows;
+      by_table = c.in_ok-net_changes.ensures old last chain;
     }

@@ -9,6 +9,7 @@ use Rattle.iv_expr.proofs.Scan.{rows_above, above_all, table_rises, scan_above, 
 use Rattle.iv_catalogue.specs.declared.cause.Cause.{Cause}
 use Rattle.iv_proposals.specs.Steps.{row_counted, rows_counted}
 use Rattle.iv_proposals.proofs.Along.{along, scanned, scanned_on, scanned_all}
+use Rattle.iv_proposals.proofs.Steps.{refused_as}
 use Rattle.iv_proposals.proofs.finding.count_where.Goals as goal
 
 pub loop-number-init : goal.loop-number-init
@@ -30,22 +31,23 @@ loop-number-preserved g c =
     let rises = table_rises 0 c.args.table _ c.known.ensures in
     let up = scan_above c.loop-number.after _ p c.in-Some.ensures in
     record {
-      within = omega (arith, up, c.in-Ok.ensures.grows, c.loop-number.invariant.within);
+      within = omega (arith, up, c.in_ok-found.ensures.grows, c.loop-number.invariant.within);
       small = scan_small c.loop-number.after _ p rises c.in-Some.ensures;
       rest = scanned_on (λ n row. row_counted c.args.scope.now c.args.filter.now row) _ c.loop-number.after p _ _ _
-          rises c.in-Some.ensures (sym c.in-Ok.ensures.answer) c.loop-number.invariant.rest;
+          rises c.in-Some.ensures (sym c.in_ok-found.ensures.answer) c.loop-number.invariant.rest;
     }
 
-pub returns-in-Err : goal.returns-in-Err
-returns-in-Err g c =
+pub returns-in_err-found : goal.returns-in_err-found
+returns-in_err-found g c =
     let p : ℕ × List Value = (c.in-Some.number, c.in-Some.row.now) in
     let rises = table_rises 0 c.args.table _ c.known.ensures in
     let step = λ (n : ℕ) (row : List Value). row_counted c.args.scope.now c.args.filter.now row in
     let all : Result ℕ Cause = rows_counted c.args.scope.now c.args.filter.now (table_rows c.args.scope.now.rows c.args.table) in
-    let whole : all ≡ Err c.in-Err.cause =
+    let whole : all ≡ Err c.in_err-found.field-0.0 =
     sym c.loop-number.invariant.rest ∙ scanned step _ c.loop-number.after p _ rises c.in-Some.ensures
-    ∙ ap (λ (r : Result ℕ Cause). and_then r (along step (rows_above c.in-Some.number (table_rows c.args.scope.now.rows c.args.table)))) (sym c.in-Err.ensures.answer) in
-    sym (ap (λ (r : Result ℕ Cause). and_then r (λ n. Ok (Int (pos n)))) whole)
+    ∙ ap (λ (r : Result ℕ Cause). and_then r (along step (rows_above c.in-Some.number (table_rows c.args.scope.now.rows c.args.table)))) (sym c.in_err-found.ensures.answer) in
+    refused_as c.from_residual.result c.in_err-found.field-0.0 c.from_residual.ensures.1
+    ∙ sym (ap (λ (r : Result ℕ Cause). and_then r (λ n. Ok (Int (pos n)))) whole)
 
 pub returns : goal.returns
 returns g c =

@@ -5,6 +5,7 @@ use Rattle.iv_expr.specs.Scopes.{table_rows}
 use Rattle.iv_expr.proofs.Scan.{rows_above, above_all, table_rises, scan_above, scan_small}
 use Rattle.iv_proposals.specs.Steps.{number_taken}
 use Rattle.iv_proposals.proofs.Along.{along, scanned_on, scanned_refused, scanned_all}
+use Rattle.iv_proposals.proofs.Steps.{told_on}
 use Rattle.iv_proposals.proofs.finding.numbers_where.Goals as goal
 
 pub loop-number-init : goal.loop-number-init
@@ -21,12 +22,13 @@ loop-number-smaller g c =
 pub loop-number-preserved : goal.loop-number-preserved
 loop-number-preserved g c =
     scanned_on (number_taken c.args.scope.now c.args.filter.now) _ c.loop-number.after (c.in-Some.number, c.in-Some.row.now) _ _ _
-    (table_rises 0 c.args.table _ c.known.ensures) c.in-Some.ensures c.in_default-take_number.ensures c.loop-number.invariant
+    (table_rises 0 c.args.table _ c.known.ensures) c.in-Some.ensures c.in_ok-take_number.ensures c.loop-number.invariant
 
-pub returns-in-Err : goal.returns-in-Err
-returns-in-Err g c =
-    scanned_refused (number_taken c.args.scope.now c.args.filter.now) _ c.loop-number.after (c.in-Some.number, c.in-Some.row.now) _ _ _
-    (table_rises 0 c.args.table _ c.known.ensures) c.in-Some.ensures c.loop-number.invariant c.in-Err.ensures
+pub returns-in_err-take_number : goal.returns-in_err-take_number
+returns-in_err-take_number g c =
+    told_on _ c.from_residual.result c.in_err-take_number.field-0.0 _ c.from_residual.ensures.1
+    (scanned_refused (number_taken c.args.scope.now c.args.filter.now) _ c.loop-number.after (c.in-Some.number, c.in-Some.row.now) _ _ _
+    (table_rises 0 c.args.table _ c.known.ensures) c.in-Some.ensures c.loop-number.invariant c.in_err-take_number.ensures)
 
 pub returns : goal.returns
 returns g c = scanned_all (number_taken c.args.scope.now c.args.filter.now) _ c.loop-number.after _ _ c.in_default.ensures c.loop-number.invariant

@@ -19,12 +19,12 @@ returns-in-Values g c =
     ∙ ap (λ (rows : InsertRows). proposed_insertions c.args.context.now c.args.scope.now c.args.table c.args.listed.now rows) (sym c.in-Values.is))
     c.insert_tuples.ensures
 
-pub returns-in-Ok : goal.returns-in-Ok
-returns-in-Ok g c =
+pub returns-in_ok-rows-in-Query : goal.returns-in_ok-rows-in-Query
+returns-in_ok-rows-in-Query g c =
     let made = λ (r : List Value). insertion_of c.args.context.now c.args.table c.args.listed.now (outputs_of c.args.scope.now c.in-Query.outputs r) in
     after_ok (λ v. v.items) c.insert_rows.result (proposed_insertions c.args.context.now c.args.scope.now c.args.table c.args.listed.now c.args.rows.now)
-    (where_true (λ (r : List Value). r) c.args.scope.now c.in-Query.filter (range_rows c.args.scope.now c.in-Query.range)) (each made) c.in-Ok.rows.items
+    (where_true (λ (r : List Value). r) c.args.scope.now c.in-Query.filter (range_rows c.args.scope.now c.in-Query.range)) (each made) c.in_ok-rows-in-Query.rows.items
     (ap (λ (rows : InsertRows). proposed_insertions c.args.context.now c.args.scope.now c.args.table c.args.listed.now rows) c.in-Query.is)
-    c.in-Ok.ensures
-    (answers_as (λ v. v.items) c.insert_rows.result (all_added made c.as_slice-in-Ok.result.now) (each made c.in-Ok.rows.items)
-    (ap (λ (rs : List (List Value)). all_added made rs) c.as_slice-in-Ok.ensures.value ∙ collected made c.in-Ok.rows.items) c.insert_rows.ensures)
+    c.in_ok-rows-in-Query.ensures
+    (answers_as (λ v. v.items) c.insert_rows.result (all_added made c.as_slice-in-Query.result.now) (each made c.in_ok-rows-in-Query.rows.items)
+    (ap (λ (rs : List (List Value)). all_added made rs) c.as_slice-in-Query.ensures.value ∙ collected made c.in_ok-rows-in-Query.rows.items) c.insert_rows.ensures)

@@ -1,4 +1,4 @@
-use Rattle.std.proofs.Common.{◌≡◌, ℕ, ◌-◌, ◌≤◌, Result, length, drop, map}
+use Rattle.std.proofs.Common.{◌≡◌, ℕ, Result, drop, map}
 use Rattle.std.specs.List.{enumerate_from}
 use Rattle.iv_value.specs.declared.value.Value.{Value}
 use Rattle.iv_expr.specs.declared.tree.ExprFault.{ExprFault}
@@ -8,12 +8,7 @@ use Rattle.iv_proposals.specs.Placements.{all_placed, placed_at, target}
 use Rattle.iv_proposals.proofs.making.place_expressions.Given as goal
 
 abbrev pub invariant-loop-at : goal.invariant-loop-at
-invariant-loop-at g l = record {
-  within : l.at ≤ length l.expressions;
-  rest : in_turn (λ (s : ℕ × Result Value ExprFault). placed_at l.context l.table l.listed (target l.listed s.0) s.1)
-      (enumerate_from l.at (map (value l.scope) (drop l.at l.expressions))) l.row.items
-      ≡ all_placed l.context l.table l.listed (map (value l.scope) l.expressions) l.initial.row.items;
-}
-
-abbrev pub decreases-loop-at : goal.decreases-loop-at
-decreases-loop-at g l = length l.expressions - l.at
+invariant-loop-at g l =
+    in_turn (λ (s : ℕ × Result Value ExprFault). placed_at l.context l.table l.listed (target l.listed s.0) s.1)
+    (enumerate_from l.at (map (value l.scope) (drop l.at l.expressions))) l.row.items
+    ≡ all_placed l.context l.table l.listed (map (value l.scope) l.expressions) l.initial.row.items

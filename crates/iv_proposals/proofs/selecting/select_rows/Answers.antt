@@ -4,7 +4,7 @@ use Rattle.iv_machine.specs.Proposals.{matching_rows}
 use Rattle.iv_proposals.proofs.SelectedRows.{of_contents}
 use Rattle.iv_proposals.proofs.selecting.select_rows.Goals as goal
 
-pub returns-in-Ok : goal.returns-in-Ok
-returns-in-Ok g c =
+pub returns : goal.returns
+returns g c =
     of_contents (λ v. v.items) c.outputs_of_rows.result (matching_rows c.args.scope.now c.args.filter.now (table_rows c.args.scope.now.rows c.args.table))
-    (output_row c.args.scope.now c.args.outputs.now) c.in-Ok.rows.items c.in-Ok.ensures c.outputs_of_rows.ensures
+    (output_row c.args.scope.now c.args.outputs.now) c.in_ok-rows.rows.items c.in_ok-rows.ensures c.outputs_of_rows.ensures

@@ -5,6 +5,7 @@ use Rattle.iv_machine.specs.Waves.{AppliedWave, settled_waves}
 use Rattle.iv_laws.proofs.FittingWaves.{settled_fits}
 use Rattle.iv_waves.proofs.Looking.{kept_both, looked_both, looked_refused, none_looked}
 use Rattle.iv_waves.proofs.Rounds.{after_waves, first_round, more_than_none, next_round, none_before, none_left, round_standing, round_so_far, settled_nothing, settled_refused}
+use Rattle.iv_waves.proofs.ToldOn.{told_on, told_unless}
 use Rattle.iv_waves.proofs.settling.settle.Goals as goal
 
 pub loop-store-init : goal.loop-store-init
@@ -21,15 +22,15 @@ loop-store-init g c =
 pub overflow_sub-budget : goal.overflow_sub-budget
 overflow_sub-budget g c =
     let s = g.K.Kin.view c.loop-store.store in
-    let one : AppliedWave = record { wave = c.in-Ok.applied.wave; next = c.in-Ok.applied.next } in
-    let round = next_round c.args.context.now s c.loop-store.budget c.loop-store.changes.items one c.loop-store.invariant.standing c.in-Ok.ensures.answer in
+    let one : AppliedWave = record { wave = c.in_ok-applied.applied.wave; next = c.in_ok-applied.applied.next } in
+    let round = next_round c.args.context.now s c.loop-store.budget c.loop-store.changes.items one c.loop-store.invariant.standing c.in_ok-applied.ensures.answer in
     omega (arith, round.fits, ap length c.changes.ensures.list)
 
 pub loop-store-smaller : goal.loop-store-smaller
 loop-store-smaller g c =
     let s = g.K.Kin.view c.loop-store.store in
-    let one : AppliedWave = record { wave = c.in-Ok.applied.wave; next = c.in-Ok.applied.next } in
-    let round = next_round c.args.context.now s c.loop-store.budget c.loop-store.changes.items one c.loop-store.invariant.standing c.in-Ok.ensures.answer in
+    let one : AppliedWave = record { wave = c.in_ok-applied.applied.wave; next = c.in_ok-applied.applied.next } in
+    let round = next_round c.args.context.now s c.loop-store.budget c.loop-store.changes.items one c.loop-store.invariant.standing c.in_ok-applied.ensures.answer in
     let test = c.loop-store-test.ensures in
     let long = c.loop-store.changes.ok.0 in
     let more : 0 < length c.loop-store.changes.items = more_than_none _ _ test long in
@@ -39,34 +40,36 @@ pub loop-store-preserved : goal.loop-store-preserved
 loop-store-preserved g c =
     let s = g.K.Kin.view c.loop-store.store in
     let later = g.K.Kin.view c.one_wave.new.store in
-    let one : AppliedWave = record { wave = c.in-Ok.applied.wave; next = c.in-Ok.applied.next } in
+    let one : AppliedWave = record { wave = c.in_ok-applied.applied.wave; next = c.in_ok-applied.applied.next } in
     let less : c.loop-store.budget - length c.changes.result.now ≡ c.loop-store.budget - size one.wave = ap (λ l. c.loop-store.budget - length l) c.changes.ensures.list in
     let test = c.loop-store-test.ensures in
     let long = c.loop-store.changes.ok.0 in
     let more : 0 < length c.loop-store.changes.items = more_than_none _ _ test long in
     record {
       so_far = round_so_far c.args.context.now s later c.loop-store.budget (c.loop-store.budget - length c.changes.result.now) c.loop-store.changes.items c.into_vec-changes.result.items
-          c.loop-store.waves.items c.add.new.waves.items _ one more c.loop-store.invariant.so_far c.in-Ok.ensures.answer c.in-Ok.ensures.applied less c.into_vec-changes.ensures c.in_ok-add-in-Ok.ensures;
+          c.loop-store.waves.items c.add.new.waves.items _ one more c.loop-store.invariant.so_far c.in_ok-applied.ensures.answer c.in_ok-applied.ensures.applied less c.into_vec-changes.ensures c.in_ok-add.ensures;
       standing = round_standing c.args.context.now s later c.loop-store.budget c.loop-store.changes.items c.into_vec-changes.result.items one c.loop-store.invariant.standing
-          c.in-Ok.ensures.answer c.in-Ok.ensures.applied c.in-Ok.ensures.kept c.into_vec-changes.ensures;
-      kept = kept_both (g.K.Kin.view c.args.store.now) s later c.loop-store.invariant.kept c.in-Ok.ensures.kept;
+          c.in_ok-applied.ensures.answer c.in_ok-applied.ensures.applied c.in_ok-applied.ensures.kept c.into_vec-changes.ensures;
+      kept = kept_both (g.K.Kin.view c.args.store.now) s later c.loop-store.invariant.kept c.in_ok-applied.ensures.kept;
       looked = looked_both (g.K.Kin.view c.args.store.now) s later (g.K.Kin.lookups c.args.store.now) (g.K.Kin.lookups c.loop-store.store) (g.K.Kin.lookups c.one_wave.new.store)
-          c.loop-store.invariant.kept c.loop-store.invariant.looked c.in-Ok.ensures.looked;
+          c.loop-store.invariant.kept c.loop-store.invariant.looked c.in_ok-applied.ensures.looked;
     }
 
-pub returns-in-Err-clause-answer : goal.returns-in-Err-clause-answer
-returns-in-Err-clause-answer g c =
+pub returns-in_err-applied-clause-answer : goal.returns-in_err-applied-clause-answer
+returns-in_err-applied-clause-answer g c =
     let s = g.K.Kin.view c.loop-store.store in
     let test = c.loop-store-test.ensures in
     let long = c.loop-store.changes.ok.0 in
     let more : 0 < length c.loop-store.changes.items = more_than_none _ _ test long in
-    settled_refused c.args.context.now s.base c.loop-store.budget c.loop-store.changes.items c.loop-store.waves.items _ c.in-Err.refusal _ more c.loop-store.invariant.so_far c.in-Err.ensures.answer
+    told_on _ _ c.from_residual.result c.in_err-applied.field-0.0 _ c.from_residual.ensures.1
+    (settled_refused c.args.context.now s.base c.loop-store.budget c.loop-store.changes.items c.loop-store.waves.items _ c.in_err-applied.field-0.0 _ more c.loop-store.invariant.so_far c.in_err-applied.ensures.answer)
 
-pub returns-in-Err-clause-looked : goal.returns-in-Err-clause-looked
-returns-in-Err-clause-looked g c =
-    looked_refused _ (g.K.Kin.view c.args.store.now) (g.K.Kin.view c.loop-store.store) (g.K.Kin.view c.one_wave.new.store)
+pub returns-in_err-applied-clause-looked : goal.returns-in_err-applied-clause-looked
+returns-in_err-applied-clause-looked g c =
+    told_unless c.from_residual.result c.in_err-applied.field-0.0 _ c.from_residual.ensures.1
+    (looked_refused _ (g.K.Kin.view c.args.store.now) (g.K.Kin.view c.loop-store.store) (g.K.Kin.view c.one_wave.new.store)
     (g.K.Kin.lookups c.args.store.now) (g.K.Kin.lookups c.loop-store.store) (g.K.Kin.lookups c.one_wave.new.store)
-    c.loop-store.invariant.kept c.loop-store.invariant.looked c.in-Err.ensures.looked
+    c.loop-store.invariant.kept c.loop-store.invariant.looked c.in_err-applied.ensures.looked)
 
 pub returns-clause-answer : goal.returns-clause-answer
 returns-clause-answer g c =
