@@ -105,10 +105,7 @@ impl PlainDatabase {
         ensures { option_map (λ r. (r.0, r.1.now)) result ≡
             option_map numbered (row_above after (table_rows self.now.rows table)) }
     {
-        match row_above(self.rows(), table, after) {
-            Some(row) => Some((row.number, row.values.values())),
-            None => None,
-        }
+        row_above(self.rows(), table, after).map(|row| (row.number, row.values.values()))
     }
 
     /// Makes a change of one row.

@@ -140,10 +140,8 @@ impl PlainStore {
             constraints.as_slice(),
         )?;
         self.constraints.append(&mut constraints)?;
-        match self.tables.push(table) {
-            Ok(()) => Ok(()),
-            Err(_) => unreachable!(),
-        }
+        self.tables.push_reserved(table);
+        Ok(())
     }
 
     // Adds a copy of a constraint that no row violates.

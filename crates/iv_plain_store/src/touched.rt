@@ -32,23 +32,13 @@ fn is_about(constraint: &Constraint, table: TableId) -> bool
 fn is_suspect(touched: &[TableId], constraint: &Constraint) -> bool
     ensures { result ≡ is_suspect touched.now constraint.now }
 {
-    for table in touched {
-        if is_about(constraint, *table) {
-            return true;
-        }
-    }
-    false
+    touched.iter().any(|table| is_about(constraint, *table))
 }
 
 fn is_touched(touched: &[TableId], table: TableId) -> bool
     ensures { result ≡ list_any (λ t. t == table) touched.now }
 {
-    for other in touched {
-        if *other == table {
-            return true;
-        }
-    }
-    false
+    touched.contains(&table)
 }
 
 /// Adds a table to those that were changed, unless it is there.
@@ -65,12 +55,7 @@ pub fn touch(touched: &mut Vec<TableId>, table: TableId) -> Result<(), AllocErro
 fn has_rows(rows: &[StoredRow], table: TableId) -> bool
     ensures { result ≡ list_any (λ r. r.table == table) rows.now }
 {
-    for row in rows {
-        if row.table == table {
-            return true;
-        }
-    }
-    false
+    rows.iter().any(|row| row.table == table)
 }
 
 /// Adds the table of new constraints to those that were changed, where it has rows.
