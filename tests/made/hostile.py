@@ -291,7 +291,7 @@ def colliding_children():
     return ';'.join(texts) + ';', answered('ok', 'ok', 'ok 32000', 'ok 32000', 'ok', 'ok 32000', 'ok', 'ok 32000', 'rows 1', '| 0', 'ok')
 
 
-def row_triggers():
+def row_triggers(times):
     """256 row triggers on one table that each log a row. Of 127 rows they make 65,024 nested statements and row changes, and with the 127 rows and one for the
     statement that is within the budget. Of 128 rows the budget has 65,407 left for them: it ends at the 32,704th firing, which is one of the 256th trigger."""
     texts = ['CREATE TABLE t (a INT)', 'CREATE TABLE log (a INT)']
@@ -301,17 +301,17 @@ def row_triggers():
     for rows, answer in ((127, 'ok 127'), (128, 'refused 17 TooManyChanges in R256')):
         texts += ['INSERT INTO t VALUES ' + ', '.join(['(1)'] * rows)]
         answers += [answer]
-    texts += ['SELECT COUNT(*) FROM log', 'COMMIT'] + ['INSERT INTO t VALUES (1)'] * 4_000 + ['COMMIT', 'SELECT COUNT(*) FROM log']
-    answers += ['rows 1', '| %d' % (256 * 127), 'ok'] + ['ok 1'] * 4_000 + ['ok', 'rows 1', '| %d' % (256 * 4_127)]
+    texts += ['SELECT COUNT(*) FROM log', 'COMMIT'] + ['INSERT INTO t VALUES (1)'] * times + ['COMMIT', 'SELECT COUNT(*) FROM log']
+    answers += ['rows 1', '| %d' % (256 * 127), 'ok'] + ['ok 1'] * times + ['ok', 'rows 1', '| %d' % (256 * (127 + times))]
     return ';'.join(texts) + ';', answered(*answers)
 
 
 def before_triggers():
-    """256 BEFORE triggers on one table that each add one to the new row, over an INSERT of as many rows as the budget has."""
+    """256 BEFORE triggers on one table that each add one to the new row, over an INSERT of 20,000 rows."""
     texts = ['CREATE TABLE t (a INT)']
     texts += numbered('CREATE TRIGGER r{n} BEFORE INSERT ON t REFERENCING NEW AS n FOR EACH ROW SET n.a = n.a + 1', 256)
-    texts += ['INSERT INTO t VALUES ' + ','.join(['(1)'] * 65_535), 'SELECT COUNT(*) FROM t WHERE a = 257', 'COMMIT']
-    return ';'.join(texts) + ';', answered(*['ok'] * 257, 'ok 65535', 'rows 1', '| 65535', 'ok')
+    texts += ['INSERT INTO t VALUES ' + ','.join(['(1)'] * 20_000), 'SELECT COUNT(*) FROM t WHERE a = 257', 'COMMIT']
+    return ';'.join(texts) + ';', answered(*['ok'] * 257, 'ok 20000', 'rows 1', '| 20000', 'ok')
 
 
 def chain():
@@ -330,14 +330,14 @@ def chain():
     return ';'.join(texts) + ';', answered(*answers)
 
 
-def chain_of_one():
+def chain_of_one(times):
     """A chain of 64 tables of one row each, whose first key is changed again and again: 64 waves in each statement."""
     texts = ['CREATE TABLE t1 (k INT PRIMARY KEY)']
     texts += ['CREATE TABLE t%d (k INT PRIMARY KEY REFERENCES t%d ON UPDATE CASCADE)' % (n, n - 1) for n in range(2, 65)]
     texts += ['INSERT INTO t%d VALUES (0)' % n for n in range(1, 65)] + ['COMMIT']
     answers = ['ok'] * 64 + ['ok 1'] * 64 + ['ok']
-    texts += ['UPDATE t1 SET k = k + 1'] * 16_000 + ['SELECT * FROM t64', 'COMMIT']
-    answers += ['ok 1'] * 16_000 + ['rows 1', '| 16000', 'ok']
+    texts += ['UPDATE t1 SET k = k + 1'] * times + ['SELECT * FROM t64', 'COMMIT']
+    answers += ['ok 1'] * times + ['rows 1', '| %d' % times, 'ok']
     return ';'.join(texts) + ';', answered(*answers)
 
 
@@ -353,10 +353,9 @@ DOUBLING = ('CREATE TABLE t (a INT);CREATE TRIGGER x AFTER INSERT ON t REFERENCI
             'BEGIN ATOMIC INSERT INTO t VALUES (n.a - 1); INSERT INTO t VALUES (n.a - 1); END;')
 
 
-def to_the_budget():
+def to_the_budget(times):
     """A trigger that fires itself twice. With the value 14 there are 2 ** 15 - 1 statements of one row, 65,534 in all, which is within the budget; with 15 there
     would be 131,070. The depth is 15 and 16."""
-    times = 50
     script = DOUBLING + 'INSERT INTO t VALUES (14);SELECT COUNT(*) FROM t;ROLLBACK;' + 'INSERT INTO t VALUES (15);' * times
     return script, answered('ok', 'ok', 'ok 1', 'rows 1', '| 32767', 'ok', *['refused 17 TooManyChanges in X'] * times)
 
@@ -451,12 +450,12 @@ def cases():
     yield Case('1,000 savepoints of 128 characters that differ in the last two', long_savepoints)
     yield Case('65,000 keys whose hashes share ten bits', colliding_keys)
     yield Case('32,000 such keys with a child each', colliding_children)
-    yield Case('256 triggers on one table', row_triggers)
-    yield Case('256 BEFORE triggers over 65,535 rows', before_triggers)
+    yield Case('256 triggers on one table, and 500 statements', lambda: row_triggers(500))
+    yield Case('256 BEFORE triggers over 20,000 rows', before_triggers)
     yield Case('a chain of 64 tables of 1,023 rows', chain)
-    yield Case('a chain of 64 tables, 16,000 times', chain_of_one)
+    yield Case('a chain of 64 tables of one row, 2,000 times', lambda: chain_of_one(2_000))
     yield Case('triggers that fire each other to the depth', to_the_depth)
-    yield Case('a trigger that fires itself to the budget, 50 times', to_the_budget)
+    yield Case('a trigger that fires itself to the budget, 20 times', lambda: to_the_budget(20))
     yield Case('an EXISTS in an EXISTS over 2,000 rows', lambda: exists_twice(2_000))
     yield Case('an EXISTS in an EXISTS for each of 200 rows', lambda: exists_thrice(200))
     yield Case('4,096 constraints', many_constraints)
@@ -465,4 +464,7 @@ def cases():
     yield Case('savepoints that all stand, 256 KiB', lambda: standing_savepoints(262_000))
     yield Case('87,000 savepoints of one name', one_savepoint)
     yield Case('savepoints that all stand, 1 MB', lambda: standing_savepoints(1_048_000), is_long=True)
-    yield Case('an EXISTS in an EXISTS for each of 1,000 rows', lambda: exists_thrice(1_000), is_long=True)
+    yield Case('256 triggers on one table, and 4,000 statements', lambda: row_triggers(4_000), is_long=True)
+    yield Case('a chain of 64 tables of one row, 16,000 times', lambda: chain_of_one(16_000), is_long=True)
+    yield Case('a trigger that fires itself to the budget, 200 times', lambda: to_the_budget(200), is_long=True)
+    yield Case('an EXISTS in an EXISTS for each of 400 rows', lambda: exists_thrice(400), is_long=True)
