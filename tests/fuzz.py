@@ -89,20 +89,30 @@ def judged(programs, script, words):
 # A difference is made smaller: statements, then words, then bytes are left out as long as it is still there.
 
 
+def left_out(parts, size, step, shows, until):
+    """The parts without those groups of so many, one after another, that can be left out."""
+    at = 0
+    while at < len(parts) and time.monotonic() < until:
+        rest = parts[:at] + parts[at + size:]
+        if len(rest) < len(parts) and shows(b''.join(rest)):
+            parts = rest
+        else:
+            at += step
+    return parts
+
+
 def smaller(parts, shows, until):
-    """A list of parts from which nothing more can be left out: first halves, then quarters and so on."""
-    size = max(1, len(parts) // 2)
-    while True:
-        at, was = 0, len(parts)
-        while at < len(parts) and time.monotonic() < until:
-            rest = parts[:at] + parts[at + size:]
-            if shows(b''.join(rest)):
-                parts = rest
-            else:
-                at += size
-        if time.monotonic() >= until or (size == 1 and len(parts) == was):
-            return parts
-        size = max(1, size // 2) if len(parts) == was else size
+    """A list of parts from which no few that stand together can be left out: first halves are tried, then quarters and so on, then each few."""
+    size = len(parts) // 2
+    while size > 0:
+        parts, size = left_out(parts, size, size, shows, until), size // 2
+    while time.monotonic() < until:
+        was = len(parts)
+        for few in range(8, 0, -1):
+            parts = left_out(parts, few, 1, shows, until)
+        if len(parts) == was:
+            break
+    return parts
 
 
 def shrunk(script, shows):
