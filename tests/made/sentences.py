@@ -190,8 +190,10 @@ class Sentences:
         return self.chance.weighed(*kinds)()
 
     def script(self):
-        """Tables, some triggers and rows, other statements between them, and what the tables hold at the end."""
-        first = [self.create_table(name) for name in TABLES] + [self.create_trigger() for _ in range(self.chance.number(0, 3))]
-        first += [self.insert() for _ in range(4)]
+        """Tables, some triggers and rows, other statements between them, and what the tables hold at the end. A table that was refused is made in a plain form."""
+        first = []
+        for name in TABLES:
+            first += [self.create_table(name), 'CREATE TABLE %s (a INT PRIMARY KEY, b INT UNIQUE, c VARCHAR(3))' % name]
+        first += [self.create_trigger() for _ in range(self.chance.number(0, 3))] + [self.insert() for _ in range(4)]
         rest = [self.statement() for _ in range(self.chance.number(5, 30))]
         return ';\n'.join([*first, *rest, *['SELECT * FROM %s' % name for name in TABLES]]) + ';\n'
