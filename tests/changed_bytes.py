@@ -7,9 +7,9 @@ The scripts are those of tests/prefixes, of which run.py runs each prefix. A scr
 nothing on standard error. The statements before that of the changed byte answer what they do in the whole script; there is at most one fault, and it is not before that statement.
 All programs write the same. A byte that makes the script no UTF-8 is a test too: status 2, and its line. The last line is `N passed, N failed`."""
 import argparse
-import os
 
 import cut
+import programs
 import run
 
 # 16 bytes of all kinds that a token may begin or end with, one that begins none, and two in place of that which is there already.
@@ -51,13 +51,13 @@ def changes(program, file):
 def main():
     parser = argparse.ArgumentParser()
     parser.add_argument('--program', action='append', required=True)
-    programs, passed, failed = [os.path.abspath(program) for program in parser.parse_args().program], 0, 0
+    given, passed, failed = programs.found(parser.parse_args().program, parser), 0, 0
     for file in run.files('prefixes'):
-        for at, other, script, before, start in changes(programs[0], file):
-            runs = [run.run(program, script) for program in programs]
-            for program, got in zip(programs, runs):
+        for at, other, script, before, start in changes(given[0], file):
+            runs = [run.run(program, script) for program in given]
+            for program, got in zip(given, runs):
                 why = judged(got, before, start) if before is not None else [] if got == NOT_UTF8 else ['got %r' % (got,)]
-                why += [] if got == runs[0] else ['another answer than that of %s' % programs[0]]
+                why += [] if got == runs[0] else ['another answer than that of %s' % given[0]]
                 passed, failed = passed + (not why), failed + bool(why)
                 if why:
                     print('FAILED %s, byte %d changed to %d over %s: %s' % (file, at, other, program, '; '.join(why)))

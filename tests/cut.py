@@ -33,6 +33,16 @@ def doubled(script):
     return b''.join(one + one for one in statements(script))
 
 
+def looked(script):
+    """The script with a look at all tables that it has made after each statement."""
+    tables, parts = [], []
+    for one in statements(script):
+        found = words(one)
+        tables += [found[2]] if found[:2] == [b'CREATE', b'TABLE'] and found[2] not in tables else []
+        parts += [one, *(b' SELECT * FROM %s;' % name for name in tables)]
+    return b''.join(parts)
+
+
 def numbered(outcome, place):
     """An outcome as that of another place."""
     return re.sub(rb'\A\d+', b'%d' % place, outcome)

@@ -19,6 +19,7 @@ import tempfile
 import threading
 
 import preload
+import programs
 
 SIZE = 1_048_576
 SECONDS = 60
@@ -387,8 +388,8 @@ def main():
     parser.add_argument('--tell', action='store_true')
     given, passed, failed = parser.parse_args(), 0, 0
     with preload.Library() as library:
-        for program in given.program:
-            more = tried(os.path.abspath(program), library, given.only, given.tell)
+        for program in programs.found(given.program, parser):
+            more = tried(program, library, given.only, given.tell)
             passed, failed = passed + more[0], failed + more[1]
     print('%d passed, %d failed' % (passed, failed))
     raise SystemExit(int(failed > 0))

@@ -15,6 +15,7 @@ import subprocess
 import time
 
 import cut
+import programs
 import run
 from made import mutations
 from made.chance import Chance
@@ -73,16 +74,16 @@ def malformed(got):
     return why + ([] if run.groups(out)[2] or b"'" in out else ['no transcript: %r' % out[:200]])
 
 
-def judged(programs, script, words):
+def judged(given, script, words):
     """Why the runs of a script aren't as they should be; nothing is said of a script without an answer in time, and `None` is given."""
-    runs = [one_run(program, script, words) for program in programs]
+    runs = [one_run(program, script, words) for program in given]
     if None in runs:
         return None
     why = malformed(runs[0])
-    for program, got in zip(programs[1:], runs[1:]):
+    for program, got in zip(given[1:], runs[1:]):
         differs = run.compare('transcript', runs[0][0], got[0]) + run.compare('standard error', runs[0][2], got[2])
         differs += ['status %d and %d' % (runs[0][1], got[1])] if runs[0][1] != got[1] else []
-        why += ['%s and %s: %s' % (programs[0], program, '; '.join(differs))] if differs else []
+        why += ['%s and %s: %s' % (given[0], program, '; '.join(differs))] if differs else []
     return why
 
 
@@ -164,15 +165,15 @@ def main():
     given = parser.parse_args()
     if (given.seconds is None) == (given.scripts is None):
         parser.error('either --seconds or --scripts')
-    programs, real = [os.path.abspath(program) for program in given.program], real_scripts()
+    tried, real = programs.found(given.program, parser), real_scripts()
     passed, failed, slow = (1, 0, 0) if is_shrinking_well() else (0, 1, 0)
     for seed in seeds(given):
         script, words = made(seed, real)
-        why = judged(programs, script, words)
+        why = judged(tried, script, words)
         passed, failed, slow = passed + (why == []), failed + bool(why), slow + (why is None)
         if why:
-            small = shrunk(script, lambda text, words=words: bool(judged(programs, text, words)))
-            keep(given.keep, seed, small, words, judged(programs, small, words) or why)
+            small = shrunk(script, lambda text, words=words: bool(judged(tried, text, words)))
+            keep(given.keep, seed, small, words, judged(tried, small, words) or why)
     print('%d scripts of the seeds from %d on; %d had no answer in %d seconds' % (passed + failed + slow - 1, given.seed, slow, SECONDS))
     print('%d passed, %d failed' % (passed, failed))
     raise SystemExit(int(failed > 0))

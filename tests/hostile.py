@@ -12,6 +12,7 @@ import subprocess
 import tempfile
 import threading
 
+import programs
 import run
 from made import hostile
 
@@ -65,11 +66,11 @@ def main():
     parser.add_argument('--all', action='store_true')
     parser.add_argument('--tell', action='store_true')
     given, passed, failed = parser.parse_args(), 0, 0
-    for program in given.program:
+    for program in programs.found(given.program, parser):
         for case in hostile.cases():
             if (case.is_long and not given.all) or (given.only and given.only not in case.name):
                 continue
-            why, took = judged(os.path.abspath(program), case)
+            why, took = judged(program, case)
             passed, failed = passed + (not why), failed + bool(why)
             if given.tell:
                 print(took, flush=True)

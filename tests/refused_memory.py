@@ -11,9 +11,9 @@ memory in it, and each time another request is refused. Each run has to be one o
   refused  one statement answers 22, and all else is the transcript of the script without that statement, which is run too. It is never COMMIT or ROLLBACK, nor
            over the index store ROLLBACK TO, nor a statement that would be answered 4, 5 or 6
 
-100 random scripts are run too, with ten of their requests refused. With --all there are, besides: all these scripts with each statement twice, so that the statement
-that was refused is given once more; refusals of a request and all that come after it, where several statements may answer 22; and 50 requests of each random script.
-The last line is `N passed, N failed`; the status is 1 where something failed."""
+100 random scripts are run too, with ten of their requests refused. Without --all the plain one has 60 requests of each other script refused, and not all. With --all
+there are, besides: some scripts more; all these with each statement twice, so that the statement that was refused is given once more; with what all tables hold after each
+statement; with a request and all that come after it refused, where several statements may answer 22; and 50 requests of each random script. The last line is `N passed, N failed`; the status is 1 where something failed."""
 import argparse
 import collections
 import os
@@ -22,15 +22,18 @@ import shlex
 
 import cut
 import preload
+import programs
 import run
 from made.scripts import Script
 
 SCRIPTS = [
-    ('the cascade', 'deletion_wins_over_set_null'), ('the cascade within a budget', 'budget_5'), ('a chain of actions', 'actions_along_a_chain'),
-    ('the swap of keys', 'update_cascade_swaps_keys'), ('the ring of deferred keys', 'ring_of_deferred_keys'),
+    ('the cascade', 'deletion_wins_over_set_null'), ('the swap of keys', 'update_cascade_swaps_keys'), ('the ring of deferred keys', 'ring_of_deferred_keys'),
     ('savepoints with modes', 'savepoint_restores_modes'), ('a refusal inside a trigger', 'refusal_inside_trigger'),
-    ('refusals inside triggers', 'refusals_in_triggers'), ('transition tables', 'statement_trigger_without_rows'), ('net changes', 'net_changes'),
-    ('triggers in order', 'triggers_see_later_tables')]
+    ('refusals inside triggers', 'refusals_in_triggers'), ('transition tables', 'statement_trigger_without_rows')]
+MORE = [
+    ('a cascade within a budget', 'budget_5'), ('a chain of actions', 'actions_along_a_chain'), ('net changes', 'net_changes'),
+    ('triggers that see later tables', 'triggers_see_later_tables'), ('actions on two columns', 'actions_on_two_columns'), ('savepoints by name', 'savepoint_names'),
+    ('constraints that are added', 'refused_addition')]
 RANDOM = 100
 REFUSED = re.compile(rb'\d+ refused 22 OutOfMemory( in [A-Z0-9_]+)?\n')
 ENDED = (b'', 2, b'sqlkeep: out of memory\n')
@@ -105,9 +108,9 @@ def judged(trial, steps, later):
         yield 'request %d of %d%s' % (request, trial.requests, ' and all later ones' if later else ''), how, why
 
 
-def named():
-    """Each script with its name and its words: those of SCRIPTS, and those of the tour."""
-    for name, file in SCRIPTS:
+def named(is_all):
+    """Each script with its name and its words: those of SCRIPTS, perhaps those of MORE, and those of the tour."""
+    for name, file in SCRIPTS + (MORE if is_all else []):
         words = shlex.split((run.read('scripts', file + '.args') or b'').decode())
         yield name, run.stored('scripts', file + '.sql'), words
     for file in run.files('../examples'):
@@ -115,13 +118,14 @@ def named():
             yield 'the tour: ' + file, run.read('../examples', file), []
 
 
-def plan(is_all):
+def plan(is_all, is_plain):
     """Each script with its name, its words, how many of its requests are refused (0 for all), and whether all later ones are refused too."""
-    for name, script, words in named():
-        yield name, script, words, 0, False
+    for name, script, words in named(is_all):
+        yield name, script, words, 60 if is_plain and not is_all else 0, False
         if is_all:
             yield name + ', all later ones too', script, words, 0, True
             yield name + ', each statement twice', cut.doubled(script), words, 0, False
+            yield name + ', all tables after each statement', cut.looked(script), words, 200, False
     for seed in range(1, RANDOM + 1):
         made = Script(seed)
         text = made.text().encode()
@@ -134,7 +138,7 @@ def plan(is_all):
 def tried(library, program, is_plain, given):
     """Runs all scripts over a program; how many runs passed and failed."""
     became, failed = collections.Counter(), 0
-    for name, script, words, steps, later in plan(given.all):
+    for name, script, words, steps, later in plan(given.all, is_plain):
         if given.only and given.only not in name:
             continue
         for request, how, why in judged(Trial(library, program, is_plain, script, words), steps, later):
@@ -157,9 +161,10 @@ def main():
     if not given.program + given.plain:
         parser.error('a --program or a --plain is needed')
     with preload.Library() as library:
-        for program in given.program + given.plain:
-            more = tried(library, os.path.abspath(program), program in given.plain, given)
-            passed, failed = passed + more[0], failed + more[1]
+        for is_plain, paths in ((False, given.program), (True, given.plain)):
+            for program in programs.found(paths, parser):
+                more = tried(library, program, is_plain, given)
+                passed, failed = passed + more[0], failed + more[1]
     print('%d passed, %d failed' % (passed, failed))
     raise SystemExit(int(failed > 0))
 

@@ -198,6 +198,9 @@ def of_rows():
     unknown = filled_numbers(few + 'SELECT ', 'a{n}', ' FROM t;')[0]
     yield 'SELECT of unknown columns', one(unknown, 'ok', 'refused 1 Unknown')
     yield 'SELECT with a long condition', one('SELECT a FROM t WHERE %s;' % CONDITION, 'ok', 'ok 1', 'rows 1', '| 1', 'ok', before=ONE_ROW, after='COMMIT;')
+    pairs = '(' * 15 + 't.a = ' + '(' * 15 + '1' + ')' * 30
+    many = 'SELECT a FROM t WHERE %s;' % balanced(pairs, ' AND ', 13)
+    yield 'SELECT with parentheses of both kinds', one(many, 'ok', 'ok 1', 'rows 1', '| 1', 'ok', before=ONE_ROW, after='COMMIT;')
     zeros = filled(few + 'INSERT INTO t VALUES (', '0', '7);SELECT * FROM t;COMMIT;')[0]
     yield 'a number with half a million zeros before it', one(zeros, 'ok', 'ok 1', 'rows 1', '| 7', 'ok')
     several = 'CREATE TABLE t (a INT);INSERT INTO t VALUES (1), (2), (3), (4);'
@@ -388,6 +391,72 @@ def exists_thrice(rows):
     return script, answered(*answers, 'rows 1', '| %d' % (rows - 2), 'ok')
 
 
+def nested(levels, condition, table):
+    """So many EXISTS, each in the one before it, around a condition."""
+    for _ in range(levels):
+        condition = 'EXISTS (SELECT * FROM %s WHERE %s)' % (table, condition)
+    return condition
+
+
+def deepest():
+    """All depths at once, with `--depth 32`: 32 statements nested by triggers, and at each of them a WHEN of depth 64, which are 62 EXISTS over one row. A statement that
+    inserts 32 is at depth 1, and that which inserts 1 at depth 32."""
+    when = nested(62, 'n.a > 1', 'one')
+    texts = ['CREATE TABLE one (k INT)', 'INSERT INTO one VALUES (1)', 'COMMIT', 'CREATE TABLE t (a INT)']
+    texts += ['CREATE TRIGGER r AFTER INSERT ON t REFERENCING NEW AS n FOR EACH ROW WHEN (%s) INSERT INTO t VALUES (n.a - 1)' % when]
+    texts += ['INSERT INTO t VALUES (32)', 'SELECT COUNT(*) FROM t', 'INSERT INTO t VALUES (33)', 'ROLLBACK']
+    return ';'.join(texts) + ';', answered('ok', 'ok 1', 'ok', 'ok', 'ok', 'ok 1', 'rows 1', '| 32', 'refused 16 DepthLimit R', 'ok')
+
+
+def deepest_expressions():
+    """Sums, conditions and CHECKs of depth 64, in a row each: 63 pairs of parentheses around a number, and 62 around a comparison."""
+    number, test = '(' * 63 + '1' + ')' * 63, '(' * 62 + 'a = 1' + ')' * 62
+    texts = ['CREATE TABLE t (a INT, CHECK (%s))' % test, 'INSERT INTO t VALUES (%s)' % number, 'UPDATE t SET a = %s WHERE %s' % (number, test)]
+    texts += ['SELECT %s FROM t WHERE %s' % (number, test)] * 2_000 + ['COMMIT']
+    return ';'.join(texts) + ';', answered('ok', 'ok 1', 'ok 1', *['rows 1', '| 1'] * 2_000, 'ok')
+
+
+def exists_over_two_rows(levels):
+    """EXISTS in EXISTS over two rows, so many deep. The condition of each is taken at both rows, so the innermost is taken 2 ** levels times."""
+    texts = ['CREATE TABLE two (k INT)', 'INSERT INTO two VALUES (1), (2)', 'SELECT COUNT(*) FROM two WHERE ' + nested(levels - 1, 'k = 3', 'two'), 'COMMIT']
+    return ';'.join(texts) + ';', answered('ok', 'ok 2', 'rows 1', '| 0', 'ok')
+
+
+def condition_over(rows):
+    """A condition of 1 MB, which is 16,384 comparisons, over so many rows."""
+    script, answers = with_rows(rows, 'SELECT COUNT(*) FROM t WHERE %s' % CONDITION, 'COMMIT')
+    return script, answered(*answers, 'rows 1', '| 1', 'ok')
+
+
+def many_violations():
+    """16,000 rows that each violate 64 deferred CHECKs, and 16,000 rows of one key."""
+    checks = ', '.join(['CHECK (a > 0) INITIALLY DEFERRED'] * 63)
+    texts = ['CREATE TABLE t (a INT, %s, UNIQUE (a) INITIALLY DEFERRED)' % checks, 'INSERT INTO t VALUES ' + ', '.join(['(0)'] * 16_000), 'SET CONSTRAINTS ALL IMMEDIATE']
+    texts += ['SAVEPOINT s', 'DELETE FROM t', 'SET CONSTRAINTS ALL IMMEDIATE', 'ROLLBACK TO SAVEPOINT s', 'UPDATE t SET a = 1', 'COMMIT', 'SELECT COUNT(*) FROM t']
+    answers = ['ok', 'ok 16000', 'refused 13 Violation T_C1 row 1', 'ok', 'ok 16000', 'ok', 'ok', 'ok 16000', 'refused 19 CommitRefused T_C64 row 1', 'rows 1', '| 0']
+    return ';'.join(texts) + ';', answered(*answers)
+
+
+def one_parent(rows):
+    """So many children of one parent, which all go to another parent and back, are deleted one half after the other, and rolled back."""
+    half = rows // 2
+    texts = ['CREATE TABLE p (k INT PRIMARY KEY)', 'CREATE TABLE c (n INT, x INT REFERENCES p)', 'INSERT INTO p VALUES (1), (2)']
+    texts += ['INSERT INTO c VALUES ' + ','.join('(%d,1)' % n for n in range(1, rows + 1)), 'COMMIT', 'UPDATE c SET x = 2', 'UPDATE c SET x = 1 WHERE n > %d' % half, 'UPDATE c SET x = 1']
+    texts += ['DELETE FROM c WHERE n > %d' % half, 'DELETE FROM c', 'ROLLBACK', 'SELECT COUNT(*) FROM c WHERE x = 1', 'DELETE FROM c WHERE n <= %d' % half]
+    texts += ['DELETE FROM p WHERE k = 1']
+    answers = ['ok', 'ok', 'ok 2', 'ok %d' % rows, 'ok', 'ok %d' % rows, 'ok %d' % half, 'ok %d' % rows, 'ok %d' % half, 'ok %d' % half, 'ok', 'rows 1', '| %d' % rows, 'ok %d' % half]
+    return ';'.join(texts) + ';', answered(*answers, 'refused 13 Violation C_C1 row %d' % (half + 3), 'end rolled back')
+
+
+def mended(rows):
+    """So many rows that violate a deferred CHECK, of which the later half is mended before the earlier."""
+    half = rows // 2
+    texts = ['CREATE TABLE t (n INT, a INT, CHECK (a > 0) INITIALLY DEFERRED)', 'INSERT INTO t VALUES ' + ','.join('(%d,0)' % n for n in range(1, rows + 1))]
+    texts += ['UPDATE t SET a = 1 WHERE n > %d' % half, 'SET CONSTRAINTS ALL IMMEDIATE', 'UPDATE t SET a = 1 WHERE a = 0', 'COMMIT', 'SELECT COUNT(*) FROM t']
+    answers = ['ok', 'ok %d' % rows, 'ok %d' % half, 'refused 13 Violation T_C1 row 1', 'ok %d' % half, 'ok', 'rows 1', '| %d' % rows]
+    return ';'.join(texts) + ';', answered(*answers)
+
+
 def many_constraints():
     """64 tables with 64 deferred CHECKs each, one row in each table that violates all of its own, and lists of all 4,096 names."""
     checks = ', '.join(numbered('CHECK (a > {n}) INITIALLY DEFERRED', 64, 0))
@@ -458,6 +527,13 @@ def cases():
     yield Case('a trigger that fires itself to the budget, 20 times', lambda: to_the_budget(20))
     yield Case('an EXISTS in an EXISTS over 2,000 rows', lambda: exists_twice(2_000))
     yield Case('an EXISTS in an EXISTS for each of 200 rows', lambda: exists_thrice(200))
+    yield Case('EXISTS in EXISTS over two rows, 18 deep', lambda: exists_over_two_rows(18))
+    yield Case('a condition of 1 MB over 100 rows', lambda: condition_over(100))
+    yield Case('all depths at once', deepest, words=['--depth', '32'])
+    yield Case('expressions and conditions of depth 64', deepest_expressions)
+    yield Case('16,000 rows that violate 64 constraints each', many_violations)
+    yield Case('10,000 children of one parent', lambda: one_parent(10_000))
+    yield Case('30,000 rows that violate one constraint, the later half mended', lambda: mended(30_000))
     yield Case('4,096 constraints', many_constraints)
     yield Case('4,032 foreign keys to one table', many_foreign_keys)
     yield Case('1,000 savepoints over 4,096 constraints', saved_with_constraints)
@@ -468,3 +544,7 @@ def cases():
     yield Case('a chain of 64 tables of one row, 16,000 times', lambda: chain_of_one(16_000), is_long=True)
     yield Case('a trigger that fires itself to the budget, 200 times', lambda: to_the_budget(200), is_long=True)
     yield Case('an EXISTS in an EXISTS for each of 400 rows', lambda: exists_thrice(400), is_long=True)
+    yield Case('EXISTS in EXISTS over two rows, 22 deep', lambda: exists_over_two_rows(22), is_long=True)
+    yield Case('60,000 children of one parent', lambda: one_parent(60_000), is_long=True)
+    yield Case('60,000 rows that violate one constraint, the later half mended', lambda: mended(60_000), is_long=True)
+    yield Case('a condition of 1 MB over 2,000 rows', lambda: condition_over(2_000), is_long=True)
