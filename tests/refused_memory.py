@@ -11,7 +11,7 @@ memory in it, and each time another request is refused. Each run has to be one o
   refused  one statement answers 22, and all else is the transcript of the script without that statement, which is run too. It is never COMMIT or ROLLBACK, nor
            over the index store ROLLBACK TO, nor a statement that would be answered 4, 5 or 6
 
-100 random scripts are run too, with ten of their requests refused. Without --all the plain one has 60 requests of each other script refused, and not all. With --all
+Words with which no script is run are tried in the same way. 100 random scripts are run too, with ten of their requests refused. Without --all the plain one has 60 requests of each other script refused, and not all. With --all
 there are, besides: some scripts more; all these with each statement twice, so that the statement that was refused is given once more; with what all tables hold after each
 statement; with a request and all that come after it refused, where several statements may answer 22; and 50 requests of each random script. The last line is `N passed, N failed`; the status is 1 where something failed."""
 import argparse
@@ -118,8 +118,14 @@ def named(is_all):
             yield 'the tour: ' + file, run.read('../examples', file), []
 
 
+# Words with which no script is run: such a run ends with the line, or is as without refusal.
+WORDS = [('the help text', ['--help']), ('a depth that is none', ['--depth', '0']), ('an unknown word', ['--unknown']), ('a file that is not there', ['absent.sql'])]
+
+
 def plan(is_all, is_plain):
     """Each script with its name, its words, how many of its requests are refused (0 for all), and whether all later ones are refused too."""
+    for name, words in WORDS:
+        yield name, b'', words, 0, False
     for name, script, words in named(is_all):
         yield name, script, words, 60 if is_plain and not is_all else 0, False
         if is_all:
