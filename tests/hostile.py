@@ -26,8 +26,14 @@ def small_stack():
     resource.setrlimit(resource.RLIMIT_CORE, (0, 0))
 
 
+def peak(used):
+    """A peak of memory as a text. The system counts what this process had when it began the run, so less than that isn't told."""
+    own = resource.getrusage(resource.RUSAGE_SELF).ru_maxrss
+    return ('%.0f MB' if used.ru_maxrss > own else 'below %.0f MB') % (max(used.ru_maxrss, own) * 1024 / 1e6)
+
+
 def measured(program, script, words, seconds):
-    """Standard output, status, standard error, the processor seconds and the peak of memory in MB. A run that takes far too long is ended."""
+    """Standard output, status, standard error, the processor seconds and the peak of memory. A run that takes far too long is ended."""
     with tempfile.TemporaryFile() as given, tempfile.TemporaryFile() as out, tempfile.TemporaryFile() as errors:
         given.write(script)
         given.seek(0)
@@ -39,7 +45,7 @@ def measured(program, script, words, seconds):
         end.cancel()
         out.seek(0)
         errors.seek(0)
-        return out.read(), running.returncode, errors.read(), used.ru_utime + used.ru_stime, used.ru_maxrss * 1024 / 1e6
+        return out.read(), running.returncode, errors.read(), used.ru_utime + used.ru_stime, peak(used)
 
 
 def judged(program, case):
@@ -51,7 +57,7 @@ def judged(program, case):
     why += run.compare('transcript', want, out) + run.compare('standard error', b'', errors)
     why += ['expected status %d, got %d' % (run.status_of(want), status)] if status != run.status_of(want) else []
     why += ['it took %.1f seconds' % took] if took >= seconds else []
-    return why, '%7d kB %7.2f s %6.0f MB  %s' % (len(script) / 1000, took, memory, case.name)
+    return why, '%7d kB %7.2f s %12s  %s' % (len(script) / 1000, took, memory, case.name)
 
 
 def shortened(why):
