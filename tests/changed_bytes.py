@@ -1,11 +1,11 @@
 #!/usr/bin/env python3
 """Changes each byte of some scripts to each of 16 others, and runs each script that comes of it over all programs given; see README.md beside this file.
 
-  tests/changed_bytes.py --program PATH [--program PATH]..
+  tests/changed_bytes.py --program PATH [--program PATH].. [--others 16]
 
 The scripts are those of tests/prefixes, of which run.py runs each prefix. A script with one byte changed is a script too: it has an answer, with status 0 or 1, and with
 nothing on standard error. The statements before that of the changed byte answer what they do in the whole script; there is at most one fault, and it is not before that statement.
-All programs write the same. A byte that makes the script no UTF-8 is a test too: status 2, and its line. The last line is `N passed, N failed`."""
+All programs write the same. With --others N there are N others for each byte, which change from place to place. A byte that makes the script no UTF-8 is a test too: status 2, and its line. The last line is `N passed, N failed`."""
 import argparse
 
 import cut
@@ -35,7 +35,7 @@ def judged(got, before, start):
     return why + ['a fault at byte %s' % fault.split()[2] for fault in faults if int(fault.split()[2]) < start]
 
 
-def changes(program, file):
+def changes(program, file, count):
     """Each place and byte, the script with it, the outcomes before the place and where its statement starts."""
     script = run.read('prefixes', file)
     outcomes, place, start = run.groups(run.run(program, script)[0])[0], 0, 0
@@ -43,7 +43,8 @@ def changes(program, file):
     for at, byte in enumerate(script):
         while place < len(ends) and ends[place] <= at:
             place, start = place + 1, ends[place]
-        for other in others(byte):
+        chosen = others(byte)
+        for other in [chosen[(at + step) % 16] for step in range(count)]:
             yield at, other, script[:at] + bytes([other]) + script[at + 1:], outcomes[:place], start
         yield at, 255, script[:at] + b'\xff' + script[at + 1:], None, start
 
@@ -51,9 +52,11 @@ def changes(program, file):
 def main():
     parser = argparse.ArgumentParser()
     parser.add_argument('--program', action='append', required=True)
-    given, passed, failed = programs.found(parser.parse_args().program, parser), 0, 0
+    parser.add_argument('--others', type=int, default=16)
+    words, passed, failed = parser.parse_args(), 0, 0
+    given = programs.found(words.program, parser)
     for file in run.files('prefixes'):
-        for at, other, script, before, start in changes(given[0], file):
+        for at, other, script, before, start in changes(given[0], file, words.others):
             runs = [run.run(program, script) for program in given]
             for program, got in zip(given, runs):
                 why = judged(got, before, start) if before is not None else [] if got == NOT_UTF8 else ['got %r' % (got,)]

@@ -429,11 +429,11 @@ def condition_over(rows):
 
 
 def many_violations():
-    """16,000 rows that each violate 64 deferred CHECKs, and 16,000 rows of one key."""
+    """8,000 rows that each violate 63 deferred CHECKs, and have one key."""
     checks = ', '.join(['CHECK (a > 0) INITIALLY DEFERRED'] * 63)
-    texts = ['CREATE TABLE t (a INT, %s, UNIQUE (a) INITIALLY DEFERRED)' % checks, 'INSERT INTO t VALUES ' + ', '.join(['(0)'] * 16_000), 'SET CONSTRAINTS ALL IMMEDIATE']
+    texts = ['CREATE TABLE t (a INT, %s, UNIQUE (a) INITIALLY DEFERRED)' % checks, 'INSERT INTO t VALUES ' + ', '.join(['(0)'] * 8_000), 'SET CONSTRAINTS ALL IMMEDIATE']
     texts += ['SAVEPOINT s', 'DELETE FROM t', 'SET CONSTRAINTS ALL IMMEDIATE', 'ROLLBACK TO SAVEPOINT s', 'UPDATE t SET a = 1', 'COMMIT', 'SELECT COUNT(*) FROM t']
-    answers = ['ok', 'ok 16000', 'refused 13 Violation T_C1 row 1', 'ok', 'ok 16000', 'ok', 'ok', 'ok 16000', 'refused 19 CommitRefused T_C64 row 1', 'rows 1', '| 0']
+    answers = ['ok', 'ok 8000', 'refused 13 Violation T_C1 row 1', 'ok', 'ok 8000', 'ok', 'ok', 'ok 8000', 'refused 19 CommitRefused T_C64 row 1', 'rows 1', '| 0']
     return ';'.join(texts) + ';', answered(*answers)
 
 
@@ -475,8 +475,8 @@ def many_foreign_keys():
     """4,032 foreign keys that refer to one table, whose rows are inserted, shifted and deleted."""
     keys = ', '.join(['FOREIGN KEY (x) REFERENCES p'] * 64)
     texts = ['CREATE TABLE p (k INT PRIMARY KEY)'] + numbered('CREATE TABLE t{n} (x INT, %s)' % keys, 63)
-    texts += ['INSERT INTO p VALUES ' + ', '.join(numbered('({n})', 500)), 'INSERT INTO t63 VALUES (500)', 'UPDATE p SET k = k - 1', 'DELETE FROM p WHERE k < 500', 'COMMIT']
-    return ';'.join(texts) + ';', answered(*['ok'] * 64, 'ok 500', 'ok 1', 'refused 13 Violation T63_C1 row 501', 'ok 499', 'ok')
+    texts += ['INSERT INTO p VALUES ' + ', '.join(numbered('({n})', 200)), 'INSERT INTO t63 VALUES (200)', 'UPDATE p SET k = k - 1', 'DELETE FROM p WHERE k < 200', 'COMMIT']
+    return ';'.join(texts) + ';', answered(*['ok'] * 64, 'ok 200', 'ok 1', 'refused 13 Violation T63_C1 row 201', 'ok 199', 'ok')
 
 
 def saved_with_constraints():
@@ -519,25 +519,25 @@ def cases():
     yield Case('1,000 savepoints of 128 characters that differ in the last two', long_savepoints)
     yield Case('65,000 keys whose hashes share ten bits', colliding_keys)
     yield Case('32,000 such keys with a child each', colliding_children)
-    yield Case('256 triggers on one table, and 500 statements', lambda: row_triggers(500))
+    yield Case('256 triggers on one table, and 200 statements', lambda: row_triggers(200))
     yield Case('256 BEFORE triggers over 20,000 rows', before_triggers)
     yield Case('a chain of 64 tables of 1,023 rows', chain)
     yield Case('a chain of 64 tables of one row, 2,000 times', lambda: chain_of_one(2_000))
     yield Case('triggers that fire each other to the depth', to_the_depth)
-    yield Case('a trigger that fires itself to the budget, 20 times', lambda: to_the_budget(20))
+    yield Case('a trigger that fires itself to the budget, 10 times', lambda: to_the_budget(10))
     yield Case('an EXISTS in an EXISTS over 2,000 rows', lambda: exists_twice(2_000))
-    yield Case('an EXISTS in an EXISTS for each of 200 rows', lambda: exists_thrice(200))
+    yield Case('an EXISTS in an EXISTS for each of 150 rows', lambda: exists_thrice(150))
     yield Case('EXISTS in EXISTS over two rows, 18 deep', lambda: exists_over_two_rows(18))
     yield Case('a condition of 1 MB over 100 rows', lambda: condition_over(100))
     yield Case('all depths at once', deepest, words=['--depth', '32'])
     yield Case('expressions and conditions of depth 64', deepest_expressions)
-    yield Case('16,000 rows that violate 64 constraints each', many_violations)
+    yield Case('8,000 rows that violate 64 constraints each', many_violations)
     yield Case('10,000 children of one parent', lambda: one_parent(10_000))
     yield Case('30,000 rows that violate one constraint, the later half mended', lambda: mended(30_000))
     yield Case('4,096 constraints', many_constraints)
     yield Case('4,032 foreign keys to one table', many_foreign_keys)
     yield Case('1,000 savepoints over 4,096 constraints', saved_with_constraints)
-    yield Case('savepoints that all stand, 256 KiB', lambda: standing_savepoints(262_000))
+    yield Case('savepoints that all stand, 128 KiB', lambda: standing_savepoints(131_000))
     yield Case('87,000 savepoints of one name', one_savepoint)
     yield Case('savepoints that all stand, 1 MB', lambda: standing_savepoints(1_048_000), is_long=True)
     yield Case('256 triggers on one table, and 4,000 statements', lambda: row_triggers(4_000), is_long=True)
