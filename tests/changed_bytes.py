@@ -3,9 +3,10 @@
 
   tests/changed_bytes.py --program PATH [--program PATH].. [--others 16]
 
-The scripts are those of tests/prefixes, of which run.py runs each prefix. A script with one byte changed is a script too: it has an answer, with status 0 or 1, and with
-nothing on standard error. The statements before that of the changed byte answer what they do in the whole script; there is at most one fault, and it is not before that statement.
-All programs write the same. With --others N there are N others for each byte, which change from place to place. A byte that makes the script no UTF-8 is a test too: status 2, and its line. The last line is `N passed, N failed`."""
+The scripts are those of tests/prefixes, of which run.py runs each prefix. A script with one byte changed is a script too: it has an answer, with status 0 or
+1, and with nothing on standard error. The statements before that of the changed byte answer what they do in the whole script; there is at most one fault, and
+it is not before that statement. All programs write the same. With --others N there are N others for each byte, which change from place to place. A byte that
+makes the script no UTF-8 is a test too: status 2, and its line. The last line is `N passed, N failed`."""
 import argparse
 
 import cut

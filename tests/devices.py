@@ -3,9 +3,9 @@
 
   tests/devices.py --program PATH [--program PATH].. [--only WORD] [--tell]
 
-Statuses and lines are those of docs/language/program.md. Some devices are made with files, pipes, limits and a small file system; the others by the library of preload.c,
-which counts the program's own calls and lets the n-th fail. Where the system lets no file system be mounted, that run is left out, and a line says so.
-The last line is `N passed, N failed`; the status is 1 where something failed."""
+Statuses and lines are those of docs/language/program.md. Some devices are made with files, pipes, limits and a small file system; the others by the library
+of preload.c, which counts the program's own calls and lets the n-th fail. Where the system lets no file system be mounted, that run is left out, and a line
+says so. The last line is `N passed, N failed`; the status is 1 where something failed."""
 import argparse
 import contextlib
 import fcntl

@@ -4,10 +4,11 @@
   tests/fuzz.py --program PATH [--program PATH].. --seconds N [--seed S]
   tests/fuzz.py --program PATH [--program PATH].. --scripts N [--seed S]
 
-The scripts are of the seeds S, S + 1 and so on: random statements over few names, real scripts of tests/scripts, examples and docs/language with changes, random words and random
-bytes. Transcripts, statuses and standard error are compared byte for byte with those of the first program, whose transcript must have the form of one. A script to which some
-program has no answer in ten seconds is counted and not compared. A small script that still shows the difference is printed, and kept in the folder --keep, which is
-out/fuzz if nothing else is said. The last line is `N passed, N failed`; the status is 1 where something failed."""
+The scripts are of the seeds S, S + 1 and so on: random statements over few names, real scripts of tests/scripts, examples and docs/language with changes,
+random words and random bytes. Transcripts, statuses and standard error are compared byte for byte with those of the first program, whose transcript must have
+the form of one. A script to which some program has no answer in ten seconds is counted and not compared. A small script that still shows the difference is
+printed, and kept in the folder --keep, which is out/fuzz if nothing else is said. The last line is `N passed, N failed`; the status is 1 where something
+failed."""
 import argparse
 import os
 import re

@@ -3,17 +3,19 @@
 
   tests/refused_memory.py --program PATH [--program PATH].. [--plain PATH] [--all] [--only WORD]
 
-A --program keeps its rows in the index store, the --plain one in the plain store. Each script of SCRIPTS and of the tour is run as often as the program asks for
-memory in it, and each time another request is refused. Each run has to be one of these:
+A --program keeps its rows in the index store, the --plain one in the plain store. Each script of SCRIPTS and of the tour is run as often as the program asks
+for memory in it, and each time another request is refused. Each run has to be one of these:
 
   ended    nothing is written, the status is 2, and standard error is `sqlkeep: out of memory`
   same     the run is as without refusal: the memory was for speed alone
   refused  one statement answers 22, and all else is the transcript of the script without that statement, which is run too. It is never COMMIT or ROLLBACK, nor
            over the index store ROLLBACK TO, nor a statement that would be answered 4, 5 or 6
 
-Words with which no script is run are tried in the same way. 100 random scripts are run too, with ten of their requests refused. Without --all the plain one has five of their requests refused, and 60 of each other script, not all. With --all
-there are, besides: some scripts more; all these with each statement twice, so that the statement that was refused is given once more; with what all tables hold after each
-statement; with a request and all that come after it refused, where several statements may answer 22; and 50 requests of each random script. The last line is `N passed, N failed`; the status is 1 where something failed."""
+Words with which no script is run are tried in the same way. 100 random scripts are run too, with ten of their requests refused. Without --all the plain one
+has five of their requests refused, and 60 of each other script, not all. With --all there are, besides: some scripts more; all these with each statement
+twice, so that the statement that was refused is given once more; with what all tables hold after each statement; with a request and all that come after it
+refused, where several statements may answer 22; and 50 requests of each random script. The last line is `N passed, N failed`; the status is 1 where something
+failed."""
 import argparse
 import collections
 import os
@@ -32,7 +34,8 @@ SCRIPTS = [
     ('refusals inside triggers', 'refusals_in_triggers'), ('transition tables', 'statement_trigger_without_rows')]
 MORE = [
     ('a cascade within a budget', 'budget_5'), ('a chain of actions', 'actions_along_a_chain'), ('net changes', 'net_changes'),
-    ('triggers that see later tables', 'triggers_see_later_tables'), ('actions on two columns', 'actions_on_two_columns'), ('savepoints by name', 'savepoint_names'),
+    ('triggers that see later tables', 'triggers_see_later_tables'), ('actions on two columns', 'actions_on_two_columns'),
+    ('savepoints by name', 'savepoint_names'),
     ('constraints that are added', 'refused_addition')]
 RANDOM = 100
 REFUSED = re.compile(rb'\d+ refused 22 OutOfMemory( in [A-Z0-9_]+)?\n')
@@ -119,7 +122,8 @@ def named(is_all):
 
 
 # Words with which no script is run: such a run ends with the line, or is as without refusal.
-WORDS = [('the help text', ['--help']), ('a depth that is none', ['--depth', '0']), ('an unknown word', ['--unknown']), ('a file that is not there', ['absent.sql'])]
+WORDS = [
+    ('the help text', ['--help']), ('a depth that is none', ['--depth', '0']), ('an unknown word', ['--unknown']), ('a file that is not there', ['absent.sql'])]
 
 
 def plan(is_all, is_plain):

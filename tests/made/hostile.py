@@ -1,4 +1,5 @@
-"""Hostile scripts, each with the transcript that the rules give it. `SIZE` is how long a script may be; where a script is of one kind of text, it is as long."""
+"""Hostile scripts, each with the transcript that the rules give it. `SIZE` is how long a script may be; where a script is of one kind of text, it is as
+long."""
 import functools
 import os
 import subprocess
@@ -161,17 +162,18 @@ def of_triggers():
     head = 'CREATE TRIGGER r AFTER INSERT ON t '
     acts = filled(TABLE + head + 'BEGIN ATOMIC ', 'DELETE FROM t;', 'END;')[0]
     yield 'CREATE TRIGGER of more acts than may be', one(acts, 'ok', 'refused 21 Limit')
-    yield 'CREATE TRIGGER of one item, again and again', one(filled(TABLE + head + 'REFERENCING ', 'NEW n', ' FOR EACH ROW DELETE FROM t;', ' ')[0], 'ok', 'refused 2 Duplicate')
+    items = filled(TABLE + head + 'REFERENCING ', 'NEW n', ' FOR EACH ROW DELETE FROM t;', ' ')[0]
+    yield 'CREATE TRIGGER of one item, again and again', one(items, 'ok', 'refused 2 Duplicate')
     items = filled_numbers(TABLE + head + 'REFERENCING ', 'NEW n{n}', ' FOR EACH ROW DELETE FROM t;', ' ')[0]
     yield 'CREATE TRIGGER of other items', one(items, 'ok', 'refused 3 SchemaFault')
     body = head + 'BEGIN ATOMIC ' + 'DELETE FROM t WHERE %s;' % balanced(LEAF, ' AND ', 9) * 32 + 'END;'
-    rest = ['ok 1', 'rows 1', '| 0', 'ok']
-    yield 'CREATE TRIGGER of 32 long acts', one(body, 'ok', 'ok', *rest, before=TABLE, after='INSERT INTO t VALUES (1, NULL);SELECT COUNT(*) FROM t;ROLLBACK;')
+    rest = 'INSERT INTO t VALUES (1, NULL);SELECT COUNT(*) FROM t;ROLLBACK;'
+    yield 'CREATE TRIGGER of 32 long acts', one(body, 'ok', 'ok', 'ok 1', 'rows 1', '| 0', 'ok', before=TABLE, after=rest)
     text = 'x' * (SIZE - 200)
     signal = "CREATE TRIGGER r BEFORE INSERT ON t SIGNAL '%s';" % text
     yield 'CREATE TRIGGER, a SIGNAL of 1 MB', one(signal, 'ok', 'ok', "refused 15 Signal R '%s'" % text, before=TABLE, after='INSERT INTO t VALUES (1, NULL);')
     when = head + 'WHEN (%s) INSERT INTO t VALUES (2, NULL);' % balanced('EXISTS (SELECT * FROM t WHERE a > 3)', ' OR ', 14)
-    yield 'CREATE TRIGGER, a WHEN of EXISTS', one(when, 'ok', 'ok', 'ok 1', 'rows 1', '| 1', 'ok', before=TABLE, after='INSERT INTO t VALUES (1, NULL);SELECT COUNT(*) FROM t;ROLLBACK;')
+    yield 'CREATE TRIGGER, a WHEN of EXISTS', one(when, 'ok', 'ok', 'ok 1', 'rows 1', '| 1', 'ok', before=TABLE, after=rest)
     yield 'DROP TRIGGER', statement(['DROP', 'TRIGGER', 'r'], 'refused 1 Unknown')
 
 
@@ -191,7 +193,8 @@ def of_rows():
     yield 'UPDATE of one column, again and again', one(filled(few + 'UPDATE t SET ', 'a=1', ';', ',')[0], 'ok', 'refused 2 Duplicate')
     yield 'UPDATE of unknown columns', one(filled_numbers(few + 'UPDATE t SET ', 'a{n}=1', ';')[0], 'ok', 'refused 1 Unknown')
     yield 'UPDATE with a long condition', one('UPDATE t SET a = 2 WHERE %s;' % CONDITION, 'ok', 'ok 1', 'ok 1', 'ok', before=ONE_ROW, after='COMMIT;')
-    yield 'UPDATE to a sum', one('UPDATE t SET a = %s;' % SUM, 'ok', 'ok 1', 'ok 1', 'rows 1', '| 131072', 'ok', before=ONE_ROW, after='SELECT a FROM t;COMMIT;')
+    answers = ['ok', 'ok 1', 'ok 1', 'rows 1', '| 131072', 'ok']
+    yield 'UPDATE to a sum', one('UPDATE t SET a = %s;' % SUM, *answers, before=ONE_ROW, after='SELECT a FROM t;COMMIT;')
     yield 'DELETE with a long condition', one('DELETE FROM t WHERE %s;' % CONDITION, 'ok', 'ok 1', 'ok 1', 'ok', before=ONE_ROW, after='COMMIT;')
     values, count = filled(few + 'INSERT INTO t VALUES (7);SELECT ', 'a', ' FROM t;ROLLBACK;', ',')
     yield 'SELECT of half a million values', one(values, 'ok', 'ok 1', 'rows 1', '| ' + ', '.join(['7'] * count), 'ok')
@@ -217,7 +220,8 @@ def of_transactions():
     yield 'RELEASE SAVEPOINT', statement(['RELEASE', 'SAVEPOINT', 's'], 'refused 5 NoTransaction')
     yield 'ROLLBACK TO SAVEPOINT', statement(['ROLLBACK', 'WORK', 'TO', 'SAVEPOINT', 's'], 'refused 5 NoTransaction')
     before = 'CREATE TABLE t (a INT, CONSTRAINT c CHECK (a > 0) DEFERRABLE);START TRANSACTION;'
-    yield 'SET CONSTRAINTS of unknown names', one(filled_numbers(before + 'SET CONSTRAINTS ', 'd{n}', ' DEFERRED;')[0], 'ok', 'ok', 'refused 1 Unknown', 'end rolled back')
+    unknown = filled_numbers(before + 'SET CONSTRAINTS ', 'd{n}', ' DEFERRED;')[0]
+    yield 'SET CONSTRAINTS of unknown names', one(unknown, 'ok', 'ok', 'refused 1 Unknown', 'end rolled back')
     again = filled(before + 'SET CONSTRAINTS ', 'c', ' DEFERRED;INSERT INTO t VALUES (0);ROLLBACK;', ',')[0]
     yield 'SET CONSTRAINTS of one name, again and again', one(again, 'ok', 'ok', 'ok', 'ok 1', 'ok')
     immediate = filled(before + 'SET CONSTRAINTS c DEFERRED;INSERT INTO t VALUES (0);SET CONSTRAINTS ', 'c', ' IMMEDIATE;ROLLBACK;', ',')[0]
@@ -262,7 +266,8 @@ def long_savepoints():
     """Savepoints whose names of 128 characters differ in the last two, and the way back to the first and the last of them, again and again."""
     names = ['n' * 126 + first + second for first in LETTERS for second in LETTERS][:1_000]
     back = ['ROLLBACK TO SAVEPOINT ' + names[-1]] * 5_000
-    texts = ['START TRANSACTION', *('SAVEPOINT ' + one for one in names), *back, 'ROLLBACK TO SAVEPOINT ' + names[0], 'ROLLBACK TO SAVEPOINT ' + names[1], 'COMMIT']
+    texts = ['START TRANSACTION', *('SAVEPOINT ' + one for one in names), *back]
+    texts += ['ROLLBACK TO SAVEPOINT ' + names[0], 'ROLLBACK TO SAVEPOINT ' + names[1], 'COMMIT']
     return ';'.join(texts) + ';', answered(*['ok'] * (len(texts) - 2), 'refused 7 UnknownSavepoint', 'ok')
 
 
@@ -318,11 +323,12 @@ def before_triggers():
 
 
 def chain():
-    """64 tables, each of which refers to the one before it, and 1,023 rows in each: an UPDATE or DELETE of the first table changes 65,472 rows, and has one change for
-    itself. With a row more in each it would be 65,537, one beyond the budget."""
+    """64 tables, each of which refers to the one before it, and 1,023 rows in each: an UPDATE or DELETE of the first table changes 65,472 rows, and has one
+    change for itself. With a row more in each it would be 65,537, one beyond the budget."""
     texts = ['CREATE TABLE t1 (k INT PRIMARY KEY)']
     texts += ['CREATE TABLE t%d (k INT PRIMARY KEY REFERENCES t%d ON DELETE CASCADE ON UPDATE CASCADE)' % (n, n - 1) for n in range(2, 65)]
-    texts += ['INSERT INTO t1 VALUES ' + ', '.join(numbered('({n})', 1_023)), *['INSERT INTO t%d SELECT k FROM t%d' % (n, n - 1) for n in range(2, 65)], 'COMMIT']
+    texts += ['INSERT INTO t1 VALUES ' + ', '.join(numbered('({n})', 1_023))]
+    texts += ['INSERT INTO t%d SELECT k FROM t%d' % (n, n - 1) for n in range(2, 65)] + ['COMMIT']
     answers = ['ok'] * 64 + ['ok 1023'] * 64 + ['ok']
     texts += ['UPDATE t1 SET k = -k', 'SELECT COUNT(*) FROM t64 WHERE k < 0', 'ROLLBACK', 'DELETE FROM t1', 'SELECT COUNT(*) FROM t64', 'ROLLBACK']
     answers += ['ok 1023', 'rows 1', '| 1023', 'ok', 'ok 1023', 'rows 1', '| 0', 'ok']
@@ -345,8 +351,8 @@ def chain_of_one(times):
 
 
 def to_the_depth():
-    """Two triggers that fire each other. The statement of the script is at depth 1 and on T, so those on T are at odd depths and those on U at even ones: the one
-    at depth 16 is on U, and the one that its trigger Y has would be at depth 17."""
+    """Two triggers that fire each other. The statement of the script is at depth 1 and on T, so those on T are at odd depths and those on U at even ones: the
+    one at depth 16 is on U, and the one that its trigger Y has would be at depth 17."""
     before = 'CREATE TABLE t (a INT);CREATE TABLE u (a INT);CREATE TRIGGER x AFTER INSERT ON t INSERT INTO u VALUES (1);'
     script, count = filled(before + 'CREATE TRIGGER y AFTER INSERT ON u INSERT INTO t VALUES (1);', 'INSERT INTO t VALUES(1);', '')
     return script, answered(*['ok'] * 4, *['refused 16 DepthLimit Y'] * count)
@@ -357,8 +363,8 @@ DOUBLING = ('CREATE TABLE t (a INT);CREATE TRIGGER x AFTER INSERT ON t REFERENCI
 
 
 def to_the_budget(times):
-    """A trigger that fires itself twice. With the value 14 there are 2 ** 15 - 1 statements of one row, 65,534 in all, which is within the budget; with 15 there
-    would be 131,070. The depth is 15 and 16."""
+    """A trigger that fires itself twice. With the value 14 there are 2 ** 15 - 1 statements of one row, 65,534 in all, which is within the budget; with 15
+    there would be 131,070. The depth is 15 and 16."""
     script = DOUBLING + 'INSERT INTO t VALUES (14);SELECT COUNT(*) FROM t;ROLLBACK;' + 'INSERT INTO t VALUES (15);' * times
     return script, answered('ok', 'ok', 'ok 1', 'rows 1', '| 32767', 'ok', *['refused 17 TooManyChanges in X'] * times)
 
@@ -399,8 +405,8 @@ def nested(levels, condition, table):
 
 
 def deepest():
-    """All depths at once, with `--depth 32`: 32 statements nested by triggers, and at each of them a WHEN of depth 64, which are 62 EXISTS over one row. A statement that
-    inserts 32 is at depth 1, and that which inserts 1 at depth 32."""
+    """All depths at once, with `--depth 32`: 32 statements nested by triggers, and at each of them a WHEN of depth 64, which are 62 EXISTS over one row. A
+    statement that inserts 32 is at depth 1, and that which inserts 1 at depth 32."""
     when = nested(62, 'n.a > 1', 'one')
     texts = ['CREATE TABLE one (k INT)', 'INSERT INTO one VALUES (1)', 'COMMIT', 'CREATE TABLE t (a INT)']
     texts += ['CREATE TRIGGER r AFTER INSERT ON t REFERENCING NEW AS n FOR EACH ROW WHEN (%s) INSERT INTO t VALUES (n.a - 1)' % when]
@@ -431,9 +437,11 @@ def condition_over(rows):
 def many_violations():
     """8,000 rows that each violate 63 deferred CHECKs, and have one key."""
     checks = ', '.join(['CHECK (a > 0) INITIALLY DEFERRED'] * 63)
-    texts = ['CREATE TABLE t (a INT, %s, UNIQUE (a) INITIALLY DEFERRED)' % checks, 'INSERT INTO t VALUES ' + ', '.join(['(0)'] * 8_000), 'SET CONSTRAINTS ALL IMMEDIATE']
-    texts += ['SAVEPOINT s', 'DELETE FROM t', 'SET CONSTRAINTS ALL IMMEDIATE', 'ROLLBACK TO SAVEPOINT s', 'UPDATE t SET a = 1', 'COMMIT', 'SELECT COUNT(*) FROM t']
-    answers = ['ok', 'ok 8000', 'refused 13 Violation T_C1 row 1', 'ok', 'ok 8000', 'ok', 'ok', 'ok 8000', 'refused 19 CommitRefused T_C64 row 1', 'rows 1', '| 0']
+    texts = ['CREATE TABLE t (a INT, %s, UNIQUE (a) INITIALLY DEFERRED)' % checks, 'INSERT INTO t VALUES ' + ', '.join(['(0)'] * 8_000)]
+    texts += ['SET CONSTRAINTS ALL IMMEDIATE', 'SAVEPOINT s', 'DELETE FROM t', 'SET CONSTRAINTS ALL IMMEDIATE', 'ROLLBACK TO SAVEPOINT s', 'UPDATE t SET a = 1']
+    texts += ['COMMIT', 'SELECT COUNT(*) FROM t']
+    answers = ['ok', 'ok 8000', 'refused 13 Violation T_C1 row 1', 'ok', 'ok 8000', 'ok', 'ok', 'ok 8000']
+    answers += ['refused 19 CommitRefused T_C64 row 1', 'rows 1', '| 0']
     return ';'.join(texts) + ';', answered(*answers)
 
 
@@ -441,10 +449,12 @@ def one_parent(rows):
     """So many children of one parent, which all go to another parent and back, are deleted one half after the other, and rolled back."""
     half = rows // 2
     texts = ['CREATE TABLE p (k INT PRIMARY KEY)', 'CREATE TABLE c (n INT, x INT REFERENCES p)', 'INSERT INTO p VALUES (1), (2)']
-    texts += ['INSERT INTO c VALUES ' + ','.join('(%d,1)' % n for n in range(1, rows + 1)), 'COMMIT', 'UPDATE c SET x = 2', 'UPDATE c SET x = 1 WHERE n > %d' % half, 'UPDATE c SET x = 1']
+    texts += ['INSERT INTO c VALUES ' + ','.join('(%d,1)' % n for n in range(1, rows + 1)), 'COMMIT']
+    texts += ['UPDATE c SET x = 2', 'UPDATE c SET x = 1 WHERE n > %d' % half, 'UPDATE c SET x = 1']
     texts += ['DELETE FROM c WHERE n > %d' % half, 'DELETE FROM c', 'ROLLBACK', 'SELECT COUNT(*) FROM c WHERE x = 1', 'DELETE FROM c WHERE n <= %d' % half]
     texts += ['DELETE FROM p WHERE k = 1']
-    answers = ['ok', 'ok', 'ok 2', 'ok %d' % rows, 'ok', 'ok %d' % rows, 'ok %d' % half, 'ok %d' % rows, 'ok %d' % half, 'ok %d' % half, 'ok', 'rows 1', '| %d' % rows, 'ok %d' % half]
+    of_all, of_half = 'ok %d' % rows, 'ok %d' % half
+    answers = ['ok', 'ok', 'ok 2', of_all, 'ok', of_all, of_half, of_all, of_half, of_half, 'ok', 'rows 1', '| %d' % rows, of_half]
     return ';'.join(texts) + ';', answered(*answers, 'refused 13 Violation C_C1 row %d' % (half + 3), 'end rolled back')
 
 
@@ -475,7 +485,8 @@ def many_foreign_keys():
     """4,032 foreign keys that refer to one table, whose rows are inserted, shifted and deleted."""
     keys = ', '.join(['FOREIGN KEY (x) REFERENCES p'] * 64)
     texts = ['CREATE TABLE p (k INT PRIMARY KEY)'] + numbered('CREATE TABLE t{n} (x INT, %s)' % keys, 63)
-    texts += ['INSERT INTO p VALUES ' + ', '.join(numbered('({n})', 200)), 'INSERT INTO t63 VALUES (200)', 'UPDATE p SET k = k - 1', 'DELETE FROM p WHERE k < 200', 'COMMIT']
+    texts += ['INSERT INTO p VALUES ' + ', '.join(numbered('({n})', 200)), 'INSERT INTO t63 VALUES (200)']
+    texts += ['UPDATE p SET k = k - 1', 'DELETE FROM p WHERE k < 200', 'COMMIT']
     return ';'.join(texts) + ';', answered(*['ok'] * 64, 'ok 200', 'ok 1', 'refused 13 Violation T63_C1 row 201', 'ok 199', 'ok')
 
 
@@ -483,7 +494,8 @@ def saved_with_constraints():
     """A thousand savepoints over 4,096 constraints, each of which keeps their modes."""
     checks = ', '.join(['CHECK (a > 0) DEFERRABLE'] * 64)
     texts = numbered('CREATE TABLE t{n} (a INT, %s)' % checks, 64) + ['START TRANSACTION'] + numbered('SAVEPOINT s{n}', 1_000)
-    texts += ['SET CONSTRAINTS ALL DEFERRED', 'INSERT INTO t64 VALUES (0)', 'ROLLBACK TO SAVEPOINT s1000', 'INSERT INTO t64 VALUES (0)', 'ROLLBACK TO SAVEPOINT s1', 'COMMIT']
+    texts += ['SET CONSTRAINTS ALL DEFERRED', 'INSERT INTO t64 VALUES (0)', 'ROLLBACK TO SAVEPOINT s1000', 'INSERT INTO t64 VALUES (0)']
+    texts += ['ROLLBACK TO SAVEPOINT s1', 'COMMIT']
     return ';'.join(texts) + ';', answered(*['ok'] * 1_065, 'ok', 'ok 1', 'ok', 'refused 13 Violation T64_C1 row 1', 'ok', 'ok')
 
 

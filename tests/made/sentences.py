@@ -1,5 +1,5 @@
-"""Random statements of the whole grammar over few names. Unlike those of scripts.py they follow no guess of what the tables hold, and nearly each part may come anywhere: many
-are refused, for all kinds of causes."""
+"""Random statements of the whole grammar over few names. Unlike those of scripts.py they follow no guess of what the tables hold, and nearly each part may
+come anywhere: many are refused, for all kinds of causes."""
 TABLES, COLUMNS, CONSTRAINTS, TRIGGERS, SAVEPOINTS = ['t', 'u', 'v'], ['a', 'b', 'c'], ['f', 'g', 't_c1', 'u_c2'], ['r', 's', 'q'], ['x', 'y']
 NUMBERS = ['0', '1', '1', '2', '2', '3', '4', '007', '-1', '9223372036854775807']
 TEXTS = ["''", "'x'", "'x'", "'y'", "'yy'", "'it''s'", "'ä€'", "';'", "'--'"]
@@ -9,7 +9,8 @@ WRONG = 0.012
 
 
 class Sentences:
-    """Statements of one script. `tables` are those that were named by a CREATE TABLE, `ranges` the names that a column may have before it: those of the FROMs around it."""
+    """Statements of one script. `tables` are those that were named by a CREATE TABLE, `ranges` the names that a column may have before it: those of the FROMs
+    around it."""
 
     def __init__(self, chance):
         self.chance, self.tables, self.ranges, self.rows, self.transitions = chance, [], [], [], []
@@ -106,7 +107,8 @@ class Sentences:
         return text
 
     def of_column(self, table):
-        rule = self.chance.weighed((2, 'NOT NULL' + self.time()), (2, 'UNIQUE' + self.key_time()), (3, self.check(table) + self.time()), (3, self.reference() + self.time()))
+        rules = (2, 'NOT NULL' + self.time()), (2, 'UNIQUE' + self.key_time()), (3, self.check(table) + self.time()), (3, self.reference() + self.time())
+        rule = self.chance.weighed(*rules)
         return ' ' + self.named() + rule
 
     def of_table(self, table):
@@ -138,7 +140,8 @@ class Sentences:
         rows = [side for side in sides if level]
         tables = [side for side in sides if time == 'AFTER' and self.chance.happens(0.4)]
         self.rows, self.transitions = ['n' if side == 'NEW' else 'o' for side in rows], ['news' if side == 'NEW' else 'olds' for side in tables]
-        items = ['%s AS %s' % (side, name) for side, name in zip(rows, self.rows)] + ['%s TABLE %s' % (side, name) for side, name in zip(tables, self.transitions)]
+        items = ['%s AS %s' % (side, name) for side, name in zip(rows, self.rows)]
+        items += ['%s TABLE %s' % (side, name) for side, name in zip(tables, self.transitions)]
         acts = [self.act(time, level) for _ in range(self.chance.number(1, 2))]
         body = acts[0] if len(acts) == 1 else 'BEGIN ATOMIC %s; END' % '; '.join(acts)
         when = self.maybe(0.5, ' WHEN (%s)' % (self.condition(1) if self.rows else 'EXISTS (SELECT * %s)' % self.range(1)[1]))
@@ -156,7 +159,8 @@ class Sentences:
         name, source = self.range(1)
         values = ', '.join(self.seen([*self.ranges, name], self.expression, 'VARCHAR' if column == 'c' else 'INT') for column in short)
         query = 'SELECT %s %s' % (values, source)
-        return 'INSERT INTO %s%s' % (self.table(), self.chance.weighed((8, '%s VALUES %s' % (names, tuples)), (2, '%s %s' % (names, query)), (1, ' DEFAULT VALUES')))
+        rest = self.chance.weighed((8, '%s VALUES %s' % (names, tuples)), (2, '%s %s' % (names, query)), (1, ' DEFAULT VALUES'))
+        return 'INSERT INTO %s%s' % (self.table(), rest)
 
     def update(self):
         table = self.table()
@@ -185,12 +189,13 @@ class Sentences:
         return 'ALTER TABLE %s ADD %s' % (table, self.of_table(table))
 
     def statement(self):
-        kinds = [(1, self.create_table), (2, self.add_constraint), (2, self.create_trigger), (1, lambda: 'DROP TRIGGER ' + self.chance.one(TRIGGERS)), (16, self.insert),
-                 (8, self.update), (4, self.delete), (4, self.select), (10, self.of_transaction)]
+        kinds = [(1, self.create_table), (2, self.add_constraint), (2, self.create_trigger), (1, lambda: 'DROP TRIGGER ' + self.chance.one(TRIGGERS))]
+        kinds += [(16, self.insert), (8, self.update), (4, self.delete), (4, self.select), (10, self.of_transaction)]
         return self.chance.weighed(*kinds)()
 
     def script(self):
-        """Tables, some triggers and rows, other statements between them, and what the tables hold at the end. A table that was refused is made in a plain form."""
+        """Tables, some triggers and rows, other statements between them, and what the tables hold at the end. A table that was refused is made in a plain
+        form."""
         first = []
         for name in TABLES:
             first += [self.create_table(name), 'CREATE TABLE %s (a INT PRIMARY KEY, b INT UNIQUE, c VARCHAR(3))' % name]
