@@ -4,7 +4,7 @@
   tests/hostile.py --program PATH [--program PATH].. [--only WORD] [--all] [--tell]
 
 The scripts are those of made/hostile.py, mostly of 1 MB, with the transcript that the rules give each. --tell prints what each took; --all runs those too
-that take longer, which have thirty seconds. The last line is `N passed, N failed`; the status is 1 where something failed."""
+that take longer, which have a minute. The last line is `N passed, N failed`; the status is 1 where something failed."""
 import argparse
 import os
 import resource
@@ -17,7 +17,7 @@ import run
 from made import hostile
 
 STACK = 256 * 1024
-SECONDS, MORE_SECONDS = 10, 30
+SECONDS, MORE_SECONDS = 10, 60
 
 
 def small_stack():
