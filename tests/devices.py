@@ -165,6 +165,14 @@ def directory_as_input(place):
         os.close(descriptor)
 
 
+def can_start(program, user):
+    """Whether the system lets this user start the program."""
+    try:
+        return subprocess.run([program, '--help'], capture_output=True, timeout=SECONDS, check=False, **user).returncode == 0
+    except (OSError, subprocess.SubprocessError):
+        return False
+
+
 def rights(place):
     """A file without rights, for a user who isn't root. The program is copied to where this user can start it."""
     user = {'user': NOBODY, 'group': NOBODY} if os.geteuid() == 0 else {}
@@ -177,6 +185,10 @@ def rights(place):
     os.mkdir(locked)
     shutil.copy(shown, locked)
     os.chmod(locked, 0)
+    if not can_start(own, user):
+        print('files without rights: left out, since no other user can start a program here')
+        os.chmod(locked, 0o755)
+        return
     yield 'a file with rights to read', compared((SHORT_TRANSCRIPT, 1, b''), run([own, shown], **user))
     yield 'a file without rights', compared((b'', 2, READ), run([own, hidden], **user))
     yield 'a folder without rights', compared((b'', 2, READ), run([own, os.path.join(locked, 'shown.sql')], **user))
