@@ -15,7 +15,7 @@ depth_rule = record (new_rule (codes "depth")) {
   parser = Some (parser.Signed (pos least_depth) (pos greatest_depth));
 }
 
--- --changes N, from the fewest row changes to the most that a statement of a session may have
+-- --changes N, from the fewest row changes to the most that a session may allow a statement
 abbrev pub changes_rule : Rule
 changes_rule = record (new_rule (codes "changes")) {
   long = Some (codes "changes");
