@@ -1,2 +1,4 @@
 pub mod Numbers
+pub mod Passed
 pub mod Simple
+pub mod Within

@@ -1,26 +1,27 @@
 -- The command line of `sqlkeep` as clap's definitions read it, and what its matches mean.
-use Rattle.std.specs.Prelude.{ℕ, List, [], ◌∷◌, Option, Some, None, codes, pos}
+use Rattle.std.specs.Prelude.{ℕ, List, Option, Some, None, codes, pos}
 use Rattle.std.specs.Str.Parse.{digits_value, without_leading_plus}
 use Rattle.clap.specs.Words.{App, Row, Rule, Text, first_of, new_app, new_rule, one_of, with_rule}
 use Rattle.clap.specs.declared.builder.value_parser.ValueParser.TheVariants as parser
 use Rattle.iv_machine.specs.declared.limits.TheConstants.{MOST_CHANGES_IN_A_STATEMENT}
-use Rattle.iv_machine.specs.Bounds.{Bounds}
+use Rattle.iv_machine.specs.Bounds.{Bounds, least_depth, greatest_depth, fewest_changes_in_a_statement, most_changes_in_a_statement}
 use Rattle.iv_options.specs.declared.command.TheConstants.{USUAL_DEPTH}
 
--- --depth N, from 1 to 32
+-- --depth N, from the least depth to the greatest that a session may have
 abbrev pub depth_rule : Rule
 depth_rule = record (new_rule (codes "depth")) {
   long = Some (codes "depth");
   value_names = 1;
-  parser = Some (parser.Signed (pos 1) (pos 32));
+  parser = Some (parser.Signed (pos least_depth) (pos greatest_depth));
 }
 
--- --changes N, from 1 to 65,536
+-- --changes N, from the fewest row changes to the most that a session may allow a statement
 abbrev pub changes_rule : Rule
 changes_rule = record (new_rule (codes "changes")) {
   long = Some (codes "changes");
   value_names = 1;
-  parser = Some (parser.Signed (pos 1) (pos 65536));
+  parser =
+      Some (parser.Signed (pos fewest_changes_in_a_statement) (pos most_changes_in_a_statement));
 }
 
 -- FILE

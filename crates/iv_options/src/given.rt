@@ -23,6 +23,11 @@ pub enum WordsError {
 }
 
 impl From<AllocError> for WordsError {
+    ghost use Rattle.std.specs.Prelude.{◌≡◌};
+    ghost use Rattle.iv_options.specs.declared.given.WordsError.TheVariants.{NoMemory};
+
+    ghost from_gives = { λ _ error. error ≡ NoMemory };
+
     fn from(_: AllocError) -> Self {
         WordsError::NoMemory
     }

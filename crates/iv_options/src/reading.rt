@@ -1,9 +1,14 @@
 //! The options that words give.
-ghost use Rattle.std.specs.Prelude.{◌≡◌, codes, map, option_map, IfOk, IfSome};
-ghost use Rattle.clap.specs.Words.{found_of, matches_of, one_of, rows_of};
+ghost use Rattle.std.specs.Prelude.{◌≡◌, ◌≤◌, codes, map, option_map, true, IfErr, IfOk};
+ghost use Rattle.clap.specs.Words.{FailsBy, HasKind, Kinds, fault_of, found_of, kind_of, matches_of, one_of, rows_of, takes};
+ghost use Rattle.clap.specs.declared.error.kind.ErrorKind.TheVariants.{OutOfMemory};
+ghost use Rattle.iv_machine.specs.Bounds.{least_depth, greatest_depth, fewest_changes_in_a_statement, most_changes_in_a_statement};
 ghost use Rattle.iv_machine.specs.declared.limits.TheConstants.{MOST_CHANGES_IN_A_STATEMENT};
 ghost use Rattle.iv_options.specs.declared.command.TheConstants.{USUAL_DEPTH};
+ghost use Rattle.iv_options.specs.declared.given.WordsError.TheVariants.{NoMemory};
 ghost use Rattle.iv_options.specs.CommandLine.{command_line, file_of, limits_of, number_or};
+ghost use Rattle.iv_options.specs.Ranges.{GivesLimits, WritesWithin};
+ghost use Rattle.iv_options.specs.Refusals.{AnswersBy, MayAnswer};
 
 use crate::command::{USUAL_DEPTH, command};
 use crate::given::{Options, WordsError};
@@ -12,33 +17,43 @@ use clap::{ArgMatches, Error};
 use iv_machine::{Limits, MOST_CHANGES_IN_A_STATEMENT};
 use std::alloc::{AllocError, Global};
 use std::convert::AsStr;
-use std::num::ParseIntError;
 
-fn depth_of(matches: &ArgMatches<'_>) -> Result<u8, ParseIntError>
-    ensures { IfOk result (λ n. n
-        ≡ number_or USUAL_DEPTH (one_of (codes "depth") (rows_of (found_of matches.now)))) }
+fn depth_of(matches: &ArgMatches<'_>) -> u8
+    requires { WritesWithin least_depth greatest_depth
+        (one_of (codes "depth") (rows_of (found_of matches.now))) }
+    ensures number { result
+        ≡ number_or USUAL_DEPTH (one_of (codes "depth") (rows_of (found_of matches.now))) }
+    ensures least { least_depth ≤ result }
+    ensures greatest { result ≤ greatest_depth }
 {
-    Ok(matches.try_get_one::<u8>("depth")?.unwrap_or(USUAL_DEPTH))
+    matches.get_one::<u8>("depth").unwrap_or(USUAL_DEPTH)
 }
 
-fn changes_of(matches: &ArgMatches<'_>) -> Result<u32, ParseIntError>
-    ensures { IfOk result (λ n. n
+fn changes_of(matches: &ArgMatches<'_>) -> u32
+    requires { WritesWithin fewest_changes_in_a_statement most_changes_in_a_statement
+        (one_of (codes "changes") (rows_of (found_of matches.now))) }
+    ensures number { result
         ≡ number_or MOST_CHANGES_IN_A_STATEMENT
-        (one_of (codes "changes") (rows_of (found_of matches.now)))) }
+        (one_of (codes "changes") (rows_of (found_of matches.now))) }
+    ensures fewest { fewest_changes_in_a_statement ≤ result }
+    ensures most { result ≤ most_changes_in_a_statement }
 {
-    Ok(
-        matches
-            .try_get_one::<u32>("changes")?
-            .unwrap_or(MOST_CHANGES_IN_A_STATEMENT),
-    )
+    matches
+        .get_one::<u32>("changes")
+        .unwrap_or(MOST_CHANGES_IN_A_STATEMENT)
 }
 
-fn limits_of(matches: &ArgMatches<'_>) -> Option<Limits>
-    ensures { IfSome result (λ l. l ≡ limits_of (rows_of (found_of matches.now))) }
+// The limits that the matches give. `clap` let through no number that is out of its range.
+fn limits_of(matches: &ArgMatches<'_>) -> Limits
+    requires { GivesLimits (rows_of (found_of matches.now)) }
+    ensures { result ≡ limits_of (rows_of (found_of matches.now)) }
 {
-    let depth = depth_of(matches).ok()?;
-    let changes = changes_of(matches).ok()?;
-    Limits::new(depth, changes)
+    let depth = depth_of(matches);
+    let changes = changes_of(matches);
+    match Limits::new(depth, changes) {
+        Some(limits) => limits,
+        None => unreachable!(),
+    }
 }
 
 // The options that the words give, or the error of `clap`.
@@ -47,28 +62,32 @@ fn read_words<'a, S: AsStr>(alloc: Global, words: &'a [S]) -> Result<Options<'a>
         ≡ limits_of (matches_of command_line (map S.text words.entry.now))) }
     ensures file { IfOk result (λ o. option_map (λ s. s.now) o.file
         ≡ file_of (matches_of command_line (map S.text words.entry.now))) }
+    ensures passes { IfErr result (λ e. takes command_line (map S.text words.entry.now) ≡ true
+        → kind_of e ≡ OutOfMemory) }
+    ensures kinds { FailsBy (fault_of command_line (map S.text words.entry.now)) result }
 {
     let mut command = command(alloc)?;
     let matches = command.try_get_matches_from_mut(words)?;
-    match limits_of(&matches) {
-        Some(limits) => Ok(Options {
-            limits,
-            file: matches.get_str("file"),
-        }),
-        None => Err(command.error(ErrorKind::ValueValidation, "a limit is out of its range")?),
-    }
+    Ok(Options {
+        limits: limits_of(&matches),
+        file: matches.get_str("file"),
+    })
 }
 
 // Why there are no options, by the error of `clap`.
-fn words_error(alloc: Global, error: &Error) -> Result<WordsError, AllocError> {
-    if error.kind() == ErrorKind::OutOfMemory {
+fn words_error(alloc: Global, error: &Error) -> Result<WordsError, AllocError>
+    ensures memory { kind_of error.now ≡ OutOfMemory → IfOk result (λ e. e ≡ NoMemory) }
+    ensures kinds { (kinds : Kinds) → HasKind kinds error.now → IfOk result (MayAnswer kinds) }
+{
+    let kind = error.kind();
+    if kind == ErrorKind::OutOfMemory {
         return Ok(WordsError::NoMemory);
     }
     let text = format!(in alloc; "{error}")?;
-    if error.use_stderr() {
-        Ok(WordsError::Refused(text))
-    } else {
+    if kind == ErrorKind::DisplayHelp {
         Ok(WordsError::Help(text))
+    } else {
+        Ok(WordsError::Refused(text))
     }
 }
 
@@ -78,6 +97,9 @@ pub fn options<'a, S: AsStr>(alloc: Global, words: &'a [S]) -> Result<Options<'a
         ≡ limits_of (matches_of command_line (map S.text words.entry.now))) }
     ensures file { IfOk result (λ o. option_map (λ s. s.now) o.file
         ≡ file_of (matches_of command_line (map S.text words.entry.now))) }
+    ensures passes { IfErr result (λ e. takes command_line (map S.text words.entry.now) ≡ true
+        → e ≡ NoMemory) }
+    ensures kinds { AnswersBy (fault_of command_line (map S.text words.entry.now)) result }
 {
     match read_words(alloc, words) {
         Ok(options) => Ok(options),

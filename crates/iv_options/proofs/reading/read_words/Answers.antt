@@ -1,16 +1,35 @@
-use Rattle.std.proofs.Common.{◌∙◌, ap, codes, map}
-use Rattle.clap.specs.Words.{found_of}
+use Rattle.std.proofs.Common.{◌∙◌, ◌≡◌, ap, codes, map, subst, true, []}
+use Rattle.clap.specs.Words.{App, HasKind, Kinds, found_of, kind_of, takes}
+use Rattle.clap.specs.declared.error.kind.ErrorKind.TheVariants.{OutOfMemory}
 use Rattle.clap.proofs.WalkLemmas.{first_value-rows}
-use Rattle.iv_options.specs.CommandLine.{file_of, limits_of}
-use Rattle.iv_options.proofs.Simple.{meant}
+use Rattle.iv_options.specs.CommandLine.{command_line, file_of}
+use Rattle.iv_options.proofs.Simple.{kinds_meant, meant, passed_on, told_on}
+use Rattle.iv_options.proofs.Within.{limits_within}
 use Rattle.iv_options.proofs.reading.read_words.Goals as goal
 
-pub returns-in-Some-clause-limits : goal.returns-in-Some-clause-limits
-returns-in-Some-clause-limits g c =
-    c.in-Some.ensures
-    ∙ ap limits_of (meant c.in_ok-command.command (map g.S.AsStr.text c.args.words.now) c.in_ok-matches.matches c.in_ok-command.ensures c.in_ok-matches.ensures.ok.2)
+pub returns-in_err-matches-clause-passes : goal.returns-in_err-matches-clause-passes
+returns-in_err-matches-clause-passes g c =
+    let error = c.in_err-matches.field-0.0 in
+    let words = map g.S.AsStr.text c.args.words.now in
+    passed_on _ error c.from_residual-in_err-matches.ensures.1 (takes command_line words ≡ true)
+    (subst (λ (a : App). takes a words ≡ true → kind_of error ≡ OutOfMemory) c.in_ok-command.ensures c.in_err-matches.ensures.passes)
 
-pub returns-in-Some-clause-file : goal.returns-in-Some-clause-file
-returns-in-Some-clause-file g c =
+pub returns-in_err-matches-clause-kinds : goal.returns-in_err-matches-clause-kinds
+returns-in_err-matches-clause-kinds g c =
+    let error = c.in_err-matches.field-0.0 in
+    told_on _ error c.from_residual-in_err-matches.ensures.1 _
+    (kinds_meant (λ (kinds : Kinds). HasKind kinds error) c.in_ok-command.command (map g.S.AsStr.text c.args.words.now) c.in_ok-command.ensures c.in_err-matches.ensures.kinds)
+
+pub limits_of-requires : goal.limits_of-requires
+limits_of-requires g c =
+    let given = c.in_ok-matches.ensures.ok in
+    limits_within c.in_ok-command.command c.try_get_matches_from_mut.new.self c.in_ok-matches.matches c.in_ok-command.ensures given.0 given.1
+
+pub returns-clause-file : goal.returns-clause-file
+returns-clause-file g c =
     c.get_str.ensures ∙ first_value-rows (found_of c.in_ok-matches.matches) (codes "file")
     ∙ ap file_of (meant c.in_ok-command.command (map g.S.AsStr.text c.args.words.now) c.in_ok-matches.matches c.in_ok-command.ensures c.in_ok-matches.ensures.ok.2)
+
+pub returns-clause-kinds : goal.returns-clause-kinds
+returns-clause-kinds g c =
+    kinds_meant (λ (kinds : Kinds). kinds ≡ []) c.in_ok-command.command (map g.S.AsStr.text c.args.words.now) c.in_ok-command.ensures c.in_ok-matches.ensures.kinds
