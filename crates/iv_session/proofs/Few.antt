@@ -16,7 +16,7 @@ use Rattle.iv_session.specs.FewLookups.{FewLookups, defines_schema}
 
 -- ---- what doesn't change the schema has a plan that doesn't
 
-is_outside : Occasion → Bool
+abbrev is_outside : Occasion → Bool
 is_outside outside = true
 is_outside beginning = false
 is_outside inside = false

@@ -1,5 +1,5 @@
 -- How many keys a statement looks up.
-use Rattle.std.specs.Prelude.{ℕ, ◌+◌, ◌*◌, ◌≤◌, Bool, true, false, length}
+use Rattle.std.specs.Prelude.{◌+◌, ◌*◌, ◌≤◌, Bool, true, false, length}
 use Rattle.iv_syntax.specs.declared.statement.Statement.TheVariants as statement
 use Rattle.iv_session.specs.Words.{Statement}
 use Rattle.iv_machine.specs.Machine.{State}

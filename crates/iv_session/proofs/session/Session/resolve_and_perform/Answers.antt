@@ -6,6 +6,10 @@ use Rattle.iv_state.specs.Kept.{Seen}
 use Rattle.iv_state.specs.Performing.{Runs}
 use Rattle.iv_state.proofs.Defined.{runs_of}
 use Rattle.iv_state.proofs.Fitting.{plan_fits}
+use Rattle.iv_run.proofs.Occasions.{plans_keep}
+use Rattle.iv_run.proofs.Reached.{IsReached}
+use Rattle.iv_session.proofs.Few.{few_from, no_definition}
+use Rattle.iv_session.proofs.Sound.{resolved_reached}
 use Rattle.iv_session.proofs.session.Session.resolve_and_perform.Goals as goal
 
 pub perform-requires : goal.perform-requires
@@ -21,3 +25,19 @@ returns-in-Ok-clause-runs g c =
     subst (λ (y : State). Runs y c.args.statement.now (resolution_outcome y (resolution y.schema c.args.statement.now)) c.perform.result c.perform.new.self) same
     (runs_of c.clear_work.new.self.state c.args.statement.now c.in-Ok.plan c.perform.result c.perform.new.self
     (c.in-Ok.ensures ∙ ap (λ (x : Schema). resolution x c.args.statement.now) c.catalogue.ensures.now) c.perform.ensures.performs)
+
+pub invariant_of-self : goal.invariant_of-self
+invariant_of-self g c =
+    let same : c.clear_work.new.self.state ≡ c.args.self.now.state = c.clear_work.ensures.state ∙ ap (λ (x : Seen). x.state) c.self.view_is in
+    resolved_reached c.args.self.now.state c.args.statement.now c.perform.result c.perform.new.self
+    (subst (λ (x : Seen). IsReached x.state) c.self.view_is c.self.invariant) c.requires
+    (subst (λ (y : State). Runs y c.args.statement.now (resolution_outcome y (resolution y.schema c.args.statement.now)) c.perform.result c.perform.new.self) same
+    (runs_of c.clear_work.new.self.state c.args.statement.now c.in-Ok.plan c.perform.result c.perform.new.self
+    (c.in-Ok.ensures ∙ ap (λ (x : Schema). resolution x c.args.statement.now) c.catalogue.ensures.now) c.perform.ensures.performs))
+
+pub returns-in-Ok-clause-looked : goal.returns-in-Ok-clause-looked
+returns-in-Ok-clause-looked g c = λ plain.
+    let same : c.clear_work.new.self.state ≡ c.args.self.now.state = c.clear_work.ensures.state ∙ ap (λ (x : Seen). x.state) c.self.view_is in
+    let planned = sym {b = resolution c.clear_work.new.self.state.schema c.args.statement.now} (c.in-Ok.ensures ∙ ap (λ (x : Schema). resolution x c.args.statement.now) c.catalogue.ensures.now) in
+    few_from c.perform.result c.args.self.now c.clear_work.new.self c.perform.new.self same (c.clear_work.ensures.looked ∙ ap (λ (x : Seen). x.looked) c.self.view_is)
+    (c.perform.ensures.looked (no_definition c.in-Ok.plan c.args.statement.now (plans_keep c.clear_work.new.self.state.schema c.args.statement.now c.in-Ok.plan planned) plain))
