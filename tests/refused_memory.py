@@ -14,8 +14,8 @@ for memory in it, and each time another request is refused. Each run has to be o
 Words with which no script is run are tried in the same way. 100 random scripts are run too, with ten of their requests refused. Without --all the plain one
 has five of their requests refused, and 60 of each other script, not all. With --all there are, besides: some scripts more; all these with each statement
 twice, so that the statement that was refused is given once more; with what all tables hold after each statement; with a request and all that come after it
-refused, where several statements may answer 22; and 50 requests of each random script. The last line is `N passed, N failed`; the status is 1 where something
-failed."""
+refused, where several statements may answer 22; and five times as many requests of each random script. The last line is `N passed, N failed`; the status is 1
+where something failed."""
 import argparse
 import collections
 import os
@@ -139,10 +139,11 @@ def plan(is_all, is_plain):
     for seed in range(1, RANDOM + 1):
         made = Script(seed)
         text = made.text().encode()
-        yield 'random script %d' % seed, text, made.words, 50 if is_all else 5 if is_plain else 10, False
+        some = 5 if is_plain else 10
+        yield 'random script %d' % seed, text, made.words, 5 * some if is_all else some, False
         if is_all:
-            yield 'random script %d, all later ones too' % seed, text, made.words, 10, True
-            yield 'random script %d, each statement twice' % seed, cut.doubled(text), made.words, 10, False
+            yield 'random script %d, all later ones too' % seed, text, made.words, some, True
+            yield 'random script %d, each statement twice' % seed, cut.doubled(text), made.words, some, False
 
 
 def tried(library, program, is_plain, given):
