@@ -3,9 +3,10 @@
 
   tools/carry.py COMMIT NAMES
 
-NAMES is a file with a line `OLD NEW` for each word that was renamed: crates, files, types and functions. The tree of the
-commit is laid out in a folder of its own, each old word is replaced there by its new one, in texts and in paths, and
-the files are laid out anew. Where what a crate's digest is made of is then the same as in this checkout, and the digest
+NAMES is a file with a line `OLD NEW` for each word that was renamed: crates, files, types and functions. A line `OLD NEW
+PLACE..` holds in the files and folders whose paths have one of these places, as `iv_lex` or `iv_waves/src`, and before a
+line without places. The tree of the commit is laid out in a folder of its own, each old word is replaced there by its
+new one, in code, in paths and where comments and pages name it between backticks, and the files are laid out anew. Where what a crate's digest is made of is then the same as in this checkout, and the digest
 held at the commit, its edits were refused over these sources but for the names, and the digest is written anew. The
 last line is `N carried, N stale`; the edits of a stale crate have to be tried."""
 import os
@@ -24,9 +25,15 @@ def run(words, folder):
 
 
 def names_of(path):
-    """The new word of each old one."""
+    """The renamings: the old word, the new one and the places where it was renamed; everywhere where there are none."""
     with open(path, encoding="utf-8") as lines:
-        return dict(line.split() for line in lines if line.strip())
+        return [(words[0], words[1], words[2:]) for words in map(str.split, lines) if words]
+
+
+def names_at(names, path):
+    """The new word of each old one in a file or folder."""
+    everywhere = {old: new for old, new, places in names if not places}
+    return {**everywhere, **{old: new for old, new, places in names if any(f"/{place}/" in f"/{path}/" for place in places)}}
 
 
 def renamed(text, names):
@@ -34,22 +41,40 @@ def renamed(text, names):
     return re.sub(r"\w+", lambda word: names.get(word[0], word[0]), text)
 
 
+def prose_renamed(text, names):
+    """A text in which words with an underscore are renamed, and others between backticks."""
+    parts = text.split("`")
+    plain = {old: new for old, new in names.items() if "_" in old}
+    return "`".join(renamed(part, names if place % 2 else plain) for place, part in enumerate(parts))
+
+
+def file_renamed(text, suffix, names):
+    """The text of a file with new words; in pages and in the lines that hold a comment, those that are names."""
+    if suffix == ".md":
+        return prose_renamed(text, names)
+    mark = edits.COMMENTS.get(suffix)
+    lines = text.split("\n")
+    return "\n".join(prose_renamed(line, names) if mark and line.lstrip().startswith(mark) else renamed(line, names) for line in lines)
+
+
 def rename_tree(root, names):
     """Replaces the words in the texts and in the paths of a tree, files before the folders that they are in."""
     for place, _, files in os.walk(root, topdown=False):
         for file in files:
             path = os.path.join(place, file)
+            at = names_at(names, os.path.relpath(path, root))
             try:
                 with open(path, encoding="utf-8") as source:
                     text = source.read()
             except UnicodeDecodeError:
                 continue
-            new = os.path.join(place, renamed(file, names))
+            new = os.path.join(place, renamed(file, at))
             os.rename(path, new)
             with open(new, "w", encoding="utf-8") as target:
-                target.write(renamed(text, names))
+                target.write(file_renamed(text, os.path.splitext(file)[1], at))
         if place != root:
-            os.rename(place, os.path.join(os.path.dirname(place), renamed(os.path.basename(place), names)))
+            at = names_at(names, os.path.relpath(place, root))
+            os.rename(place, os.path.join(os.path.dirname(place), renamed(os.path.basename(place), at)))
 
 
 def lay_out(root):
@@ -73,7 +98,7 @@ def main():
     with tempfile.TemporaryDirectory(prefix="carry-") as root:
         archive = run(["git", "archive", sys.argv[1]], ROOT)
         subprocess.run(["tar", "-x"], cwd=root, input=archive, check=True)
-        held = {names.get(crate, crate) for crate, (holds, _) in digests_in(root).items() if holds}
+        held = {renamed(crate, names_at(names, crate)) for crate, (holds, _) in digests_in(root).items() if holds}
         rename_tree(root, names)
         lay_out(root)
         before = {crate: digest for crate, (_, digest) in digests_in(root).items()}
