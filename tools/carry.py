@@ -19,6 +19,9 @@ ROOT = os.path.dirname(os.path.dirname(os.path.realpath(__file__)))
 sys.path.insert(0, os.path.join(ROOT, "tests"))
 import edits
 
+# The endings of the files that are renamed and whose texts are; DIGESTS and others have none.
+RENAMED = {".rt", ".antt", ".edit", ".md", ".py", ".txt", ""}
+
 
 def run(words, folder):
     return subprocess.run(words, cwd=folder, check=True, capture_output=True).stdout
@@ -49,8 +52,8 @@ def prose_renamed(text, names):
 
 
 def file_renamed(text, suffix, names):
-    """The text of a file with new words; in pages and in the lines that hold a comment, those that are names."""
-    if suffix == ".md":
+    """The text of a file with new words; in pages, scripts of Python and lines that hold a comment, those that are names."""
+    if suffix in (".md", ".py"):
         return prose_renamed(text, names)
     mark = edits.COMMENTS.get(suffix)
     lines = text.split("\n")
@@ -63,15 +66,15 @@ def rename_tree(root, names):
         for file in files:
             path = os.path.join(place, file)
             at = names_at(names, os.path.relpath(path, root))
-            try:
-                with open(path, encoding="utf-8") as source:
-                    text = source.read()
-            except UnicodeDecodeError:
+            suffix = os.path.splitext(file)[1]
+            if suffix not in RENAMED:
                 continue
+            with open(path, encoding="utf-8", newline="") as source:
+                text = source.read()
             new = os.path.join(place, renamed(file, at))
             os.rename(path, new)
-            with open(new, "w", encoding="utf-8") as target:
-                target.write(file_renamed(text, os.path.splitext(file)[1], at))
+            with open(new, "w", encoding="utf-8", newline="") as target:
+                target.write(file_renamed(text, suffix, at))
         if place != root:
             at = names_at(names, os.path.relpath(place, root))
             os.rename(place, os.path.join(os.path.dirname(place), renamed(os.path.basename(place), at)))
