@@ -23,7 +23,7 @@ CRATES = os.path.join(HERE, '..', 'crates')
 BELOW = ['iv_value', 'iv_expr', 'iv_syntax', 'iv_catalogue', 'iv_key']
 CHANGES = os.path.join(HERE, 'definitions.edits')
 DIGEST = os.path.join(HERE, 'definitions.digest')
-DIGESTED = ['iv_key/specs', 'iv_machine/specs', 'iv_worked/specs', 'iv_worked/proofs', 'iv_worked/src']
+DIGESTED = ['iv_key/specs', 'iv_machine/specs', 'iv_worked_machine/specs', 'iv_worked_machine/proofs', 'iv_worked_machine/src']
 
 
 def changes():
@@ -44,7 +44,7 @@ def changes():
 
 def declared():
     """The modules of iv_machine whose types the definitions and the worked scripts name."""
-    folders = [os.path.join(CRATES, name, 'specs') for name in ('iv_machine', 'iv_worked')]
+    folders = [os.path.join(CRATES, name, 'specs') for name in ('iv_machine', 'iv_worked_machine')]
     texts = [read(os.path.join(folder, name)) for folder in folders for name in os.listdir(folder)]
     return set(re.findall(r'Rattle\.iv_machine\.specs\.declared\.(\w+)\.', '\n'.join(texts)))
 
@@ -62,14 +62,14 @@ def digest_of_sources():
 
 
 def copied(room):
-    """The repository as far as iv_worked, where iv_machine has its definitions and the types that they name, without proofs."""
-    listed = [line for line in read(os.path.join(HERE, '../crates.txt')).splitlines() if line.split(':')[0] in BELOW + ['iv_machine', 'iv_worked']]
+    """The repository as far as iv_worked_machine, where iv_machine has its definitions and the types that they name, without proofs."""
+    listed = [line for line in read(os.path.join(HERE, '../crates.txt')).splitlines() if line.split(':')[0] in BELOW + ['iv_machine', 'iv_worked_machine']]
     write(os.path.join(room, 'crates.txt'), '\n'.join(listed) + '\n')
     for name in BELOW:
         shutil.copytree(os.path.join(CRATES, name), os.path.join(room, 'crates', name), symlinks=True)
-    machine, worked = os.path.join(room, 'crates/iv_machine'), os.path.join(room, 'crates/iv_worked')
+    machine, worked = os.path.join(room, 'crates/iv_machine'), os.path.join(room, 'crates/iv_worked_machine')
     shutil.copytree(os.path.join(CRATES, 'iv_machine/specs'), machine + '/specs')
-    shutil.copytree(os.path.join(CRATES, 'iv_worked'), worked, ignore=shutil.ignore_patterns('out'))
+    shutil.copytree(os.path.join(CRATES, 'iv_worked_machine'), worked, ignore=shutil.ignore_patterns('out'))
     modules = declared()
     os.mkdir(machine + '/src')
     for name in modules:

@@ -13,19 +13,19 @@ use Rattle.iv_machine.specs.Context.{Context}
 use Rattle.iv_machine.specs.ReferentialActions.{Reference, foreign_key, references, following_wave}
 use Rattle.iv_store.specs.Lookups.{foreign_keys}
 use Rattle.iv_store.specs.Stores.{StoreState, RisingNumbers}
-use Rattle.iv_laws.proofs.Members.{In, of_filter}
-use Rattle.iv_action_laws.specs.RowByRow.{is_among, LedTo}
-use Rattle.iv_action_laws.proofs.Followed.{waves_follow_row_by_row}
-use Rattle.iv_actions.specs.Losing.{Losing, under_wave, acts_in, losing_where, losing_from}
+use Rattle.iv_laws_levels.proofs.Members.{In, of_filter}
+use Rattle.iv_laws_actions.specs.RowByRow.{is_among, LedTo}
+use Rattle.iv_laws_actions.proofs.Followed.{waves_follow_row_by_row}
+use Rattle.iv_actions.specs.AffectedForeignKey.{AffectedForeignKey, under_wave, acts_in, affected_where, affected_from}
 use Rattle.iv_actions.specs.Finding.{found}
 use Rattle.iv_actions.specs.Following.{answer_among}
 use Rattle.iv_actions.specs.Answers.{AnswersWave}
-use Rattle.iv_actions.proofs.Matching.{losing_is, answer_is}
+use Rattle.iv_actions.proofs.Matching.{affected_is, answer_is}
 use Rattle.iv_actions.proofs.Found.{idle, finds_rows}
 
 -- what follows, by the context's own catalogue
-answer_follows : (context : Context) (before : Database) (s : StoreState) (changes : List Change) (xs : List Losing) (numbers : List ℕ)
-    → xs ≡ losing_from changes 0 context.schema.constraints → RisingNumbers 0 numbers
+answer_follows : (context : Context) (before : Database) (s : StoreState) (changes : List Change) (xs : List AffectedForeignKey) (numbers : List ℕ)
+    → xs ≡ affected_from changes 0 context.schema.constraints → RisingNumbers 0 numbers
     → ((number : ℕ) → is_among numbers number ≡ is_among (found s xs changes) number)
     → s.constraints ≡ context.schema.constraints → LedTo before changes s.base
     → answer_among context.schema xs changes s.base numbers ≡ following_wave context before s.base
@@ -39,13 +39,13 @@ answer_follows context before s changes xs numbers are up all same led =
     ks = filter (acts_in changes) (references context.schema.constraints)
 
     under : xs ≡ map (under_wave changes) ks
-    under = are ∙ losing_is changes 0 context.schema.constraints
+    under = are ∙ affected_is changes 0 context.schema.constraints
 
     here : (k : Reference) → In k ks → In k (references s.constraints)
     here k i = subst (λ l. In k (references l)) (sym same) (of_filter (acts_in changes) k (references context.schema.constraints) i).0
 
-pub answered : (catalogue : Schema) (s s2 : StoreState) (changes : List Change) (xs : List Losing) (numbers : List ℕ) (answer : Result Wave Refusal)
-    → s2 ≡ s → xs ≡ losing_from changes 0 catalogue.constraints → RisingNumbers 0 numbers
+pub answered : (catalogue : Schema) (s s2 : StoreState) (changes : List Change) (xs : List AffectedForeignKey) (numbers : List ℕ) (answer : Result Wave Refusal)
+    → s2 ≡ s → xs ≡ affected_from changes 0 catalogue.constraints → RisingNumbers 0 numbers
     → ((number : ℕ) → is_among numbers number ≡ is_among (found s xs changes) number)
     → AnswersWave answer (answer_among catalogue xs changes s2.base numbers)
     → (before : Database) (context : Context) → context.schema ≡ catalogue → s.constraints ≡ catalogue.constraints → LedTo before changes s.base
@@ -53,33 +53,33 @@ pub answered : (catalogue : Schema) (s s2 : StoreState) (changes : List Change) 
 answered catalogue s s2 changes xs numbers answer kept are up all tells before context e same led =
     subst (AnswersWave answer)
     ((λ i. answer_among (sym e i) xs changes (kept i).base numbers)
-    ∙ answer_follows context before s changes xs numbers (are ∙ ap (λ c. losing_from changes 0 c.constraints) (sym e)) up all
+    ∙ answer_follows context before s changes xs numbers (are ∙ ap (λ c. affected_from changes 0 c.constraints) (sym e)) up all
     (same ∙ ap (λ c. c.constraints) (sym e)) led) tells
 
 -- ---- look-ups
 
 -- of the foreign keys, some do something
-few : (changes : List Change) (id : ℕ) (constraints : List Constraint) → length (losing_from changes id constraints) ≤ foreign_keys constraints
+few : (changes : List Change) (id : ℕ) (constraints : List Constraint) → length (affected_from changes id constraints) ≤ foreign_keys constraints
 few changes id [] = omega arith
 few changes id (c ∷ constraints) = by_key (foreign_key c.rule) (few changes (id + 1) constraints)
   where
-    left : List Losing
-    left = losing_from changes (id + 1) constraints
+    left : List AffectedForeignKey
+    left = affected_from changes (id + 1) constraints
 
     others : List Constraint
     others = filter (λ (k : Constraint). is_some (foreign_key k.rule)) constraints
 
-    by_test : (b : Bool) (x : Losing) → length left ≤ length others → length (cons_option (if b then Some x else None) left) ≤ length (c ∷ others)
+    by_test : (b : Bool) (x : AffectedForeignKey) → length left ≤ length others → length (cons_option (if b then Some x else None) left) ≤ length (c ∷ others)
     by_test true x h = omega (arith, h)
     by_test false x h = omega (arith, h)
 
     by_key : (o : Option ForeignKey) → length left ≤ length others
-        → length (cons_option (losing_where changes (elim o [ Some fk ↦ Some (record { id = id; table = c.table; key = fk }) | None ↦ None ])) left) ≤ length (if is_some o then c ∷ others else others)
+        → length (cons_option (affected_where changes (elim o [ Some fk ↦ Some (record { id = id; table = c.table; key = fk }) | None ↦ None ])) left) ≤ length (if is_some o then c ∷ others else others)
     by_key None h = h
     by_key (Some fk) h = by_test (acts_in changes (record { id = id; table = c.table; key = fk })) (under_wave changes (record { id = id; table = c.table; key = fk })) h
 
-pub looked_at_most : (xs : List Losing) (changes others : List Change) (constraints : List Constraint) (new old : ℕ)
-    → xs ≡ losing_from changes 0 constraints → changes ≡ others
+pub looked_at_most : (xs : List AffectedForeignKey) (changes others : List Change) (constraints : List Constraint) (new old : ℕ)
+    → xs ≡ affected_from changes 0 constraints → changes ≡ others
     → new ≤ old + length xs * length changes → new ≤ old + foreign_keys constraints * length others
 looked_at_most xs changes others constraints new old are same h =
     let less : length xs ≤ foreign_keys constraints = subst (λ l. length l ≤ foreign_keys constraints) (sym are) (few changes 0 constraints) in

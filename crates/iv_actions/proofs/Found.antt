@@ -17,12 +17,12 @@ use Rattle.iv_key.specs.Keys.{key_of, none_null, holds_key}
 use Rattle.iv_machine.specs.Databases.{row_at, has_change}
 use Rattle.iv_machine.specs.ReferentialActions.{Reference, foreign_key, reference, references, Loss, LostKeys, action_on}
 use Rattle.iv_store.specs.Stores.{StoreState, RisingNumbers, reference_at, numbers_by, children_of}
-use Rattle.iv_laws.specs.Holders.{loses_key, loss_of_new, keys_lost_by}
-use Rattle.iv_laws.proofs.RowNumbers.{some_none, some_same}
-use Rattle.iv_laws.proofs.Keys.{false_true, all_same_itself, all_same_is}
-use Rattle.iv_laws.proofs.Members.{In, in_filter, any_in, of_filter_map, in_flat_map, in_rows}
-use Rattle.iv_action_laws.specs.RowByRow.{is_among, EachReference, IsIdle, IsIdleElsewhere, FindsRows}
-use Rattle.iv_actions.specs.Losing.{Losing, under_wave, acts, action_for, acts_on, acts_in, key_taken}
+use Rattle.iv_laws_levels.specs.Holders.{loses_key, loss_of_new, keys_lost_by}
+use Rattle.iv_laws_levels.proofs.RowNumbers.{some_none, some_same}
+use Rattle.iv_laws_levels.proofs.Keys.{false_true, all_same_itself, all_same_is}
+use Rattle.iv_laws_levels.proofs.Members.{In, in_filter, any_in, of_filter_map, in_flat_map, in_rows}
+use Rattle.iv_laws_actions.specs.RowByRow.{is_among, EachReference, IsIdle, IsIdleElsewhere, FindsRows}
+use Rattle.iv_actions.specs.AffectedForeignKey.{AffectedForeignKey, under_wave, acts, action_for, acts_on, acts_in, key_taken}
 use Rattle.iv_actions.specs.Finding.{leads, found_by, found_by_all, found}
 use Rattle.iv_actions.proofs.Taking.{loses_is}
 use Rattle.iv_actions.proofs.Numbers.{any_of_both}
@@ -157,7 +157,7 @@ module _ (changes : List Change) where
         key : List Value
         key = key_of k.key.columns row.values
 
-        x : Losing
+        x : AffectedForeignKey
         x = under_wave changes k
 
         member : In c changes × (loses_key k.key key c ≡ true)

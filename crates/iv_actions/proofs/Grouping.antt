@@ -9,7 +9,7 @@ use Rattle.iv_expr.specs.declared.row.StoredRow.{StoredRow}
 use Rattle.iv_catalogue.specs.Catalogues.{Schema}
 use Rattle.iv_key.specs.Keys.{key_of}
 use Rattle.iv_machine.specs.ReferentialActions.{is_restrict, keeps_reference}
-use Rattle.iv_actions.specs.Losing.{Losing, action_for, change_losing}
+use Rattle.iv_actions.specs.AffectedForeignKey.{AffectedForeignKey, action_for, change_losing}
 use Rattle.iv_actions.specs.ByTable.{on_table, at_places}
 use Rattle.iv_actions.specs.Following.{restricts, effects_by, effects_among}
 use Rattle.iv_actions.proofs.Taking.{left_from}
@@ -39,23 +39,23 @@ filter_within p q h (x ∷ xs) = by (q x) refl (filter_within p q h xs)
 apart : (a b : ℕ) → (a == b) ≡ false → (b == a) ≡ false
 apart a b e = ne_eqb b a (λ f. true≢false (sym (eq-eqb a b (sym f)) ∙ e))
 
-restricts_apart : (row : StoredRow) (x : Losing) → (x.reference.table == row.table) ≡ false → restricts row x ≡ false
+restricts_apart : (row : StoredRow) (x : AffectedForeignKey) → (x.reference.table == row.table) ≡ false → restricts row x ≡ false
 restricts_apart row x e =
     ap (λ b. b && elim (change_losing x row) [ Some c ↦ is_restrict (action_for x.reference.key c) | None ↦ false ]) (apart x.reference.table row.table e)
 
 -- the first that restricts a row is the first of those on its table
-pub first_at_places : (xs : List Losing) (places : List ℕ) (table : ℕ) (row : StoredRow) → table ≡ row.table → at_places xs places ≡ on_table table xs
+pub first_at_places : (xs : List AffectedForeignKey) (places : List ℕ) (table : ℕ) (row : StoredRow) → table ≡ row.table → at_places xs places ≡ on_table table xs
     → find (restricts row) (at_places xs places) ≡ find (restricts row) xs
 first_at_places xs places table row is at =
     ap (find (restricts row)) (at ∙ ap (λ t. on_table t xs) is)
     ∙ find_within (restricts row) (λ x. x.reference.table == row.table) (restricts_apart row) xs
 
-kept_apart : (before after : StoredRow) (x : Losing) → (x.reference.table == before.table) ≡ false → keeps_reference before after x.reference ≡ false
+kept_apart : (before after : StoredRow) (x : AffectedForeignKey) → (x.reference.table == before.table) ≡ false → keeps_reference before after x.reference ≡ false
 kept_apart before after x e =
     ap (λ b. b && all_same (key_of x.reference.key.columns before.values) (key_of x.reference.key.columns after.values)) e
 
 -- the effects on a row are those of the foreign keys on its table
-pub effects_at_places : (schema : Schema) (xs : List Losing) (places : List ℕ) (table : ℕ) (before after : StoredRow) → table ≡ before.table
+pub effects_at_places : (schema : Schema) (xs : List AffectedForeignKey) (places : List ℕ) (table : ℕ) (before after : StoredRow) → table ≡ before.table
     → at_places xs places ≡ on_table table xs → effects_among schema (at_places xs places) before after ≡ effects_among schema xs before after
 effects_at_places schema xs places table before after is at =
     ap (λ l. effects_among schema l before after) (at ∙ ap (λ t. on_table t xs) is)
@@ -70,14 +70,14 @@ slice_there (y ∷ ys) zero x h is = ap Some (sym is)
 slice_there (y ∷ ys) (suc i) x h is = slice_there ys i x (omega (arith, h)) is
 
 -- those on a table so far, and those from a place on
-pub one_more : (xs : List Losing) (before after : List ℕ) (i table t : ℕ) (x : Losing) → i < length xs → x ≡ get_or xs i x → table ≡ x.reference.table
+pub one_more : (xs : List AffectedForeignKey) (before after : List ℕ) (i table t : ℕ) (x : AffectedForeignKey) → i < length xs → x ≡ get_or xs i x → table ≡ x.reference.table
     → after ≡ (if table == t then before ++ i ∷ [] else before)
     → at_places xs after ++ on_table t (drop (i + 1) xs) ≡ at_places xs before ++ on_table t (drop i xs)
 one_more xs before after i table t x h is on e =
     ap (λ l. at_places xs l ++ rest) (e ∙ ap (λ n. if n == t then before ++ i ∷ [] else before) on)
     ∙ by (x.reference.table == t) ∙ ap (λ l. at_places xs before ++ on_table t l) (sym (left_from xs i x h is))
   where
-    rest : List Losing
+    rest : List AffectedForeignKey
     rest = on_table t (drop (i + 1) xs)
 
     by : (b : Bool) → at_places xs (if b then before ++ i ∷ [] else before) ++ rest ≡ at_places xs before ++ (if b then x ∷ rest else rest)

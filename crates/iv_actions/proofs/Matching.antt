@@ -18,9 +18,9 @@ use Rattle.iv_machine.specs.Context.{Failure, fails}
 use Rattle.iv_key.specs.Keys.{key_of, none_null}
 use Rattle.iv_machine.specs.Databases.{row_at, fault_at}
 use Rattle.iv_machine.specs.ReferentialActions.{Reference, reference, Loss, LostKeys, lost_reference, action_on, is_restrict, effects_of_loss, keeps_reference, change_by}
-use Rattle.iv_laws.specs.Holders.{loss_of_new, loses_key, keys_lost_by, row_before}
-use Rattle.iv_action_laws.specs.RowByRow as laws
-use Rattle.iv_actions.specs.Losing.{Losing, under_wave, acts_in, losing_where, losing_from, change_losing, action_for}
+use Rattle.iv_laws_levels.specs.Holders.{loss_of_new, loses_key, keys_lost_by, row_before}
+use Rattle.iv_laws_actions.specs.RowByRow as laws
+use Rattle.iv_actions.specs.AffectedForeignKey.{AffectedForeignKey, under_wave, acts_in, affected_where, affected_from, change_losing, action_for}
 use Rattle.iv_actions.specs.Following.{restricts, restricted_fault, effects_for, effects_by, effects_among, restricted_at, effects_at, conflict_at, change_at, answer_among}
 
 -- ---- one foreign key
@@ -73,23 +73,23 @@ module _ (changes : List Change) where
   abbrev lost : LostKeys
   lost = keys_lost_by (wave_of changes)
 
-  abbrev under : List Reference → List Losing
+  abbrev under : List Reference → List AffectedForeignKey
   under ks = map (under_wave changes) ks
 
-  pub losing_is : (id : ℕ) (constraints : List Constraint)
-      → losing_from changes id constraints ≡ under (filter (acts_in changes) (filter_map reference (enumerate_from id constraints)))
-  losing_is id [] = refl
-  losing_is id (c ∷ constraints) = by (reference (id, c)) (losing_is (id + 1) constraints)
+  pub affected_is : (id : ℕ) (constraints : List Constraint)
+      → affected_from changes id constraints ≡ under (filter (acts_in changes) (filter_map reference (enumerate_from id constraints)))
+  affected_is id [] = refl
+  affected_is id (c ∷ constraints) = by (reference (id, c)) (affected_is (id + 1) constraints)
     where
       more : List Reference
       more = filter_map reference (enumerate_from (id + 1) constraints)
 
-      by : (o : Option Reference) → losing_from changes (id + 1) constraints ≡ under (filter (acts_in changes) more)
-          → cons_option (losing_where changes o) (losing_from changes (id + 1) constraints) ≡ under (filter (acts_in changes) (cons_option o more))
+      by : (o : Option Reference) → affected_from changes (id + 1) constraints ≡ under (filter (acts_in changes) more)
+          → cons_option (affected_where changes o) (affected_from changes (id + 1) constraints) ≡ under (filter (acts_in changes) (cons_option o more))
       by None rest = rest
       by (Some k) rest =
           elim (acts_in changes k) as (λ b.
-          cons_option (if b then Some (under_wave changes k) else None) (losing_from changes (id + 1) constraints)
+          cons_option (if b then Some (under_wave changes k) else None) (affected_from changes (id + 1) constraints)
           ≡ under (if b then k ∷ filter (acts_in changes) more else filter (acts_in changes) more)) [
             | true ↦ ap (λ l. under_wave changes k ∷ l) rest
             | false ↦ rest

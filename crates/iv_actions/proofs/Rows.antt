@@ -6,11 +6,11 @@ use Rattle.iv_catalogue.specs.Catalogues.{Schema}
 use Rattle.iv_machine.specs.declared.effect.Effect.{Effect}
 use Rattle.iv_machine.specs.Databases.{row_at}
 use Rattle.iv_machine.specs.ReferentialActions.{change_by}
-use Rattle.iv_laws.proofs.RowNumbers.{some_none, some_same, number_of_row_at}
-use Rattle.iv_actions.specs.Losing.{Losing}
+use Rattle.iv_laws_levels.proofs.RowNumbers.{some_none, some_same, number_of_row_at}
+use Rattle.iv_actions.specs.AffectedForeignKey.{AffectedForeignKey}
 use Rattle.iv_actions.specs.Following.{effects_at, change_at}
 
-pub row_of_change : (schema : Schema) (xs : List Losing) (changes : List Change) (later : List StoredRow) (number : ℕ) (c : Change)
+pub row_of_change : (schema : Schema) (xs : List AffectedForeignKey) (changes : List Change) (later : List StoredRow) (number : ℕ) (c : Change)
     → change_at schema xs changes later number ≡ Some c → c.row ≡ number
 row_of_change schema xs changes later number c e = by (row_at later number) refl e
   where

@@ -5,8 +5,8 @@ use Rattle.std.specs.List.{list_any}
 use Rattle.std.proofs.lemmas.Bool.{eqb-true, or_parts}
 use Rattle.iv_expr.specs.declared.row.Change.{Change}
 use Rattle.iv_catalogue.specs.declared.constraint.ForeignKey.{ForeignKey}
-use Rattle.iv_action_laws.specs.RowByRow.{is_among}
-use Rattle.iv_actions.specs.Losing.{taken_from, acts, action_for, acts_on}
+use Rattle.iv_laws_actions.specs.RowByRow.{is_among}
+use Rattle.iv_actions.specs.AffectedForeignKey.{taken_from, acts, action_for, acts_on}
 use Rattle.iv_actions.proofs.Numbers.{any_of_both}
 use Rattle.iv_actions.proofs.Taking.{left_from}
 

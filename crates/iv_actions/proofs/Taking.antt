@@ -7,8 +7,8 @@ use Rattle.iv_value.specs.Values.{all_same}
 use Rattle.iv_expr.specs.declared.row.Change.{Change}
 use Rattle.iv_catalogue.specs.declared.constraint.ForeignKey.{ForeignKey}
 use Rattle.iv_key.specs.Keys.{key_of, none_null}
-use Rattle.iv_laws.specs.Holders.{leaves_key, loses_key, loses_key_from}
-use Rattle.iv_actions.specs.Losing.{taken_from, key_taken, first_taking}
+use Rattle.iv_laws_levels.specs.Holders.{leaves_key, loses_key, loses_key_from}
+use Rattle.iv_actions.specs.AffectedForeignKey.{taken_from, key_taken, first_taking}
 
 and_true : (b : Bool) → (b && true) ≡ b
 and_true true = refl

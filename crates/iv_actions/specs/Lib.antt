@@ -1,4 +1,4 @@
-pub mod Losing
+pub mod AffectedForeignKey
 pub mod ByTable
 pub mod Following
 pub mod Finding

@@ -1,10 +1,10 @@
 //! Foreign keys by the tables that they are on.
 ghost use Rattle.std.specs.Prelude.{◌≡◌, ◌<◌, ◌≤◌, ◌^◌, ◌==◌, ◌++◌, ◌∷◌, [], ℕ, if◌then◌else◌, get_or, set, length, slice_get, IfOk, OnOk};
 ghost use Rattle.std.specs.Option.{option_copied};
-ghost use Rattle.iv_actions.specs.Losing.{losing_from};
+ghost use Rattle.iv_actions.specs.AffectedForeignKey.{affected_from};
 ghost use Rattle.iv_actions.specs.ByTable.{on_table, at_places};
 
-use crate::losing::{Losing, losing_of};
+use crate::affected::{AffectedForeignKey, affected_of};
 use iv_catalogue::Constraint;
 use iv_expr::{Change, TableId};
 use sqlite_items::Items;
@@ -15,13 +15,13 @@ use std::marker::Model;
 /// Contracts see them all, by creation.
 #[derive(Drop)]
 pub struct ByTable<'a> {
-    all: Vec<Losing<'a>>,
+    all: Vec<AffectedForeignKey<'a>>,
     places: Vec<Items<usize>>,
 }
 
 impl<'a> Model for ByTable<'a> {
     ghost use Rattle.std.specs.Prelude.{◌≡◌, ℕ, List, [], get_or};
-    ghost use Rattle.iv_actions.specs.Losing.{Losing as Seen};
+    ghost use Rattle.iv_actions.specs.AffectedForeignKey.{AffectedForeignKey as Seen};
     ghost use Rattle.iv_actions.specs.ByTable.{on_table, at_places};
 
     ghost Value = { List Seen };
@@ -70,13 +70,16 @@ fn note_place(
 }
 
 // The places of the foreign keys on each table.
-fn places_of(alloc: Global, losings: &[Losing<'_>]) -> Result<Vec<Items<usize>>, AllocError>
+fn places_of(
+    alloc: Global,
+    affected_keys: &[AffectedForeignKey<'_>],
+) -> Result<Vec<Items<usize>>, AllocError>
     ensures { IfOk result (λ v. (t : ℕ) →
-        at_places losings.now (get_or v.items t []) ≡ on_table t losings.now) }
+        at_places affected_keys.now (get_or v.items t []) ≡ on_table t affected_keys.now) }
 {
     let mut lists = Vec::new(alloc);
-    for (place, losing) in losings.iter().enumerate() {
-        note_place(&mut lists, alloc, losing.table(), place)?;
+    for (place, affected) in affected_keys.iter().enumerate() {
+        note_place(&mut lists, alloc, affected.table(), place)?;
     }
     Ok(lists)
 }
@@ -92,22 +95,22 @@ fn places_at(lists: &[Items<usize>], table: usize) -> &[usize]
 }
 
 /// The foreign keys that do something after these changes.
-pub fn losing_by_table<'a>(
+pub fn affected_by_table<'a>(
     alloc: Global,
     constraints: &'a [Constraint],
     changes: &'a [Change],
 ) -> Result<ByTable<'a>, AllocError>
     requires { length constraints.now ≤ 2 ^ 31 }
-    ensures { IfOk result (λ x. x ≡ losing_from changes.entry.now 0 constraints.entry.now) }
+    ensures { IfOk result (λ x. x ≡ affected_from changes.entry.now 0 constraints.entry.now) }
 {
-    let all = losing_of(alloc, constraints, changes)?;
+    let all = affected_of(alloc, constraints, changes)?;
     let places = places_of(alloc, all.as_slice())?;
     Ok(ByTable { all, places })
 }
 
 impl<'a> ByTable<'a> {
     /// All, by creation.
-    pub fn as_slice(&self) -> &[Losing<'a>]
+    pub fn as_slice(&self) -> &[AffectedForeignKey<'a>]
         ensures { result.now ≡ self.now }
     {
         self.all.as_slice()
@@ -121,7 +124,7 @@ impl<'a> ByTable<'a> {
     }
 
     /// The one at a place.
-    pub fn at(&self, place: usize) -> Option<&Losing<'a>>
+    pub fn at(&self, place: usize) -> Option<&AffectedForeignKey<'a>>
         ensures { option_copied result ≡ slice_get self.now place }
     {
         self.all.as_slice().get(place)

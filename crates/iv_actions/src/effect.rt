@@ -6,12 +6,12 @@ ghost use Rattle.iv_machine.specs.declared.effect.Effect.TheVariants.{SetColumns
 ghost use Rattle.iv_key.specs.Keys.{value_at, key_of};
 ghost use Rattle.iv_machine.specs.Proposals.{defaults_of};
 ghost use Rattle.iv_machine.specs.ReferentialActions.{cascade, keeps_reference};
-ghost use Rattle.iv_laws.specs.Holders.{loss_of_new};
+ghost use Rattle.iv_laws_levels.specs.Holders.{loss_of_new};
 ghost use Rattle.iv_actions.specs.ByTable.{at_places};
 ghost use Rattle.iv_actions.specs.Following.{effects_for, effects_by, effects_among, one_or_none};
 
+use crate::affected::{AffectedForeignKey, action_for};
 use crate::by_table::ByTable;
-use crate::losing::{Losing, action_for};
 use crate::restrict::change_losing;
 use crate::row::LentRow;
 use iv_catalogue::{Catalogue, Column, ForeignKey};
@@ -146,13 +146,13 @@ fn cascade(alloc: Global, key: &ForeignKey, change: &Change) -> Result<Effect, A
 fn effect_for(
     alloc: Global,
     catalogue: &Catalogue,
-    losing: &Losing<'_>,
+    affected: &AffectedForeignKey<'_>,
     change: &Change,
 ) -> Result<Option<Effect>, AllocError>
     ensures { IfOk result (λ e. one_or_none e ≡
-        effects_for catalogue.now losing.now change.now) }
+        effects_for catalogue.now affected.now change.now) }
 {
-    let key = losing.key();
+    let key = affected.key();
     match action_for(key, change) {
         ReferentialAction::NoAction => Ok(None),
         ReferentialAction::Restrict => Ok(None),
@@ -161,20 +161,24 @@ fn effect_for(
         ReferentialAction::SetDefault => Ok(Some(set_defaults(
             alloc,
             catalogue,
-            losing.table(),
+            affected.table(),
             key.columns.as_slice(),
         )?)),
     }
 }
 
 // Whether a row refers by a foreign key of its table to the same key before and after.
-fn keeps_reference(before: &LentRow<'_>, after: &LentRow<'_>, losing: &Losing<'_>) -> bool
-    ensures { result ≡ keeps_reference before.now after.now losing.now.reference }
+fn keeps_reference(
+    before: &LentRow<'_>,
+    after: &LentRow<'_>,
+    affected: &AffectedForeignKey<'_>,
+) -> bool
+    ensures { result ≡ keeps_reference before.now after.now affected.now.reference }
 {
-    if losing.table() != before.table() {
+    if affected.table() != before.table() {
         return false;
     }
-    let columns = losing.key().columns.as_slice();
+    let columns = affected.key().columns.as_slice();
     Key::new(columns, before.values()).same(&Key::new(columns, after.values()))
 }
 
@@ -183,17 +187,17 @@ fn push_effect(
     effects: &mut Vec<(u32, Effect)>,
     alloc: Global,
     catalogue: &Catalogue,
-    losing: &Losing<'_>,
+    affected: &AffectedForeignKey<'_>,
     before: &LentRow<'_>,
 ) -> Result<(), AllocError>
     ensures { OnOk result (effects.new.items ≡
-        effects.old.items ++ effects_by catalogue.now before.now losing.now) }
+        effects.old.items ++ effects_by catalogue.now before.now affected.now) }
 {
-    let Some(change) = change_losing(losing, before) else {
+    let Some(change) = change_losing(affected, before) else {
         return Ok(());
     };
-    if let Some(effect) = effect_for(alloc, catalogue, losing, change)? {
-        effects.push((losing.id(), effect))?;
+    if let Some(effect) = effect_for(alloc, catalogue, affected, change)? {
+        effects.push((affected.id(), effect))?;
     }
     Ok(())
 }
@@ -203,17 +207,17 @@ fn push_where_kept(
     effects: &mut Vec<(u32, Effect)>,
     alloc: Global,
     catalogue: &Catalogue,
-    losing: &Losing<'_>,
+    affected: &AffectedForeignKey<'_>,
     before: &LentRow<'_>,
     after: &LentRow<'_>,
 ) -> Result<(), AllocError>
     ensures { OnOk result (effects.new.items ≡
-        (if keeps_reference before.now after.now losing.now.reference
-        then effects.old.items ++ effects_by catalogue.now before.now losing.now
+        (if keeps_reference before.now after.now affected.now.reference
+        then effects.old.items ++ effects_by catalogue.now before.now affected.now
         else effects.old.items)) }
 {
-    if keeps_reference(before, after, losing) {
-        push_effect(effects, alloc, catalogue, losing, before)?;
+    if keeps_reference(before, after, affected) {
+        push_effect(effects, alloc, catalogue, affected, before)?;
     }
     Ok(())
 }
@@ -222,18 +226,18 @@ fn push_where_kept(
 fn effects_at_places(
     alloc: Global,
     catalogue: &Catalogue,
-    losings: &ByTable<'_>,
+    affected_keys: &ByTable<'_>,
     places: &[usize],
     before: &LentRow<'_>,
     after: &LentRow<'_>,
 ) -> Result<Vec<(u32, Effect)>, AllocError>
     ensures { IfOk result (λ v. v.items ≡
-        effects_among catalogue.now (at_places losings.now places.now) before.now after.now) }
+        effects_among catalogue.now (at_places affected_keys.now places.now) before.now after.now) }
 {
     let mut effects = Vec::new(alloc);
     for place in places {
-        if let Some(losing) = losings.at(*place) {
-            push_where_kept(&mut effects, alloc, catalogue, losing, before, after)?;
+        if let Some(affected) = affected_keys.at(*place) {
+            push_where_kept(&mut effects, alloc, catalogue, affected, before, after)?;
         }
     }
     Ok(effects)
@@ -243,13 +247,13 @@ fn effects_at_places(
 pub fn effects_among(
     alloc: Global,
     catalogue: &Catalogue,
-    losings: &ByTable<'_>,
+    affected_keys: &ByTable<'_>,
     before: &LentRow<'_>,
     after: &LentRow<'_>,
 ) -> Result<Vec<(u32, Effect)>, AllocError>
     ensures { IfOk result (λ v. v.items ≡
-        effects_among catalogue.now losings.now before.now after.now) }
+        effects_among catalogue.now affected_keys.now before.now after.now) }
 {
-    let places = losings.places_on(before.table());
-    effects_at_places(alloc, catalogue, losings, places, before, after)
+    let places = affected_keys.places_on(before.table());
+    effects_at_places(alloc, catalogue, affected_keys, places, before, after)
 }

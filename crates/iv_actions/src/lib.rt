@@ -1,12 +1,12 @@
 //! Referential actions: the wave that follows from a wave.
 #![tactic(auto)]
 
+mod affected;
 mod by_table;
 mod change;
 mod conflict;
 mod effect;
 mod finding;
-mod losing;
 mod next;
 mod restrict;
 mod row;

@@ -7,11 +7,11 @@ ghost use Rattle.iv_machine.specs.Context.{Context};
 ghost use Rattle.iv_machine.specs.ReferentialActions.{following_wave};
 ghost use Rattle.iv_store.specs.Lookups.{foreign_keys};
 ghost use Rattle.iv_store.specs.Stores.{RisingNumbers};
-ghost use Rattle.iv_action_laws.specs.RowByRow.{earlier, least, LedTo};
+ghost use Rattle.iv_laws_actions.specs.RowByRow.{earlier, least, LedTo};
 ghost use Rattle.iv_actions.specs.Following.{restricted_at, effects_at, conflict_at, change_at, answer_among};
 ghost use Rattle.iv_actions.specs.Answers.{AnswersWave};
 
-use crate::by_table::{ByTable, losing_by_table};
+use crate::by_table::{ByTable, affected_by_table};
 use crate::change::change_by;
 use crate::conflict::first_conflict;
 use crate::effect::effects_among;
@@ -21,7 +21,7 @@ use crate::row::{LentRow, row_before};
 use iv_catalogue::{Catalogue, Cause, ConstraintId, Fault, Refusal};
 use iv_expr::{Change, StoredRow, Wave};
 use iv_machine::Effect;
-use iv_store::Kin;
+use iv_store::ReferencingRows;
 use std::alloc::{AllocError, Global};
 
 // The fault of the lower constraint; of two of one constraint, the one given first.
@@ -43,76 +43,85 @@ fn earlier(fault: Option<Fault>, other: Option<Fault>) -> Option<Fault>
     }
 }
 
-fn restricted_at<K: Kin>(
+fn restricted_at<K: ReferencingRows>(
     store: &K,
-    losings: &ByTable<'_>,
+    affected_keys: &ByTable<'_>,
     changes: &[Change],
     number: u64,
 ) -> Option<Fault>
     requires { RisingChanges changes.now }
     ensures { result ≡
-        restricted_at losings.now changes.now (K.view store.now).base.rows number }
+        restricted_at affected_keys.now changes.now (K.view store.now).base.rows number }
 {
     match row_before(store, changes, number) {
-        Some(row) => restricted_fault(losings, &row),
+        Some(row) => restricted_fault(affected_keys, &row),
         None => None,
     }
 }
 
 // The first row of these numbers that refers to a key lost under RESTRICT.
-fn first_restricted<K: Kin>(
+fn first_restricted<K: ReferencingRows>(
     store: &K,
-    losings: &ByTable<'_>,
+    affected_keys: &ByTable<'_>,
     changes: &[Change],
     numbers: &[u64],
 ) -> Option<Fault>
     requires { RisingChanges changes.now }
     ensures { result ≡ least
-        (restricted_at losings.now changes.now (K.view store.now).base.rows) numbers.now }
+        (restricted_at affected_keys.now changes.now (K.view store.now).base.rows) numbers.now }
 {
     let mut first = None;
     let mut left = numbers.len();
     while left > 0 {
         left -= 1;
-        first = earlier(restricted_at(store, losings, changes, numbers[left]), first);
+        first = earlier(
+            restricted_at(store, affected_keys, changes, numbers[left]),
+            first,
+        );
     }
     first
 }
 
 // What foreign keys do to a row of the store.
-fn effects_at<K: Kin>(
+fn effects_at<K: ReferencingRows>(
     store: &K,
     catalogue: &Catalogue,
-    losings: &ByTable<'_>,
+    affected_keys: &ByTable<'_>,
     changes: &[Change],
     after: &StoredRow,
 ) -> Result<Vec<(u32, Effect)>, AllocError>
     requires { RisingChanges changes.now }
     ensures { IfOk result (λ v. v.items ≡ effects_at
-        catalogue.now losings.now changes.now (K.view store.now).base.rows after.now) }
+        catalogue.now affected_keys.now changes.now (K.view store.now).base.rows after.now) }
 {
     let alloc = store.allocator();
     match row_before(store, changes, after.number) {
-        Some(before) => effects_among(alloc, catalogue, losings, &before, &LentRow::of(after)),
+        Some(before) => effects_among(
+            alloc,
+            catalogue,
+            affected_keys,
+            &before,
+            &LentRow::of(after),
+        ),
         None => Ok(Vec::new(alloc)),
     }
 }
 
-fn conflict_at<K: Kin>(
+fn conflict_at<K: ReferencingRows>(
     store: &K,
     catalogue: &Catalogue,
-    losings: &ByTable<'_>,
+    affected_keys: &ByTable<'_>,
     changes: &[Change],
     number: u64,
 ) -> Result<Option<Fault>, AllocError>
     requires { RisingChanges changes.now }
     ensures { IfOk result (λ f. f ≡ conflict_at
-        catalogue.now losings.now changes.now (K.view store.now).base.rows number) }
+        catalogue.now affected_keys.now changes.now (K.view store.now).base.rows number) }
 {
     let Some(row) = store.row(number) else {
         return Ok(None);
     };
-    let effects = effects_at(store, catalogue, losings, changes, row)?;
+    let effects = effects_at(store, catalogue, affected_keys, changes, row)?;
     match first_conflict(effects.as_slice()) {
         Some(id) => Ok(Some(Fault {
             constraint: ConstraintId::new(id),
@@ -123,82 +132,82 @@ fn conflict_at<K: Kin>(
 }
 
 // The first row of these numbers on which two foreign keys disagree.
-fn first_disagreement<K: Kin>(
+fn first_disagreement<K: ReferencingRows>(
     store: &K,
     catalogue: &Catalogue,
-    losings: &ByTable<'_>,
+    affected_keys: &ByTable<'_>,
     changes: &[Change],
     numbers: &[u64],
 ) -> Result<Option<Fault>, AllocError>
     requires { RisingChanges changes.now }
     ensures { IfOk result (λ f. f ≡ least (conflict_at
-        catalogue.now losings.now changes.now (K.view store.now).base.rows) numbers.now) }
+        catalogue.now affected_keys.now changes.now (K.view store.now).base.rows) numbers.now) }
 {
     let mut first = None;
     let mut left = numbers.len();
     while left > 0 {
         left -= 1;
-        let fault = conflict_at(store, catalogue, losings, changes, numbers[left])?;
+        let fault = conflict_at(store, catalogue, affected_keys, changes, numbers[left])?;
         first = earlier(fault, first);
     }
     Ok(first)
 }
 
-fn change_at<K: Kin>(
+fn change_at<K: ReferencingRows>(
     store: &K,
     catalogue: &Catalogue,
-    losings: &ByTable<'_>,
+    affected_keys: &ByTable<'_>,
     changes: &[Change],
     number: u64,
 ) -> Result<Option<Change>, AllocError>
     requires { RisingChanges changes.now }
     ensures { IfOk result (λ c. c ≡ change_at
-        catalogue.now losings.now changes.now (K.view store.now).base.rows number) }
+        catalogue.now affected_keys.now changes.now (K.view store.now).base.rows number) }
 {
     let Some(row) = store.row(number) else {
         return Ok(None);
     };
-    let effects = effects_at(store, catalogue, losings, changes, row)?;
+    let effects = effects_at(store, catalogue, affected_keys, changes, row)?;
     change_by(store.allocator(), row, effects.as_slice())
 }
 
 // Adds the change of the row of a number, where there is one.
-fn push_change<K: Kin>(
+fn push_change<K: ReferencingRows>(
     store: &K,
     next: &mut Wave,
     catalogue: &Catalogue,
-    losings: &ByTable<'_>,
+    affected_keys: &ByTable<'_>,
     changes: &[Change],
     number: u64,
 ) -> Result<(), AllocError>
     requires rising { RisingChanges changes.now }
     requires above { last_row next.old.changes < number }
     ensures pushed { OnOk result (next.new.changes ≡ next.old.changes ++ cons_option (change_at
-        catalogue.now losings.now changes.now (K.view store.now).base.rows number) []) }
+        catalogue.now affected_keys.now changes.now (K.view store.now).base.rows number) []) }
     ensures last { OnOk result (last_row next.new.changes ≤ number) }
 {
-    match change_at(store, catalogue, losings, changes, number)? {
+    match change_at(store, catalogue, affected_keys, changes, number)? {
         None => Ok(()),
         Some(change) => next.push(change),
     }
 }
 
 // The changes of the rows of these numbers.
-fn next_changes<K: Kin>(
+fn next_changes<K: ReferencingRows>(
     store: &K,
     catalogue: &Catalogue,
-    losings: &ByTable<'_>,
+    affected_keys: &ByTable<'_>,
     changes: &[Change],
     numbers: &[u64],
 ) -> Result<Wave, AllocError>
     requires rising { RisingChanges changes.now }
     requires numbers { RisingNumbers 0 numbers.now }
     ensures { IfOk result (λ w. w.changes ≡ filter_map (change_at
-        catalogue.now losings.now changes.now (K.view store.now).base.rows) numbers.now) }
+        catalogue.now affected_keys.now changes.now (K.view store.now).base.rows) numbers.now) }
 {
     let mut next = Wave::new(store.allocator());
     for number in numbers {
-        push_change(store, &mut next, catalogue, losings, changes, *number)?;
+        push_change(store, &mut next, catalogue, affected_keys, changes, *number)?;
     }
     Ok(next)
 }
@@ -213,45 +222,55 @@ fn refusal(cause: Cause) -> Refusal
 }
 
 // What follows, from the rows of these numbers.
-fn answer_among<K: Kin>(
+fn answer_among<K: ReferencingRows>(
     store: &K,
     catalogue: &Catalogue,
-    losings: &ByTable<'_>,
+    affected_keys: &ByTable<'_>,
     changes: &[Change],
     numbers: &[u64],
 ) -> Result<Wave, Refusal>
     requires rising { RisingChanges changes.now }
     requires numbers { RisingNumbers 0 numbers.now }
     ensures { AnswersWave result (answer_among
-        catalogue.now losings.now changes.now (K.view store.now).base numbers.now) }
+        catalogue.now affected_keys.now changes.now (K.view store.now).base numbers.now) }
 {
-    if losings.is_empty() {
+    if affected_keys.is_empty() {
         return Ok(Wave::new(store.allocator()));
     }
-    if let Some(fault) = first_restricted(store, losings, changes, numbers) {
+    if let Some(fault) = first_restricted(store, affected_keys, changes, numbers) {
         return Err(refusal(Cause::Restrict(fault)));
     }
-    if let Some(fault) = first_disagreement(store, catalogue, losings, changes, numbers)? {
+    if let Some(fault) = first_disagreement(store, catalogue, affected_keys, changes, numbers)? {
         return Err(refusal(Cause::ActionConflict(fault)));
     }
-    Ok(next_changes(store, catalogue, losings, changes, numbers)?)
+    Ok(next_changes(store, catalogue, affected_keys, changes, numbers)?)
 }
 
 /// The wave that follows from a wave by referential actions, in a store that is as after the wave: the first row
 /// that refers to a key lost under RESTRICT is answered first, then the first on which two foreign keys disagree.
-pub fn next_wave<K: Kin>(store: &mut K, catalogue: &Catalogue, wave: &Wave) -> Result<Wave, Refusal>
+pub fn next_wave<K: ReferencingRows>(
+    store: &mut K,
+    catalogue: &Catalogue,
+    wave: &Wave,
+) -> Result<Wave, Refusal>
     ensures followed { (before : Database) (context : Context)
         → context.schema ≡ catalogue.now
         → (K.view store.old).constraints ≡ catalogue.now.constraints
         → LedTo before wave.now.changes (K.view store.old).base
         → AnswersWave result (following_wave context before (K.view store.old).base) }
-    ensures looked { K.lookups store.new ≤ K.lookups store.old
+    ensures looked_up { K.lookups store.new ≤ K.lookups store.old
         + foreign_keys catalogue.now.constraints * length wave.now.changes }
     ensures kept { K.view store.new ≡ K.view store.old }
 {
     let alloc = store.allocator();
     let changes = wave.changes();
-    let losings = losing_by_table(alloc, catalogue.constraints(), changes)?;
-    let numbers = found(store, alloc, losings.as_slice(), changes)?;
-    answer_among(&*store, catalogue, &losings, changes, numbers.as_slice())
+    let affected_keys = affected_by_table(alloc, catalogue.constraints(), changes)?;
+    let numbers = found(store, alloc, affected_keys.as_slice(), changes)?;
+    answer_among(
+        &*store,
+        catalogue,
+        &affected_keys,
+        changes,
+        numbers.as_slice(),
+    )
 }

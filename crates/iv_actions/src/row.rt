@@ -3,11 +3,11 @@ ghost use Rattle.std.specs.Prelude.{◌≡◌, ◌==◌, find};
 ghost use Rattle.std.specs.Option.{option_copied};
 ghost use Rattle.iv_expr.specs.Changes.{RisingChanges, wave_of};
 ghost use Rattle.iv_machine.specs.Databases.{row_at};
-ghost use Rattle.iv_laws.specs.FittingWaves.{old_row};
-ghost use Rattle.iv_laws.specs.Holders.{row_before};
+ghost use Rattle.iv_laws_levels.specs.FittingWaves.{old_row};
+ghost use Rattle.iv_laws_levels.specs.Holders.{row_before};
 
 use iv_expr::{Change, StoredRow, TableId};
-use iv_store::Kin;
+use iv_store::ReferencingRows;
 use iv_value::Value;
 use std::marker::Model;
 
@@ -98,7 +98,7 @@ fn old_row(change: &Change) -> Option<LentRow<'_>>
 }
 
 // The row of a number after the wave.
-fn row_after<K: Kin>(store: &K, number: u64) -> Option<LentRow<'_>>
+fn row_after<K: ReferencingRows>(store: &K, number: u64) -> Option<LentRow<'_>>
     ensures { result ≡ row_at (K.view store.now).base.rows number }
 {
     match store.row(number) {
@@ -108,7 +108,7 @@ fn row_after<K: Kin>(store: &K, number: u64) -> Option<LentRow<'_>>
 }
 
 /// The row of a number before the wave.
-pub fn row_before<'a, K: Kin>(
+pub fn row_before<'a, K: ReferencingRows>(
     store: &'a K,
     changes: &'a [Change],
     number: u64,

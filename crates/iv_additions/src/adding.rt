@@ -4,7 +4,7 @@ ghost use Rattle.iv_catalogue.specs.Catalogues.{AllOn, with_constraint, with_tab
 ghost use Rattle.iv_catalogue.specs.declared.limits.TheConstants.{MOST_CONSTRAINTS, MOST_TABLES};
 ghost use Rattle.iv_modes.specs.ModeMaps.{initial_map};
 ghost use Rattle.iv_store.specs.Stores.{AnswersAdding, first_violating_row, has_keys, store_with_constraint, store_with_table};
-ghost use Rattle.iv_fitting.specs.ConstraintShapes.{ConstraintFits, TableFits};
+ghost use Rattle.iv_laws_fitting.specs.ConstraintShapes.{ConstraintFits, TableFits};
 
 use iv_catalogue::{Catalogue, Constraint, Constraints, Table};
 use iv_modes::Modes;

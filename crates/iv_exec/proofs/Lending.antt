@@ -11,14 +11,14 @@ use Rattle.iv_catalogue.specs.declared.limits.TheConstants.{MOST_BODY_STATEMENTS
 use Rattle.iv_catalogue.specs.declared.plan.BodyStatement.{BodyStatement}
 use Rattle.iv_catalogue.specs.declared.plan.BodyStatement.TheVariants as body
 use Rattle.iv_catalogue.specs.declared.plan.Trigger.{Trigger}
-use Rattle.iv_fitting.specs.PlanShapes.{trigger_suits}
-use Rattle.iv_fitting.proofs.Pointwise.{all_at}
-use Rattle.iv_laws.proofs.Members.{of_filter, all_in}
+use Rattle.iv_laws_fitting.specs.PlanShapes.{trigger_suits}
+use Rattle.iv_laws_fitting.proofs.Pointwise.{all_at}
+use Rattle.iv_laws_levels.proofs.Members.{of_filter, all_in}
 use Rattle.iv_machine.specs.BeforeTriggers.{for_each_row}
 use Rattle.iv_machine.specs.Levels.{row_firing, statement_firing}
-use Rattle.iv_row_laws.specs.RowFits.{BodyFits, change_fits}
-use Rattle.iv_row_laws.proofs.FittingFrames.{row_firings_fit, statement_firings_fit}
-use Rattle.iv_row_laws.proofs.MoreMembers.{all_by_in}
+use Rattle.iv_laws_rows.specs.RowFits.{BodyFits, change_fits}
+use Rattle.iv_laws_rows.proofs.FittingFrames.{row_firings_fit, statement_firings_fit}
+use Rattle.iv_laws_rows.proofs.MoreMembers.{all_by_in}
 use Rattle.iv_transitions.specs.ByTable.{is_of, transitions_on}
 use Rattle.iv_exec.specs.Firing.{ActionFits, AreParts, AreTransitions, CanFire}
 

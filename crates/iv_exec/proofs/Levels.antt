@@ -10,25 +10,25 @@ use Rattle.iv_machine.specs.declared.database.Database.{Database}
 use Rattle.iv_machine.specs.BeforeTriggers.{before_statement}
 use Rattle.iv_machine.specs.Context.{Context, Failure, over, with_count}
 use Rattle.iv_machine.specs.Databases.{size}
-use Rattle.iv_machine.specs.Levels.{Finished, Runs, Standing, firings, firings_run, immediate_check, level, level_steps, nested_level}
+use Rattle.iv_machine.specs.Levels.{Finished, Runs, Progress, firings, firings_run, immediate_check, level, level_steps, nested_level}
 use Rattle.iv_machine.specs.Proposals.{event_of, proposed_wave, table_of}
 use Rattle.iv_machine.specs.Waves.{SettledWaves, net_wave, settled_waves}
 use Rattle.iv_transitions.specs.ByTable.{ByTableAndEvent, all_firings}
 use Rattle.iv_transitions.proofs.FiringsByTable.{firings_parted}
 use Rattle.iv_triggers.proofs.Answers.{unless_memory}
-use Rattle.iv_exec.specs.Steps.{allowed_wave, finished, standing, waves_and_after}
+use Rattle.iv_exec.specs.Steps.{allowed_wave, finished, progress, waves_and_after}
 use Rattle.iv_exec.specs.Settled.{SettledParts}
 
 -- ---- the check and the triggers
 
-abbrev then_fired : Runs → Context → DataStatement → Wave → Standing → Result (Unit {0}) Failure → Result Standing Failure
+abbrev then_fired : Runs → Context → DataStatement → Wave → Progress → Result (Unit {0}) Failure → Result Progress Failure
 then_fired run w d net at r = and_then r (λ _. firings_run run (firings w d net) at)
 
 same_firings : (w : Context) (d : DataStatement) (parts : List (List Change)) (net : Wave) (triggers : List Trigger) → ByTableAndEvent parts net.changes → triggers ≡ w.schema.triggers
     → all_firings d parts triggers ≡ firings w d net
 same_firings w d parts net triggers h e = ap (all_firings d parts) e ∙ firings_parted w d parts net h
 
-pub finished_is : (run : Runs) (w : Context) (d : DataStatement) (parts : List (List Change)) (net : Wave) (triggers : List Trigger) (at : Standing) (r : Result Standing Failure)
+pub finished_is : (run : Runs) (w : Context) (d : DataStatement) (parts : List (List Change)) (net : Wave) (triggers : List Trigger) (at : Progress) (r : Result Progress Failure)
     → immediate_check w at.database ≡ Ok tt → ByTableAndEvent parts net.changes → triggers ≡ w.schema.triggers
     → firings_run run (all_firings d parts triggers) at ≡ r → finished run w d net at ≡ r
 finished_is run w d parts net triggers at r check h e fired =
@@ -36,16 +36,16 @@ finished_is run w d parts net triggers at r check h e fired =
 
 -- ---- the waves and what comes after them
 
-abbrev done : ℕ → Standing → Finished
+abbrev done : ℕ → Progress → Finished
 done n at = record { database = at.database; rest = at.budget; size = n }
 
 abbrev then_finished : Runs → Context → DataStatement → Database → ℕ → Result SettledWaves Failure → Result Finished Failure
 then_finished run w d db n r =
-    and_then r (λ s. and_then (finished run w d (net_wave db.rows s.last.rows s.waves) (standing s.last s.rest)) (λ at. Ok (done n at)))
+    and_then r (λ s. and_then (finished run w d (net_wave db.rows s.last.rows s.waves) (progress s.last s.rest)) (λ at. Ok (done n at)))
 
-pub waves_done : (run : Runs) (w : Context) (d : DataStatement) (db last : Database) (budget rest : ℕ) (changes : List Change) (parts : List (List Change)) (n : ℕ) (at : Standing)
+pub waves_done : (run : Runs) (w : Context) (d : DataStatement) (db last : Database) (budget rest : ℕ) (changes : List Change) (parts : List (List Change)) (n : ℕ) (at : Progress)
     → SettledParts w db budget changes last rest parts → n ≡ length changes
-    → ((net : Wave) → ByTableAndEvent parts net.changes → finished run w d net (standing last rest) ≡ Ok at)
+    → ((net : Wave) → ByTableAndEvent parts net.changes → finished run w d net (progress last rest) ≡ Ok at)
     → waves_and_after run w d db budget (wave_of changes) ≡ Ok (record { database = at.database; rest = at.budget; size = n })
 waves_done run w d db last budget rest changes parts n at h same f =
     ap (then_finished run w d db (length changes)) h.is
@@ -54,10 +54,10 @@ waves_done run w d db last budget rest changes parts n at h same f =
 
 pub waves_refused : (memory : Bool) (run : Runs) (w : Context) (d : DataStatement) (db last : Database) (budget rest : ℕ) (changes : List Change) (parts : List (List Change)) (failure : Failure)
     → SettledParts w db budget changes last rest parts
-    → ((net : Wave) → ByTableAndEvent parts net.changes → MatchBool memory (Unit {0}) (finished run w d net (standing last rest) ≡ Err failure))
+    → ((net : Wave) → ByTableAndEvent parts net.changes → MatchBool memory (Unit {0}) (finished run w d net (progress last rest) ≡ Err failure))
     → MatchBool memory (Unit {0}) (waves_and_after run w d db budget (wave_of changes) ≡ Err failure)
 waves_refused memory run w d db last budget rest changes parts failure h f =
-    unless_memory memory (finished run w d (net_wave db.rows last.rows h.waves) (standing last rest) ≡ Err failure)
+    unless_memory memory (finished run w d (net_wave db.rows last.rows h.waves) (progress last rest) ≡ Err failure)
     (waves_and_after run w d db budget (wave_of changes) ≡ Err failure)
     (λ e. ap (then_finished run w d db (length changes)) h.is ∙ ap (λ r. and_then {B = Finished} r (λ x. Ok (done (length changes) x))) e)
     (f (net_wave db.rows last.rows h.waves) h.by_table)
@@ -84,13 +84,13 @@ abbrev waves_in_one : Runs → Context → DataStatement → Database → ℕ �
 waves_in_one run w d db budget wave =
     and_then (settled_waves w db budget wave) (λ s.
     and_then (immediate_check w s.last) (λ _.
-    and_then (firings_run run (firings w d (net_wave db.rows s.last.rows s.waves)) (standing s.last s.rest)) (λ at. Ok (done (size wave) at))))
+    and_then (firings_run run (firings w d (net_wave db.rows s.last.rows s.waves)) (progress s.last s.rest)) (λ at. Ok (done (size wave) at))))
 
 in_two : (run : Runs) (w : Context) (d : DataStatement) (db : Database) (budget : ℕ) (wave : Wave)
     → waves_in_one run w d db budget wave ≡ waves_and_after run w d db budget wave
 in_two run w d db budget wave =
     same_then (settled_waves w db budget wave) _ _ (λ s.
-    sym (assoc (immediate_check w s.last) (λ _. firings_run run (firings w d (net_wave db.rows s.last.rows s.waves)) (standing s.last s.rest)) (λ at. Ok (done (size wave) at))))
+    sym (assoc (immediate_check w s.last) (λ _. firings_run run (firings w d (net_wave db.rows s.last.rows s.waves)) (progress s.last s.rest)) (λ at. Ok (done (size wave) at))))
 
 abbrev before : Context → DataStatement → Database → Result (Unit {0}) Failure
 before w d db = with_count db (before_statement w db.rows (table_of d) (event_of d))

@@ -7,7 +7,7 @@ use Rattle.iv_catalogue.specs.declared.cause.Refusal.{Refusal}
 use Rattle.iv_machine.specs.declared.database.Database.{Database}
 use Rattle.iv_machine.specs.Context.{Failure, over, inside_trigger}
 use Rattle.iv_triggers.proofs.Answers.{anyway, unless_memory}
-use Rattle.iv_row_laws.specs.Changing.{AnswersAt}
+use Rattle.iv_laws_rows.specs.Changing.{AnswersAt}
 use Rattle.iv_exec.specs.Steps.{innermost}
 
 -- what is answered of one text is answered of the same in other words

@@ -8,11 +8,11 @@ use Rattle.iv_catalogue.specs.declared.catalogue.Table.{Table}
 use Rattle.iv_catalogue.specs.declared.limits.TheConstants.{MOST_BODY_STATEMENTS}
 use Rattle.iv_catalogue.specs.declared.plan.BodyStatement.{BodyStatement}
 use Rattle.iv_catalogue.specs.declared.plan.BodyStatement.TheVariants as body
-use Rattle.iv_fitting.specs.PlanShapes.{trigger_suits}
+use Rattle.iv_laws_fitting.specs.PlanShapes.{trigger_suits}
 use Rattle.iv_machine.specs.Levels.{row_firing}
 use Rattle.iv_catalogue.specs.declared.plan.Trigger.{Trigger}
 use Rattle.iv_machine.specs.BeforeTriggers.{event_of_change, is_on}
-use Rattle.iv_row_laws.specs.RowFits.{StatementFits, changes_fit, wave_fits}
+use Rattle.iv_laws_rows.specs.RowFits.{StatementFits, changes_fit, wave_fits}
 use Rattle.iv_transitions.specs.ByTable.{ByTableAndEvent}
 
 -- these are changes of a trigger's table and event, which fit

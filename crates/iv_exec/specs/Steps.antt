@@ -8,15 +8,15 @@ use Rattle.iv_machine.specs.declared.database.Database.{Database}
 use Rattle.iv_machine.specs.BeforeTriggers.{before_statement, placed_statements}
 use Rattle.iv_machine.specs.Context.{Context, Failure, over, with_count}
 use Rattle.iv_machine.specs.Databases.{size}
-use Rattle.iv_machine.specs.Levels.{Finished, Firing, Runs, Standing, body_run, firings, firings_run, immediate_check}
+use Rattle.iv_machine.specs.Levels.{Finished, Firing, Runs, Progress, body_run, firings, firings_run, immediate_check}
 use Rattle.iv_machine.specs.Proposals.{event_of, holds, proposed_wave, table_of}
 use Rattle.iv_machine.specs.Waves.{net_wave, settled_waves}
 
-abbrev pub standing : Database → ℕ → Standing
-standing db budget = record { database = db; budget = budget }
+abbrev pub progress : Database → ℕ → Progress
+progress db budget = record { database = db; budget = budget }
 
 -- the body of a trigger, where its WHEN is true
-abbrev pub body_run_where_true : Runs → Firing → Standing → Result Standing Failure
+abbrev pub body_run_where_true : Runs → Firing → Progress → Result Progress Failure
 body_run_where_true run x at =
     and_then (over at.database (holds (scope_of x.frame at.database.rows) x.trigger.when)) (λ fires.
     if fires then body_run run x (placed_statements x.trigger) at else Ok at)
@@ -32,7 +32,7 @@ abbrev pub innermost : ℕ → Option ℕ → Option ℕ
 innermost trigger inner = if is_none inner then Some trigger else inner
 
 -- the check of the immediate constraints, and the AFTER triggers that these net changes fire
-abbrev pub finished : Runs → Context → DataStatement → Wave → Standing → Result Standing Failure
+abbrev pub finished : Runs → Context → DataStatement → Wave → Progress → Result Progress Failure
 finished run context statement net at =
     and_then (immediate_check context at.database) (λ _. firings_run run (firings context statement net) at)
 
@@ -40,5 +40,5 @@ finished run context statement net at =
 abbrev pub waves_and_after : Runs → Context → DataStatement → Database → ℕ → Wave → Result Finished Failure
 waves_and_after run context statement db budget wave =
     and_then (settled_waves context db budget wave) (λ s.
-    and_then (finished run context statement (net_wave db.rows s.last.rows s.waves) (standing s.last s.rest)) (λ at.
+    and_then (finished run context statement (net_wave db.rows s.last.rows s.waves) (progress s.last s.rest)) (λ at.
     Ok (record { database = at.database; rest = at.budget; size = size wave })))

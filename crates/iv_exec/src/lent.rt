@@ -3,10 +3,10 @@ ghost use Rattle.std.specs.Prelude.{◌≡◌, ◌<◌, ◌≤◌, ◌∷◌, []
 ghost use Rattle.std.specs.List.{list_all};
 ghost use Rattle.iv_catalogue.specs.Catalogues.{BodiesWithinLimit};
 ghost use Rattle.iv_catalogue.specs.declared.limits.TheConstants.{MOST_BODY_STATEMENTS};
-ghost use Rattle.iv_fitting.specs.PlanShapes.{trigger_suits};
+ghost use Rattle.iv_laws_fitting.specs.PlanShapes.{trigger_suits};
 ghost use Rattle.iv_machine.specs.BeforeTriggers.{for_each_row};
 ghost use Rattle.iv_machine.specs.Levels.{statement_firing};
-ghost use Rattle.iv_row_laws.specs.RowFits.{BodyFits};
+ghost use Rattle.iv_laws_rows.specs.RowFits.{BodyFits};
 ghost use Rattle.iv_transitions.specs.ByTable.{transitions_on};
 ghost use Rattle.iv_exec.specs.Firing.{ActionFits, AreParts, AreTransitions, CanFire, FiresAt};
 

@@ -4,17 +4,17 @@ ghost use Rattle.std.specs.List.{list_all};
 ghost use Rattle.iv_catalogue.specs.Catalogues.{BodiesWithinLimit};
 ghost use Rattle.iv_catalogue.specs.declared.limits.TheConstants.{MOST_BODY_STATEMENTS};
 ghost use Rattle.iv_expr.specs.Scopes.{no_frame};
-ghost use Rattle.iv_fitting.specs.PlanShapes.{data_suits, plain_shape, trigger_suits};
+ghost use Rattle.iv_laws_fitting.specs.PlanShapes.{data_suits, plain_shape, trigger_suits};
 ghost use Rattle.iv_expr.specs.Changes.{Wave as Changes, wave_of};
 ghost use Rattle.iv_machine.specs.BeforeTriggers.{for_each_row, placed_statements};
 ghost use Rattle.iv_machine.specs.Levels.{body_run, firing_run, firings_run, level, nested_level, row_firing, statement_firing, statement_run};
-ghost use Rattle.iv_row_laws.specs.RowFits.{BodyFits, StatementFits, changes_fit};
+ghost use Rattle.iv_laws_rows.specs.RowFits.{BodyFits, StatementFits, changes_fit};
 ghost use Rattle.iv_transitions.specs.ByTable.{ByTableAndEvent, after_firings, all_firings};
-ghost use Rattle.iv_row_laws.specs.Changing.{AnswersAt, StoreFits, UnlessMemory, database_and_size, with_database};
+ghost use Rattle.iv_laws_rows.specs.Changing.{AnswersAt, StoreFits, UnlessMemory, database_and_size, with_database};
 ghost use Rattle.iv_waves.specs.Applying.{Proposes};
 ghost use Rattle.iv_store.specs.Lookups.{LooksUp};
 ghost use Rattle.iv_exec.specs.Firing.{ActionFits, AreParts, AreTransitions, CanFire};
-ghost use Rattle.iv_exec.specs.Steps.{body_run_where_true, finished, innermost, standing, waves_and_after};
+ghost use Rattle.iv_exec.specs.Steps.{body_run_where_true, finished, innermost, progress, waves_and_after};
 
 use crate::lent::{are_transitions, row_frame, statement_at, statement_frame, trigger_at};
 use crate::start::{allowed, check, settle_waves, takes_effect};
@@ -40,13 +40,13 @@ fn run_statement<K: ChangeableRows>(
 ) -> Result<(), Refusal>
     requires store { StoreFits context.now.schema (K.view store.old) }
     requires statement { ActionFits context.now.schema.tables frame.now statement.now }
-    ensures answer { AnswersAt (λ _. standing (K.view store.new).base budget.new)
+    ensures answer { AnswersAt (λ _. progress (K.view store.new).base budget.new)
         (K.view store.new).base.count result
         (statement_run (nested_level deeper context.now)
         (record { trigger = trigger.now; frame = frame.now }) place statement.now
-        (standing (K.view store.old).base budget.old)) }
+        (progress (K.view store.old).base budget.old)) }
     ensures kept { K.view store.new ≡ with_database (K.view store.old) (K.view store.new).base }
-    ensures looked { UnlessMemory result (LooksUp
+    ensures looked_up { UnlessMemory result (LooksUp
         (K.view store.old) (K.lookups store.old) (K.view store.new) (K.lookups store.new)) }
     ensures store { OnOk result (StoreFits context.now.schema (K.view store.new)) }
 {
@@ -81,7 +81,7 @@ fn nested<K: ChangeableRows>(
         (nested_level deeper context.now trigger statement.now frame.now
         (K.view store.old).base budget.old) }
     ensures kept { K.view store.new ≡ with_database (K.view store.old) (K.view store.new).base }
-    ensures looked { UnlessMemory result (LooksUp
+    ensures looked_up { UnlessMemory result (LooksUp
         (K.view store.old) (K.lookups store.old) (K.view store.new) (K.lookups store.new)) }
     ensures store { OnOk result (StoreFits context.now.schema (K.view store.new)) }
 {
@@ -104,13 +104,13 @@ fn run_body<K: ChangeableRows>(
     requires store { StoreFits context.now.schema (K.view store.old) }
     requires fires { CanFire context.now.schema.tables trigger.now }
     requires body { BodyFits context.now.schema.tables frame.now trigger.now.body }
-    ensures answer { AnswersAt (λ _. standing (K.view store.new).base budget.new)
+    ensures answer { AnswersAt (λ _. progress (K.view store.new).base budget.new)
         (K.view store.new).base.count result
         (body_run (nested_level deeper context.now)
         (record { trigger = trigger.now; frame = frame.now }) (placed_statements trigger.now)
-        (standing (K.view store.old).base budget.old)) }
+        (progress (K.view store.old).base budget.old)) }
     ensures kept { K.view store.new ≡ with_database (K.view store.old) (K.view store.new).base }
-    ensures looked { UnlessMemory result (LooksUp
+    ensures looked_up { UnlessMemory result (LooksUp
         (K.view store.old) (K.lookups store.old) (K.view store.new) (K.lookups store.new)) }
     ensures store { OnOk result (StoreFits context.now.schema (K.view store.new)) }
 {
@@ -141,13 +141,13 @@ fn run_where_true<K: ChangeableRows>(
     requires store { StoreFits context.now.schema (K.view store.old) }
     requires fires { CanFire context.now.schema.tables trigger.now }
     requires body { BodyFits context.now.schema.tables frame.now trigger.now.body }
-    ensures answer { AnswersAt (λ _. standing (K.view store.new).base budget.new)
+    ensures answer { AnswersAt (λ _. progress (K.view store.new).base budget.new)
         (K.view store.new).base.count result
         (body_run_where_true (nested_level deeper context.now)
         (record { trigger = trigger.now; frame = frame.now })
-        (standing (K.view store.old).base budget.old)) }
+        (progress (K.view store.old).base budget.old)) }
     ensures kept { K.view store.new ≡ with_database (K.view store.old) (K.view store.new).base }
-    ensures looked { UnlessMemory result (LooksUp
+    ensures looked_up { UnlessMemory result (LooksUp
         (K.view store.old) (K.lookups store.old) (K.view store.new) (K.lookups store.new)) }
     ensures store { OnOk result (StoreFits context.now.schema (K.view store.new)) }
 {
@@ -181,13 +181,13 @@ fn fire<K: ChangeableRows>(
     requires store { StoreFits context.now.schema (K.view store.old) }
     requires fires { CanFire context.now.schema.tables trigger.now }
     requires body { BodyFits context.now.schema.tables frame.now trigger.now.body }
-    ensures answer { AnswersAt (λ _. standing (K.view store.new).base budget.new)
+    ensures answer { AnswersAt (λ _. progress (K.view store.new).base budget.new)
         (K.view store.new).base.count result
         (firing_run (nested_level deeper context.now)
         (record { trigger = trigger.now; frame = frame.now })
-        (standing (K.view store.old).base budget.old)) }
+        (progress (K.view store.old).base budget.old)) }
     ensures kept { K.view store.new ≡ with_database (K.view store.old) (K.view store.new).base }
-    ensures looked { UnlessMemory result (LooksUp
+    ensures looked_up { UnlessMemory result (LooksUp
         (K.view store.old) (K.lookups store.old) (K.view store.new) (K.lookups store.new)) }
     ensures store { OnOk result (StoreFits context.now.schema (K.view store.new)) }
 {
@@ -213,13 +213,13 @@ fn fire_rows<K: ChangeableRows>(
     requires store { StoreFits context.now.schema (K.view store.old) }
     requires fires { CanFire context.now.schema.tables trigger.now }
     requires transitions { AreTransitions context.now.schema.tables trigger.now transitions.now }
-    ensures answer { AnswersAt (λ _. standing (K.view store.new).base budget.new)
+    ensures answer { AnswersAt (λ _. progress (K.view store.new).base budget.new)
         (K.view store.new).base.count result
         (firings_run (nested_level deeper context.now)
         (map (row_firing trigger.now transitions.now) transitions.now)
-        (standing (K.view store.old).base budget.old)) }
+        (progress (K.view store.old).base budget.old)) }
     ensures kept { K.view store.new ≡ with_database (K.view store.old) (K.view store.new).base }
-    ensures looked { UnlessMemory result (LooksUp
+    ensures looked_up { UnlessMemory result (LooksUp
         (K.view store.old) (K.lookups store.old) (K.view store.new) (K.lookups store.new)) }
     ensures store { OnOk result (StoreFits context.now.schema (K.view store.new)) }
 {
@@ -246,12 +246,12 @@ fn fire_once<K: ChangeableRows>(
     requires fires { CanFire context.now.schema.tables trigger.now }
     requires once { for_each_row trigger.now ≡ false }
     requires transitions { AreTransitions context.now.schema.tables trigger.now transitions.now }
-    ensures answer { AnswersAt (λ _. standing (K.view store.new).base budget.new)
+    ensures answer { AnswersAt (λ _. progress (K.view store.new).base budget.new)
         (K.view store.new).base.count result
         (firing_run (nested_level deeper context.now) (statement_firing trigger.now transitions.now)
-        (standing (K.view store.old).base budget.old)) }
+        (progress (K.view store.old).base budget.old)) }
     ensures kept { K.view store.new ≡ with_database (K.view store.old) (K.view store.new).base }
-    ensures looked { UnlessMemory result (LooksUp
+    ensures looked_up { UnlessMemory result (LooksUp
         (K.view store.old) (K.lookups store.old) (K.view store.new) (K.lookups store.new)) }
     ensures store { OnOk result (StoreFits context.now.schema (K.view store.new)) }
 {
@@ -273,13 +273,13 @@ fn fire_trigger<K: ChangeableRows>(
     requires store { StoreFits context.now.schema (K.view store.old) }
     requires fires { CanFire context.now.schema.tables trigger.now }
     requires parts { AreParts context.now.schema.tables transitions.now }
-    ensures answer { AnswersAt (λ _. standing (K.view store.new).base budget.new)
+    ensures answer { AnswersAt (λ _. progress (K.view store.new).base budget.new)
         (K.view store.new).base.count result
         (firings_run (nested_level deeper context.now)
         (after_firings statement.now transitions.now trigger.now)
-        (standing (K.view store.old).base budget.old)) }
+        (progress (K.view store.old).base budget.old)) }
     ensures kept { K.view store.new ≡ with_database (K.view store.old) (K.view store.new).base }
-    ensures looked { UnlessMemory result (LooksUp
+    ensures looked_up { UnlessMemory result (LooksUp
         (K.view store.old) (K.lookups store.old) (K.view store.new) (K.lookups store.new)) }
     ensures store { OnOk result (StoreFits context.now.schema (K.view store.new)) }
 {
@@ -311,13 +311,13 @@ fn fire_all<K: ChangeableRows>(
     requires short { BodiesWithinLimit triggers.now }
     requires suit { list_all (trigger_suits context.now.schema.tables) triggers.now ≡ true }
     requires parts { AreParts context.now.schema.tables transitions.now }
-    ensures answer { AnswersAt (λ _. standing (K.view store.new).base budget.new)
+    ensures answer { AnswersAt (λ _. progress (K.view store.new).base budget.new)
         (K.view store.new).base.count result
         (firings_run (nested_level deeper context.now)
         (all_firings statement.now transitions.now triggers.now)
-        (standing (K.view store.old).base budget.old)) }
+        (progress (K.view store.old).base budget.old)) }
     ensures kept { K.view store.new ≡ with_database (K.view store.old) (K.view store.new).base }
-    ensures looked { UnlessMemory result (LooksUp
+    ensures looked_up { UnlessMemory result (LooksUp
         (K.view store.old) (K.lookups store.old) (K.view store.new) (K.lookups store.new)) }
     ensures store { OnOk result (StoreFits context.now.schema (K.view store.new)) }
 {
@@ -351,12 +351,12 @@ fn finish<K: ChangeableRows>(
     requires store { StoreFits context.now.schema (K.view store.old) }
     requires parts { AreParts context.now.schema.tables transitions.now }
     ensures answer { (net : Changes) → ByTableAndEvent transitions.now net.changes
-        → AnswersAt (λ _. standing (K.view store.new).base budget.new)
+        → AnswersAt (λ _. progress (K.view store.new).base budget.new)
         (K.view store.new).base.count result
         (finished (nested_level deeper context.now) context.now statement.now net
-        (standing (K.view store.old).base budget.old)) }
+        (progress (K.view store.old).base budget.old)) }
     ensures kept { K.view store.new ≡ with_database (K.view store.old) (K.view store.new).base }
-    ensures looked { UnlessMemory result (LooksUp
+    ensures looked_up { UnlessMemory result (LooksUp
         (K.view store.old) (K.lookups store.old) (K.view store.new) (K.lookups store.new)) }
     ensures store { OnOk result (StoreFits context.now.schema (K.view store.new)) }
 {
@@ -391,7 +391,7 @@ fn run_waves<K: ChangeableRows>(
         (waves_and_after (nested_level deeper context.now) context.now statement.now
         (K.view store.old).base budget.old (wave_of changes.items)) }
     ensures kept { K.view store.new ≡ with_database (K.view store.old) (K.view store.new).base }
-    ensures looked { UnlessMemory result (LooksUp
+    ensures looked_up { UnlessMemory result (LooksUp
         (K.view store.old) (K.lookups store.old) (K.view store.new) (K.lookups store.new)) }
     ensures store { OnOk result (StoreFits context.now.schema (K.view store.new)) }
 {
@@ -418,7 +418,7 @@ fn run_level<K: ChangeableRows>(
         (K.view store.new).base.count result
         (level deeper context.now statement.now frame.now (K.view store.old).base budget.old) }
     ensures kept { K.view store.new ≡ with_database (K.view store.old) (K.view store.new).base }
-    ensures looked { UnlessMemory result (LooksUp
+    ensures looked_up { UnlessMemory result (LooksUp
         (K.view store.old) (K.lookups store.old) (K.view store.new) (K.lookups store.new)) }
     ensures store { OnOk result (StoreFits context.now.schema (K.view store.new)) }
 {
@@ -450,7 +450,7 @@ pub fn change<K: ChangeableRows>(
         (record { schema = catalogue.now; modes = modes.now.modes }) statement.now no_frame
         (K.view store.old).base limits.changes)) }
     ensures kept { K.view store.new ≡ with_database (K.view store.old) (K.view store.new).base }
-    ensures looked { UnlessMemory result (LooksUp
+    ensures looked_up { UnlessMemory result (LooksUp
         (K.view store.old) (K.lookups store.old) (K.view store.new) (K.lookups store.new)) }
     ensures store { OnOk result (StoreFits catalogue.now (K.view store.new)) }
 {

@@ -2,14 +2,14 @@
 ghost use Rattle.std.specs.Prelude.{◌≡◌, true, IfOk, OnOk};
 ghost use Rattle.iv_expr.specs.Changes.{wave_of};
 ghost use Rattle.iv_expr.specs.Scopes.{scope_of};
-ghost use Rattle.iv_laws.specs.FittingWaves.{Chain};
+ghost use Rattle.iv_laws_levels.specs.FittingWaves.{Chain};
 ghost use Rattle.iv_machine.specs.declared.database.Database.{Database};
 ghost use Rattle.iv_machine.specs.Levels.{immediate_check};
 ghost use Rattle.iv_machine.specs.Proposals.{event_of, holds, table_of};
 ghost use Rattle.iv_machine.specs.Waves.{net_wave};
 ghost use Rattle.iv_transitions.specs.ByTable.{ByTableAndEvent};
-ghost use Rattle.iv_row_laws.specs.RowFits.{StatementFits, changes_fit};
-ghost use Rattle.iv_row_laws.specs.Changing.{AnswersAt, StoreFits, UnlessMemory, with_database};
+ghost use Rattle.iv_laws_rows.specs.RowFits.{StatementFits, changes_fit};
+ghost use Rattle.iv_laws_rows.specs.Changing.{AnswersAt, StoreFits, UnlessMemory, with_database};
 ghost use Rattle.iv_waves.specs.Applying.{Proposes};
 ghost use Rattle.iv_store.specs.Lookups.{LooksUp};
 ghost use Rattle.iv_exec.specs.Firing.{AreParts};
@@ -109,7 +109,7 @@ pub fn settle_waves<K: ChangeableRows>(
         (K.view store.new).base budget.new result }
     ensures parts { IfOk result (λ parts. AreParts context.now.schema.tables parts) }
     ensures kept { K.view store.new ≡ with_database (K.view store.old) (K.view store.new).base }
-    ensures looked { UnlessMemory result (LooksUp
+    ensures looked_up { UnlessMemory result (LooksUp
         (K.view store.old) (K.lookups store.old) (K.view store.new) (K.lookups store.new)) }
     ensures store { OnOk result (StoreFits context.now.schema (K.view store.new)) }
 {

@@ -6,7 +6,7 @@ use Rattle.iv_expr.specs.Words.side.{Old, New}
 use Rattle.iv_expr.specs.Words.range.{Table, Transition}
 use Rattle.iv_expr.specs.Words.expr.{Literal, Column, Variable}
 use Rattle.iv_expr.specs.Words.cond.{Always, Compare, IsNull}
-use Rattle.iv_expr.specs.Words.expr_fault.{OutOfRange, Misfit}
+use Rattle.iv_expr.specs.Words.expr_fault.{OutOfRange, IllTyped}
 use Rattle.iv_value.specs.Truths.{is_true}
 use Rattle.iv_expr.specs.Trees.{plus, minus, times, not_c, and_c, or_c, exists_c}
 use Rattle.iv_expr.specs.Scopes.{Scope, within, range_rows}
@@ -164,7 +164,7 @@ truth_fine shape s (exists_c range a) h p =
     (λ row q. truth_fine (shape_within shape (range_kinds shape range)) (within s row) a (shape_of_within s shape (range_kinds shape range) row h q) p)
     (range_all_suit s shape range h) false)
 
-fine_fits : {A : Type 0} (r : Result A ExprFault) → Fine r → r ≢ Err Misfit
+fine_fits : {A : Type 0} (r : Result A ExprFault) → Fine r → r ≢ Err IllTyped
 fine_fits (Ok t) p h = cc
 fine_fits (Err e) p h = cc
 
@@ -174,8 +174,8 @@ value_fine (Some k) (Ok v) p h = tt
 value_fine (Some k) (Err e) p h = p
 
 -- No Misfit for a tree that suits its scope.
-pub truth_fits : (s : Scope) (c : Cond) → Suits s c → truth s c ≢ Err Misfit
+pub truth_fits : (s : Scope) (c : Cond) → Suits s c → truth s c ≢ Err IllTyped
 truth_fits s c h = fine_fits (truth s c) (truth_fine h.0 s c h.1 h.2)
 
-pub value_fits : (s : Scope) (e : Expr) → SuitsExpr s e → value s e ≢ Err Misfit
+pub value_fits : (s : Scope) (e : Expr) → SuitsExpr s e → value s e ≢ Err IllTyped
 value_fits s e h = fine_fits (value s e) (value_fine (sort_of h.0 e) (value s e) (value_sorted h.0 s e h.1) h.2)

@@ -9,7 +9,7 @@ use Rattle.iv_expr.specs.Words.truth.{False, Unknown, True}
 use Rattle.iv_expr.specs.Words.expr.{Literal, Column, Variable}
 use Rattle.iv_expr.specs.Words.comparison as by
 use Rattle.iv_expr.specs.Words.cond.{Always, Compare, IsNull}
-use Rattle.iv_expr.specs.Words.expr_fault.{OutOfRange, Misfit}
+use Rattle.iv_expr.specs.Words.expr_fault.{OutOfRange, IllTyped}
 use Rattle.iv_value.specs.Truths.{truth_not, truth_and, truth_or, truth_of, is_true}
 use Rattle.iv_value.specs.Values.{is_null, order, checked}
 use Rattle.iv_expr.specs.Trees.{plus, minus, times, not_c, and_c, or_c, exists_c}
@@ -28,8 +28,8 @@ and_then (Err e) f = Err e
 
 -- The column of a row by its place; a tree that names another doesn't suit the scope.
 abbrev pub column_of : Option (List Value) → ℕ → Result Value ExprFault
-column_of None c = Err Misfit
-column_of (Some row) c = elim (slice_get row c) [ Some v ↦ Ok v | None ↦ Err Misfit ]
+column_of None c = Err IllTyped
+column_of (Some row) c = elim (slice_get row c) [ Some v ↦ Ok v | None ↦ Err IllTyped ]
 
 -- A result that has a place in 64 bits, or the fault OutOfRange.
 abbrev pub number_of : Option ℤ → Result Value ExprFault
@@ -42,7 +42,7 @@ arithmetic f (Int a) (Int b) = number_of (checked (f a b))
 arithmetic f Null (Int b) = Ok Null
 arithmetic f (Int a) Null = Ok Null
 arithmetic f Null Null = Ok Null
-arithmetic f _ _ = Err Misfit
+arithmetic f _ _ = Err IllTyped
 
 -- The value of an expression ("Value expression").
 abbrev pub value : Scope → Expr → Result Value ExprFault
@@ -64,7 +64,7 @@ accepts by.GreaterEqual = is_ge
 
 -- A comparison ("Comparison predicate"): unknown where an operand is null; two kinds suit none.
 abbrev pub comparison_of : Comparison → Value → Value → Result Truth ExprFault
-comparison_of op a b = elim (order a b) [ Some o ↦ Ok (truth_of (accepts op o)) | None ↦ if is_null a || is_null b then Ok Unknown else Err Misfit ]
+comparison_of op a b = elim (order a b) [ Some o ↦ Ok (truth_of (accepts op o)) | None ↦ if is_null a || is_null b then Ok Unknown else Err IllTyped ]
 
 -- the results, or the first fault
 abbrev pub all_results : {A : Type 0} → List (Result A ExprFault) → Result (List A) ExprFault

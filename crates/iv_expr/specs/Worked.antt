@@ -8,7 +8,7 @@ use Rattle.iv_expr.specs.Words.range.{Table}
 use Rattle.iv_expr.specs.Words.expr.{Literal, Column}
 use Rattle.iv_expr.specs.Words.comparison.{Equal, Less}
 use Rattle.iv_expr.specs.Words.cond.{Always, Compare, IsNull}
-use Rattle.iv_expr.specs.Words.expr_fault.{OutOfRange, Misfit}
+use Rattle.iv_expr.specs.Words.expr_fault.{OutOfRange, IllTyped}
 use Rattle.iv_expr.specs.Words.kind.{Integer, Varchar}
 use Rattle.iv_expr.specs.Trees.{plus, minus, times, not_c, and_c, or_c, exists_c}
 use Rattle.iv_expr.specs.Scopes.{Scope, scope_of, no_frame, alone}
@@ -30,8 +30,8 @@ abbrev beyond : Expr
 beyond = plus greatest (number (pos 1))
 
 -- A column that no scope without ranges has.
-abbrev misfit : Expr
-misfit = Column 0 0
+abbrev ill_typed : Expr
+ill_typed = Column 0 0
 
 -- 1 + 2 is 3; the least integer is reached and not passed; null makes null; the left fault comes first.
 abbrev pub ArithmeticWorked : Type 0
@@ -43,8 +43,8 @@ ArithmeticWorked =
     × (value nowhere (minus (number (pos 0)) (number (negsuc 9223372036854775807))) ≡ Err OutOfRange)
     × (value nowhere (plus (Literal Null) greatest) ≡ Ok Null)
     × (value nowhere (plus (Literal Null) beyond) ≡ Err OutOfRange)
-    × (value nowhere (plus beyond misfit) ≡ Err OutOfRange)
-    × (value nowhere (plus misfit beyond) ≡ Err Misfit)
+    × (value nowhere (plus beyond ill_typed) ≡ Err OutOfRange)
+    × (value nowhere (plus ill_typed beyond) ≡ Err IllTyped)
 
 -- A false, an unknown and a true condition, and one that is a fault.
 abbrev f : Cond

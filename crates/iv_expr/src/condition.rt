@@ -18,7 +18,7 @@ use iv_value::{Truth, Value};
 /// It takes no memory.
 pub fn truth<R: Rows>(cond: &Cond, scope: &Scope<'_, R>) -> Result<Truth, ExprFault>
     ensures value { result ≡ truth_at scope.now cond.now }
-    ensures suited { Suits scope.now cond.now → result ≢ Err fault.Misfit }
+    ensures suited { Suits scope.now cond.now → result ≢ Err fault.IllTyped }
 {
     truth_in(cond, scope)
 }

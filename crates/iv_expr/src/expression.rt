@@ -15,7 +15,7 @@ use iv_value::{Value, ValueRef};
 /// The value of an expression in a scope; only the copy of a text takes memory.
 pub fn eval<R: Rows>(expr: &Expr, scope: &Scope<'_, R>) -> Result<Value, ExprFault>
     ensures value { CopyOf (value scope.now expr.now) result }
-    ensures suited { SuitsExpr scope.now expr.now → result ≢ Err fault.Misfit }
+    ensures suited { SuitsExpr scope.now expr.now → result ≢ Err fault.IllTyped }
 {
     match value_in(expr, scope) {
         Ok(value) => copy(value),
@@ -38,7 +38,7 @@ pub fn eval_ref<'a, R: Rows>(
     scope: &'a Scope<'a, R>,
 ) -> Result<ValueRef<'a>, ExprFault>
     ensures value { result_of result ≡ value scope.entry.now expr.entry.now }
-    ensures suited { SuitsExpr scope.entry.now expr.entry.now → result ≢ Err fault.Misfit }
+    ensures suited { SuitsExpr scope.entry.now expr.entry.now → result ≢ Err fault.IllTyped }
 {
     value_in(expr, scope)
 }
@@ -77,7 +77,7 @@ fn column_in(row: Option<&[Value]>, column: u32) -> Result<ValueRef<'_>, ExprFau
 {
     match row {
         Some(row) => column_at(row, column),
-        None => Err(ExprFault::Misfit),
+        None => Err(ExprFault::IllTyped),
     }
 }
 
@@ -86,6 +86,6 @@ fn column_at(row: &[Value], column: u32) -> Result<ValueRef<'_>, ExprFault>
 {
     match row.get(column as usize) {
         Some(value) => Ok(value.as_ref()),
-        None => Err(ExprFault::Misfit),
+        None => Err(ExprFault::IllTyped),
     }
 }

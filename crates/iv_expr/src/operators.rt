@@ -50,7 +50,7 @@ fn calculate<'a>(
         (ValueRef::Null, ValueRef::Int(_))
         | (ValueRef::Int(_), ValueRef::Null)
         | (ValueRef::Null, ValueRef::Null) => Ok(ValueRef::Null),
-        _ => Err(ExprFault::Misfit),
+        _ => Err(ExprFault::IllTyped),
     }
 }
 
@@ -93,7 +93,7 @@ fn compare_by(
             if left.is_null() || right.is_null() {
                 Ok(Truth::Unknown)
             } else {
-                Err(ExprFault::Misfit)
+                Err(ExprFault::IllTyped)
             }
         }
     }

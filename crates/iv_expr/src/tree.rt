@@ -60,7 +60,7 @@ pub enum ExprFault {
     /// A sum, difference or product out of the range of 64 bits.
     OutOfRange,
     /// The tree doesn't suit its scope.
-    Misfit,
+    IllTyped,
     /// Memory was refused.
     NoMemory,
 }

@@ -12,8 +12,8 @@ use Rattle.iv_expr.specs.Scopes.{Rises, row_above, table_rows, numbered}
 use Rattle.iv_expr.proofs.Scan.{rows_above, above_all, above_next, scan_next, scan_none, found_row, table_rises}
 use Rattle.iv_machine.specs.Databases.{row_at, satisfies, violates}
 use Rattle.iv_store.specs.Stores.{numbers_of}
-use Rattle.iv_laws.specs.RisingRows.{Above, InOrder}
-use Rattle.iv_laws.proofs.RowNumbers.{in_order_filter, passing, row_at_filter_in_order, some_none, some_same}
+use Rattle.iv_laws_levels.specs.RisingRows.{Above, InOrder}
+use Rattle.iv_laws_levels.proofs.RowNumbers.{in_order_filter, passing, row_at_filter_in_order, some_none, some_same}
 use Rattle.iv_index.specs.Groups.{Contents, GroupOf, groups_of}
 use Rattle.iv_marks.specs.Shown.{shown, shown_group, shown_of}
 use Rattle.iv_marks.proofs.Shown.{groups_shown}
@@ -310,7 +310,7 @@ pub record Filling (rows : List StoredRow) (c : Constraint) (id after : ℕ) (st
   pub coming : (key : List Value) → filled c.rule key (rows_above after (table_rows rows c.table)) (rows_in (shown_of now.groups id) key) ≡ filled c.rule key (table_rows rows c.table) []
   pub others : (k : ℕ) → k ≢ id → groups_of now.groups k ≡ groups_of start.groups k
   pub count : length now.groups ≡ length start.groups
-  pub grows : start.looked ≤ now.looked
+  pub grows : start.looked_up ≤ now.looked_up
 
 pub filling_begins : (rows : List StoredRow) (c : Constraint) (id : ℕ) (start : Contents) → Rises 0 rows → groups_of start.groups id ≡ [] → Filling rows c id 0 start start
 filling_begins rows c id start h free = record {
@@ -324,7 +324,7 @@ filling_begins rows c id start h free = record {
 pub filling_goes_on : (rows : List StoredRow) (c : Constraint) (id after : ℕ) (p : ℕ × List Value) (start now next : Contents) → Rises 0 rows
     → Some p ≡ option_map numbered (row_above after (table_rows rows c.table)) → Filling rows c id after start now
     → ((key : List Value) → rows_in (shown_of next.groups id) key ≡ come (is_key (kept_key c.rule p.1) key) p.0 (rows_in (shown_of now.groups id) key))
-    → ((k : ℕ) → k ≢ id → groups_of next.groups k ≡ groups_of now.groups k) → length next.groups ≡ length now.groups → now.looked ≤ next.looked
+    → ((k : ℕ) → k ≢ id → groups_of next.groups k ≡ groups_of now.groups k) → length next.groups ≡ length now.groups → now.looked_up ≤ next.looked_up
     → Filling rows c id p.0 start next
 filling_goes_on rows c id after p start now next h s f came others count grows = record {
   coming = λ key. ap (filled c.rule key (rows_above p.0 (table_rows rows c.table))) (came key)
@@ -353,7 +353,7 @@ pub record Searching (rows : List StoredRow) (c : Constraint) (id after : ℕ) (
   pub coming : (constraints : List Constraint) → Given rows constraints start.groups id c reference
       → find (violates rows c) (rows_above after (table_rows rows c.table)) ≡ find (violates rows c) rows
   pub kept : now.groups ≡ start.groups
-  pub grows : start.looked ≤ now.looked
+  pub grows : start.looked_up ≤ now.looked_up
 
 pub searching_begins : (rows : List StoredRow) (c : Constraint) (id : ℕ) (reference : Option Reference) (start : Contents) → Rises 0 rows → Searching rows c id 0 reference start start
 searching_begins rows c id reference start h = record {
@@ -387,7 +387,7 @@ pub searching_goes_on : (rows : List StoredRow) (c : Constraint) (id after : ℕ
     → Some p ≡ option_map numbered (row_above after (table_rows rows c.table)) → Searching rows c id after reference start now
     → ((constraints : List Constraint) → AllNamed constraints → slice_get constraints id ≡ Some c → IsReferring constraints c reference
     → said ≡ violates_by constraints (shown now.groups) id c (kept_key c.rule p.1))
-    → next.groups ≡ now.groups → now.looked ≤ next.looked → said ≡ false → Searching rows c id p.0 reference start next
+    → next.groups ≡ now.groups → now.looked_up ≤ next.looked_up → said ≡ false → Searching rows c id p.0 reference start next
 searching_goes_on rows c id after reference p start now next said h s f tells kept grows not_so = record {
   coming = λ constraints given.
       let found = found_from rows c id after reference p start now said constraints h s f.kept given tells in

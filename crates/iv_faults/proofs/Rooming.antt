@@ -3,7 +3,7 @@ use Rattle.std.proofs.Common.{◌≡◌, refl, ℕ, suc, ◌<◌, ◌≤◌, tru
 use Rattle.std.proofs.lemmas.Bool.{true≢false}
 use Rattle.std.specs.Bool.{◌==◌}
 use Rattle.iv_faults.specs.Words.{Value}
-use Rattle.iv_laws.proofs.Keys.{all_same_itself}
+use Rattle.iv_laws_levels.proofs.Keys.{all_same_itself}
 use Rattle.iv_store.specs.Stores.{numbers_of}
 use Rattle.iv_index.specs.Groups.{groups_of, rows_of}
 use Rattle.iv_marks.proofs.Shown.{rows_under_shown}

@@ -4,9 +4,9 @@ use Rattle.std.specs.Prelude.{Result, Ok, Err, OnErr}
 use Rattle.std.specs.Bool.{◌==◌}
 use Rattle.iv_faults.specs.Words.{Value, StoredRow, Change, Constraint}
 use Rattle.iv_value.specs.Values.{all_same}
-use Rattle.iv_laws.proofs.Keys.{all_same_itself}
-use Rattle.iv_laws.proofs.RowNumbers.{some_none, some_same}
-use Rattle.iv_laws.proofs.AppliedRows.{rows_after_in_order}
+use Rattle.iv_laws_levels.proofs.Keys.{all_same_itself}
+use Rattle.iv_laws_levels.proofs.RowNumbers.{some_none, some_same}
+use Rattle.iv_laws_levels.proofs.AppliedRows.{rows_after_in_order}
 use Rattle.iv_machine.specs.Databases.{rows_after, scan}
 use Rattle.iv_index.specs.Groups.{Contents, GroupOf, groups_of}
 use Rattle.iv_marks.specs.Shown.{shown}

@@ -4,7 +4,7 @@ use Rattle.std.proofs.lemmas.Bool.{true≢false, cases_lt}
 use Rattle.std.proofs.lemmas.List.{length-append}
 use Rattle.iv_faults.specs.Words.{StoredRow, Rule, Constraint}
 use Rattle.iv_faults.specs.Words.rule
-use Rattle.iv_laws.proofs.Keys.{and_first, false_true}
+use Rattle.iv_laws_levels.proofs.Keys.{and_first, false_true}
 use Rattle.iv_key.specs.Keys.{none_null}
 use Rattle.iv_store.specs.Stores.{numbers_of}
 use Rattle.iv_index.specs.Groups.{Contents, groups_of}

@@ -4,8 +4,8 @@ use Rattle.std.specs.List.{cons_option, enumerate_from, list_all, list_any}
 use Rattle.std.proofs.lemmas.List.Folds.{list_all-append, list_any-append}
 use Rattle.std.proofs.lemmas.List.{map-append, take_all, take_more}
 use Rattle.std.proofs.Math.Nat.{suc-ne-zero}
-use Rattle.iv_laws.proofs.Keys.{and_first, and_second, false_true}
-use Rattle.iv_laws.proofs.RowNumbers.{some_none, some_same}
+use Rattle.iv_laws_levels.proofs.Keys.{and_first, and_second, false_true}
+use Rattle.iv_laws_levels.proofs.RowNumbers.{some_none, some_same}
 use Rattle.iv_machine.specs.Databases.{first}
 use Rattle.iv_machine.specs.ReferentialActions.{foreign_key}
 use Rattle.iv_store.specs.Stores.{has_key, is_named_key}

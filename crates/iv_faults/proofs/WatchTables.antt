@@ -5,7 +5,7 @@ use Rattle.std.proofs.lemmas.Bool.{eqb-true, eq-eqb, ne_eqb, true≢false}
 use Rattle.std.proofs.lemmas.List.Folds.{list_any-append}
 use Rattle.std.proofs.lemmas.Option.{slice_get_past}
 use Rattle.std.proofs.lemmas.List.{length-take-le, take_all, take_more}
-use Rattle.iv_laws.proofs.Locality.{or_false}
+use Rattle.iv_laws_levels.proofs.Locality.{or_false}
 use Rattle.iv_laws_kept.proofs.Rows.{and_false}
 use Rattle.iv_laws_kept.specs.Numbers.{has}
 use Rattle.iv_marks.specs.Marking.{NoRepeats}

@@ -8,7 +8,7 @@ use Rattle.iv_following.specs.declared.reference.Reference.{Reference}
 use Rattle.iv_faults.specs.declared.table_constraints.TableConstraints.{TableConstraints}
 use Rattle.iv_index.specs.Groups.{Contents, GroupOf, groups_of, room_of}
 use Rattle.iv_marks.specs.Shown.{shown}
-use Rattle.iv_laws.specs.RisingRows.{InOrder}
+use Rattle.iv_laws_levels.specs.RisingRows.{InOrder}
 use Rattle.iv_index.specs.Laws.{size_of}
 use Rattle.iv_laws_kept.specs.Kept.{AllNamed, Show, is_kept_under}
 use Rattle.iv_marks.specs.Marking.{flag}

@@ -175,7 +175,7 @@ impl Faults {
         ensures others { (k : ℕ) → k ≢ length self.now.constraints
             → groups_of groups.new.groups k ≡ groups_of groups.old.groups k }
         ensures count { length groups.new.groups ≡ length groups.old.groups }
-        ensures grows { groups.old.looked ≤ groups.new.looked }
+        ensures grows { groups.old.looked_up ≤ groups.new.looked_up }
     {
         fill(
             self.alloc,
@@ -233,8 +233,8 @@ impl Faults {
         ensures count { length groups.new.groups ≡ length groups.old.groups }
         ensures sizes { (k : ℕ) (key : List Value) →
             size_of (groups_of groups.old.groups k) key ≤ size_of (groups_of groups.new.groups k) key }
-        ensures grows { groups.old.looked ≤ groups.new.looked }
-        ensures looked { groups.new.looked ≤ groups.old.looked + 7 * length self.old.constraints }
+        ensures grows { groups.old.looked_up ≤ groups.new.looked_up }
+        ensures looked_up { groups.new.looked_up ≤ groups.old.looked_up + 7 * length self.old.constraints }
     {
         moved(
             groups,
@@ -261,8 +261,8 @@ impl Faults {
         ensures count { length groups.new.groups ≡ length groups.old.groups }
         ensures sizes { (k : ℕ) (key : List Value) →
             size_of (groups_of groups.old.groups k) key ≤ size_of (groups_of groups.new.groups k) key }
-        ensures grows { groups.old.looked ≤ groups.new.looked }
-        ensures looked { groups.new.looked ≤ groups.old.looked + 6 * length self.old.constraints }
+        ensures grows { groups.old.looked_up ≤ groups.new.looked_up }
+        ensures looked_up { groups.new.looked_up ≤ groups.old.looked_up + 6 * length self.old.constraints }
     {
         moved_back(
             groups,

@@ -32,7 +32,7 @@ fn enter(groups: &mut Groups, id: usize, key: &Key<'_>, number: u64) -> Result<(
         ≡ come (all_same key.now other) number (rows_in (shown_of groups.old.groups id) other)) }
     ensures others { (k : ℕ) → k ≢ id → groups_of groups.new.groups k ≡ groups_of groups.old.groups k }
     ensures count { length groups.new.groups ≡ length groups.old.groups }
-    ensures grows { groups.old.looked ≤ groups.new.looked }
+    ensures grows { groups.old.looked_up ≤ groups.new.looked_up }
 {
     make_room(groups, id, key)?;
     put(groups, id, key, number);
@@ -52,7 +52,7 @@ fn fill_row(
         ≡ come (is_key (kept_key constraint.now.rule row.now) key) number (rows_in (shown_of groups.old.groups id) key)) }
     ensures others { (k : ℕ) → k ≢ id → groups_of groups.new.groups k ≡ groups_of groups.old.groups k }
     ensures count { length groups.new.groups ≡ length groups.old.groups }
-    ensures grows { groups.old.looked ≤ groups.new.looked }
+    ensures grows { groups.old.looked_up ≤ groups.new.looked_up }
 {
     match kept_key(&constraint.rule, row) {
         Some(key) => enter(groups, id, &key, number),
@@ -73,7 +73,7 @@ fn fill_rows<R: Rows>(
         ≡ numbers_of (filter (is_kept_under constraint.now key) (R.rows rows.now))) }
     ensures others { (k : ℕ) → k ≢ id → groups_of groups.new.groups k ≡ groups_of groups.old.groups k }
     ensures count { length groups.new.groups ≡ length groups.old.groups }
-    ensures grows { groups.old.looked ≤ groups.new.looked }
+    ensures grows { groups.old.looked_up ≤ groups.new.looked_up }
 {
     rows.known();
     let mut after = 0;
@@ -90,7 +90,7 @@ fn refers(groups: &mut Groups, references: &[Option<Reference>], row: &[Value]) 
     ensures told { (r : Refers) → reference_at references.now 0 ≡ Some r
         → TellsReferenced r row.now (shown_of groups.old.groups r.named) result }
     ensures kept { groups.new.groups ≡ groups.old.groups }
-    ensures grows { groups.old.looked ≤ groups.new.looked }
+    ensures grows { groups.old.looked_up ≤ groups.new.looked_up }
 {
     match reference_at(references, 0) {
         Some(r) => is_referenced(groups, r, row),
@@ -119,7 +119,7 @@ fn is_violating(
         → IsReferring constraints constraint.now (reference_at references.now 0)
         → result ≡ violates_by constraints (shown groups.old.groups) id constraint.now (kept_key constraint.now.rule row.now) }
     ensures kept { groups.new.groups ≡ groups.old.groups }
-    ensures grows { groups.old.looked ≤ groups.new.looked }
+    ensures grows { groups.old.looked_up ≤ groups.new.looked_up }
 {
     match kept_key(&constraint.rule, row) {
         Some(key) => {
@@ -146,7 +146,7 @@ fn first_violating<R: Rows>(
         → Show (R.rows rows.now) constraints (shown groups.old.groups)
         → result ≡ option_map (λ r. r.number) (find (violates (R.rows rows.now) constraint.now) (R.rows rows.now)) }
     ensures kept { groups.new.groups ≡ groups.old.groups }
-    ensures grows { groups.old.looked ≤ groups.new.looked }
+    ensures grows { groups.old.looked_up ≤ groups.new.looked_up }
 {
     rows.known();
     let mut after = 0;
@@ -181,7 +181,7 @@ pub fn fill<R: Rows>(
         ≡ option_map (λ r. r.number) (find (violates (R.rows rows.now) constraint.now) (R.rows rows.now))) }
     ensures others { (k : ℕ) → k ≢ length olds.now → groups_of groups.new.groups k ≡ groups_of groups.old.groups k }
     ensures count { length groups.new.groups ≡ length groups.old.groups }
-    ensures grows { groups.old.looked ≤ groups.new.looked }
+    ensures grows { groups.old.looked_up ≤ groups.new.looked_up }
 {
     let references = references_of(alloc, olds, slice::from_ref(constraint))?;
     fill_rows(groups, olds.len(), constraint, rows)?;

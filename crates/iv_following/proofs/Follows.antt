@@ -6,8 +6,8 @@ use Rattle.iv_following.specs.Words.{Value, Rule, Change, Constraint, ForeignKey
 use Rattle.iv_following.specs.Words.rule
 use Rattle.iv_following.specs.declared.reference.Reference.{Reference}
 use Rattle.iv_store.specs.Stores.{unique_columns}
-use Rattle.iv_laws.proofs.RowNumbers.{some_none, some_same}
-use Rattle.iv_laws.proofs.Keys.{false_true}
+use Rattle.iv_laws_levels.proofs.RowNumbers.{some_none, some_same}
+use Rattle.iv_laws_levels.proofs.Keys.{false_true}
 use Rattle.iv_index.specs.Groups.{GroupOf, Contents, groups_of}
 use Rattle.iv_marks.specs.Shown.{shown, shown_group, shown_of}
 use Rattle.iv_marks.proofs.Shown.{groups_shown}
@@ -273,5 +273,5 @@ module _ (constraints : List Constraint) (references : List (Option Reference)) 
     watched = λ k w. second.watched k (first.watched k w);
     sizes = λ k key. omega (arith, first.sizes k key, second.sizes k key);
     grows = omega (arith, first.grows, second.grows);
-    looked = omega (arith, first.looked, second.looked, met.few);
+    looked_up = omega (arith, first.looked_up, second.looked_up, met.few);
   }

@@ -5,8 +5,8 @@ use Rattle.std.specs.List.{list_any}
 use Rattle.std.proofs.lemmas.Bool.{true≢false, eqb-true, eq-eqb}
 use Rattle.iv_following.specs.Words.{Value}
 use Rattle.iv_value.specs.Values.{all_same}
-use Rattle.iv_laws.proofs.RowNumbers.{some_none, some_same}
-use Rattle.iv_laws.proofs.Keys.{all_same_is, all_same_itself, all_same_swap}
+use Rattle.iv_laws_levels.proofs.RowNumbers.{some_none, some_same}
+use Rattle.iv_laws_levels.proofs.Keys.{all_same_is, all_same_itself, all_same_swap}
 use Rattle.iv_index.specs.Rows.{Rows, IsRising, added, has_row, put, removed, roomy, with_row, without_row}
 use Rattle.iv_index.specs.Groups.{GroupOf, EachIsApart, EachRises, held_at, rows_of, room_of, place_in, with_held, with_row_put, with_room_under, without_row_under, with_groups, groups_of, counted}
 use Rattle.iv_index.specs.Laws.{size_of}
@@ -197,8 +197,8 @@ row_removed gs key row p r e =
 pub has_shown : (gs : List GroupOf) (key : List Value) (row : ℕ) → has row (rows_in (all_shown gs) key) ≡ true → has_row row (rows_of gs key) ≡ true
 has_shown gs key row h = has_same row (rows_of gs key) ∙ ap (has row) (sym (rows_shown gs key)) ∙ h
 
-pub counted_within : (looked : ℕ) → counted looked ≤ looked + 1
-counted_within looked = omega arith
+pub counted_within : (looked_up : ℕ) → counted looked_up ≤ looked_up + 1
+counted_within looked_up = omega arith
 
 -- ---- the groups of one constraint among all
 

@@ -2,8 +2,8 @@
 use Rattle.std.proofs.Common.{◌≡◌, refl, ℕ, zero, suc, ◌<◌, Bool, true, false, if◌then◌else◌, List, [], ◌∷◌, length, map, find, set, get_or, option_map, Option, Some, None, sym, ap, subst, ◌∙◌, arith}
 use Rattle.iv_following.specs.Words.{Value, Rule}
 use Rattle.iv_value.specs.Values.{all_same}
-use Rattle.iv_laws.proofs.Keys.{all_same_is, all_same_itself, all_same_swap}
-use Rattle.iv_laws.proofs.RowNumbers.{some_none, some_same}
+use Rattle.iv_laws_levels.proofs.Keys.{all_same_is, all_same_itself, all_same_swap}
+use Rattle.iv_laws_levels.proofs.RowNumbers.{some_none, some_same}
 use Rattle.iv_laws_kept.specs.Kept.{Group, rows_in}
 use Rattle.iv_laws_kept.specs.Marks.{rows_at}
 use Rattle.iv_following.specs.KeyGroups.{place_of, with_rows, violate_by, group_violates}

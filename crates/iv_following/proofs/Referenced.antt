@@ -8,8 +8,8 @@ use Rattle.iv_following.specs.Words.rule
 use Rattle.iv_value.specs.Values.{all_same}
 use Rattle.iv_key.specs.Keys.{key_of, value_at, none_null}
 use Rattle.iv_store.specs.Stores.{unique_columns, are_same_columns, all_among}
-use Rattle.iv_laws.proofs.Keys.{false_true, and_first, and_second, all_same_is, all_same_itself, same_test}
-use Rattle.iv_laws.proofs.RowNumbers.{some_none, some_same}
+use Rattle.iv_laws_levels.proofs.Keys.{false_true, and_first, and_second, all_same_is, all_same_itself, same_test}
+use Rattle.iv_laws_levels.proofs.RowNumbers.{some_none, some_same}
 use Rattle.iv_laws_kept.specs.Numbers.{with_number}
 use Rattle.iv_laws_kept.specs.Kept.{null_key, key_or, kept_key, value_in, Groups, rows_under, in_order_of, can_be_key, is_empty, is_referenced}
 use Rattle.iv_laws_kept.specs.Moves.{side_under, left, moved, Follow}

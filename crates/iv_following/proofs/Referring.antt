@@ -8,8 +8,8 @@ use Rattle.iv_following.specs.Words.rule
 use Rattle.iv_following.specs.declared.reference.Reference.{Reference}
 use Rattle.iv_value.specs.Values.{all_same}
 use Rattle.iv_key.specs.Keys.{key_of, none_null}
-use Rattle.iv_laws.proofs.RowNumbers.{some_none, some_same}
-use Rattle.iv_laws.proofs.Keys.{false_true, all_same_is, all_same_swap}
+use Rattle.iv_laws_levels.proofs.RowNumbers.{some_none, some_same}
+use Rattle.iv_laws_levels.proofs.Keys.{false_true, all_same_is, all_same_swap}
 use Rattle.iv_laws_kept.specs.Kept.{null_key, null_key_where, is_free, kept_key, Group, Groups, groups_of, rows_in, rows_under, is_empty, is_referenced, AllNamed}
 use Rattle.iv_laws_kept.specs.Moves.{Follow}
 use Rattle.iv_laws_kept.specs.Marks.{referenced_side}

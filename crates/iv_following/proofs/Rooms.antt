@@ -2,7 +2,7 @@
 use Rattle.std.proofs.Common.{◌≡◌, refl, ℕ, ◌+◌, ◌<◌, ◌≤◌, Bool, true, false, ◌&&◌, not, if◌then◌else◌, List, length, slice_get, Option, Some, None, sym, ap, subst, ◌∙◌, arith}
 use Rattle.std.specs.Bool.{◌==◌}
 use Rattle.iv_following.specs.Words.{Value, Change, Constraint, ForeignKey}
-use Rattle.iv_laws.proofs.RowNumbers.{some_none}
+use Rattle.iv_laws_levels.proofs.RowNumbers.{some_none}
 use Rattle.iv_index.specs.Groups.{Contents, groups_of, rows_of, room_of}
 use Rattle.iv_marks.specs.Shown.{shown, shown_of}
 use Rattle.iv_marks.proofs.Shown.{groups_shown, rows_in_shown}
@@ -35,7 +35,7 @@ stay_then constraints a b most start mid now marks between later less first seco
   watched = λ k w. second.watched k (first.watched k w);
   sizes = λ k key. omega (arith, first.sizes k key, second.sizes k key);
   grows = omega (arith, first.grows, second.grows);
-  looked = omega (arith, first.looked, second.looked, less);
+  looked_up = omega (arith, first.looked_up, second.looked_up, less);
 }
 
 pub stay_more : (constraints : List Constraint) (a most : ℕ) (start now : Contents) (marks later : Marks) → a ≤ most → AllStay constraints a start now marks later → AllStay constraints most start now marks later
@@ -46,7 +46,7 @@ stay_more constraints a most start now marks later less s = record {
   watched = s.watched;
   sizes = s.sizes;
   grows = s.grows;
-  looked = omega (arith, s.looked, less);
+  looked_up = omega (arith, s.looked_up, less);
 }
 
 -- room that is there stays where the rows do
@@ -134,5 +134,5 @@ then_followed constraints change start mid now marks between later all s f = rec
   watched = λ k w. f.watched k (s.watched k w);
   sizes = λ k key. omega (arith, s.sizes k key, f.sizes k key);
   grows = omega (arith, s.grows, f.grows);
-  looked = omega (arith, s.looked, f.looked);
+  looked_up = omega (arith, s.looked_up, f.looked_up);
 }

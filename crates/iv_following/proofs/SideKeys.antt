@@ -4,8 +4,8 @@ use Rattle.std.specs.Bool.{◌==◌}
 use Rattle.std.proofs.lemmas.Bool.{eqb-true}
 use Rattle.iv_following.specs.Words.{Value, Change, Constraint, ForeignKey}
 use Rattle.iv_key.specs.Keys.{key_of, none_null}
-use Rattle.iv_laws.proofs.Keys.{false_true, and_first, and_second, all_same_is, all_same_swap, same_test}
-use Rattle.iv_laws.proofs.RowNumbers.{some_none, some_same}
+use Rattle.iv_laws_levels.proofs.Keys.{false_true, and_first, and_second, all_same_is, all_same_swap, same_test}
+use Rattle.iv_laws_levels.proofs.RowNumbers.{some_none, some_same}
 use Rattle.iv_laws_kept.proofs.Rows.{and_false}
 use Rattle.iv_laws_kept.specs.Marks.{referenced_side}
 use Rattle.iv_value.specs.Values.{all_same}

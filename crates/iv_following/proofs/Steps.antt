@@ -8,8 +8,8 @@ use Rattle.iv_following.specs.Words.{Value, Rule}
 use Rattle.iv_following.specs.Words.rule
 use Rattle.iv_value.specs.Values.{all_same}
 use Rattle.iv_key.specs.Keys.{none_null}
-use Rattle.iv_laws.proofs.RowNumbers.{some_none, some_same}
-use Rattle.iv_laws.proofs.Keys.{false_true, all_same_is}
+use Rattle.iv_laws_levels.proofs.RowNumbers.{some_none, some_same}
+use Rattle.iv_laws_levels.proofs.Keys.{false_true, all_same_is}
 use Rattle.iv_laws_kept.specs.Numbers.{has}
 use Rattle.iv_laws_kept.specs.Kept.{Group, OneEach, is_empty, is_free, rows_in}
 use Rattle.iv_laws_kept.specs.Marks.{rows_at}

@@ -35,7 +35,7 @@ turned_none Leaves most places start marks = record {
   watched = λ k w. w;
   sizes = λ k key. omega arith;
   grows = omega arith;
-  looked = omega arith;
+  looked_up = omega arith;
 }
 
 -- one turn more
@@ -54,7 +54,7 @@ turned_next Leaves most places rest id start now next marks mid later once t o w
   watched = λ k u. watch k (id == k) refl (t.watched k u);
   sizes = λ k key. omega (arith, t.sizes k key, o.sizes k key);
   grows = omega (arith, t.grows, o.grows);
-  looked = more;
+  looked_up = more;
 }
   where
     here : (k : ℕ) → has k rest ≡ true → has k (id ∷ rest) ≡ true
@@ -87,8 +87,8 @@ turned_next Leaves most places rest id start now next marks mid later once t o w
     unfolded : (m n : ℕ) → m * suc n ≡ m + m * n
     unfolded m n = omega arith
 
-    more : next.looked + most * length rest ≤ start.looked + most * length places
-    more = omega (arith, t.looked, o.looked, unfolded most (length rest))
+    more : next.looked_up + most * length rest ≤ start.looked_up + most * length places
+    more = omega (arith, t.looked_up, o.looked_up, unfolded most (length rest))
 
 -- ---- room
 
@@ -109,7 +109,7 @@ all_stay constraints change places start now marks later t = record {
   watched = t.watched;
   sizes = t.sizes;
   grows = t.grows;
-  looked = omega (arith, t.looked);
+  looked_up = omega (arith, t.looked_up);
 }
   where
     by_place : (k : ℕ) (b : Bool) → has k places ≡ b → StayTurn constraints k (groups_of start.groups k) (marks_of marks k) (groups_of now.groups k) (marks_of later k)
@@ -129,7 +129,7 @@ stay_refused constraints change places rest id start now next marks mid later on
   watched = n.watched;
   sizes = n.sizes;
   grows = n.grows;
-  looked = omega (arith, n.looked);
+  looked_up = omega (arith, n.looked_up);
 }
   where
     weaker : Turned (StayTurn constraints) 1 places (id ∷ rest) start now marks mid
@@ -143,7 +143,7 @@ stay_refused constraints change places rest id start now next marks mid later on
       watched = t.watched;
       sizes = t.sizes;
       grows = t.grows;
-      looked = t.looked;
+      looked_up = t.looked_up;
     }
 
     n : Turned (StayTurn constraints) 1 places rest start next marks later

@@ -46,5 +46,5 @@ pub record Followed (constraints : List Constraint) (change : Change) (most : �
   pub marked : AreMarked constraints (shown start.groups) marks → AreMarked constraints (shown now.groups) later
   pub watched : (k : ℕ) → IsWatched k start.groups marks → IsWatched k now.groups later
   pub sizes : (k : ℕ) (key : List Value) → size_of (groups_of start.groups k) key ≤ size_of (groups_of now.groups k) key
-  pub grows : start.looked ≤ now.looked
-  pub looked : now.looked ≤ start.looked + most * length constraints
+  pub grows : start.looked_up ≤ now.looked_up
+  pub looked_up : now.looked_up ≤ start.looked_up + most * length constraints

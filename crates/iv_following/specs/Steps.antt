@@ -24,8 +24,8 @@ pub record OnlyOf (id most : ℕ) (old new : Contents) (marks later : Marks) : T
   pub others : (k : ℕ) → k ≢ id → groups_of new.groups k ≡ groups_of old.groups k
   pub other_marks : (k : ℕ) → k ≢ id → marks_of later k ≡ marks_of marks k
   pub sizes : (k : ℕ) (key : List Value) → size_of (groups_of old.groups k) key ≤ size_of (groups_of new.groups k) key
-  pub grows : old.looked ≤ new.looked
-  pub looked : new.looked ≤ old.looked + most
+  pub grows : old.looked_up ≤ new.looked_up
+  pub looked_up : new.looked_up ≤ old.looked_up + most
 
 -- a constraint has groups, and a place for the mark of each
 pub record IsWatched (id : ℕ) (groups : List (List GroupOf)) (marks : Marks) : Type 0 where

@@ -26,8 +26,8 @@ pub record Turned (Leaves : Left) (most : ℕ) (places rest : List ℕ) (start n
   pub others : (k : ℕ) → has k places ≡ false → (groups_of now.groups k ≡ groups_of start.groups k) × (marks_of later k ≡ marks_of marks k)
   pub watched : (k : ℕ) → IsWatched k start.groups marks → IsWatched k now.groups later
   pub sizes : (k : ℕ) (key : List Value) → size_of (groups_of start.groups k) key ≤ size_of (groups_of now.groups k) key
-  pub grows : start.looked ≤ now.looked
-  pub looked : now.looked + most * length rest ≤ start.looked + most * length places
+  pub grows : start.looked_up ≤ now.looked_up
+  pub looked_up : now.looked_up + most * length rest ≤ start.looked_up + most * length places
 
 -- the row has moved in the groups of a constraint that is no foreign key
 abbrev pub KeyTurn : List Constraint → Change → Left
@@ -61,5 +61,5 @@ pub record AllStay (constraints : List Constraint) (most : ℕ) (start now : Con
   pub stay : (k : ℕ) → StayTurn constraints k (groups_of start.groups k) (marks_of marks k) (groups_of now.groups k) (marks_of later k)
   pub watched : (k : ℕ) → IsWatched k start.groups marks → IsWatched k now.groups later
   pub sizes : (k : ℕ) (key : List Value) → size_of (groups_of start.groups k) key ≤ size_of (groups_of now.groups k) key
-  pub grows : start.looked ≤ now.looked
-  pub looked : now.looked ≤ start.looked + most
+  pub grows : start.looked_up ≤ now.looked_up
+  pub looked_up : now.looked_up ≤ start.looked_up + most

@@ -37,8 +37,8 @@ fn has_rows(groups: &mut Groups, id: usize, key: &Key<'_>) -> bool
     requires known { id < length groups.old.groups }
     ensures has { result ≡ not (is_empty (rows_in (shown_of groups.old.groups id) key.now)) }
     ensures kept { groups.new.groups ≡ groups.old.groups }
-    ensures grows { groups.old.looked ≤ groups.new.looked }
-    ensures looked { groups.new.looked ≤ groups.old.looked + 1 }
+    ensures grows { groups.old.looked_up ≤ groups.new.looked_up }
+    ensures looked_up { groups.new.looked_up ≤ groups.old.looked_up + 1 }
 {
     match place(groups, id, key) {
         Some(place) => count_at(groups, id, place) > 0,
@@ -51,8 +51,8 @@ fn old_is_referenced(groups: &mut Groups, r: &Reference, change: &Sides<'_>) -> 
     requires known { r.now.named < length groups.old.groups }
     ensures told { TellsOld r.now change.now (shown_of groups.old.groups r.now.named) result }
     ensures kept { groups.new.groups ≡ groups.old.groups }
-    ensures grows { groups.old.looked ≤ groups.new.looked }
-    ensures looked { groups.new.looked ≤ groups.old.looked + 1 }
+    ensures grows { groups.old.looked_up ≤ groups.new.looked_up }
+    ensures looked_up { groups.new.looked_up ≤ groups.old.looked_up + 1 }
 {
     match change.old() {
         Some(row) => has_rows(
@@ -69,8 +69,8 @@ pub fn is_referenced(groups: &mut Groups, r: &Reference, row: &[Value]) -> bool
     requires known { r.now.named < length groups.old.groups }
     ensures told { TellsReferenced r.now row.now (shown_of groups.old.groups r.now.named) result }
     ensures kept { groups.new.groups ≡ groups.old.groups }
-    ensures grows { groups.old.looked ≤ groups.new.looked }
-    ensures looked { groups.new.looked ≤ groups.old.looked + 1 }
+    ensures grows { groups.old.looked_up ≤ groups.new.looked_up }
+    ensures looked_up { groups.new.looked_up ≤ groups.old.looked_up + 1 }
 {
     if r.key.columns.len() != r.key.key.len() {
         return false;
@@ -88,8 +88,8 @@ fn new_is_referenced(groups: &mut Groups, r: &Reference, change: &Sides<'_>) -> 
     ensures told { (row : List Value) → change.now.new ≡ Some row
         → TellsReferenced r.now row (shown_of groups.old.groups r.now.named) result }
     ensures kept { groups.new.groups ≡ groups.old.groups }
-    ensures grows { groups.old.looked ≤ groups.new.looked }
-    ensures looked { groups.new.looked ≤ groups.old.looked + 1 }
+    ensures grows { groups.old.looked_up ≤ groups.new.looked_up }
+    ensures looked_up { groups.new.looked_up ≤ groups.old.looked_up + 1 }
 {
     match change.new() {
         Some(row) => is_referenced(groups, r, row.values()),
@@ -136,8 +136,8 @@ fn moved_is_referenced(
         → (row : List Value) → change.now.new ≡ Some row
         → TellsReferenced r.now row (shown_of groups.old.groups r.now.named) result }
     ensures kept { groups.new.groups ≡ groups.old.groups }
-    ensures grows { groups.old.looked ≤ groups.new.looked }
-    ensures looked { groups.new.looked ≤ groups.old.looked + 1 }
+    ensures grows { groups.old.looked_up ≤ groups.new.looked_up }
+    ensures looked_up { groups.new.looked_up ≤ groups.old.looked_up + 1 }
 {
     let old = old_key(constraint, change);
     let new = new_key(constraint, change);

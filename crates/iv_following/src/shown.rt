@@ -18,8 +18,8 @@ pub fn place(groups: &mut Groups, id: usize, key: &Key<'_>) -> Option<usize>
     ensures place { result ≡ place_of (shown_of groups.old.groups id) key.now }
     ensures once { OneEach (shown_of groups.old.groups id) }
     ensures kept { groups.new.groups ≡ groups.old.groups }
-    ensures grows { groups.old.looked ≤ groups.new.looked }
-    ensures looked { groups.new.looked ≤ groups.old.looked + 1 }
+    ensures grows { groups.old.looked_up ≤ groups.new.looked_up }
+    ensures looked_up { groups.new.looked_up ≤ groups.old.looked_up + 1 }
 {
     groups.are_kept();
     groups.place(id, key)
@@ -50,8 +50,8 @@ pub fn make_room(groups: &mut Groups, id: usize, key: &Key<'_>) -> Result<(), Al
     ensures others { (k : ℕ) → k ≢ id → groups_of groups.new.groups k ≡ groups_of groups.old.groups k }
     ensures count { length groups.new.groups ≡ length groups.old.groups }
     ensures sizes { (k : ℕ) (other : List Value) → size_of (groups_of groups.old.groups k) other ≤ size_of (groups_of groups.new.groups k) other }
-    ensures grows { groups.old.looked ≤ groups.new.looked }
-    ensures looked { groups.new.looked ≤ groups.old.looked + 1 }
+    ensures grows { groups.old.looked_up ≤ groups.new.looked_up }
+    ensures looked_up { groups.new.looked_up ≤ groups.old.looked_up + 1 }
 {
     groups.make_room(id, key)?;
     Ok(())
@@ -68,8 +68,8 @@ pub fn put(groups: &mut Groups, id: usize, key: &Key<'_>, row: u64) -> usize
     ensures others { (k : ℕ) → k ≢ id → groups_of groups.new.groups k ≡ groups_of groups.old.groups k }
     ensures count { length groups.new.groups ≡ length groups.old.groups }
     ensures sizes { (k : ℕ) (other : List Value) → size_of (groups_of groups.old.groups k) other ≤ size_of (groups_of groups.new.groups k) other }
-    ensures grows { groups.old.looked ≤ groups.new.looked }
-    ensures looked { groups.new.looked ≤ groups.old.looked + 1 }
+    ensures grows { groups.old.looked_up ≤ groups.new.looked_up }
+    ensures looked_up { groups.new.looked_up ≤ groups.old.looked_up + 1 }
 {
     groups.are_kept();
     groups.put_back(id, key, row)
@@ -86,8 +86,8 @@ pub fn take(groups: &mut Groups, id: usize, key: &Key<'_>, row: u64) -> usize
     ensures others { (k : ℕ) → k ≢ id → groups_of groups.new.groups k ≡ groups_of groups.old.groups k }
     ensures count { length groups.new.groups ≡ length groups.old.groups }
     ensures sizes { (k : ℕ) (other : List Value) → size_of (groups_of groups.old.groups k) other ≤ size_of (groups_of groups.new.groups k) other }
-    ensures grows { groups.old.looked ≤ groups.new.looked }
-    ensures looked { groups.new.looked ≤ groups.old.looked + 1 }
+    ensures grows { groups.old.looked_up ≤ groups.new.looked_up }
+    ensures looked_up { groups.new.looked_up ≤ groups.old.looked_up + 1 }
 {
     groups.are_kept();
     groups.remove(id, key, row)

@@ -13,7 +13,7 @@ pub record GroupOf : Type 0 where
 -- The groups of each constraint, in the order in which their keys came, and the count of look-ups.
 pub record Contents : Type 0 where
   pub groups : List (List GroupOf)
-  pub looked : ℕ
+  pub looked_up : ℕ
 
 -- The groups of a constraint by its number: none, where there is no such constraint.
 abbrev pub groups_of : List (List GroupOf) → ℕ → List GroupOf
@@ -72,7 +72,7 @@ changed change g = record { key = g.key; held = change g.held }
 
 -- One look-up more; the count stays at its greatest value.
 abbrev pub counted : ℕ → ℕ
-counted looked = min (looked + 1) (2 ^ 64 - 1)
+counted looked_up = min (looked_up + 1) (2 ^ 64 - 1)
 
 -- Each group is found under its key.
 abbrev pub EachIsFound : List GroupOf → Type 0

@@ -8,4 +8,4 @@ use Rattle.iv_index.specs.Groups.{counted}
 
 -- The groups end as they were, and the look-up is counted.
 abbrev pub Looked : MutBor Groups → Fml
-Looked s = follows_so the_row the_row s.ghost_name none (λ _ _. ⊤) (λ v. v ≡ record { groups = s.now.groups; looked = counted s.now.looked })
+Looked s = follows_so the_row the_row s.ghost_name none (λ _ _. ⊤) (λ v. v ≡ record { groups = s.now.groups; looked_up = counted s.now.looked_up })

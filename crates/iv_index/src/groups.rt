@@ -16,7 +16,7 @@ use std::marker::Model;
 pub struct Groups {
     alloc: Global,
     indexes: Vec<KeyIndex>,
-    looked: u64,
+    looked_up: u64,
 }
 
 impl Model for Groups {
@@ -24,17 +24,17 @@ impl Model for Groups {
 
     ghost Value = { Contents };
 
-    ghost view = { λ a. record { groups = a.indexes.items; looked = a.looked } };
+    ghost view = { λ a. record { groups = a.indexes.items; looked_up = a.looked_up } };
 
     ghost invariant = { λ a. AreSound a.indexes.items };
 }
 
 // Counts a look-up.
-fn count(looked: &mut u64)
-    ensures counted { looked.new ≡ counted looked.old }
-    ensures grows { looked.old ≤ looked.new }
+fn count(looked_up: &mut u64)
+    ensures counted { looked_up.new ≡ counted looked_up.old }
+    ensures grows { looked_up.old ≤ looked_up.new }
 {
-    *looked = looked.saturating_add(1);
+    *looked_up = looked_up.saturating_add(1);
 }
 
 // Adds constraints of no group, until there are so many.
@@ -210,12 +210,12 @@ fn kept(indexes: &[KeyIndex])
 impl Groups {
     /// No constraint, and no look-up. It takes no memory.
     pub fn new(alloc: Global) -> Groups
-        ensures { result ≡ record { groups = []; looked = 0 } }
+        ensures { result ≡ record { groups = []; looked_up = 0 } }
     {
         Groups {
             alloc,
             indexes: Vec::new(alloc),
-            looked: 0,
+            looked_up: 0,
         }
     }
 
@@ -228,10 +228,10 @@ impl Groups {
 
     /// How many look-ups there were: each `make_room`, `add`, `put_back`, `remove`, `rows` and `place` is one. The
     /// count stays at 2^64 - 1.
-    pub fn looked(&self) -> u64
-        ensures { result ≡ self.now.looked }
+    pub fn looked_up(&self) -> u64
+        ensures { result ≡ self.now.looked_up }
     {
-        self.looked
+        self.looked_up
     }
 
     /// Does nothing. Its contract tells what holds of the groups of every constraint: each is found under its key, no
@@ -250,7 +250,7 @@ impl Groups {
         ensures few { length self.new.groups ≤ max count (length self.old.groups) }
         ensures stays { length self.old.groups ≤ length self.new.groups }
         ensures groups { (constraint : ℕ) → groups_of self.new.groups constraint ≡ groups_of self.old.groups constraint }
-        ensures looked { self.new.looked ≡ self.old.looked }
+        ensures looked_up { self.new.looked_up ≡ self.old.looked_up }
     {
         cover(self.alloc, &mut self.indexes, count)
     }
@@ -259,7 +259,7 @@ impl Groups {
     pub fn clear(&mut self, constraint: usize)
         requires known { constraint < length self.old.groups }
         ensures groups { self.new.groups ≡ with_groups self.old.groups constraint [] }
-        ensures looked { self.new.looked ≡ self.old.looked }
+        ensures looked_up { self.new.looked_up ≡ self.old.looked_up }
     {
         clear(self.alloc, &mut self.indexes, constraint);
     }
@@ -302,7 +302,7 @@ impl Groups {
         ensures value { result.now ≡ rows_of (groups_of self.old.groups constraint) key.now }
         ensures rising { IsRising result.now }
     {
-        count(&mut self.looked);
+        count(&mut self.looked_up);
         self.holders(constraint, key)
     }
 
@@ -310,10 +310,10 @@ impl Groups {
     pub fn place(&mut self, constraint: usize, key: &Key<'_>) -> Option<usize>
         ensures place { result ≡ place_in (groups_of self.old.groups constraint) key.now }
         ensures groups { self.new.groups ≡ self.old.groups }
-        ensures looked { self.new.looked ≡ counted self.old.looked }
-        ensures grows { self.old.looked ≤ self.new.looked }
+        ensures looked_up { self.new.looked_up ≡ counted self.old.looked_up }
+        ensures grows { self.old.looked_up ≤ self.new.looked_up }
     {
-        count(&mut self.looked);
+        count(&mut self.looked_up);
         place_under(self.indexes.as_slice(), constraint, key)
     }
 
@@ -324,10 +324,10 @@ impl Groups {
         ensures ok { OnOk result (self.new.groups
             ≡ with_groups self.old.groups constraint (with_room_under key.now (groups_of self.old.groups constraint))) }
         ensures err { OnErr result (self.new.groups ≡ self.old.groups) }
-        ensures looked { self.new.looked ≡ counted self.old.looked }
-        ensures grows { self.old.looked ≤ self.new.looked }
+        ensures looked_up { self.new.looked_up ≡ counted self.old.looked_up }
+        ensures grows { self.old.looked_up ≤ self.new.looked_up }
     {
-        count(&mut self.looked);
+        count(&mut self.looked_up);
         make_room_under(self.alloc, &mut self.indexes, constraint, key)
     }
 
@@ -339,10 +339,10 @@ impl Groups {
         ensures ok { OnOk result (self.new.groups
             ≡ with_groups self.old.groups constraint (with_row_under key.now row (groups_of self.old.groups constraint))) }
         ensures err { OnErr result (self.new.groups ≡ self.old.groups) }
-        ensures looked { self.new.looked ≡ counted self.old.looked }
-        ensures grows { self.old.looked ≤ self.new.looked }
+        ensures looked_up { self.new.looked_up ≡ counted self.old.looked_up }
+        ensures grows { self.old.looked_up ≤ self.new.looked_up }
     {
-        count(&mut self.looked);
+        count(&mut self.looked_up);
         add_under(self.alloc, &mut self.indexes, constraint, key, row)
     }
 
@@ -354,10 +354,10 @@ impl Groups {
         ensures groups { self.new.groups
             ≡ with_groups self.old.groups constraint (with_row_put key.now row (groups_of self.old.groups constraint)) }
         ensures place { place_in (groups_of self.old.groups constraint) key.now ≡ Some result }
-        ensures looked { self.new.looked ≡ counted self.old.looked }
-        ensures grows { self.old.looked ≤ self.new.looked }
+        ensures looked_up { self.new.looked_up ≡ counted self.old.looked_up }
+        ensures grows { self.old.looked_up ≤ self.new.looked_up }
     {
-        count(&mut self.looked);
+        count(&mut self.looked_up);
         put_under(&mut self.indexes, constraint, key, row)
     }
 
@@ -368,10 +368,10 @@ impl Groups {
         ensures groups { self.new.groups
             ≡ with_groups self.old.groups constraint (without_row_under key.now row (groups_of self.old.groups constraint)) }
         ensures place { place_in (groups_of self.old.groups constraint) key.now ≡ Some result }
-        ensures looked { self.new.looked ≡ counted self.old.looked }
-        ensures grows { self.old.looked ≤ self.new.looked }
+        ensures looked_up { self.new.looked_up ≡ counted self.old.looked_up }
+        ensures grows { self.old.looked_up ≤ self.new.looked_up }
     {
-        count(&mut self.looked);
+        count(&mut self.looked_up);
         remove_under(&mut self.indexes, constraint, key, row)
     }
 }

@@ -8,9 +8,9 @@ use Rattle.iv_expr.specs.Scopes.{Rises}
 use Rattle.iv_machine.specs.declared.database.Database.{Database}
 use Rattle.iv_machine.specs.Databases.{row_at, rows_after}
 use Rattle.iv_machine.specs.Waves.{values_at}
-use Rattle.iv_laws.specs.FittingWaves.{old_row}
-use Rattle.iv_laws.proofs.AppliedRows.{row_of, rows_after_in_order}
-use Rattle.iv_laws.proofs.RowNumbers.{number_of_row_at}
+use Rattle.iv_laws_levels.specs.FittingWaves.{old_row}
+use Rattle.iv_laws_levels.proofs.AppliedRows.{row_of, rows_after_in_order}
+use Rattle.iv_laws_levels.proofs.RowNumbers.{number_of_row_at}
 use Rattle.iv_index.specs.Groups.{Contents, groups_of}
 use Rattle.iv_index.specs.Laws.{size_of}
 use Rattle.iv_marks.specs.Shown.{shown}
@@ -165,8 +165,8 @@ pub record GoingBack (place : ℕ) (start : History) (from : Watching) (groups :
   pub journal : take (noted_at h.marks place) h.journal ≡ take (noted_at start.marks place) start.journal
   pub marks : take (place + 1) h.marks ≡ take (place + 1) start.marks
   pub shorter : length h.journal ≤ length start.journal
-  pub grows : groups.looked ≤ now.looked
-  pub looked : now.looked ≤ groups.looked + 7 * length from.constraints * (length start.journal - length h.journal)
+  pub grows : groups.looked_up ≤ now.looked_up
+  pub looked_up : now.looked_up ≤ groups.looked_up + 7 * length from.constraints * (length start.journal - length h.journal)
 
 pub going_back : (place : ℕ) (start : History) (from : Watching) (groups : Contents) → place < length start.marks → IsKept start from groups → GoingBack place start from groups start from groups
 going_back place start from groups less k = record {
@@ -178,7 +178,7 @@ going_back place start from groups less k = record {
   marks = refl;
   shorter = omega arith;
   grows = omega arith;
-  looked = omega arith;
+  looked_up = omega arith;
 }
 
 -- one more look for each change that is undone
@@ -198,9 +198,9 @@ more_looked most some a b c x y z same one le first second =
 
 pub went_back : (place : ℕ) (start : History) (from : Watching) (groups : Contents) (h new : History) (w later : Watching) (now next : Contents)
     → GoingBack place start from groups h w now → new ≡ stepped_back h place → marked_databases new ≡ take (place + 1) (marked_databases h) → noted_at h.marks place < length h.journal
-    → IsKept new later next → later.constraints ≡ w.constraints → now.looked ≤ next.looked → next.looked ≤ now.looked + 7 * length w.constraints * (length h.journal - length new.journal)
+    → IsKept new later next → later.constraints ≡ w.constraints → now.looked_up ≤ next.looked_up → next.looked_up ≤ now.looked_up + 7 * length w.constraints * (length h.journal - length new.journal)
     → GoingBack place start from groups new later next
-went_back place start from groups h new w later now next g is marked above k same grow looked =
+went_back place start from groups h new w later now next g is marked above k same grow looked_up =
     let any : 0 < length h.journal = omega (arith, above) in
     let one : length new.journal + 1 ≡ length h.journal = ap (λ (x : History). length x.journal + 1) is ∙ fewer h.journal any in
     let own : slice_get new.marks place ≡ slice_get h.marks place = ap (λ (x : History). slice_get x.marks place) is ∙ rows.taken_at place (place + 1) h.marks (omega arith) in
@@ -219,8 +219,8 @@ went_back place start from groups h new w later now next g is marked above k sam
       marks = ap (λ (x : History). take (place + 1) x.marks) is ∙ take_taken (place + 1) (place + 1) h.marks (omega arith) ∙ g.marks;
       shorter = omega (arith, one, g.shorter);
       grows = omega (arith, grow, g.grows);
-      looked = more_looked (7 * length from.constraints) (7 * length w.constraints) (length start.journal) (length h.journal) (length new.journal) groups.looked now.looked next.looked
-          (ap (λ cs. 7 * length cs) g.constraints) one g.shorter g.looked looked;
+      looked_up = more_looked (7 * length from.constraints) (7 * length w.constraints) (length start.journal) (length h.journal) (length new.journal) groups.looked_up now.looked_up next.looked_up
+          (ap (λ cs. 7 * length cs) g.constraints) one g.shorter g.looked_up looked_up;
     }
 
 abbrev or_base : Database → Option Database → Database

@@ -8,7 +8,7 @@ use Rattle.iv_value.specs.Values.{all_same}
 use Rattle.iv_expr.specs.Scopes.{Rises}
 use Rattle.iv_index.specs.Groups.{GroupOf, groups_of, place_in, rows_at, rows_of}
 use Rattle.iv_key.specs.Keys.{holds_key, key_of, none_null}
-use Rattle.iv_laws.proofs.Keys.{all_same_is, and_first, and_second, false_true, same_test}
+use Rattle.iv_laws_levels.proofs.Keys.{all_same_is, and_first, and_second, false_true, same_test}
 use Rattle.iv_machine.specs.ReferentialActions.{Reference, foreign_key, reference}
 use Rattle.iv_marks.specs.Shown.{shown, shown_group}
 use Rattle.iv_following.proofs.GroupsShown.{place_shown, rows_at_shown, rows_shown}

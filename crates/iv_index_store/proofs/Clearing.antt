@@ -9,23 +9,23 @@ pub record Clearing (first next : ℕ) (start now : Contents) : Type 0 where
   pub cleared : (k : ℕ) → first ≤ k → k < next → groups_of now.groups k ≡ []
   pub others : (k : ℕ) → k < first → groups_of now.groups k ≡ groups_of start.groups k
   pub count : length now.groups ≡ length start.groups
-  pub looked : now.looked ≡ start.looked
+  pub looked_up : now.looked_up ≡ start.looked_up
 
 pub clearing_begins : (first : ℕ) (start : Contents) → Clearing first first start start
 clearing_begins first start = record {
   cleared = λ k from to. absurd (omega (arith, from, to));
   others = λ k less. refl;
   count = refl;
-  looked = refl;
+  looked_up = refl;
 }
 
 pub clearing_goes_on : (first next : ℕ) (start now after : Contents) → first ≤ next → next < length now.groups → after.groups ≡ with_groups now.groups next [] → length after.groups ≡ length now.groups
-    → after.looked ≡ now.looked → Clearing first next start now → Clearing first (next + 1) start after
-clearing_goes_on first next start now after from within is same looked c = record {
+    → after.looked_up ≡ now.looked_up → Clearing first next start now → Clearing first (next + 1) start after
+clearing_goes_on first next start now after from within is same looked_up c = record {
   cleared = λ k low less. by_place k low less (next == k) refl;
   others = λ k less. ap (λ gs. groups_of gs k) is ∙ others_after now.groups next [] k within (λ e. omega (arith, from, less, e)) ∙ c.others k less;
   count = same ∙ c.count;
-  looked = looked ∙ c.looked;
+  looked_up = looked_up ∙ c.looked_up;
 }
   where
     by_place : (k : ℕ) → first ≤ k → k < next + 1 → (b : Bool) → (next == k) ≡ b → groups_of after.groups k ≡ []

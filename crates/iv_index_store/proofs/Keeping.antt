@@ -7,8 +7,8 @@ use Rattle.iv_index_store.specs.Words.{StoredRow, Change, Constraint}
 use Rattle.iv_index_store.specs.Kept.{HasSizes, HasTables, IsKept, OfTables}
 use Rattle.iv_catalogue.specs.Catalogues.{AllOn}
 use Rattle.iv_index.specs.Groups.{Contents, GroupOf, groups_of, with_groups}
-use Rattle.iv_laws.proofs.RowNumbers.{some_none, some_same}
-use Rattle.iv_laws.specs.RisingRows.{Every}
+use Rattle.iv_laws_levels.proofs.RowNumbers.{some_none, some_same}
+use Rattle.iv_laws_levels.specs.RisingRows.{Every}
 use Rattle.iv_laws_kept.specs.Kept.{AllNamed, Show}
 use Rattle.iv_machine.specs.declared.database.Database.{Database}
 use Rattle.iv_machine.specs.Databases.{violates}

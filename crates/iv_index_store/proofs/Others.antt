@@ -8,7 +8,7 @@ use Rattle.iv_catalogue.specs.declared.constraint.Rule.TheVariants as rule
 use Rattle.iv_catalogue.specs.Catalogues.{AllOn}
 use Rattle.iv_key.specs.Keys.{none_null}
 use Rattle.iv_index.specs.Groups.{Contents, GroupOf, groups_of}
-use Rattle.iv_laws.specs.RisingRows.{Every}
+use Rattle.iv_laws_levels.specs.RisingRows.{Every}
 use Rattle.iv_marks.specs.Marking.{flag}
 use Rattle.iv_marks.specs.Shown.{shown, shown_group}
 use Rattle.iv_marks.proofs.Shown.{groups_shown}

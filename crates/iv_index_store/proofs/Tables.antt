@@ -7,7 +7,7 @@ use Rattle.iv_index_store.specs.Words.{Value, StoredRow, Change, Table, Constrai
 use Rattle.iv_index_store.specs.Kept.{HasTables, OfTables}
 use Rattle.iv_value.specs.Values.{all_same}
 use Rattle.iv_catalogue.specs.Catalogues.{AllOn}
-use Rattle.iv_laws.specs.RisingRows.{Every}
+use Rattle.iv_laws_levels.specs.RisingRows.{Every}
 use Rattle.iv_machine.specs.Databases.{rows_with, satisfies, violates}
 use Rattle.iv_store.specs.Stores.{numbers_of}
 use Rattle.iv_rows.specs.SetRows.{set_row}

@@ -2,7 +2,7 @@
 use Rattle.std.specs.Prelude.{◌≡◌, ℕ, ◌≤◌, ◌<◌, List, [], ◌∷◌, length, drop, filter, slice_get, Some}
 use Rattle.iv_index_store.specs.Words.{Value, StoredRow, Change, Table, Constraint}
 use Rattle.iv_store.specs.Stores.{StoreState, numbers_of}
-use Rattle.iv_laws.specs.RisingRows.{Every}
+use Rattle.iv_laws_levels.specs.RisingRows.{Every}
 use Rattle.iv_index.specs.Groups.{Contents, GroupOf, groups_of}
 use Rattle.iv_index.specs.Laws.{size_of}
 use Rattle.iv_rows.specs.declared.saved.Saved.{Saved}
@@ -17,7 +17,7 @@ state_of tables constraints h = record { tables = tables; constraints = constrai
 -- What a store is seen as, with the count of look-ups.
 pub record Store : Type 0 where
   pub state : StoreState
-  pub looked : ℕ
+  pub looked_up : ℕ
 
 -- each key holds at least as many rows without memory as have it among these
 abbrev pub HasSizes : List Constraint → List (List GroupOf) → List StoredRow → Type 0

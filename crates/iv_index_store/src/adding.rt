@@ -24,7 +24,7 @@ fn clear(groups: &mut Groups, first: usize, end: usize)
     ensures cleared { (k : ℕ) → first ≤ k → k < end → groups_of groups.new.groups k ≡ [] }
     ensures others { (k : ℕ) → k < first → groups_of groups.new.groups k ≡ groups_of groups.old.groups k }
     ensures count { length groups.new.groups ≡ length groups.old.groups }
-    ensures looked { groups.new.looked ≡ groups.old.looked }
+    ensures looked_up { groups.new.looked_up ≡ groups.old.looked_up }
 {
     for id in first..end {
         groups.clear(id);
@@ -49,7 +49,7 @@ pub fn add_table(
     ensures still { OnErr result (faults.new.constraints ≡ faults.old.constraints) }
     ensures kept { (h : History) → h.marks ≡ [] → HasTables (length tables.old.items) h
         → IsKept h faults.old groups.old → IsKept h faults.new groups.new }
-    ensures grows { groups.old.looked ≤ groups.new.looked }
+    ensures grows { groups.old.looked_up ≤ groups.new.looked_up }
 {
     let first = faults.constraints().len();
     let end = first + constraints.len();
@@ -81,7 +81,7 @@ fn fill_and_watch(
     ensures err { OnErr result (faults.new.constraints ≡ faults.old.constraints) }
     ensures kept { IsKept versions.now faults.new groups.new }
     ensures count { length groups.new.groups ≡ length groups.old.groups }
-    ensures grows { groups.old.looked ≤ groups.new.looked }
+    ensures grows { groups.old.looked_up ≤ groups.new.looked_up }
 {
     match faults.fill(groups, constraint, versions)? {
         Some(row) => Err(AddFault::Row(row)),
@@ -108,7 +108,7 @@ pub fn add_constraint(
     ensures ok { OnOk result (faults.new.constraints ≡ faults.old.constraints ++ constraint.now ∷ []) }
     ensures err { OnErr result (faults.new.constraints ≡ faults.old.constraints) }
     ensures kept { IsKept versions.now faults.new groups.new }
-    ensures grows { groups.old.looked ≤ groups.new.looked }
+    ensures grows { groups.old.looked_up ≤ groups.new.looked_up }
 {
     let id = faults.constraints().len();
     groups.cover(id + 1)?;

@@ -30,8 +30,8 @@ pub fn make(
     ensures err { OnErr result (versions.new ≡ versions.old) }
     ensures kept { IsKept versions.new faults.new groups.new }
     ensures constraints { faults.new.constraints ≡ faults.old.constraints }
-    ensures grows { groups.old.looked ≤ groups.new.looked }
-    ensures looked { OnOk result (groups.new.looked ≤ groups.old.looked + 7 * length faults.old.constraints) }
+    ensures grows { groups.old.looked_up ≤ groups.new.looked_up }
+    ensures looked_up { OnOk result (groups.new.looked_up ≤ groups.old.looked_up + 7 * length faults.old.constraints) }
 {
     faults.moved(groups, change)?;
     match versions.change(change) {
@@ -59,8 +59,8 @@ fn step_back(
     ensures none { result ≡ false → length versions.old.journal ≤ noted_at versions.old.marks place }
     ensures kept { IsKept versions.new faults.new groups.new }
     ensures constraints { faults.new.constraints ≡ faults.old.constraints }
-    ensures grows { groups.old.looked ≤ groups.new.looked }
-    ensures looked { groups.new.looked ≤ groups.old.looked + 7 * length faults.old.constraints
+    ensures grows { groups.old.looked_up ≤ groups.new.looked_up }
+    ensures looked_up { groups.new.looked_up ≤ groups.old.looked_up + 7 * length faults.old.constraints
         * (length versions.old.journal - length versions.new.journal) }
 {
     match versions.last_change(place) {
@@ -81,8 +81,8 @@ pub fn go_back(versions: &mut Versions, groups: &mut Groups, faults: &mut Faults
     ensures marks { versions.new.marks ≡ take (place + 1) versions.old.marks }
     ensures kept { IsKept versions.new faults.new groups.new }
     ensures constraints { faults.new.constraints ≡ faults.old.constraints }
-    ensures grows { groups.old.looked ≤ groups.new.looked }
-    ensures looked { groups.new.looked ≤ groups.old.looked + 7 * length faults.old.constraints
+    ensures grows { groups.old.looked_up ≤ groups.new.looked_up }
+    ensures looked_up { groups.new.looked_up ≤ groups.old.looked_up + 7 * length faults.old.constraints
         * (length versions.old.journal - length versions.new.journal) }
 {
     while step_back(versions, groups, faults, place) {}

@@ -25,10 +25,10 @@ fn holders(
     ensures numbers { IfOk result (λ v. v.items
         ≡ (if none_null key.now then rows_of (groups_of groups.old.groups id) key.now else [])) }
     ensures kept { groups.new.groups ≡ groups.old.groups }
-    ensures grows { groups.old.looked ≤ groups.new.looked }
-    ensures looked { groups.new.looked ≤ groups.old.looked + 1 }
-    ensures counted { groups.new.looked ≡
-        (if none_null key.now then counted groups.old.looked else groups.old.looked) }
+    ensures grows { groups.old.looked_up ≤ groups.new.looked_up }
+    ensures looked_up { groups.new.looked_up ≤ groups.old.looked_up + 1 }
+    ensures counted { groups.new.looked_up ≡
+        (if none_null key.now then counted groups.old.looked_up else groups.old.looked_up) }
 {
     if !key.none_null() {
         return Ok(Vec::new(alloc));
@@ -51,10 +51,10 @@ fn children_by(
         → ((k : List Value) → rows_under (shown groups.old.groups) id k ≡ numbers_of (filter (is_kept_under constraint.now k) rows))
         → v.items ≡ numbers_by rows key.now (reference (id, constraint.now))) }
     ensures kept { groups.new.groups ≡ groups.old.groups }
-    ensures grows { groups.old.looked ≤ groups.new.looked }
-    ensures looked { groups.new.looked ≤ groups.old.looked + 1 }
-    ensures counted { groups.new.looked ≡
-        counted_by key.now (reference (id, constraint.now)) groups.old.looked }
+    ensures grows { groups.old.looked_up ≤ groups.new.looked_up }
+    ensures looked_up { groups.new.looked_up ≤ groups.old.looked_up + 1 }
+    ensures counted { groups.new.looked_up ≡
+        counted_by key.now (reference (id, constraint.now)) groups.old.looked_up }
 {
     match &constraint.rule {
         Rule::ForeignKey(_) => holders(alloc, groups, id, key),
@@ -75,10 +75,10 @@ pub fn children(
     ensures numbers { IfOk result (λ v. (rows : List StoredRow) → Show rows constraints.now (shown groups.old.groups)
         → v.items ≡ numbers_by rows key.now (reference_at constraints.now id)) }
     ensures kept { groups.new.groups ≡ groups.old.groups }
-    ensures grows { groups.old.looked ≤ groups.new.looked }
-    ensures looked { groups.new.looked ≤ groups.old.looked + 1 }
-    ensures counted { groups.new.looked ≡
-        counted_by key.now (reference_at constraints.now id) groups.old.looked }
+    ensures grows { groups.old.looked_up ≤ groups.new.looked_up }
+    ensures looked_up { groups.new.looked_up ≤ groups.old.looked_up + 1 }
+    ensures counted { groups.new.looked_up ≡
+        counted_by key.now (reference_at constraints.now id) groups.old.looked_up }
 {
     match constraints.get(id) {
         Some(constraint) => children_by(alloc, groups, id, constraint, key),

@@ -12,7 +12,7 @@ use iv_key::Key;
 use iv_machine::Which;
 use iv_modes::Modes;
 use iv_rows::Versions;
-use iv_store::{AddFault, ChangeableRows, Keeper, Kin, Mark};
+use iv_store::{AddFault, ChangeableRows, Keeper, Mark, ReferencingRows};
 use iv_value::Value;
 use std::alloc::{AllocError, Global};
 use std::marker::Model;
@@ -40,7 +40,7 @@ impl Model for IndexStore {
 
     ghost view = { λ s. record {
       state = state_of s.tables.items s.faults.constraints s.versions;
-      looked = s.groups.looked;
+      looked_up = s.groups.looked_up;
     } };
 
     ghost invariant = { λ s. IsKept s.versions s.faults s.groups × HasTables (length s.tables.items) s.versions };
@@ -58,12 +58,12 @@ impl Rows for IndexStore {
     }
 }
 
-impl Kin for IndexStore {
+impl ReferencingRows for IndexStore {
     ghost use Rattle.std.specs.Prelude.{true};
 
     ghost view = { λ s. s.state };
 
-    ghost lookups = { λ s. s.looked };
+    ghost lookups = { λ s. s.looked_up };
 
     ghost counts = { true };
 
@@ -90,8 +90,8 @@ impl Kin for IndexStore {
         )
     }
 
-    fn looked(&self) -> u64 {
-        self.groups.looked()
+    fn looked_up(&self) -> u64 {
+        self.groups.looked_up()
     }
 }
 
@@ -104,7 +104,7 @@ impl ChangeableRows for IndexStore {
         self.versions.next()
     }
 
-    fn standing(&self) -> u64 {
+    fn change_count(&self) -> u64 {
         self.versions.count()
     }
 

@@ -8,7 +8,7 @@ use Rattle.iv_value.specs.Values.{is_null}
 use Rattle.iv_store.specs.Stores.{all_among}
 use Rattle.iv_key.specs.Keys.{none_null}
 use Rattle.iv_laws_kept.specs.Kept.{value_in, in_order_of}
-use Rattle.iv_laws.proofs.Keys.{false_true, and_first, and_second}
+use Rattle.iv_laws_levels.proofs.Keys.{false_true, and_first, and_second}
 
 -- a column among these
 abbrev pub among : ℕ → List ℕ → Bool

@@ -6,7 +6,7 @@ use Rattle.iv_value.specs.Values.{all_same}
 use Rattle.iv_laws_kept.specs.Numbers.{has}
 use Rattle.iv_laws_kept.specs.Kept.{Group, rows_in, OneEach}
 use Rattle.iv_laws_kept.proofs.RisingNumbers.{has_append}
-use Rattle.iv_laws.proofs.Keys.{false_true, and_first, all_same_is, same_test}
+use Rattle.iv_laws_levels.proofs.Keys.{false_true, and_first, all_same_is, same_test}
 
 -- a number in the rows of the groups that pass a test
 pub has_chosen : (q : Group → Bool) (groups : List Group) (n : ℕ) → has n (flat_map (λ g. g.rows) (filter q groups)) ≡ list_any (λ g. q g && has n g.rows) groups

@@ -6,11 +6,11 @@ use Rattle.std.proofs.lemmas.Bool.{or_parts}
 use Rattle.iv_laws_kept.specs.Words.{Value, StoredRow, Constraint}
 use Rattle.iv_value.specs.Values.{all_same}
 use Rattle.iv_machine.specs.Databases.{row_at}
-use Rattle.iv_laws.specs.RisingRows.{InOrder}
+use Rattle.iv_laws_levels.specs.RisingRows.{InOrder}
 use Rattle.iv_laws_kept.specs.Numbers.{has}
 use Rattle.iv_laws_kept.specs.Kept.{Group, Groups, rows_in, groups_of, rows_under, OneEach, KeysOnce, Show, kept_key, is_kept_under, violate, is_violating, kept_rows}
 use Rattle.iv_laws_kept.proofs.RisingNumbers.{has_in_rising_order}
-use Rattle.iv_laws.proofs.Keys.{all_same_itself, all_same_is, all_same_swap}
+use Rattle.iv_laws_levels.proofs.Keys.{all_same_itself, all_same_is, all_same_swap}
 use Rattle.iv_laws_kept.proofs.Rows.{and_false, and_true}
 use Rattle.iv_laws_kept.proofs.Rows.{passes, has_filtered}
 use Rattle.iv_laws_kept.proofs.Groups.{has_chosen, any_under}

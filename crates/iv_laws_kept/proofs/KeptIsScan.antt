@@ -4,7 +4,7 @@ use Rattle.std.specs.List.{enumerate_from}
 use Rattle.iv_laws_kept.specs.Words.{StoredRow, Constraint}
 use Rattle.iv_machine.specs.Databases.{fault_at, violates, chosen_violations, scan}
 use Rattle.iv_store.specs.Stores.{numbers_of}
-use Rattle.iv_laws.specs.RisingRows.{InOrder}
+use Rattle.iv_laws_levels.specs.RisingRows.{InOrder}
 use Rattle.iv_laws_kept.specs.Kept.{Groups, KeysOnce, groups_of, Show, AllNamed, kept_rows, is_violating, fault_of, chosen_rows, kept}
 use Rattle.iv_laws_kept.proofs.RisingNumbers.{same_numbers, rise_in_rising_order}
 use Rattle.iv_laws_kept.proofs.Rows.{has_filtered, filtered_rise}

@@ -7,8 +7,8 @@ use Rattle.iv_laws_kept.specs.Words.{Constraint}
 use Rattle.iv_laws_kept.specs.Numbers.{has, in_rising_order}
 use Rattle.iv_laws_kept.specs.Kept.{Group, Groups, groups_of, is_violating, kept_rows}
 use Rattle.iv_laws_kept.specs.Marks.{Marks, marks_of, AreMarked, rows_at}
-use Rattle.iv_laws.proofs.Keys.{false_true, and_first, and_second, same_test}
-use Rattle.iv_laws.proofs.RowNumbers.{some_none, some_same}
+use Rattle.iv_laws_levels.proofs.Keys.{false_true, and_first, and_second, same_test}
+use Rattle.iv_laws_levels.proofs.RowNumbers.{some_none, some_same}
 use Rattle.iv_laws_kept.proofs.RisingNumbers.{has_append, same_numbers, rise_in_rising_order, has_in_rising_order}
 use Rattle.iv_laws_kept.proofs.Groups.{has_chosen}
 

@@ -10,8 +10,8 @@ use Rattle.iv_laws_kept.specs.Kept.{Groups, KeysOnce, Show, AllNamed, is_kept_un
 use Rattle.iv_laws_kept.specs.Moves.{side_under, left, moved, rows_moved, Follow, Holds, taken_back}
 use Rattle.iv_laws_kept.proofs.RisingNumbers.{has_with, has_without, rise_with, rise_filter, same_numbers}
 use Rattle.iv_laws_kept.proofs.Rows.{passes, has_filtered, filtered_rise}
-use Rattle.iv_laws.proofs.RowNumbers.{same_rows}
-use Rattle.iv_laws.proofs.AppliedRows.{row_of, side_here, news, row_at_rows_after, rows_after_in_order}
+use Rattle.iv_laws_levels.proofs.RowNumbers.{same_rows}
+use Rattle.iv_laws_levels.proofs.AppliedRows.{row_of, side_here, news, row_at_rows_after, rows_after_in_order}
 use Rattle.iv_laws_kept.proofs.KeptIsScan.{kept_is_the_scan}
 
 or_false : (b : Bool) → (b || false) ≡ b

@@ -8,8 +8,8 @@ use Rattle.iv_machine.specs.Databases.{first}
 use Rattle.iv_store.specs.Stores.{unique_columns, are_same_columns, is_named_key, has_key}
 use Rattle.iv_machine.specs.ReferentialActions.{foreign_key}
 use Rattle.iv_laws_kept.specs.Kept.{KeyConstraint, named_by, named_key, AllNamed}
-use Rattle.iv_laws.proofs.Keys.{false_true, and_first, and_second}
-use Rattle.iv_laws.proofs.RowNumbers.{some_none, some_same}
+use Rattle.iv_laws_levels.proofs.Keys.{false_true, and_first, and_second}
+use Rattle.iv_laws_levels.proofs.RowNumbers.{some_none, some_same}
 
 -- The key that a foreign key names, as a constraint.
 pub record Named (constraints : List Constraint) (fk : ForeignKey) : Type 0 where

@@ -9,7 +9,7 @@ use Rattle.iv_store.specs.Stores.{unique_columns}
 use Rattle.iv_laws_kept.specs.Kept.{Groups, rows_under, AllNamed, is_kept_under, in_order_of, can_be_key, is_empty, is_free, is_referenced, break_rule, violate}
 use Rattle.iv_laws_kept.specs.Moves.{side_under, moved, rows_moved, Follow}
 use Rattle.iv_laws_kept.specs.Marks.{referenced_side, is_referenced_by, concerns_key}
-use Rattle.iv_laws.proofs.Keys.{and_first, and_second}
+use Rattle.iv_laws_levels.proofs.Keys.{and_first, and_second}
 use Rattle.iv_laws_kept.proofs.Naming.{Named, named_of}
 use Rattle.iv_laws_kept.proofs.RowByRow.{same_key, names_columns}
 

@@ -13,13 +13,13 @@ use Rattle.iv_key.specs.Keys.{key_of, value_at, none_null, holds_key}
 use Rattle.iv_machine.specs.Databases.{shares_key, is_unique, has_referenced, matches, obeys, satisfies, violates, row_at}
 use Rattle.iv_expr.specs.Scopes.{table_rows}
 use Rattle.iv_store.specs.Stores.{numbers_of, unique_columns, all_among, are_same_columns}
-use Rattle.iv_laws.specs.RisingRows.{InOrder}
+use Rattle.iv_laws_levels.specs.RisingRows.{InOrder}
 use Rattle.iv_laws_kept.specs.Numbers.{has, Rise}
 use Rattle.iv_laws_kept.specs.Kept.{Groups, rows_under, Show, null_key, null_key_where, key_or, is_free, kept_key, is_kept_under, in_order_of, can_be_key, value_in, is_empty, is_referenced, break_rule, violate, AllNamed}
-use Rattle.iv_laws.proofs.Keys.{false_true, and_first, and_second, all_same_itself, all_same_is, same_test}
+use Rattle.iv_laws_levels.proofs.Keys.{false_true, and_first, and_second, all_same_itself, all_same_is, same_test}
 use Rattle.iv_laws_kept.proofs.Rows.{and_false}
 use Rattle.iv_laws_kept.proofs.Rows.{passes, has_filtered, filtered_rise}
-use Rattle.iv_laws.proofs.RowNumbers.{some_none, some_same, number_of_row_at}
+use Rattle.iv_laws_levels.proofs.RowNumbers.{some_none, some_same, number_of_row_at}
 use Rattle.iv_laws_kept.proofs.Columns.{in_order_map, none_null_among, all_among_itself}
 use Rattle.iv_laws_kept.proofs.Naming.{Named, named_of}
 use Rattle.iv_laws_kept.proofs.Holding.{key_at, violate_at}

@@ -4,9 +4,9 @@ use Rattle.std.specs.Bool.{◌==◌}
 use Rattle.iv_laws_kept.specs.Words.{StoredRow}
 use Rattle.iv_machine.specs.Databases.{row_at}
 use Rattle.iv_store.specs.Stores.{numbers_of}
-use Rattle.iv_laws.specs.RisingRows.{Above, InOrder}
+use Rattle.iv_laws_levels.specs.RisingRows.{Above, InOrder}
 use Rattle.iv_laws_kept.specs.Numbers.{has, AllAbove, Rise}
-use Rattle.iv_laws.proofs.RowNumbers.{passing, in_order_filter, row_at_filter_in_order}
+use Rattle.iv_laws_levels.proofs.RowNumbers.{passing, in_order_filter, row_at_filter_in_order}
 
 numbers_above : (low : ℕ) (rows : List StoredRow) → Above low rows → AllAbove low (numbers_of rows)
 numbers_above low [] a = tt

@@ -2,7 +2,7 @@
 use Rattle.std.specs.Prelude.{◌≡◌, ℕ, Bool, List}
 use Rattle.iv_laws_kept.specs.Words.{StoredRow, Constraint}
 use Rattle.iv_machine.specs.Databases.{scan}
-use Rattle.iv_laws.specs.RisingRows.{InOrder}
+use Rattle.iv_laws_levels.specs.RisingRows.{InOrder}
 use Rattle.iv_laws_kept.specs.Kept.{Groups, KeysOnce, Show, AllNamed, kept}
 
 -- Where groups show rows, what they give is what a scan of the rows finds.

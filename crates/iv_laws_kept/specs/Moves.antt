@@ -2,8 +2,8 @@
 use Rattle.std.specs.Prelude.{◌≡◌, ℕ, Bool, false, if◌then◌else◌, List, [], ◌∷◌, slice_get, Option, Some, None}
 use Rattle.iv_laws_kept.specs.Words.{Value, StoredRow, Change, Constraint}
 use Rattle.iv_machine.specs.Databases.{row_at, rows_after, scan}
-use Rattle.iv_laws.specs.FittingWaves.{old_row}
-use Rattle.iv_laws.specs.RisingRows.{InOrder}
+use Rattle.iv_laws_levels.specs.FittingWaves.{old_row}
+use Rattle.iv_laws_levels.specs.RisingRows.{InOrder}
 use Rattle.iv_laws_kept.specs.Numbers.{with_number, without}
 use Rattle.iv_laws_kept.specs.Kept.{Groups, KeysOnce, Show, AllNamed, is_kept_under, rows_under, kept}
 

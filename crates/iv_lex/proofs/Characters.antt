@@ -13,8 +13,8 @@ use Rattle.std.proofs.Math.Seq.{get_or-append_seam}
 use Rattle.std.proofs.lemmas.Bool.Decides.{nat_tests}
 use Rattle.std.proofs.lemmas.Str.{IsCharBoundary-before_ascii, IsCharBoundary-after_ascii}
 use Rattle.std.proofs.lemmas.List.Elements.{All-nil, All-cons}
-use Rattle.iv_lex.specs.declared.kind.Kind.{Kind}
-use Rattle.iv_lex.specs.declared.kind.Kind.TheVariants as kind
+use Rattle.iv_lex.specs.declared.kind.TokenKind.{TokenKind}
+use Rattle.iv_lex.specs.declared.kind.TokenKind.TheVariants as kind
 use Rattle.iv_lex.specs.declared.token.Token.{Token}
 use Rattle.iv_lex.specs.Tokens.{is_digit, is_word_byte, value_from, single_symbol, double_symbol, tokens_of}
 use Rattle.iv_lex.specs.Words.{slice, is_boundary, characters}
@@ -50,13 +50,13 @@ digit_ascii b h = grind (arith, nat_tests)
 no_single : (a : ℕ) → 128 ≤ a → single_symbol a ≡ None
 no_single a h = grind (arith, nat_tests)
 
-single_ascii : (a : ℕ) (k : Kind) → single_symbol a ≡ Some k → a < 128
+single_ascii : (a : ℕ) (k : TokenKind) → single_symbol a ≡ Some k → a < 128
 single_ascii a k h = ⊎_elim (λ l. l) (λ l. absurd (let e = no_single a l in cc)) (cases_lt a 128)
 
 no_double : (a b : ℕ) → (128 ≤ a) ⊎ (128 ≤ b) → double_symbol a b ≡ None
 no_double a b h = grind (arith, nat_tests)
 
-double_ascii : (a b : ℕ) (k : Kind) → double_symbol a b ≡ Some k → (a < 128) × (b < 128)
+double_ascii : (a b : ℕ) (k : TokenKind) → double_symbol a b ≡ Some k → (a < 128) × (b < 128)
 double_ascii a b k h = (
   ⊎_elim (λ l. l) (λ l. absurd (let e = no_double a b (inl l) in cc)) (cases_lt a 128),
   ⊎_elim (λ l. l) (λ l. absurd (let e = no_double a b (inr l) in cc)) (cases_lt b 128),
@@ -79,7 +79,7 @@ text_edges inside =
     ap (λ m. get_or (39 ∷ (inside ++ 39 ∷ [])) m 0) n ∙ get_or-append_seam (39 ∷ inside) 39 [] 0 in
     record { some = omega arith; first = omega arith; last = omega (arith, e) }
 
-token_edges : (bs : List ℕ) (k : Kind) → IsToken bs k → Edges bs
+token_edges : (bs : List ℕ) (k : TokenKind) → IsToken bs k → Edges bs
 token_edges bs k (a_word w l e) = word_edges bs w
 token_edges bs k (a_number d l e) = digit_edges bs d
 token_edges bs k (a_text (inside, q, w) e) = subst Edges (sym w) (text_edges inside)
@@ -91,19 +91,19 @@ token_edges bs k (a_symbol (two a b w s)) =
     subst Edges (sym w) (record { some = omega arith; first = h.0; last = h.1 })
 
 -- a token whose kind is a text is one
-is_quoted : Kind → Bool
+is_quoted : TokenKind → Bool
 is_quoted kind.Quoted = true
 is_quoted _ = false
 
-none_quoted : List (List ℕ × Kind) → Bool
+none_quoted : List (List ℕ × TokenKind) → Bool
 none_quoted [] = true
 none_quoted ((reserved, k) ∷ rest) = not (is_quoted k) && none_quoted rest
 
-by_word : (x : Bool) (j k : Kind) → not (is_quoted j) ≡ true → not (is_quoted k) ≡ true → not (is_quoted (if x then j else k)) ≡ true
+by_word : (x : Bool) (j k : TokenKind) → not (is_quoted j) ≡ true → not (is_quoted k) ≡ true → not (is_quoted (if x then j else k)) ≡ true
 by_word true j k h g = h
 by_word false j k h g = g
 
-among_not_quoted : (reserved : List (List ℕ × Kind)) (word : List ℕ) → none_quoted reserved ≡ true → not (is_quoted (word_among reserved word)) ≡ true
+among_not_quoted : (reserved : List (List ℕ × TokenKind)) (word : List ℕ) → none_quoted reserved ≡ true → not (is_quoted (word_among reserved word)) ≡ true
 unfolding none_quoted is_quoted
 among_not_quoted [] word h = refl
 among_not_quoted ((spelling, k) ∷ rest) word h =
@@ -114,16 +114,16 @@ word_not_quoted : (word : List ℕ) → not (is_quoted (word_kind word)) ≡ tru
 unfolding word_kind none_quoted is_quoted
 word_not_quoted word = among_not_quoted reserved_words word refl
 
-quoted_refuted : (k : Kind) → not (is_quoted k) ≡ true → k ≡ kind.Quoted → ⊥
+quoted_refuted : (k : TokenKind) → not (is_quoted k) ≡ true → k ≡ kind.Quoted → ⊥
 unfolding is_quoted
 quoted_refuted k h e = absurd (let f : not (is_quoted kind.Quoted) ≡ true = subst (λ j. not (is_quoted j) ≡ true) e h in cc)
 
 -- no symbol is a text
-no_text : Option Kind → Bool
+no_text : Option TokenKind → Bool
 no_text None = true
 no_text (Some k) = not (is_quoted k)
 
-no_text_by : (x : Bool) (o p : Option Kind) → no_text o ≡ true → no_text p ≡ true → no_text (if x then o else p) ≡ true
+no_text_by : (x : Bool) (o p : Option TokenKind) → no_text o ≡ true → no_text p ≡ true → no_text (if x then o else p) ≡ true
 no_text_by true o p h g = h
 no_text_by false o p h g = g
 
@@ -141,11 +141,11 @@ double_no_text a b =
     no_text_by (nat_eq a 60) _ _ (no_text_by (nat_eq b 62) _ _ refl (no_text_by (nat_eq b 61) _ _ refl refl))
     (no_text_by (nat_eq a 62) _ _ (no_text_by (nat_eq b 61) _ _ refl refl) refl)
 
-symbol_refuted : (o : Option Kind) (k : Kind) → no_text o ≡ true → o ≡ Some k → k ≡ kind.Quoted → ⊥
+symbol_refuted : (o : Option TokenKind) (k : TokenKind) → no_text o ≡ true → o ≡ Some k → k ≡ kind.Quoted → ⊥
 unfolding no_text is_quoted
 symbol_refuted o k h e q = quoted_refuted k (subst (λ p. no_text p ≡ true) e h) q
 
-quoted_text : (bs : List ℕ) (k : Kind) → IsToken bs k → k ≡ kind.Quoted → IsText bs
+quoted_text : (bs : List ℕ) (k : TokenKind) → IsToken bs k → k ≡ kind.Quoted → IsText bs
 quoted_text bs k (a_word w l e) q = absurd (quoted_refuted (word_kind bs) (word_not_quoted bs) (sym e ∙ q))
 quoted_text bs k (a_number d l e) q = absurd (let f : kind.Number (value_from 0 bs) ≡ kind.Quoted = sym e ∙ q in cc)
 quoted_text bs k (a_text t e) q = t

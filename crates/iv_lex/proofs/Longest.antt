@@ -4,8 +4,8 @@ use Rattle.std.specs.Prelude.{slice_index, if◌then◌else◌}
 use Rattle.std.specs.List.{list_all, prefix_len}
 use Rattle.std.proofs.lemmas.Grind.{common_steps}
 use Rattle.std.proofs.lemmas.Bool.Decides.{nat_tests}
-use Rattle.iv_lex.specs.declared.kind.Kind.{Kind}
-use Rattle.iv_lex.specs.declared.kind.Kind.TheVariants as kind
+use Rattle.iv_lex.specs.declared.kind.TokenKind.{TokenKind}
+use Rattle.iv_lex.specs.declared.kind.TokenKind.TheVariants as kind
 use Rattle.iv_lex.specs.declared.limits.TheConstants.{LONGEST_WORD, GREATEST_NUMBER}
 use Rattle.iv_lex.proofs.Scanning.{map_twice}
 use Rattle.iv_lex.specs.Reserved.{word_kind}
@@ -77,12 +77,12 @@ digit_no_quote b h g = grind (arith, nat_tests)
 no_double : (a b : ℕ) → nat_eq a 60 ≡ false → nat_eq a 62 ≡ false → double_symbol a b ≡ None
 no_double a b f g = rw (f, g)
 
-pub letter_no_double : (a b : ℕ) (k : Kind) → is_letter a ≡ true → double_symbol a b ≡ Some k → ⊥
+pub letter_no_double : (a b : ℕ) (k : TokenKind) → is_letter a ≡ true → double_symbol a b ≡ Some k → ⊥
 letter_no_double a b k h g =
     let e : double_symbol a b ≡ None = no_double a b (grind (arith, nat_tests)) (grind (arith, nat_tests)) in
     cc
 
-pub digit_no_double : (a b : ℕ) (k : Kind) → is_digit a ≡ true → double_symbol a b ≡ Some k → ⊥
+pub digit_no_double : (a b : ℕ) (k : TokenKind) → is_digit a ≡ true → double_symbol a b ≡ Some k → ⊥
 digit_no_double a b k h g =
     let e : double_symbol a b ≡ None = no_double a b (grind (arith, nat_tests)) (grind (arith, nat_tests)) in
     cc
@@ -378,10 +378,10 @@ pub no_second : (b : ℕ) → double_symbol b 0 ≡ None
 no_second b = grind (arith, nat_tests)
 
 -- what a front is: the longest run, and a token of its kind
-abbrev pub IsGood : List ℕ → Kind × ℕ → Type 0
+abbrev pub IsGood : List ℕ → TokenKind × ℕ → Type 0
 IsGood bs p = IsLongestRun bs (take p.1 bs) × IsToken (take p.1 bs) p.0
 
-single_good : (b : ℕ) (bs : List ℕ) (k : Kind) → IsOther b → double_symbol b (slice_index bs 0) ≡ None → single_symbol b ≡ Some k → IsGood (b ∷ bs) (k, 1)
+single_good : (b : ℕ) (bs : List ℕ) (k : TokenKind) → IsOther b → double_symbol b (slice_index bs 0) ≡ None → single_symbol b ≡ Some k → IsGood (b ∷ bs) (k, 1)
 single_good b bs k o h s = (
   record {
     rest = bs;
@@ -392,7 +392,7 @@ single_good b bs k o h s = (
   a_symbol (one b refl s),
 )
 
-double_good : (b : ℕ) (bs : List ℕ) (k : Kind) → IsOther b → double_symbol b (slice_index bs 0) ≡ Some k → IsGood (b ∷ bs) (k, 2)
+double_good : (b : ℕ) (bs : List ℕ) (k : TokenKind) → IsOther b → double_symbol b (slice_index bs 0) ≡ Some k → IsGood (b ∷ bs) (k, 2)
 double_good b [] k o h = absurd (let e = no_second b in cc)
 double_good b (c ∷ bs) k o h = (
   record {
@@ -404,10 +404,10 @@ double_good b (c ∷ bs) k o h = (
   a_symbol (two b c refl h),
 )
 
-pub pair_same : (p q : Kind × ℕ) → ◌≡◌ {A = Option (Kind × ℕ)} (Some p) (Some q) → p ≡ q
+pub pair_same : (p q : TokenKind × ℕ) → ◌≡◌ {A = Option (TokenKind × ℕ)} (Some p) (Some q) → p ≡ q
 pair_same p q h = ap (λ o. unwrap_or o p) h
 
-symbol_good : (b : ℕ) (bs : List ℕ) (p : Kind × ℕ) (x y : Option Kind) → IsOther b → double_symbol b (slice_index bs 0) ≡ x → single_symbol b ≡ y → symbol_by x y ≡ Some p → IsGood (b ∷ bs) p
+symbol_good : (b : ℕ) (bs : List ℕ) (p : TokenKind × ℕ) (x y : Option TokenKind) → IsOther b → double_symbol b (slice_index bs 0) ≡ x → single_symbol b ≡ y → symbol_by x y ≡ Some p → IsGood (b ∷ bs) p
 symbol_good b bs p (Some k) y o h s e = subst (IsGood (b ∷ bs)) (pair_same (k, 2) p e) (double_good b bs k o h)
 symbol_good b bs p None (Some k) o h s e = subst (IsGood (b ∷ bs)) (pair_same (k, 1) p e) (single_good b bs k o h s)
 symbol_good b bs p None None o h s e = absurd (cc)
@@ -415,31 +415,31 @@ symbol_good b bs p None None o h s e = absurd (cc)
 le_true : (a b : ℕ) → nat_le a b ≡ true → a ≤ b
 le_true a b h = grind (arith, nat_tests)
 
-word_by : (bs : List ℕ) (n : ℕ) (p : Kind × ℕ) (x : Bool) → nat_le (length (take n bs)) LONGEST_WORD ≡ x → with_length n (if x then Some (word_kind (take n bs)) else None) ≡ Some p
+word_by : (bs : List ℕ) (n : ℕ) (p : TokenKind × ℕ) (x : Bool) → nat_le (length (take n bs)) LONGEST_WORD ≡ x → with_length n (if x then Some (word_kind (take n bs)) else None) ≡ Some p
     → IsLongestRun bs (take n bs) → IsWord (take n bs) → IsGood bs p
 word_by bs n p true e h l w = subst (IsGood bs) (pair_same (word_kind (take n bs), n) p h) (l, a_word w (le_true _ _ e) refl)
 word_by bs n p false e h l w = absurd (cc)
 
-word_good : (b : ℕ) (bs : List ℕ) (p : Kind × ℕ) → is_letter b ≡ true → word_at (b ∷ bs) (front_length is_word_byte (b ∷ bs)) ≡ Some p → IsGood (b ∷ bs) p
+word_good : (b : ℕ) (bs : List ℕ) (p : TokenKind × ℕ) → is_letter b ≡ true → word_at (b ∷ bs) (front_length is_word_byte (b ∷ bs)) ≡ Some p → IsGood (b ∷ bs) p
 word_good b bs p e h =
     let t = sym (word_taken b bs e) in
     let n : ℕ = front_length is_word_byte (b ∷ bs) in
     word_by (b ∷ bs) n p (nat_le (length (take n (b ∷ bs))) LONGEST_WORD) refl h
     (subst (IsLongestRun (b ∷ bs)) t (word_longest b bs e)) (subst IsWord t (e, front_all is_word_byte bs))
 
-number_by : (bs : List ℕ) (n : ℕ) (p : Kind × ℕ) (x : Bool) → nat_le (value_from 0 (take n bs)) (GREATEST_NUMBER) ≡ x → with_length n (if x then Some (kind.Number (value_from 0 (take n bs))) else None) ≡ Some p
+number_by : (bs : List ℕ) (n : ℕ) (p : TokenKind × ℕ) (x : Bool) → nat_le (value_from 0 (take n bs)) (GREATEST_NUMBER) ≡ x → with_length n (if x then Some (kind.Number (value_from 0 (take n bs))) else None) ≡ Some p
     → IsLongestRun bs (take n bs) → IsDigits (take n bs) → IsGood bs p
 number_by bs n p true e h l w = subst (IsGood bs) (pair_same (kind.Number (value_from 0 (take n bs)), n) p h) (l, a_number w (le_true _ _ e) refl)
 number_by bs n p false e h l w = absurd (cc)
 
-number_good : (b : ℕ) (bs : List ℕ) (p : Kind × ℕ) → is_digit b ≡ true → number_at (b ∷ bs) (front_length is_digit (b ∷ bs)) ≡ Some p → IsGood (b ∷ bs) p
+number_good : (b : ℕ) (bs : List ℕ) (p : TokenKind × ℕ) → is_digit b ≡ true → number_at (b ∷ bs) (front_length is_digit (b ∷ bs)) ≡ Some p → IsGood (b ∷ bs) p
 number_good b bs p e h =
     let t = sym (number_taken b bs e) in
     let n : ℕ = front_length is_digit (b ∷ bs) in
     number_by (b ∷ bs) n p (nat_le (value_from 0 (take n (b ∷ bs))) (GREATEST_NUMBER)) refl h
     (subst (IsLongestRun (b ∷ bs)) t (number_longest b bs e)) (subst IsDigits t (e, front_all is_digit bs))
 
-text_by : (bs : List ℕ) (p : Kind × ℕ) (o : Option ℕ) → closing bs ≡ o → quoted_by o ≡ Some p → IsGood (39 ∷ bs) p
+text_by : (bs : List ℕ) (p : TokenKind × ℕ) (o : Option ℕ) → closing bs ≡ o → quoted_by o ≡ Some p → IsGood (39 ∷ bs) p
 text_by bs p None e h = absurd (cc)
 text_by bs p (Some n) e h =
     let r = ends bs n e in
@@ -447,7 +447,7 @@ text_by bs p (Some n) e h =
     subst (λ z. IsLongestRun (39 ∷ bs) z × IsToken z kind.Quoted) (sym (text_taken bs n e)) (text_longest bs n e, a_text (r.inside, r.doubled, refl) refl) in
     subst (IsGood (39 ∷ bs)) (pair_same (kind.Quoted, n + 1) p h) good
 
-good_by : (b : ℕ) (bs : List ℕ) (p : Kind × ℕ) (x y z : Bool) → is_letter b ≡ x → is_digit b ≡ y → nat_eq b 39 ≡ z
+good_by : (b : ℕ) (bs : List ℕ) (p : TokenKind × ℕ) (x y z : Bool) → is_letter b ≡ x → is_digit b ≡ y → nat_eq b 39 ≡ z
     → (if x then word_at (b ∷ bs) (front_length is_word_byte (b ∷ bs)) else (if y then number_at (b ∷ bs) (front_length is_digit (b ∷ bs)) else (if z then quoted_by (closing bs) else symbol_at (b ∷ bs)))) ≡ Some p
     → IsGood (b ∷ bs) p
 good_by b bs p true y z e f g h = word_good b bs p e h
@@ -457,7 +457,7 @@ good_by b bs p false false false e f g h =
     symbol_good b bs p (double_symbol b (slice_index bs 0)) (single_symbol b) (record { no_letter = e; no_digit = f; no_quote = g }) refl refl h
 
 -- what is found at the front is the longest run, and a token
-pub good : (bs : List ℕ) (p : Kind × ℕ) → token_at bs ≡ Some p → IsGood bs p
+pub good : (bs : List ℕ) (p : TokenKind × ℕ) → token_at bs ≡ Some p → IsGood bs p
 good [] p h = absurd (cc)
 good (b ∷ bs) p h = good_by b bs p (is_letter b) (is_digit b) (nat_eq b 39) refl refl refl h
 
@@ -467,21 +467,21 @@ yes_le a b h = grind (arith, nat_tests)
 empty : (c : ℕ) (cs : List ℕ) → [] ≡ c ∷ cs → ⊥
 empty c cs e = absurd (omega (arith, ap length e))
 
-pub not_empty : (k : Kind) → IsToken [] k → ⊥
+pub not_empty : (k : TokenKind) → IsToken [] k → ⊥
 not_empty k (a_word w l e) = w
 not_empty k (a_number d l e) = d
 not_empty k (a_text (inside, q, w) e) = empty 39 _ w
 not_empty k (a_symbol (one a w s)) = empty a _ w
 not_empty k (a_symbol (two a b w s)) = empty a _ w
 
-letter_token : (b : ℕ) (fs : List ℕ) (k : Kind) → is_letter b ≡ true → IsToken (b ∷ fs) k → length (b ∷ fs) ≤ LONGEST_WORD
+letter_token : (b : ℕ) (fs : List ℕ) (k : TokenKind) → is_letter b ≡ true → IsToken (b ∷ fs) k → length (b ∷ fs) ≤ LONGEST_WORD
 letter_token b fs k h (a_word w l e) = l
 letter_token b fs k h (a_number d l e) = absurd (no_digit b h d.0)
 letter_token b fs k h (a_text (inside, q, w) e) = absurd (no_quote b h (head b 39 fs _ w))
 letter_token b fs k h (a_symbol (one a w s)) = omega (arith, ap length w)
 letter_token b fs k h (a_symbol (two a c w s)) = omega (arith, ap length w)
 
-digit_token : (b : ℕ) (fs : List ℕ) (k : Kind) → is_digit b ≡ true → IsToken (b ∷ fs) k → value_from 0 (b ∷ fs) ≤ GREATEST_NUMBER
+digit_token : (b : ℕ) (fs : List ℕ) (k : TokenKind) → is_digit b ≡ true → IsToken (b ∷ fs) k → value_from 0 (b ∷ fs) ≤ GREATEST_NUMBER
 digit_token b fs k h (a_word w l e) = absurd (no_digit b w.0 h)
 digit_token b fs k h (a_number d l e) = l
 digit_token b fs k h (a_text (inside, q, w) e) = absurd (digit_no_quote b h (head b 39 fs _ w))
@@ -489,7 +489,7 @@ digit_token b fs k h (a_symbol (one a w s)) =
     absurd (let f : single_symbol a ≡ None = digit_no_single a (subst (λ z. is_digit z ≡ true) (head b a fs _ w) h) in cc)
 digit_token b fs k h (a_symbol (two a c w s)) = absurd (digit_no_double a c k (subst (λ z. is_digit z ≡ true) (head b a fs _ w) h) s)
 
-text_token : (fs : List ℕ) (k : Kind) → IsToken (39 ∷ fs) k → IsText (39 ∷ fs)
+text_token : (fs : List ℕ) (k : TokenKind) → IsToken (39 ∷ fs) k → IsText (39 ∷ fs)
 text_token fs k (a_word w l e) = absurd (let f = w.0 in cc)
 text_token fs k (a_number d l e) = absurd (let f = d.0 in cc)
 text_token fs k (a_text t e) = t
@@ -498,7 +498,7 @@ text_token fs k (a_symbol (one a w s)) =
 text_token fs k (a_symbol (two a c w s)) =
     absurd (let f : double_symbol 39 c ≡ Some k = subst (λ z. double_symbol z c ≡ Some k) (sym (head 39 a fs _ w)) s in cc)
 
-pub symbol_token : (b : ℕ) (fs : List ℕ) (k : Kind) → IsOther b → IsToken (b ∷ fs) k → IsSymbol (b ∷ fs) k
+pub symbol_token : (b : ℕ) (fs : List ℕ) (k : TokenKind) → IsOther b → IsToken (b ∷ fs) k → IsSymbol (b ∷ fs) k
 symbol_token b fs k o (a_word w l e) = absurd (other_word b o w.0)
 symbol_token b fs k o (a_number d l e) = absurd (other_number b o d.0)
 symbol_token b fs k o (a_text (inside, q, w) e) = absurd (other_text b o (head b 39 fs _ w))
@@ -543,7 +543,7 @@ map_empty : (k : ℕ) (o : Option ℕ) → option_map (λ n. k + n) o ≡ None �
 map_empty k None h = refl
 map_empty k (Some n) h = absurd (cc)
 
-text_bad : (bs fs : List ℕ) (k : Kind) → closing bs ≡ None → IsLongestRun (39 ∷ bs) (39 ∷ fs) → IsText (39 ∷ fs) → ⊥
+text_bad : (bs fs : List ℕ) (k : TokenKind) → closing bs ≡ None → IsLongestRun (39 ∷ bs) (39 ∷ fs) → IsText (39 ∷ fs) → ⊥
 text_bad bs fs k h l (inside, q, w) =
     let f : fs ≡ inside ++ 39 ∷ [] = tail 39 39 fs (inside ++ 39 ∷ []) w in
     let g : bs ≡ inside ++ 39 ∷ l.rest = tail 39 39 bs (fs ++ l.rest) l.whole ∙ ap (λ z. z ++ l.rest) f ∙ append_assoc inside (39 ∷ []) l.rest in
@@ -557,12 +557,12 @@ quoted_none : (o : Option ℕ) → quoted_by o ≡ None → o ≡ None
 quoted_none None h = refl
 quoted_none (Some n) h = absurd (cc)
 
-no_symbol : (x y : Option Kind) → symbol_by x y ≡ None → (x ≡ None) × (y ≡ None)
+no_symbol : (x y : Option TokenKind) → symbol_by x y ≡ None → (x ≡ None) × (y ≡ None)
 no_symbol None None h = (refl, refl)
 no_symbol None (Some k) h = absurd (cc)
 no_symbol (Some k) y h = absurd (cc)
 
-symbol_bad : (b : ℕ) (bs fs more : List ℕ) (k : Kind) → symbol_at (b ∷ bs) ≡ None → bs ≡ fs ++ more → IsSymbol (b ∷ fs) k → ⊥
+symbol_bad : (b : ℕ) (bs fs more : List ℕ) (k : TokenKind) → symbol_at (b ∷ bs) ≡ None → bs ≡ fs ++ more → IsSymbol (b ∷ fs) k → ⊥
 symbol_bad b bs fs more k h e (one a w s) =
     let f : single_symbol b ≡ Some k = subst (λ z. single_symbol z ≡ Some k) (sym (head b a fs _ w)) s in
     let g : single_symbol b ≡ None = (no_symbol (double_symbol b (slice_index bs 0)) (single_symbol b) h).1 in
@@ -574,7 +574,7 @@ symbol_bad b bs fs more k h e (two a c w s) =
     let i : double_symbol b c ≡ None = ap (double_symbol b) (sym d) ∙ g in
     absurd (cc)
 
-bad_by : (b : ℕ) (bs fs : List ℕ) (k : Kind) (x y z : Bool) → is_letter b ≡ x → is_digit b ≡ y → nat_eq b 39 ≡ z
+bad_by : (b : ℕ) (bs fs : List ℕ) (k : TokenKind) (x y z : Bool) → is_letter b ≡ x → is_digit b ≡ y → nat_eq b 39 ≡ z
     → (if x then word_at (b ∷ bs) (front_length is_word_byte (b ∷ bs)) else (if y then number_at (b ∷ bs) (front_length is_digit (b ∷ bs)) else (if z then quoted_by (closing bs) else symbol_at (b ∷ bs)))) ≡ None
     → IsLongestRun (b ∷ bs) (b ∷ fs) → IsToken (b ∷ fs) k → ⊥
 bad_by b bs fs k true y z e f g h l t =
@@ -588,7 +588,7 @@ bad_by b bs fs k false false true e f g h l t =
 bad_by b bs fs k false false false e f g h l t =
     symbol_bad b bs fs l.rest k h (tail b b bs (fs ++ l.rest) l.whole) (symbol_token b fs k (record { no_letter = e; no_digit = f; no_quote = g }) t)
 
-bad_more : (bs fs : List ℕ) (c : ℕ) (k : Kind) → token_at bs ≡ None → IsLongestRun bs (c ∷ fs) → IsToken (c ∷ fs) k → ⊥
+bad_more : (bs fs : List ℕ) (c : ℕ) (k : TokenKind) → token_at bs ≡ None → IsLongestRun bs (c ∷ fs) → IsToken (c ∷ fs) k → ⊥
 bad_more [] fs c k h l t = empty c (fs ++ l.rest) l.whole
 bad_more (b ∷ bs) fs c k h l t =
     let e : c ≡ b = sym (head b c bs (fs ++ l.rest) l.whole) in
@@ -596,6 +596,6 @@ bad_more (b ∷ bs) fs c k h l t =
     (subst (λ z. IsLongestRun (b ∷ bs) (z ∷ fs)) e l) (subst (λ z. IsToken (z ∷ fs) k) e t)
 
 -- where nothing is found the longest run is no token
-pub bad : (bs front : List ℕ) (k : Kind) → token_at bs ≡ None → IsLongestRun bs front → IsToken front k → ⊥
+pub bad : (bs front : List ℕ) (k : TokenKind) → token_at bs ≡ None → IsLongestRun bs front → IsToken front k → ⊥
 bad bs [] k h l t = not_empty k t
 bad bs (c ∷ fs) k h l t = bad_more bs fs c k h l t

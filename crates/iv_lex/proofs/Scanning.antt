@@ -2,7 +2,7 @@
 use Rattle.std.proofs.Common.{◌≡◌, ℕ, zero, suc, ◌+◌, ◌-◌, ◌*◌, ◌<◌, ◌≤◌, Option, Some, None, option_map, List, [], ◌∷◌, ◌++◌, length, drop, take, refl, sym, ◌∙◌, ap, subst, arith, true, false, nat_le, append_assoc, append-nil, drop-cons, get_or}
 use Rattle.std.proofs.lemmas.Grind.{common_steps}
 use Rattle.std.proofs.lemmas.Bool.Decides.{nat_tests}
-use Rattle.iv_lex.specs.declared.kind.Kind.{Kind}
+use Rattle.iv_lex.specs.declared.kind.TokenKind.{TokenKind}
 use Rattle.iv_lex.specs.declared.token.Token.{Token}
 use Rattle.iv_lex.specs.declared.lexer.Lexed.{Lexed}
 use Rattle.iv_lex.specs.declared.limits.TheConstants.{GREATEST_NUMBER}
@@ -35,11 +35,11 @@ no_token n at bs h s t =
     let f : nat_le (length bs) (gap false bs) ≡ false = grind (arith, nat_tests) in
     from_step n at bs h ∙ rw (f, t)
 
-token : Kind → ℕ → ℕ → Token
+token : TokenKind → ℕ → ℕ → Token
 token k start end = record { kind = k; start = start; end = end }
 
 -- there is a token here
-pub one_token : (n at : ℕ) (bs : List ℕ) (k : Kind) (len : ℕ) → 0 < n → gap false bs < length bs → token_at (drop (gap false bs) bs) ≡ Some (k, len)
+pub one_token : (n at : ℕ) (bs : List ℕ) (k : TokenKind) (len : ℕ) → 0 < n → gap false bs < length bs → token_at (drop (gap false bs) bs) ≡ Some (k, len)
     → tokens_from n at bs ≡ with_token (record { kind = k; start = at + gap false bs; end = at + gap false bs + len }) (tokens_from (n - 1) (at + gap false bs + len) (drop (gap false bs + len) bs))
 one_token n at bs k len h s t =
     let f : nat_le (length bs) (gap false bs) ≡ false = grind (arith, nat_tests) in
@@ -73,7 +73,7 @@ ends_fault ts n at s text r p e h t =
     (no_token n at (drop at text) p (subst (λ k. k < length (drop at text)) e h) (subst (λ k. token_at (drop k (drop at text)) ≡ None) e t)
     ∙ ap (λ k. no_tokens (Some (at + k))) (sym e))
 
-pub reached_more : (ts : List Token) (n at s : ℕ) (text : List ℕ) (k : Kind) (len : ℕ) → Reached ts n at text → 0 < n → s ≡ gap false (drop at text) → s < length (drop at text)
+pub reached_more : (ts : List Token) (n at s : ℕ) (text : List ℕ) (k : TokenKind) (len : ℕ) → Reached ts n at text → 0 < n → s ≡ gap false (drop at text) → s < length (drop at text)
     → token_at (drop s (drop at text)) ≡ Some (k, len) → Reached (ts ++ (record { kind = k; start = at + s; end = at + s + len }) ∷ []) (n - 1) (at + s + len) text
 reached_more ts n at s text k len r p e h t =
     let one : tokens_from n at (drop at text) ≡ with_token (record { kind = k; start = at + s; end = at + s + len }) (tokens_from (n - 1) (at + s + len) (drop (s + len) (drop at text))) =

@@ -3,7 +3,7 @@ use Rattle.std.proofs.Common.{◌≡◌, ℕ, zero, suc, ◌+◌, ◌-◌, ◌�
 use Rattle.std.specs.Prelude.{if◌then◌else◌}
 use Rattle.std.proofs.lemmas.Grind.{common_steps}
 use Rattle.std.proofs.lemmas.Bool.{leb-true, leb-false}
-use Rattle.iv_lex.specs.declared.kind.Kind.{Kind}
+use Rattle.iv_lex.specs.declared.kind.TokenKind.{TokenKind}
 use Rattle.iv_lex.specs.declared.token.Token.{Token}
 use Rattle.iv_lex.specs.declared.lexer.Lexed.{Lexed}
 use Rattle.iv_lex.specs.Words.{slice}
@@ -44,7 +44,7 @@ taken : (n : ℕ) (bs : List ℕ) → n ≤ length bs → length (take n bs) ≡
 taken n bs h = grind (arith, common_steps)
 
 -- a token is found at its place
-token_there : (bs front : List ℕ) (k : Kind) (o : Front) → token_at bs ≡ o → IsLongestRun bs front → IsToken front k → o ≡ Some (k, length front)
+token_there : (bs front : List ℕ) (k : TokenKind) (o : Front) → token_at bs ≡ o → IsLongestRun bs front → IsToken front k → o ≡ Some (k, length front)
 token_there bs front k None e l t = absurd (bad bs front k e l t)
 token_there bs front k (Some p) e l t =
     let g = good bs p e in
@@ -58,12 +58,12 @@ none_there : (bs : List ℕ) (o : Front) → token_at bs ≡ o → BeginsNoToken
 none_there bs None e h = refl
 none_there bs (Some p) e h = let g = good bs p e in absurd (h (take p.1 bs) p.0 g.0 g.1)
 
-not_empty_taken : (bs : List ℕ) (n : ℕ) (k : Kind) → IsToken (take n bs) k → 0 < n
+not_empty_taken : (bs : List ℕ) (n : ℕ) (k : TokenKind) → IsToken (take n bs) k → 0 < n
 not_empty_taken bs zero k t = absurd (not_empty k t)
 not_empty_taken bs (suc n) k t = omega arith
 
 -- the token that is found is in the text
-token_found : (text : List ℕ) (at : ℕ) (p : Kind × ℕ) → at ≤ length text → token_at (drop at text) ≡ Some p
+token_found : (text : List ℕ) (at : ℕ) (p : TokenKind × ℕ) → at ≤ length text → token_at (drop at text) ≡ Some p
     → IsTokenOf text (record { kind = p.0; start = at; end = at + p.1 })
 token_found text at p h e =
     let g = good (drop at text) p e in
@@ -79,7 +79,7 @@ abbrev Found : List ℕ → ℕ → Lexed → Type 0
 Found text at l = IsTokensFrom text at l.tokens l.fault
 
 found_after : (text : List ℕ) (at g : ℕ) (o : Front) (next : ℕ → Lexed) → at ≤ length text → g ≡ gap_at text at → g < length (drop at text)
-    → token_at (drop (at + g) text) ≡ o → ((p : Kind × ℕ) → o ≡ Some p → Found text (at + g + p.1) (next p.1)) → Found text at (token_then (at + g) o next)
+    → token_at (drop (at + g) text) ≡ o → ((p : TokenKind × ℕ) → o ≡ Some p → Found text (at + g + p.1) (next p.1)) → Found text at (token_then (at + g) o next)
 found_after text at g None next h e l t f = (
   subst (λ n. IsGap text at (at + n)) (sym e) (gap_here text at h),
   omega (arith, left at text h),
@@ -97,7 +97,7 @@ all_gap text at h l =
     subst (λ n. IsGap text at n) (omega (arith, l, left at text h, gap_within (drop at text) false)) (gap_here text at h)
 
 found_by : (n at g : ℕ) (text : List ℕ) (x : Bool) → at ≤ length text → g ≡ gap_at text at → nat_le (length (drop at text)) g ≡ x
-    → ((p : Kind × ℕ) → token_at (drop g (drop at text)) ≡ Some p → Found text (at + g + p.1) (tokens_from n (at + g + p.1) (drop (g + p.1) (drop at text))))
+    → ((p : TokenKind × ℕ) → token_at (drop g (drop at text)) ≡ Some p → Found text (at + g + p.1) (tokens_from n (at + g + p.1) (drop (g + p.1) (drop at text))))
     → Found text at (if x then no_tokens None else token_then (at + g) (token_at (drop g (drop at text))) (λ m. tokens_from n (at + g + m) (drop (g + m) (drop at text))))
 found_by n at g text true h e l f = all_gap text at h (omega (arith, e, leb-true _ _ l))
 found_by n at g text false h e l f =

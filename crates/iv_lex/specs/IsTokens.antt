@@ -2,8 +2,8 @@
 -- to a fault.
 use Rattle.std.specs.Prelude.{◌≡◌, ℕ, ◌+◌, ◌-◌, ◌≤◌, ◌<◌, true, false, not, nat_eq, Option, Some, None, List, [], ◌∷◌, ◌++◌, length, drop, slice_index, All, IsUtf8}
 use Rattle.std.specs.List.{list_all}
-use Rattle.iv_lex.specs.declared.kind.Kind.{Kind}
-use Rattle.iv_lex.specs.declared.kind.Kind.TheVariants as kind
+use Rattle.iv_lex.specs.declared.kind.TokenKind.{TokenKind}
+use Rattle.iv_lex.specs.declared.kind.TokenKind.TheVariants as kind
 use Rattle.iv_lex.specs.declared.token.Token.{Token}
 use Rattle.iv_lex.specs.Tokens.{is_space, opens_comment, tokens_of}
 use Rattle.iv_lex.specs.Words.{slice, characters}
@@ -48,7 +48,7 @@ pub record IsTokenOf (text : List ℕ) (t : Token) : Type 0 where
 -- no run begins here, or the longest one is no token: too long a word, too large a number, or an open
 -- text
 abbrev pub BeginsNoToken : List ℕ → Type 0
-BeginsNoToken bs = (front : List ℕ) (k : Kind) → IsLongestRun bs front → IsToken front k → ⊥
+BeginsNoToken bs = (front : List ℕ) (k : TokenKind) → IsLongestRun bs front → IsToken front k → ⊥
 
 -- these are the tokens of the text from a place on, and its fault where they don't reach the end
 abbrev pub IsTokensFrom : List ℕ → ℕ → List Token → Option ℕ → Type 0

@@ -2,8 +2,8 @@
 -- others.
 use Rattle.std.specs.Prelude.{◌≡◌, ℕ, ◌≤◌, Bool, true, ◌&&◌, not, nat_eq, if◌then◌else◌, Some, List, [], ◌∷◌, ◌++◌, length}
 use Rattle.std.specs.List.{list_all}
-use Rattle.iv_lex.specs.declared.kind.Kind.{Kind}
-use Rattle.iv_lex.specs.declared.kind.Kind.TheVariants as kind
+use Rattle.iv_lex.specs.declared.kind.TokenKind.{TokenKind}
+use Rattle.iv_lex.specs.declared.kind.TokenKind.TheVariants as kind
 use Rattle.iv_lex.specs.Reserved.{word_kind}
 use Rattle.iv_lex.specs.declared.limits.TheConstants.{LONGEST_WORD, GREATEST_NUMBER}
 use Rattle.iv_lex.specs.Tokens.{is_letter, is_digit, is_word_byte, value_from, single_symbol, double_symbol}
@@ -33,7 +33,7 @@ abbrev pub IsOpenText : List ℕ → Type 0
 IsOpenText bs = (inside : List ℕ) × (quotes_doubled inside ≡ true) × (bs ≡ 39 ∷ inside)
 
 -- the symbol of this kind: one character or two
-pub data IsSymbol (bs : List ℕ) (k : Kind) : Type 0 where
+pub data IsSymbol (bs : List ℕ) (k : TokenKind) : Type 0 where
   one : (a : ℕ) → bs ≡ a ∷ [] → single_symbol a ≡ Some k → IsSymbol bs k
   two : (a b : ℕ) → bs ≡ a ∷ b ∷ [] → double_symbol a b ≡ Some k → IsSymbol bs k
 
@@ -43,11 +43,11 @@ pub data IsRun (bs : List ℕ) : Type 0 where
   digits : IsDigits bs → IsRun bs
   text : IsText bs → IsRun bs
   open_text : IsOpenText bs → IsRun bs
-  symbol : (k : Kind) → IsSymbol bs k → IsRun bs
+  symbol : (k : TokenKind) → IsSymbol bs k → IsRun bs
 
 -- These characters are one token, of this kind: a word that isn't too long, which is the reserved
 -- word that it is or else a name; a number by its value that isn't too large; a text; or a symbol.
-pub data IsToken (bs : List ℕ) (k : Kind) : Type 0 where
+pub data IsToken (bs : List ℕ) (k : TokenKind) : Type 0 where
   a_word : IsWord bs → length bs ≤ LONGEST_WORD → k ≡ word_kind bs → IsToken bs k
   a_number : IsDigits bs → value_from 0 bs ≤ GREATEST_NUMBER → k ≡ kind.Number (value_from 0 bs)
       → IsToken bs k

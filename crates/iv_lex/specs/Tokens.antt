@@ -1,7 +1,7 @@
 -- Tokens: the longest first.
 use Rattle.std.specs.Prelude.{ℕ, zero, suc, ◌+◌, ◌*◌, ◌-◌, Bool, true, false, not, ◌&&◌, ◌||◌, if◌then◌else◌, nat_le, nat_eq, Option, Some, None, option_map, unwrap_or, List, [], ◌∷◌, length, take, drop, position, slice_index}
-use Rattle.iv_lex.specs.declared.kind.Kind.{Kind}
-use Rattle.iv_lex.specs.declared.kind.Kind.TheVariants as kind
+use Rattle.iv_lex.specs.declared.kind.TokenKind.{TokenKind}
+use Rattle.iv_lex.specs.declared.kind.TokenKind.TheVariants as kind
 use Rattle.iv_lex.specs.declared.token.Token.{Token}
 use Rattle.iv_lex.specs.declared.lexer.Lexed.{Lexed}
 use Rattle.iv_lex.specs.declared.limits.TheConstants.{LONGEST_WORD, GREATEST_NUMBER}
@@ -50,13 +50,13 @@ value_from before [] = before
 value_from before (d ∷ ds) = value_from (before * 10 + (d - 48)) ds
 
 -- the number that digits write, where it isn't too large
-abbrev pub number_kind : List ℕ → Option Kind
+abbrev pub number_kind : List ℕ → Option TokenKind
 number_kind digits =
     if nat_le (value_from 0 digits) GREATEST_NUMBER then Some (kind.Number (value_from 0 digits))
     else None
 
 -- the reserved word or the name that a word is, where it isn't too long
-abbrev pub short_word : List ℕ → Option Kind
+abbrev pub short_word : List ℕ → Option TokenKind
 short_word word = if nat_le (length word) LONGEST_WORD then Some (word_kind word) else None
 
 -- how many bytes there are up to the quote that ends a text, and with it; two quotes are one of the text
@@ -73,13 +73,13 @@ text_end [] = None
 text_end (b ∷ bs) = Some 1
 
 -- < and > or =, > and =
-abbrev pub double_symbol : ℕ → ℕ → Option Kind
+abbrev pub double_symbol : ℕ → ℕ → Option TokenKind
 double_symbol a b =
     if nat_eq a 60 then (if nat_eq b 62 then Some kind.NotEquals else (if nat_eq b 61 then Some kind.LessEquals else None))
     else (if nat_eq a 62 then (if nat_eq b 61 then Some kind.GreaterEquals else None)
     else None)
 
-abbrev pub single_symbol : ℕ → Option Kind
+abbrev pub single_symbol : ℕ → Option TokenKind
 single_symbol a =
     if nat_eq a 40 then Some kind.LeftParenthesis
     else (if nat_eq a 41 then Some kind.RightParenthesis
@@ -96,13 +96,13 @@ single_symbol a =
 
 -- a kind and how many bytes the token has
 abbrev pub Front : Type 0
-Front = Option (Kind × ℕ)
+Front = Option (TokenKind × ℕ)
 
-abbrev pub with_length : ℕ → Option Kind → Front
+abbrev pub with_length : ℕ → Option TokenKind → Front
 with_length n None = None
 with_length n (Some k) = Some (k, n)
 
-abbrev pub symbol_by : Option Kind → Option Kind → Front
+abbrev pub symbol_by : Option TokenKind → Option TokenKind → Front
 symbol_by (Some k) single = Some (k, 2)
 symbol_by None single = with_length 1 single
 

@@ -1,8 +1,8 @@
 -- Words: what the grammar sees of tokens, without their places.
 use Rattle.std.specs.Prelude.{ℕ, ◌+◌, ◌-◌, Bool, ◌&&◌, ◌||◌, nat_eq, nat_le, nat_lt, if◌then◌else◌, Option, Some, None, option_map, List, [], ◌∷◌, map, take, drop, length, slice_index}
 use Rattle.std.specs.Char.{to_ascii_uppercase}
-use Rattle.iv_lex.specs.declared.kind.Kind.{Kind}
-use Rattle.iv_lex.specs.declared.kind.Kind.TheVariants as kind
+use Rattle.iv_lex.specs.declared.kind.TokenKind.{TokenKind}
+use Rattle.iv_lex.specs.declared.kind.TokenKind.TheVariants as kind
 use Rattle.iv_lex.specs.declared.token.Token.{Token}
 
 -- A name folded to upper case, a number by its value, a text with each doubled quote made one, or
@@ -13,7 +13,7 @@ pub data Word : Type 0 where
   name : List ℕ → Word
   number : ℕ → Word
   quoted : List ℕ → Word
-  plain : Kind → Word
+  plain : TokenKind → Word
 
 -- the letters of ASCII in upper case; every other byte as it is
 abbrev pub upper_case : List ℕ → List ℕ
@@ -51,12 +51,12 @@ folded_text text t = option_map upper_case (characters text t.start t.end)
 abbrev pub unquoted_text : List ℕ → Token → Option (List ℕ)
 unquoted_text text t = option_map single_quotes (characters text (t.start + 1) (t.end - 1))
 
-abbrev pub with_characters : Kind → (List ℕ → Word) → Option (List ℕ) → Word
+abbrev pub with_characters : TokenKind → (List ℕ → Word) → Option (List ℕ) → Word
 with_characters k word None = plain k
 with_characters k word (Some cs) = word cs
 
 -- the word of a token of this kind, by the characters of a name and of a text
-abbrev pub word_by : Kind → Option (List ℕ) → Option (List ℕ) → Word
+abbrev pub word_by : TokenKind → Option (List ℕ) → Option (List ℕ) → Word
 word_by kind.Name of_name of_text = with_characters kind.Name name of_name
 word_by (kind.Number n) of_name of_text = number n
 word_by kind.Quoted of_name of_text = with_characters kind.Quoted quoted of_text

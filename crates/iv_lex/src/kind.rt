@@ -2,7 +2,7 @@
 
 /// What a token is: a name, a number, a text, one of the symbols, or one of the reserved words.
 #[derive(Clone, Copy, Debug, PartialEq, Eq)]
-pub enum Kind {
+pub enum TokenKind {
     /// A word that is no reserved word.
     Name,
     /// A number by its value, at most `GREATEST_NUMBER`.

@@ -10,7 +10,7 @@ mod scan;
 mod spelling;
 mod token;
 
-pub use kind::Kind;
+pub use kind::TokenKind;
 pub use lexer::{Lexed, tokens};
 pub use limits::{GREATEST_NUMBER, LONGEST_WORD};
 pub use spelling::{folded_text, unquoted_text};

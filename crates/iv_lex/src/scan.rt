@@ -2,7 +2,7 @@
 ghost use Rattle.std.specs.Prelude.{◌≡◌, ◌+◌, ◌≤◌, ◌<◌, length, position, not, false, slice_index, IfSome, MatchOption, option_map};
 ghost use Rattle.iv_lex.specs.Tokens.{is_space, is_digit, is_letter, is_word_byte, front_length, gap_step, gap, number_kind, short_word, closing, text_end, double_symbol, single_symbol, symbol_at, token_at, word_at, number_at, quoted_by};
 
-use crate::kind::Kind;
+use crate::kind::TokenKind;
 use crate::limits::{GREATEST_NUMBER, LONGEST_WORD};
 use crate::reserved::word_kind;
 
@@ -98,7 +98,7 @@ pub fn gap_length(bytes: &[u8]) -> usize
     count
 }
 
-fn number(digits: &[u8]) -> Option<Kind>
+fn number(digits: &[u8]) -> Option<TokenKind>
     ensures { result ≡ number_kind digits.now }
 {
     let mut value = 0u64;
@@ -109,10 +109,10 @@ fn number(digits: &[u8]) -> Option<Kind>
         }
         value = next as u64;
     }
-    Some(Kind::Number(value))
+    Some(TokenKind::Number(value))
 }
 
-fn short_word(word: &[u8]) -> Option<Kind>
+fn short_word(word: &[u8]) -> Option<TokenKind>
     ensures { result ≡ short_word word.now }
 {
     if word.len() <= LONGEST_WORD {
@@ -156,38 +156,38 @@ fn closing(bytes: &[u8]) -> Option<usize>
     }
 }
 
-fn double_symbol(first: u8, second: u8) -> Option<Kind>
+fn double_symbol(first: u8, second: u8) -> Option<TokenKind>
     ensures symbol { result ≡ double_symbol first second }
     ensures second { IfSome result (λ k. 0 < second) }
 {
     match (first, second) {
-        (b'<', b'>') => Some(Kind::NotEquals),
-        (b'<', b'=') => Some(Kind::LessEquals),
-        (b'>', b'=') => Some(Kind::GreaterEquals),
+        (b'<', b'>') => Some(TokenKind::NotEquals),
+        (b'<', b'=') => Some(TokenKind::LessEquals),
+        (b'>', b'=') => Some(TokenKind::GreaterEquals),
         _ => None,
     }
 }
 
-fn single_symbol(byte: u8) -> Option<Kind>
+fn single_symbol(byte: u8) -> Option<TokenKind>
     ensures { result ≡ single_symbol byte }
 {
     match byte {
-        b'(' => Some(Kind::LeftParenthesis),
-        b')' => Some(Kind::RightParenthesis),
-        b',' => Some(Kind::Comma),
-        b';' => Some(Kind::Semicolon),
-        b'.' => Some(Kind::Period),
-        b'=' => Some(Kind::Equals),
-        b'<' => Some(Kind::Less),
-        b'>' => Some(Kind::Greater),
-        b'+' => Some(Kind::Plus),
-        b'-' => Some(Kind::Minus),
-        b'*' => Some(Kind::Asterisk),
+        b'(' => Some(TokenKind::LeftParenthesis),
+        b')' => Some(TokenKind::RightParenthesis),
+        b',' => Some(TokenKind::Comma),
+        b';' => Some(TokenKind::Semicolon),
+        b'.' => Some(TokenKind::Period),
+        b'=' => Some(TokenKind::Equals),
+        b'<' => Some(TokenKind::Less),
+        b'>' => Some(TokenKind::Greater),
+        b'+' => Some(TokenKind::Plus),
+        b'-' => Some(TokenKind::Minus),
+        b'*' => Some(TokenKind::Asterisk),
         _ => None,
     }
 }
 
-fn symbol_at(bytes: &[u8]) -> Option<(Kind, usize)>
+fn symbol_at(bytes: &[u8]) -> Option<(TokenKind, usize)>
     requires { 0 < length bytes.now }
     ensures token { result ≡ symbol_at bytes.now }
     ensures within { IfSome result (λ p. p.1 ≤ length bytes.now) }
@@ -200,7 +200,7 @@ fn symbol_at(bytes: &[u8]) -> Option<(Kind, usize)>
     Some((kind, 1))
 }
 
-fn word_at(bytes: &[u8]) -> Option<(Kind, usize)>
+fn word_at(bytes: &[u8]) -> Option<(TokenKind, usize)>
     ensures token { result ≡ word_at bytes.now (front_length is_word_byte bytes.now) }
     ensures within { IfSome result (λ p. p.1 ≤ length bytes.now) }
 {
@@ -209,7 +209,7 @@ fn word_at(bytes: &[u8]) -> Option<(Kind, usize)>
     Some((kind, count))
 }
 
-fn number_at(bytes: &[u8]) -> Option<(Kind, usize)>
+fn number_at(bytes: &[u8]) -> Option<(TokenKind, usize)>
     ensures token { result ≡ number_at bytes.now (front_length is_digit bytes.now) }
     ensures within { IfSome result (λ p. p.1 ≤ length bytes.now) }
 {
@@ -218,17 +218,17 @@ fn number_at(bytes: &[u8]) -> Option<(Kind, usize)>
     Some((kind, count))
 }
 
-fn text_at(rest: &[u8]) -> Option<(Kind, usize)>
+fn text_at(rest: &[u8]) -> Option<(TokenKind, usize)>
     requires { length rest.now < usize.MAX }
     ensures token { result ≡ quoted_by (closing rest.now) }
     ensures within { IfSome result (λ p. p.1 ≤ 1 + length rest.now) }
 {
     let count = closing(rest)?;
-    Some((Kind::Quoted, count + 1))
+    Some((TokenKind::Quoted, count + 1))
 }
 
 /// The token at the front of bytes that begin with neither white space nor a comment, and its length.
-pub fn token_at(bytes: &[u8]) -> Option<(Kind, usize)>
+pub fn token_at(bytes: &[u8]) -> Option<(TokenKind, usize)>
     requires { 0 < length bytes.now }
     ensures token { result ≡ token_at bytes.now }
     ensures within { IfSome result (λ p. p.1 ≤ length bytes.now) }

@@ -53,7 +53,7 @@ pub record Finished : Type 0 where
   pub size : ℕ
 
 -- the database and the budget between two triggers
-pub record Standing : Type 0 where
+pub record Progress : Type 0 where
   pub database : Database
   pub budget : ℕ
 
@@ -64,7 +64,7 @@ Runs = ℕ → DataStatement → Frame → Database → ℕ → Result Finished 
 -- ---- the triggers that fire
 
 -- a statement at a place of a trigger's body
-abbrev pub statement_run : Runs → Firing → ℕ → BodyStatement → Standing → Result Standing Failure
+abbrev pub statement_run : Runs → Firing → ℕ → BodyStatement → Progress → Result Progress Failure
 statement_run run x place (body.Data statement) at =
     and_then (run x.trigger.id statement x.frame at.database at.budget) (λ done.
     Ok (record { database = done.database; budget = done.rest }))
@@ -72,18 +72,18 @@ statement_run run x place (body.Signal text) at = fails at.database (Signal x.tr
 statement_run run x place (body.Set _) at = Ok at
 
 -- the body of a trigger, statement after statement
-abbrev pub body_run : Runs → Firing → List (ℕ × BodyStatement) → Standing → Result Standing Failure
+abbrev pub body_run : Runs → Firing → List (ℕ × BodyStatement) → Progress → Result Progress Failure
 body_run run x statements at = in_turn (λ s. statement_run run x s.0 s.1) statements at
 
 -- a trigger: WHEN sees the database of its moment, and the body runs where it is true
-abbrev pub firing_run : Runs → Firing → Standing → Result Standing Failure
+abbrev pub firing_run : Runs → Firing → Progress → Result Progress Failure
 firing_run run x at =
     inside_trigger x.trigger.id
     (and_then (over at.database (holds (scope_of x.frame at.database.rows) x.trigger.when)) (λ fires.
     if fires then body_run run x (placed_statements x.trigger) at else Ok at))
 
 -- all triggers that fire, one after another
-abbrev pub firings_run : Runs → List Firing → Standing → Result Standing Failure
+abbrev pub firings_run : Runs → List Firing → Progress → Result Progress Failure
 firings_run run xs at = in_turn (firing_run run) xs at
 
 -- ---- a level

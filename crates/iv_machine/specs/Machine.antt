@@ -322,5 +322,5 @@ may_run_triggers s (statement.Delete _) = nat_lt 0 (length s.schema.triggers)
 may_run_triggers s _ = false
 
 -- Memory was refused: the state stays, and the refusal tells a trigger only where one may have run.
-abbrev pub Starved : State → Statement → Result Answer Refusal → State → Type 0
-Starved old st r new = (new ≡ old) × (may_run_triggers old st ≡ false → r ≡ Err out_of_memory)
+abbrev pub MemoryRefused : State → Statement → Result Answer Refusal → State → Type 0
+MemoryRefused old st r new = (new ≡ old) × (may_run_triggers old st ≡ false → r ≡ Err out_of_memory)

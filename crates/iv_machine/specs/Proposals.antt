@@ -4,7 +4,7 @@ use Rattle.std.specs.Prelude.{ℕ, Bool, if◌then◌else◌, List, [], map, fil
 use Rattle.std.specs.List.{enumerate_from}
 use Rattle.iv_machine.specs.Words.{Value, StoredRow, Change, Cond, ExprFault, TriggerEvent, Column, Cause, Setting, Outputs, InsertColumns, InsertRows, DataStatement, Database}
 use Rattle.iv_machine.specs.Words.fit.{Yes, WrongKind, TooLong}
-use Rattle.iv_machine.specs.Words.expr_fault.{OutOfRange, Misfit, NoMemory}
+use Rattle.iv_machine.specs.Words.expr_fault.{OutOfRange, IllTyped, NoMemory}
 use Rattle.iv_machine.specs.Words.event
 use Rattle.iv_machine.specs.Words.cause.{NumberOutOfRange, TextTooLong, WrongShape, OutOfMemory}
 use Rattle.iv_machine.specs.Words.outputs.{Star, Values}
@@ -24,7 +24,7 @@ use Rattle.iv_machine.specs.Context.{Context, each}
 -- why a statement is refused for a fault of evaluation; a resolved statement has no misfit, and a definition never runs out of memory
 abbrev pub cause_of : ExprFault → Cause
 cause_of OutOfRange = NumberOutOfRange
-cause_of Misfit = WrongShape
+cause_of IllTyped = WrongShape
 cause_of NoMemory = OutOfMemory
 
 abbrev pub with_cause : {A : Type 0} → Result A ExprFault → Result A Cause

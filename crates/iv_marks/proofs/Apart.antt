@@ -6,9 +6,9 @@ use Rattle.iv_value.specs.declared.value.Value.{Value}
 use Rattle.iv_value.specs.Values.{all_same}
 use Rattle.iv_expr.specs.declared.row.StoredRow.{StoredRow}
 use Rattle.iv_catalogue.specs.declared.constraint.Constraint.{Constraint}
-use Rattle.iv_laws.specs.RisingRows.{InOrder}
-use Rattle.iv_laws.proofs.Keys.{false_true, all_same_is, all_same_itself}
-use Rattle.iv_laws.proofs.RowNumbers.{some_none, some_same}
+use Rattle.iv_laws_levels.specs.RisingRows.{InOrder}
+use Rattle.iv_laws_levels.proofs.Keys.{false_true, all_same_is, all_same_itself}
+use Rattle.iv_laws_levels.proofs.RowNumbers.{some_none, some_same}
 use Rattle.iv_laws_kept.specs.Numbers.{has, Rise}
 use Rattle.iv_laws_kept.specs.Kept.{Group, Groups, groups_of, rows_in, OneEach, KeysOnce, Show, is_kept_under}
 use Rattle.iv_laws_kept.proofs.Rows.{has_filtered, filtered_rise}

@@ -5,7 +5,7 @@ use Rattle.std.proofs.Math.ListN.{get_or-eq_default}
 use Rattle.std.proofs.lemmas.Bool.{cases_lt, eqb-true, eq-eqb, true≢false}
 use Rattle.std.proofs.lemmas.List.Folds.{Any-from_list_any, list_any_at}
 use Rattle.std.proofs.lemmas.Grind.{get_or_default_zero}
-use Rattle.iv_laws.proofs.Keys.{same_test}
+use Rattle.iv_laws_levels.proofs.Keys.{same_test}
 use Rattle.iv_laws_kept.specs.Numbers.{has}
 use Rattle.iv_marks.specs.Marking.{flag, is_any}
 

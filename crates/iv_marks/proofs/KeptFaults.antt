@@ -7,8 +7,8 @@ use Rattle.std.proofs.lemmas.Bool.{true≢false, cases_eq, cases_lt, ne_eqb, or_
 use Rattle.iv_catalogue.specs.declared.cause.Fault.{Fault}
 use Rattle.iv_catalogue.specs.declared.constraint.Constraint.{Constraint}
 use Rattle.iv_machine.specs.Databases.{first}
-use Rattle.iv_laws.proofs.Keys.{false_true, and_second}
-use Rattle.iv_laws.proofs.RowNumbers.{some_none, some_same}
+use Rattle.iv_laws_levels.proofs.Keys.{false_true, and_second}
+use Rattle.iv_laws_levels.proofs.RowNumbers.{some_none, some_same}
 use Rattle.iv_laws_kept.specs.Numbers.{has, in_rising_order, AllAbove, Rise}
 use Rattle.iv_laws_kept.specs.Kept.{Groups, fault_of, chosen_rows, kept, kept_rows}
 use Rattle.iv_laws_kept.specs.Marks.{Marks, marks_of, AreMarked}

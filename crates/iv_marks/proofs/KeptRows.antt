@@ -3,8 +3,8 @@ use Rattle.std.proofs.Common.{◌≡◌, refl, ℕ, zero, suc, ◌<◌, ◌≤�
 use Rattle.std.specs.List.{list_any}
 use Rattle.std.proofs.lemmas.Bool.{true≢false, false_from_ne_true, or_left, or_right, and_from}
 use Rattle.iv_catalogue.specs.declared.constraint.Constraint.{Constraint}
-use Rattle.iv_laws.proofs.Keys.{false_true, and_first}
-use Rattle.iv_laws.proofs.RowNumbers.{some_none, some_same}
+use Rattle.iv_laws_levels.proofs.Keys.{false_true, and_first}
+use Rattle.iv_laws_levels.proofs.RowNumbers.{some_none, some_same}
 use Rattle.iv_laws_kept.specs.Numbers.{has, in_rising_order}
 use Rattle.iv_laws_kept.specs.Kept.{Group, Groups, groups_of, break_rule, fault_of, is_empty, is_violating, kept_rows}
 use Rattle.iv_key.specs.Keys.{none_null}

@@ -3,7 +3,7 @@ use Rattle.std.proofs.Common.{◌≡◌, ℕ, suc, ◌<◌, true, false, List, [
 use Rattle.std.specs.Bool.{nat_lt}
 use Rattle.std.proofs.lemmas.Bool.{ltb-true, lt-ltb, false_from_ne_true}
 use Rattle.std.proofs.lemmas.List.{length-map, length-take-le, get_or-map, get_or-take}
-use Rattle.iv_laws.proofs.Keys.{same_test}
+use Rattle.iv_laws_levels.proofs.Keys.{same_test}
 use Rattle.iv_laws_kept.specs.Numbers.{has}
 use Rattle.iv_marks.specs.Marking.{Paired, flags, flag, is_any, NoRepeats}
 use Rattle.iv_marks.proofs.Flags.{has_at, at_has, flag_within, any_flag, flag_of_any}

@@ -2,7 +2,7 @@
 use Rattle.std.proofs.Common.{◌≡◌, refl, ℕ, ◌+◌, Bool, true, false, ◌&&◌, ◌||◌, if◌then◌else◌, List, [], ◌∷◌, ◌++◌, filter, flat_map, length, sym, ap, ◌∙◌, arith, length-append}
 use Rattle.std.specs.Bool.{◌==◌, nat_lt}
 use Rattle.std.proofs.lemmas.Bool.{eqb-true, eq-eqb, or_parts, or_left, or_right, or_from, false_from_ne_true}
-use Rattle.iv_laws.proofs.Keys.{false_true}
+use Rattle.iv_laws_levels.proofs.Keys.{false_true}
 use Rattle.iv_laws_kept.specs.Numbers.{has, with_number, in_rising_order, Rise}
 use Rattle.iv_laws_kept.specs.Kept.{Group}
 use Rattle.iv_laws_kept.specs.Marks.{rows_at}

@@ -5,8 +5,8 @@ use Rattle.std.proofs.lemmas.Bool.{or_from}
 use Rattle.iv_value.specs.declared.value.Value.{Value}
 use Rattle.iv_value.specs.Values.{all_same}
 use Rattle.std.proofs.lemmas.List.{length-map}
-use Rattle.iv_laws.proofs.Keys.{all_same_is, all_same_swap}
-use Rattle.iv_laws.proofs.RowNumbers.{some_none, some_same}
+use Rattle.iv_laws_levels.proofs.Keys.{all_same_is, all_same_swap}
+use Rattle.iv_laws_levels.proofs.RowNumbers.{some_none, some_same}
 use Rattle.iv_index.specs.Rows.{IsRising}
 use Rattle.iv_index.specs.Groups.{GroupOf, EachIsApart, EachIsFound, EachRises, held_at, place_in, rows_of}
 use Rattle.iv_index.specs.Groups as index

@@ -1,7 +1,7 @@
 -- The set of the constraints with a marked place.
 use Rattle.std.proofs.Common.{◌≡◌, refl, ℕ, zero, suc, ◌<◌, ◌≤◌, Bool, true, false, ◌||◌, List, [], ◌∷◌, length, take, ap, subst, sym, ◌∙◌, arith, ⊎_elim}
 use Rattle.std.proofs.lemmas.Bool.{true≢false, or_right, cases_lt}
-use Rattle.iv_laws.proofs.Keys.{same_test}
+use Rattle.iv_laws_levels.proofs.Keys.{same_test}
 use Rattle.iv_laws_kept.specs.Marks.{Marks, marks_of}
 use Rattle.iv_marks.specs.Marking.{AreViolated, flag, has_any, is_any}
 use Rattle.iv_marks.proofs.Flags.{any_same, any_flag, flag_of_any}

@@ -2,7 +2,7 @@
 use Rattle.std.specs.Prelude.{◌≡◌, ℕ, List, true, slice_get, Some}
 use Rattle.iv_expr.specs.declared.row.StoredRow.{StoredRow}
 use Rattle.iv_catalogue.specs.declared.constraint.Constraint.{Constraint}
-use Rattle.iv_laws.specs.RisingRows.{InOrder}
+use Rattle.iv_laws_levels.specs.RisingRows.{InOrder}
 use Rattle.iv_laws_kept.specs.Numbers.{has, Rise}
 use Rattle.iv_laws_kept.specs.Kept.{Group, Groups, groups_of, KeysOnce, Show}
 use Rattle.iv_laws_kept.specs.Marks.{rows_at}

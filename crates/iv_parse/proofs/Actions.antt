@@ -1,6 +1,6 @@
 -- One action of a block more.
 use Rattle.std.proofs.Common.{◌≡◌, ℕ, zero, suc, ◌-◌, ◌<◌, Option, Some, None, List, [], ◌∷◌, ◌++◌, refl, sym, ◌∙◌, ap, arith}
-use Rattle.iv_lex.specs.declared.kind.Kind.TheVariants as kind
+use Rattle.iv_lex.specs.declared.kind.TokenKind.TheVariants as kind
 use Rattle.iv_lex.specs.Words.{Word}
 use Rattle.iv_parse.specs.Words.{TriggerAction}
 use Rattle.iv_parse_terms.specs.After.{after, if_some, then_read}

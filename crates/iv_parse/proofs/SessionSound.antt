@@ -1,6 +1,6 @@
 -- What is read of statements about transactions, savepoints and constraint modes is in the grammar.
 use Rattle.std.proofs.Common.{Some, None, List, ◌∷◌, ◌++◌, refl, sym, ◌∙◌, ap, subst, append-nil}
-use Rattle.iv_lex.specs.declared.kind.Kind.TheVariants as kind
+use Rattle.iv_lex.specs.declared.kind.TokenKind.TheVariants as kind
 use Rattle.iv_lex.specs.Words.{Word, plain}
 use Rattle.iv_parse.specs.Words.statement.{DropTrigger, StartTransaction, Commit, Rollback, Savepoint, Release, RollbackTo, SetConstraints}
 use Rattle.iv_parse.specs.Words.constraints.{All, Named}

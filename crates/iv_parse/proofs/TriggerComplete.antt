@@ -1,7 +1,7 @@
 -- What is in the grammar of CREATE TRIGGER is read.
 use Rattle.std.proofs.Common.{◌≡◌, inl, inr, ℕ, false, Option, Some, None, List, [], ◌∷◌, ◌++◌, length, refl, ◌∙◌, ap, append_assoc}
-use Rattle.iv_lex.specs.declared.kind.Kind.{Kind}
-use Rattle.iv_lex.specs.declared.kind.Kind.TheVariants as kind
+use Rattle.iv_lex.specs.declared.kind.TokenKind.{TokenKind}
+use Rattle.iv_lex.specs.declared.kind.TokenKind.TheVariants as kind
 use Rattle.iv_lex.specs.Words.{Word, name, plain}
 use Rattle.iv_parse.specs.Words.{Side, Condition, ActionTime, TriggerEvent, Granularity, TransitionName, Referencing, TriggerAction, TriggerDefinition}
 use Rattle.iv_parse.specs.Words.side
@@ -32,7 +32,7 @@ named_reads : (s : Side) (w : TransitionName) (n : List ℕ) (word rest : List W
 named_reads s w n word rest (inl h) = ap (λ z. then_read (read_name (skip kind.As (z ++ name n ∷ rest))) (named s w)) h
 named_reads s w n word rest (inr h) = ap (λ z. then_read (read_name (skip kind.As (z ++ name n ∷ rest))) (named s w)) h
 
-as_begins : (k : Kind) → same kind.As k ≡ false → (n : List ℕ) (word rest : List Word) → Optional kind.As word → after k (word ++ name n ∷ rest) ≡ None
+as_begins : (k : TokenKind) → same kind.As k ≡ false → (n : List ℕ) (word rest : List Word) → Optional kind.As word → after k (word ++ name n ∷ rest) ≡ None
 as_begins k h n word rest (inl e) = ap (λ z. after k (z ++ name n ∷ rest)) e
 as_begins k h n word rest (inr e) = ap (λ z. after k (z ++ name n ∷ rest)) e ∙ other_word k kind.As _ h
 
@@ -110,7 +110,7 @@ action_reads (action.Set r c x) front rest (value, p, w) e =
     ap (λ z. read_action (z ++ rest)) w ∙ ap (λ o. then_read o (λ x more. Some (action.Set r c x, more))) (shallow_complete.reads x value rest p (statement_expression rest e))
 
 -- no action begins with this word
-pub record Outside (k : Kind) : Type 0 where
+pub record Outside (k : TokenKind) : Type 0 where
   pub begin : same kind.Begin k ≡ false
   pub insert : same kind.Insert k ≡ false
   pub update : same kind.Update k ≡ false
@@ -118,28 +118,28 @@ pub record Outside (k : Kind) : Type 0 where
   pub signal : same kind.Signal k ≡ false
   pub set : same kind.Set k ≡ false
 
-insert_begins : (k : Kind) → Outside k → (i : Insert) (front rest : List Word) → IsInsert front i → after k (front ++ rest) ≡ None
+insert_begins : (k : TokenKind) → Outside k → (i : Insert) (front rest : List Word) → IsInsert front i → after k (front ++ rest) ≡ None
 insert_begins k o (insert.DefaultValues t) front rest p = ap (λ z. after k (z ++ rest)) p ∙ other_word k kind.Insert _ o.insert
 insert_begins k o (insert.Rows t cs s) front rest (columns, rows, p, q, w) = ap (λ z. after k (z ++ rest)) w ∙ other_word k kind.Insert _ o.insert
 
-action_begins : (k : Kind) → Outside k → (a : TriggerAction) (front rest : List Word) → IsAction front a → after k (front ++ rest) ≡ None
+action_begins : (k : TokenKind) → Outside k → (a : TriggerAction) (front rest : List Word) → IsAction front a → after k (front ++ rest) ≡ None
 action_begins k o (action.Insert i) front rest p = insert_begins k o i front rest p
 action_begins k o (action.Update u) front rest (list, filter, p, q, w) = ap (λ z. after k (z ++ rest)) w ∙ other_word k kind.Update _ o.update
 action_begins k o (action.Delete d) front rest (filter, q, w) = ap (λ z. after k (z ++ rest)) w ∙ other_word k kind.Delete _ o.delete
 action_begins k o (action.Signal t) front rest p = ap (λ z. after k (z ++ rest)) p ∙ other_word k kind.Signal _ o.signal
 action_begins k o (action.Set r c x) front rest (value, p, w) = ap (λ z. after k (z ++ rest)) w ∙ other_word k kind.Set _ o.set
 
-body_begins : (k : Kind) → Outside k → (xs : List TriggerAction) (front rest : List Word) → IsBody front xs → after k (front ++ rest) ≡ None
+body_begins : (k : TokenKind) → Outside k → (xs : List TriggerAction) (front rest : List Word) → IsBody front xs → after k (front ++ rest) ≡ None
 body_begins k o [] front rest (inl p) = absurd p
 body_begins k o (a ∷ []) front rest (inl p) = action_begins k o a front rest p
 body_begins k o (a ∷ b ∷ xs) front rest (inl p) = absurd p
 body_begins k o [] front rest (inr p) = absurd p
 body_begins k o (a ∷ xs) front rest (inr (acts, p, w)) = ap (λ z. after k (z ++ rest)) w ∙ other_word k kind.Begin _ o.begin
 
-when_begins : (k : Kind) → same kind.When k ≡ false → (c : Option Condition) (front ws : List Word) → Maybe IsWhen front c → after k ws ≡ None → after k (front ++ ws) ≡ None
+when_begins : (k : TokenKind) → same kind.When k ≡ false → (c : Option Condition) (front ws : List Word) → Maybe IsWhen front c → after k ws ≡ None → after k (front ++ ws) ≡ None
 when_begins k h c front ws p e = maybe_after IsWhen k (λ x f rest q. ap (λ z. after k (z ++ rest)) q.2 ∙ other_word k kind.When _ h) c front ws p e
 
-granularity_begins : (k : Kind) → same kind.For k ≡ false → (g : Granularity) (front ws : List Word) → IsGranularity front g → after k ws ≡ None → after k (front ++ ws) ≡ None
+granularity_begins : (k : TokenKind) → same kind.For k ≡ false → (g : Granularity) (front ws : List Word) → IsGranularity front g → after k ws ≡ None → after k (front ++ ws) ≡ None
 granularity_begins k h granularity.Row front ws p e = ap (λ z. after k (z ++ ws)) p ∙ other_word k kind.For _ h
 granularity_begins k h granularity.Statement front ws (inl p) e = ap (λ z. after k (z ++ ws)) p ∙ e
 granularity_begins k h granularity.Statement front ws (inr p) e = ap (λ z. after k (z ++ ws)) p ∙ other_word k kind.For _ h
@@ -202,7 +202,7 @@ occasion_reads action_time.After event.Update rest = refl
 occasion_reads action_time.After event.Delete rest = refl
 
 -- what follows the items begins with none of these
-tail_begins : (k : Kind) → Outside k → same kind.When k ≡ false → same kind.For k ≡ false → (t : TriggerDefinition) (each when body rest : List Word)
+tail_begins : (k : TokenKind) → Outside k → same kind.When k ≡ false → same kind.For k ≡ false → (t : TriggerDefinition) (each when body rest : List Word)
     → IsGranularity each t.granularity → Maybe IsWhen when t.when → IsBody body t.body → after k (each ++ (when ++ (body ++ rest))) ≡ None
 tail_begins k o h i t each when body rest q r s =
     granularity_begins k i t.granularity each (when ++ (body ++ rest)) q (when_begins k h t.when when (body ++ rest) r (body_begins k o t.body body rest s))

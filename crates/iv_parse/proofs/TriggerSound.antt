@@ -1,6 +1,6 @@
 -- What is read of CREATE TRIGGER is in the grammar.
 use Rattle.std.proofs.Common.{◌≡◌, inl, inr, ℕ, Option, Some, None, List, [], ◌∷◌, ◌++◌, length, refl, sym, ◌∙◌, ap, subst, append-nil, append_assoc}
-use Rattle.iv_lex.specs.declared.kind.Kind.TheVariants as kind
+use Rattle.iv_lex.specs.declared.kind.TokenKind.TheVariants as kind
 use Rattle.iv_lex.specs.Words.{Word, name, plain}
 use Rattle.iv_parse.specs.Words.{Side, ActionTime, TriggerEvent, Granularity, Condition, Referencing, TriggerAction}
 use Rattle.iv_parse.specs.Words.side

@@ -1,6 +1,6 @@
 -- Laws: words are at most one statement, and a script has one reading.
 use Rattle.std.specs.Prelude.{◌≡◌, ℕ, Option, List, ◌∷◌, ◌++◌}
-use Rattle.iv_lex.specs.declared.kind.Kind.TheVariants as kind
+use Rattle.iv_lex.specs.declared.kind.TokenKind.TheVariants as kind
 use Rattle.iv_lex.specs.Words.{Word, plain}
 use Rattle.iv_parse.specs.Words.{Statement}
 use Rattle.iv_parse.specs.Statements.{Reads}

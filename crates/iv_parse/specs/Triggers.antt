@@ -1,7 +1,7 @@
 -- Triggers: which words are the parts of CREATE TRIGGER.
 use Rattle.std.specs.Prelude.{◌≡◌, ◌⊎◌, List, [], ◌∷◌, ◌++◌}
-use Rattle.iv_lex.specs.declared.kind.Kind.{Kind}
-use Rattle.iv_lex.specs.declared.kind.Kind.TheVariants as kind
+use Rattle.iv_lex.specs.declared.kind.TokenKind.{TokenKind}
+use Rattle.iv_lex.specs.declared.kind.TokenKind.TheVariants as kind
 use Rattle.iv_lex.specs.Words.{Word, name, quoted, plain}
 use Rattle.iv_parse.specs.Words.{Side, Condition, ActionTime, TriggerEvent, Granularity, TransitionName, Referencing, TriggerAction, TriggerDefinition}
 use Rattle.iv_parse.specs.Words.side
@@ -13,7 +13,7 @@ use Rattle.iv_parse.specs.Words.action
 use Rattle.iv_parse_data.specs.Series.{Sequence, Maybe, InParentheses, Optional}
 use Rattle.iv_parse_data.specs.Data.{IsShallow, IsShallowCondition, IsInsert, IsUpdate, IsDelete}
 
-abbrev pub side_kind : Side → Kind
+abbrev pub side_kind : Side → TokenKind
 side_kind side.Old = kind.Old
 side_kind side.New = kind.New
 
@@ -69,11 +69,11 @@ IsBlock ws (a ∷ bs) =
 abbrev pub IsBody : List Word → List TriggerAction → Type 0
 IsBody ws actions = IsSingle ws actions ⊎ IsBlock ws actions
 
-abbrev pub time_kind : ActionTime → Kind
+abbrev pub time_kind : ActionTime → TokenKind
 time_kind action_time.Before = kind.Before
 time_kind action_time.After = kind.After
 
-abbrev pub event_kind : TriggerEvent → Kind
+abbrev pub event_kind : TriggerEvent → TokenKind
 event_kind event.Insert = kind.Insert
 event_kind event.Update = kind.Update
 event_kind event.Delete = kind.Delete

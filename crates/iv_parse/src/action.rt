@@ -5,7 +5,7 @@ ghost use Rattle.iv_parse_terms.specs.Seen.{with_words};
 ghost use Rattle.iv_parse_data.specs.readers.Series.{read_sequence};
 ghost use Rattle.iv_parse.specs.readers.Triggers.{read_set_variable, read_signal, read_other_action, read_delete_action, read_update_action, read_action, read_ended_action, some_actions, read_block, read_single, read_body};
 
-use iv_lex::{Kind, Token};
+use iv_lex::{Token, TokenKind};
 use iv_parse_data::{Parse, delete, insert, quoted, update};
 use iv_parse_terms::{after, name};
 use iv_syntax::{Expression, TriggerAction};
@@ -25,13 +25,13 @@ fn set_variable<'a>(
     let Some((variable, rest)) = name(alloc, text, tokens)? else {
         return Ok(None);
     };
-    let Some(rest) = after(Kind::Period, rest) else {
+    let Some(rest) = after(TokenKind::Period, rest) else {
         return Ok(None);
     };
     let Some((column, rest)) = name(alloc, text, rest)? else {
         return Ok(None);
     };
-    let Some(rest) = after(Kind::Equals, rest) else {
+    let Some(rest) = after(TokenKind::Equals, rest) else {
         return Ok(None);
     };
     match Expression::parse(alloc, text, rest)? {
@@ -63,10 +63,10 @@ fn other_action<'a>(
     ensures { IfOk result (λ r. with_words text.now r
         ≡ read_other_action (words text.now tokens.now)) }
 {
-    if let Some(rest) = after(Kind::Signal, tokens) {
+    if let Some(rest) = after(TokenKind::Signal, tokens) {
         return signal(alloc, text, rest);
     }
-    match after(Kind::Set, tokens) {
+    match after(TokenKind::Set, tokens) {
         Some(rest) => set_variable(alloc, text, rest),
         None => Ok(None),
     }
@@ -81,7 +81,7 @@ fn delete_action<'a>(
     ensures { IfOk result (λ r. with_words text.now r
         ≡ read_delete_action (words text.now tokens.now)) }
 {
-    let Some(rest) = after(Kind::Delete, tokens) else {
+    let Some(rest) = after(TokenKind::Delete, tokens) else {
         return other_action(alloc, text, tokens);
     };
     match delete(alloc, text, rest)? {
@@ -99,7 +99,7 @@ fn update_action<'a>(
     ensures { IfOk result (λ r. with_words text.now r
         ≡ read_update_action (words text.now tokens.now)) }
 {
-    let Some(rest) = after(Kind::Update, tokens) else {
+    let Some(rest) = after(TokenKind::Update, tokens) else {
         return delete_action(alloc, text, tokens);
     };
     match update(alloc, text, rest)? {
@@ -116,7 +116,7 @@ fn action<'a>(
 ) -> Result<Option<(TriggerAction, &'a [Token])>, AllocError>
     ensures { IfOk result (λ r. with_words text.now r ≡ read_action (words text.now tokens.now)) }
 {
-    let Some(rest) = after(Kind::Insert, tokens) else {
+    let Some(rest) = after(TokenKind::Insert, tokens) else {
         return update_action(alloc, text, tokens);
     };
     match insert(alloc, text, rest)? {
@@ -138,7 +138,7 @@ fn actions<'a>(
     let mut items = Items::new(alloc);
     let mut rest = tokens;
     let mut most = tokens.len();
-    while let None = after(Kind::End, rest) {
+    while let None = after(TokenKind::End, rest) {
         if most == 0 {
             return Ok(None);
         }
@@ -146,7 +146,7 @@ fn actions<'a>(
             return Ok(None);
         };
         items.push(item)?;
-        let Some(others) = after(Kind::Semicolon, others) else {
+        let Some(others) = after(TokenKind::Semicolon, others) else {
             return Ok(None);
         };
         rest = others;
@@ -165,7 +165,7 @@ fn some_actions<'a>(
     if actions.is_empty() {
         return None;
     }
-    let rest = after(Kind::End, tokens)?;
+    let rest = after(TokenKind::End, tokens)?;
     Some((actions, rest))
 }
 
@@ -178,7 +178,7 @@ fn block<'a>(
 ) -> Result<Option<(Items<TriggerAction>, &'a [Token])>, AllocError>
     ensures { IfOk result (λ r. with_words text.now r ≡ read_block (words text.now tokens.now)) }
 {
-    let Some(rest) = after(Kind::Atomic, tokens) else {
+    let Some(rest) = after(TokenKind::Atomic, tokens) else {
         return Ok(None);
     };
     match actions(alloc, text, rest)? {
@@ -212,7 +212,7 @@ pub fn body<'a>(
 ) -> Result<Option<(Items<TriggerAction>, &'a [Token])>, AllocError>
     ensures { IfOk result (λ r. with_words text.now r ≡ read_body (words text.now tokens.now)) }
 {
-    match after(Kind::Begin, tokens) {
+    match after(TokenKind::Begin, tokens) {
         Some(rest) => block(alloc, text, rest),
         None => single(alloc, text, tokens),
     }

@@ -4,7 +4,7 @@ ghost use Rattle.iv_lex.specs.Words.{words};
 ghost use Rattle.iv_parse_terms.specs.Seen.{with_words};
 ghost use Rattle.iv_parse.specs.readers.Statements.{read_drop, read_start, read_commit, read_to, read_rollback_rest, read_rollback, read_savepoint, read_release, read_list, read_set, read_savepoint_rule, read_session_rule};
 
-use iv_lex::{Kind, Token};
+use iv_lex::{Token, TokenKind};
 use iv_parse_data::{mode, series, skip};
 use iv_parse_terms::{after, name};
 use iv_syntax::{ConstraintList, Name, Statement};
@@ -14,7 +14,7 @@ use std::alloc::{AllocError, Global};
 fn start(tokens: &[Token]) -> Option<(Statement, &[Token])>
     ensures { (text : List ℕ) → with_words text result ≡ read_start (words text tokens.now) }
 {
-    let rest = after(Kind::Transaction, tokens)?;
+    let rest = after(TokenKind::Transaction, tokens)?;
     Some((Statement::StartTransaction, rest))
 }
 
@@ -23,7 +23,7 @@ fn commit(tokens: &[Token]) -> (Statement, &[Token])
     ensures { (text : List ℕ)
         → with_words text (Some result) ≡ read_commit (words text tokens.now) }
 {
-    (Statement::Commit, skip(Kind::Work, tokens))
+    (Statement::Commit, skip(TokenKind::Work, tokens))
 }
 
 #[tactic(auto, unfolding(crate::specs::readers::Statements::read_to))]
@@ -34,7 +34,7 @@ fn rollback_to<'a>(
 ) -> Result<Option<(Statement, &'a [Token])>, AllocError>
     ensures { IfOk result (λ r. with_words text.now r ≡ read_to (words text.now tokens.now)) }
 {
-    let Some(rest) = after(Kind::Savepoint, tokens) else {
+    let Some(rest) = after(TokenKind::Savepoint, tokens) else {
         return Ok(None);
     };
     match name(alloc, text, rest)? {
@@ -51,8 +51,8 @@ fn rollback<'a>(
 ) -> Result<Option<(Statement, &'a [Token])>, AllocError>
     ensures { IfOk result (λ r. with_words text.now r ≡ read_rollback (words text.now tokens.now)) }
 {
-    let tokens = skip(Kind::Work, tokens);
-    match after(Kind::To, tokens) {
+    let tokens = skip(TokenKind::Work, tokens);
+    match after(TokenKind::To, tokens) {
         Some(rest) => rollback_to(alloc, text, rest),
         None => Ok(Some((Statement::Rollback, tokens))),
     }
@@ -82,7 +82,7 @@ fn release<'a>(
 ) -> Result<Option<(Statement, &'a [Token])>, AllocError>
     ensures { IfOk result (λ r. with_words text.now r ≡ read_release (words text.now tokens.now)) }
 {
-    let Some(rest) = after(Kind::Savepoint, tokens) else {
+    let Some(rest) = after(TokenKind::Savepoint, tokens) else {
         return Ok(None);
     };
     match name(alloc, text, rest)? {
@@ -98,7 +98,7 @@ fn constraint_list<'a>(
 ) -> Result<Option<(ConstraintList, &'a [Token])>, AllocError>
     ensures { IfOk result (λ r. with_words text.now r ≡ read_list (words text.now tokens.now)) }
 {
-    if let Some(rest) = after(Kind::All, tokens) {
+    if let Some(rest) = after(TokenKind::All, tokens) {
         return Ok(Some((ConstraintList::All, rest)));
     }
     match series::<Name>(alloc, text, tokens)? {
@@ -115,7 +115,7 @@ fn set_constraints<'a>(
 ) -> Result<Option<(Statement, &'a [Token])>, AllocError>
     ensures { IfOk result (λ r. with_words text.now r ≡ read_set (words text.now tokens.now)) }
 {
-    let Some(rest) = after(Kind::Constraints, tokens) else {
+    let Some(rest) = after(TokenKind::Constraints, tokens) else {
         return Ok(None);
     };
     let Some((list, rest)) = constraint_list(alloc, text, rest)? else {
@@ -140,13 +140,13 @@ fn savepoint_statement<'a>(
     ensures { IfOk result (λ r. with_words text.now r
         ≡ read_savepoint_rule (words text.now tokens.now)) }
 {
-    if let Some(rest) = after(Kind::Savepoint, tokens) {
+    if let Some(rest) = after(TokenKind::Savepoint, tokens) {
         return savepoint(alloc, text, rest);
     }
-    if let Some(rest) = after(Kind::Release, tokens) {
+    if let Some(rest) = after(TokenKind::Release, tokens) {
         return release(alloc, text, rest);
     }
-    match after(Kind::Set, tokens) {
+    match after(TokenKind::Set, tokens) {
         Some(rest) => set_constraints(alloc, text, rest),
         None => Ok(None),
     }
@@ -162,13 +162,13 @@ pub fn session_statement<'a>(
     ensures { IfOk result (λ r. with_words text.now r
         ≡ read_session_rule (words text.now tokens.now)) }
 {
-    if let Some(rest) = after(Kind::Commit, tokens) {
+    if let Some(rest) = after(TokenKind::Commit, tokens) {
         return Ok(Some(commit(rest)));
     }
-    if let Some(rest) = after(Kind::Rollback, tokens) {
+    if let Some(rest) = after(TokenKind::Rollback, tokens) {
         return rollback(alloc, text, rest);
     }
-    if let Some(rest) = after(Kind::Start, tokens) {
+    if let Some(rest) = after(TokenKind::Start, tokens) {
         return Ok(start(rest));
     }
     savepoint_statement(alloc, text, tokens)

@@ -6,7 +6,7 @@ ghost use Rattle.iv_parse.specs.readers.Statements.{read_drop, read_insert_rule,
 
 use crate::session::session_statement;
 use crate::trigger::create_trigger;
-use iv_lex::{Kind, Token};
+use iv_lex::{Token, TokenKind};
 use iv_parse_data::{alter_table, create_table, delete, insert, select, update};
 use iv_parse_terms::{after, name};
 use iv_syntax::Statement;
@@ -20,7 +20,7 @@ fn drop_trigger<'a>(
 ) -> Result<Option<(Statement, &'a [Token])>, AllocError>
     ensures { IfOk result (λ r. with_words text.now r ≡ read_drop (words text.now tokens.now)) }
 {
-    let Some(rest) = after(Kind::Trigger, tokens) else {
+    let Some(rest) = after(TokenKind::Trigger, tokens) else {
         return Ok(None);
     };
     match name(alloc, text, rest)? {
@@ -97,10 +97,10 @@ fn create<'a>(
 ) -> Result<Option<(Statement, &'a [Token])>, AllocError>
     ensures { IfOk result (λ r. with_words text.now r ≡ read_create (words text.now tokens.now)) }
 {
-    if let Some(rest) = after(Kind::Table, tokens) {
+    if let Some(rest) = after(TokenKind::Table, tokens) {
         return create_table(alloc, text, rest);
     }
-    let Some(rest) = after(Kind::Trigger, tokens) else {
+    let Some(rest) = after(TokenKind::Trigger, tokens) else {
         return Ok(None);
     };
     match create_trigger(alloc, text, rest)? {
@@ -118,13 +118,13 @@ fn definition<'a>(
     ensures { IfOk result (λ r. with_words text.now r
         ≡ read_definition_rule (words text.now tokens.now)) }
 {
-    if let Some(rest) = after(Kind::Create, tokens) {
+    if let Some(rest) = after(TokenKind::Create, tokens) {
         return create(alloc, text, rest);
     }
-    if let Some(rest) = after(Kind::Alter, tokens) {
+    if let Some(rest) = after(TokenKind::Alter, tokens) {
         return alter_table(alloc, text, rest);
     }
-    if let Some(rest) = after(Kind::Drop, tokens) {
+    if let Some(rest) = after(TokenKind::Drop, tokens) {
         return drop_trigger(alloc, text, rest);
     }
     session_statement(alloc, text, tokens)
@@ -138,16 +138,16 @@ fn rule<'a>(
 ) -> Result<Option<(Statement, &'a [Token])>, AllocError>
     ensures { IfOk result (λ r. with_words text.now r ≡ read_rule (words text.now tokens.now)) }
 {
-    if let Some(rest) = after(Kind::Insert, tokens) {
+    if let Some(rest) = after(TokenKind::Insert, tokens) {
         return insert_statement(alloc, text, rest);
     }
-    if let Some(rest) = after(Kind::Update, tokens) {
+    if let Some(rest) = after(TokenKind::Update, tokens) {
         return update_statement(alloc, text, rest);
     }
-    if let Some(rest) = after(Kind::Delete, tokens) {
+    if let Some(rest) = after(TokenKind::Delete, tokens) {
         return delete_statement(alloc, text, rest);
     }
-    if let Some(rest) = after(Kind::Select, tokens) {
+    if let Some(rest) = after(TokenKind::Select, tokens) {
         return select_statement(alloc, text, rest);
     }
     definition(alloc, text, tokens)
@@ -167,7 +167,7 @@ pub fn statement<'a>(
     let Some((statement, rest)) = rule(alloc, text, tokens)? else {
         return Ok(None);
     };
-    match after(Kind::Semicolon, rest) {
+    match after(TokenKind::Semicolon, rest) {
         Some(rest) => Ok(Some((statement, rest))),
         None => {
             drop(statement);

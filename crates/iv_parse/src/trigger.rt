@@ -5,7 +5,7 @@ ghost use Rattle.iv_parse_terms.specs.Seen.{with_words};
 ghost use Rattle.iv_parse.specs.readers.Triggers.{some_items, read_referencing, read_each, read_granularity, read_when, read_action_time, read_other_event, read_event, read_occasion, read_middle, trigger_of, read_trigger_rest, read_trigger};
 
 use crate::action::body;
-use iv_lex::{Kind, Token};
+use iv_lex::{Token, TokenKind};
 use iv_parse_data::{enclosed_condition, sequence};
 use iv_parse_terms::{after, name};
 use iv_syntax::{
@@ -37,7 +37,7 @@ fn referencing<'a>(
     ensures { IfOk result (λ r. with_words text.now r
         ≡ read_referencing (words text.now tokens.now)) }
 {
-    let Some(rest) = after(Kind::Referencing, tokens) else {
+    let Some(rest) = after(TokenKind::Referencing, tokens) else {
         return Ok(Some((Items::new(alloc), tokens)));
     };
     match sequence::<Referencing>(alloc, text, rest)? {
@@ -50,10 +50,10 @@ fn referencing<'a>(
 fn each(tokens: &[Token]) -> Option<(Granularity, &[Token])>
     ensures { (text : List ℕ) → with_words text result ≡ read_each (words text tokens.now) }
 {
-    if let Some(rest) = after(Kind::Row, tokens) {
+    if let Some(rest) = after(TokenKind::Row, tokens) {
         return Some((Granularity::Row, rest));
     }
-    match after(Kind::Statement, tokens) {
+    match after(TokenKind::Statement, tokens) {
         Some(rest) => Some((Granularity::Statement, rest)),
         None => None,
     }
@@ -64,10 +64,10 @@ fn each(tokens: &[Token]) -> Option<(Granularity, &[Token])>
 fn granularity(tokens: &[Token]) -> Option<(Granularity, &[Token])>
     ensures { (text : List ℕ) → with_words text result ≡ read_granularity (words text tokens.now) }
 {
-    let Some(rest) = after(Kind::For, tokens) else {
+    let Some(rest) = after(TokenKind::For, tokens) else {
         return Some((Granularity::Statement, tokens));
     };
-    let rest = after(Kind::Each, rest)?;
+    let rest = after(TokenKind::Each, rest)?;
     each(rest)
 }
 
@@ -79,7 +79,7 @@ fn when<'a>(
 ) -> Result<Option<(Option<Condition>, &'a [Token])>, AllocError>
     ensures { IfOk result (λ r. with_words text.now r ≡ read_when (words text.now tokens.now)) }
 {
-    let Some(rest) = after(Kind::When, tokens) else {
+    let Some(rest) = after(TokenKind::When, tokens) else {
         return Ok(Some((None, tokens)));
     };
     match enclosed_condition(alloc, text, rest)? {
@@ -92,10 +92,10 @@ fn when<'a>(
 fn action_time(tokens: &[Token]) -> Option<(ActionTime, &[Token])>
     ensures { (text : List ℕ) → with_words text result ≡ read_action_time (words text tokens.now) }
 {
-    if let Some(rest) = after(Kind::Before, tokens) {
+    if let Some(rest) = after(TokenKind::Before, tokens) {
         return Some((ActionTime::Before, rest));
     }
-    let rest = after(Kind::After, tokens)?;
+    let rest = after(TokenKind::After, tokens)?;
     Some((ActionTime::After, rest))
 }
 
@@ -103,10 +103,10 @@ fn action_time(tokens: &[Token]) -> Option<(ActionTime, &[Token])>
 fn other_event(tokens: &[Token]) -> Option<(TriggerEvent, &[Token])>
     ensures { (text : List ℕ) → with_words text result ≡ read_other_event (words text tokens.now) }
 {
-    if let Some(rest) = after(Kind::Update, tokens) {
+    if let Some(rest) = after(TokenKind::Update, tokens) {
         return Some((TriggerEvent::Update, rest));
     }
-    match after(Kind::Delete, tokens) {
+    match after(TokenKind::Delete, tokens) {
         Some(rest) => Some((TriggerEvent::Delete, rest)),
         None => None,
     }
@@ -116,7 +116,7 @@ fn other_event(tokens: &[Token]) -> Option<(TriggerEvent, &[Token])>
 fn event(tokens: &[Token]) -> Option<(TriggerEvent, &[Token])>
     ensures { (text : List ℕ) → with_words text result ≡ read_event (words text tokens.now) }
 {
-    if let Some(rest) = after(Kind::Insert, tokens) {
+    if let Some(rest) = after(TokenKind::Insert, tokens) {
         return Some((TriggerEvent::Insert, rest));
     }
     other_event(tokens)
@@ -129,7 +129,7 @@ fn occasion(tokens: &[Token]) -> Option<((ActionTime, TriggerEvent), &[Token])>
 {
     let (time, rest) = action_time(tokens)?;
     let (event, rest) = event(rest)?;
-    let rest = after(Kind::On, rest)?;
+    let rest = after(TokenKind::On, rest)?;
     Some(((time, event), rest))
 }
 

@@ -1,6 +1,6 @@
 -- What is at the front is read.
 use Rattle.std.proofs.Common.{◌≡◌, ℕ, zero, suc, ◌+◌, ◌≤◌, Option, Some, None, List, [], ◌∷◌, ◌++◌, length, sym, ◌∙◌, ap, subst, arith, append_assoc, length-append}
-use Rattle.iv_lex.specs.declared.kind.Kind.TheVariants as kind
+use Rattle.iv_lex.specs.declared.kind.TokenKind.TheVariants as kind
 use Rattle.iv_lex.specs.Words.{Word, plain}
 use Rattle.iv_parse_terms.specs.After.{after, if_some, then_read}
 use Rattle.iv_parse_data.specs.Series.{More, Series, InParentheses}

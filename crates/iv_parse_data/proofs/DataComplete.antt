@@ -1,8 +1,8 @@
 -- What is in the grammar of data statements is read.
 use Rattle.std.proofs.Common.{subst, sym, ◌≡◌, ℕ, false, Option, Some, None, List, [], ◌∷◌, ◌++◌, refl, ◌∙◌, ap, append_assoc}
 use Rattle.std.specs.Prelude.{if◌then◌else◌}
-use Rattle.iv_lex.specs.declared.kind.Kind.{Kind}
-use Rattle.iv_lex.specs.declared.kind.Kind.TheVariants as kind
+use Rattle.iv_lex.specs.declared.kind.TokenKind.{TokenKind}
+use Rattle.iv_lex.specs.declared.kind.TokenKind.TheVariants as kind
 use Rattle.iv_lex.specs.Words.{Word, name, plain}
 use Rattle.iv_parse_data.specs.Words.{Expression, ValueOrDefault, InsertSource, Insert, Condition, RangeName, SelectList, Update, Delete, Select}
 use Rattle.iv_parse_data.specs.Words.given.{Value, Default}
@@ -35,24 +35,24 @@ unfolding read_shallow
 shallow_complete = record { reads = λ e front rest p ends. expression_complete front rest e p.0 p.1 ends }
 
 -- no expression begins with this word
-pub record Apart (k : Kind) : Type 0 where
+pub record Apart (k : TokenKind) : Type 0 where
   pub null : same kind.Null k ≡ false
   pub parenthesis : same kind.LeftParenthesis k ≡ false
   pub plus : same kind.Plus k ≡ false
   pub minus : same kind.Minus k ≡ false
 
-pub other_word : (k j : Kind) (ws : List Word) → same j k ≡ false → after k (plain j ∷ ws) ≡ None
+pub other_word : (k j : TokenKind) (ws : List Word) → same j k ≡ false → after k (plain j ∷ ws) ≡ None
 other_word k j ws h = ap (λ b. if b then Some ws else None) h
 
-column_begins : (k : Kind) (q : Option (List ℕ)) (n : List ℕ) (rest : List Word) → after k ((qualifier_spelling q ++ name n ∷ []) ++ rest) ≡ None
+column_begins : (k : TokenKind) (q : Option (List ℕ)) (n : List ℕ) (rest : List Word) → after k ((qualifier_spelling q ++ name n ∷ []) ++ rest) ≡ None
 column_begins k None n rest = refl
 column_begins k (Some q) n rest = refl
 
-sign_begins : (k : Kind) → Apart k → (s : Sign) (ws : List Word) → after k (plain (sign_kind s) ∷ ws) ≡ None
+sign_begins : (k : TokenKind) → Apart k → (s : Sign) (ws : List Word) → after k (plain (sign_kind s) ∷ ws) ≡ None
 sign_begins k a sign.Plus ws = other_word k kind.Plus ws a.plus
 sign_begins k a sign.Minus ws = other_word k kind.Minus ws a.minus
 
-spelling_begins : (k : Kind) → Apart k → (e : Expression) (rest : List Word) → after k (spelling e ++ rest) ≡ None
+spelling_begins : (k : TokenKind) → Apart k → (e : Expression) (rest : List Word) → after k (spelling e ++ rest) ≡ None
 spelling_begins k a (Number n) rest = refl
 spelling_begins k a (Text t) rest = refl
 spelling_begins k a Null rest = other_word k kind.Null rest a.null
@@ -62,7 +62,7 @@ spelling_begins k a (signed s e) rest = sign_begins k a s _
 spelling_begins k a (product e f) rest = ap (after k) (append_assoc (spelling e) (plain kind.Asterisk ∷ spelling f) rest) ∙ spelling_begins k a e ((plain kind.Asterisk ∷ spelling f) ++ rest)
 spelling_begins k a (sum s e f) rest = ap (after k) (append_assoc (spelling e) (plain (sign_kind s) ∷ spelling f) rest) ∙ spelling_begins k a e ((plain (sign_kind s) ∷ spelling f) ++ rest)
 
-pub expression_begins : (k : Kind) → Apart k → (e : Expression) (front rest : List Word) → IsShallow front e → after k (front ++ rest) ≡ None
+pub expression_begins : (k : TokenKind) → Apart k → (e : Expression) (front rest : List Word) → IsShallow front e → after k (front ++ rest) ≡ None
 expression_begins k a e front rest p = ap (λ z. after k (z ++ rest)) p.0.spelled ∙ spelling_begins k a e rest
 
 condition_reads : Reads_all IsShallowCondition EndsCondition read_shallow_condition
@@ -142,7 +142,7 @@ list_ends r c front rest p =
     let (back, w) = from_begins r c front p.0 in
     subst (λ z. EndsExpression (z ++ rest) × (after kind.Comma (z ++ rest) ≡ None)) (sym w) (((refl, refl), refl, refl), refl)
 
-values_begin : (k : Kind) → Apart k → (es : List Expression) (front rest : List Word) → Series IsShallow front es → after k (front ++ rest) ≡ None
+values_begin : (k : TokenKind) → Apart k → (es : List Expression) (front rest : List Word) → Series IsShallow front es → after k (front ++ rest) ≡ None
 values_begin k a [] front rest p = absurd p
 values_begin k a (e ∷ es) front rest (f, g, p, m, w) =
     ap (λ z. after k (z ++ rest)) w ∙ ap (after k) (append_assoc f g rest) ∙ expression_begins k a e f (g ++ rest) p
@@ -168,7 +168,7 @@ source_reads (source.Select l r c) front rest (list, from, p, q, w) e =
     ∙ ap (λ o. then_read o (λ p left. Some (source.Select l p.0 p.1, left))) (from_reads r c from rest q e)
 
 -- a source of rows begins with neither DEFAULT nor a parenthesis
-source_begins : (k : Kind) → same kind.Values k ≡ false → same kind.Select k ≡ false → (s : InsertSource) (front rest : List Word) → IsSource front s → after k (front ++ rest) ≡ None
+source_begins : (k : TokenKind) → same kind.Values k ≡ false → same kind.Select k ≡ false → (s : InsertSource) (front rest : List Word) → IsSource front s → after k (front ++ rest) ≡ None
 source_begins k h i (source.Values ts) front rest (inner, p, w) = ap (λ z. after k (z ++ rest)) w ∙ other_word k kind.Values _ h
 source_begins k h i (source.Select l r c) front rest (list, from, p, q, w) = ap (λ z. after k (z ++ rest)) w ∙ other_word k kind.Select _ i
 

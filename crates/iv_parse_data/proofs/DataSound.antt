@@ -1,6 +1,6 @@
 -- What is read of data statements is in the grammar.
 use Rattle.std.proofs.Common.{ℕ, Some, None, List, [], ◌∷◌, refl}
-use Rattle.iv_lex.specs.declared.kind.Kind.TheVariants as kind
+use Rattle.iv_lex.specs.declared.kind.TokenKind.TheVariants as kind
 use Rattle.iv_lex.specs.Words.{Word, name, plain}
 use Rattle.iv_parse_data.specs.Words.given.{Value, Default}
 use Rattle.iv_parse_data.specs.Words.source

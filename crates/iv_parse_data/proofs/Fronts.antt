@@ -1,8 +1,8 @@
 -- What is read is at the front.
 use Rattle.std.proofs.Common.{◌≡◌, inl, inr, ℕ, zero, suc, Bool, true, false, Option, Some, None, unwrap_or, List, [], ◌∷◌, ◌++◌, length, refl, sym, ◌∙◌, ap, subst, append_assoc, append-nil}
 use Rattle.std.specs.Prelude.{if◌then◌else◌}
-use Rattle.iv_lex.specs.declared.kind.Kind.{Kind}
-use Rattle.iv_lex.specs.declared.kind.Kind.TheVariants as kind
+use Rattle.iv_lex.specs.declared.kind.TokenKind.{TokenKind}
+use Rattle.iv_lex.specs.declared.kind.TokenKind.TheVariants as kind
 use Rattle.iv_lex.specs.Words.{Word, name, number, quoted, plain}
 use Rattle.iv_parse_terms.specs.After.{after, after_name, if_some, then_read, is_word}
 use Rattle.iv_parse_terms.proofs.Exact.{exact}
@@ -27,17 +27,17 @@ same_found {A} a b ws rest h =
     (ap (λ o. (held o).0) h, ap (λ o. (held o).1) h)
 
 -- the word at the front is this one
-is_this : (k : Kind) (w : Word) → is_word k w ≡ true → w ≡ plain k
+is_this : (k : TokenKind) (w : Word) → is_word k w ≡ true → w ≡ plain k
 is_this k (name n) h = absurd (cc)
 is_this k (number n) h = absurd (cc)
 is_this k (quoted t) h = absurd (cc)
 is_this k (plain j) h = ap plain (exact j k h)
 
-after_by : (k : Kind) (w : Word) (ws rest : List Word) (b : Bool) → is_word k w ≡ b → (if b then Some ws else None) ≡ Some rest → w ∷ ws ≡ plain k ∷ rest
+after_by : (k : TokenKind) (w : Word) (ws rest : List Word) (b : Bool) → is_word k w ≡ b → (if b then Some ws else None) ≡ Some rest → w ∷ ws ≡ plain k ∷ rest
 after_by k w ws rest true e g = let h = is_this k w e in cc
 after_by k w ws rest false e g = absurd (cc)
 
-pub after_is : (k : Kind) (ws rest : List Word) → after k ws ≡ Some rest → ws ≡ plain k ∷ rest
+pub after_is : (k : TokenKind) (ws rest : List Word) → after k ws ≡ Some rest → ws ≡ plain k ∷ rest
 after_is k [] rest h = absurd (cc)
 after_is k (w ∷ ws) rest h = after_by k w ws rest (is_word k w) refl h
 
@@ -68,13 +68,13 @@ module _ {A : Type 0} where
         record { front = front ++ f.front; part = f.part; whole = e ∙ ap (λ z. front ++ z) f.whole ∙ sym (append_assoc front f.front left) };
   }
 
-  after_option : (Part : List Word → A → Type 0) (k : Kind) (ws : List Word) (o : Option (List Word)) (f : List Word → Option (A × List Word)) (other : Option (A × List Word))
+  after_option : (Part : List Word → A → Type 0) (k : TokenKind) (ws : List Word) (o : Option (List Word)) (f : List Word → Option (A × List Word)) (other : Option (A × List Word))
       → after k ws ≡ o → ((rest : List Word) → Good (λ back a. Part (plain k ∷ back) a) rest (f rest)) → Good Part ws other → Good Part ws (if_some o f other)
   after_option Part k ws None f other e g h = h
   after_option Part k ws (Some rest) f other e g h = further Part (plain k ∷ []) ws rest (f rest) (after_is k ws rest e) (g rest)
 
   -- where this word is at the front, and where it isn't
-  pub after_good : (Part : List Word → A → Type 0) (k : Kind) (ws : List Word) (f : List Word → Option (A × List Word)) (other : Option (A × List Word))
+  pub after_good : (Part : List Word → A → Type 0) (k : TokenKind) (ws : List Word) (f : List Word → Option (A × List Word)) (other : Option (A × List Word))
       → ((rest : List Word) → Good (λ back a. Part (plain k ∷ back) a) rest (f rest)) → Good Part ws other → Good Part ws (if_some (after k ws) f other)
   after_good Part k ws f other g h = after_option Part k ws (after k ws) f other refl g h
 
@@ -118,13 +118,13 @@ module _ {A : Type 0} where
       (λ bs back left q. done_good _ left (a ∷ bs) (front, back, p, q, ap (λ z. front ++ z) (append-nil back))))
 
 module _ {A : Type 0} where
-  skip_option : (Part : List Word → A → Type 0) (k : Kind) (ws : List Word) (o : Option (List Word)) (f : List Word → Option (A × List Word))
+  skip_option : (Part : List Word → A → Type 0) (k : TokenKind) (ws : List Word) (o : Option (List Word)) (f : List Word → Option (A × List Word))
       → after k ws ≡ o → ((front rest : List Word) → Optional k front → Good (λ back a. Part (front ++ back) a) rest (f rest)) → Good Part ws (f (if_some o (λ rest. rest) ws))
   skip_option Part k ws None f e g = g [] ws (inl refl)
   skip_option Part k ws (Some rest) f e g = further Part (plain k ∷ []) ws rest (f rest) (after_is k ws rest e) (g (plain k ∷ []) rest (inr refl))
 
   -- a word that may be left out at the front
-  pub skip_good : (Part : List Word → A → Type 0) (k : Kind) (ws : List Word) (f : List Word → Option (A × List Word))
+  pub skip_good : (Part : List Word → A → Type 0) (k : TokenKind) (ws : List Word) (f : List Word → Option (A × List Word))
       → ((front rest : List Word) → Optional k front → Good (λ back a. Part (front ++ back) a) rest (f rest)) → Good Part ws (f (skip k ws))
   skip_good Part k ws f g = skip_option Part k ws (after k ws) f refl g
 
@@ -151,18 +151,18 @@ module _ {A B : Type 0} where
       (λ a front rest p. done_good _ rest (make a) (subst (λ z. Whole z (make a)) (sym (append-nil front)) (h a front p)))
 
 module _ {A : Type 0} where
-  ahead_second : (Part : List Word → A → Type 0) (j k : Kind) (ws rest : List Word) (o : Option (List Word)) (f : List Word → Option (A × List Word)) (other : Option (A × List Word))
+  ahead_second : (Part : List Word → A → Type 0) (j k : TokenKind) (ws rest : List Word) (o : Option (List Word)) (f : List Word → Option (A × List Word)) (other : Option (A × List Word))
       → ws ≡ plain j ∷ rest → after k rest ≡ o → ((more : List Word) → Good (λ back a. Part (plain j ∷ plain k ∷ back) a) more (f more)) → Good Part ws other → Good Part ws (if_some o f other)
   ahead_second Part j k ws rest None f other d e g h = h
   ahead_second Part j k ws rest (Some more) f other d e g h =
       further Part (plain j ∷ plain k ∷ []) ws more (f more) (d ∙ ap (λ z. plain j ∷ z) (after_is k rest more e)) (g more)
 
-  ahead_first : (Part : List Word → A → Type 0) (j k : Kind) (ws : List Word) (o : Option (List Word)) (f : List Word → Option (A × List Word)) (other : Option (A × List Word))
+  ahead_first : (Part : List Word → A → Type 0) (j k : TokenKind) (ws : List Word) (o : Option (List Word)) (f : List Word → Option (A × List Word)) (other : Option (A × List Word))
       → after j ws ≡ o → ((more : List Word) → Good (λ back a. Part (plain j ∷ plain k ∷ back) a) more (f more)) → Good Part ws other → Good Part ws (if_some o (λ rest. if_some (after k rest) f other) other)
   ahead_first Part j k ws None f other e g h = h
   ahead_first Part j k ws (Some rest) f other e g h = ahead_second Part j k ws rest (after k rest) f other (after_is j ws rest e) refl g h
 
   -- where these two words are at the front, and where they aren't
-  pub ahead_good : (Part : List Word → A → Type 0) (j k : Kind) (ws : List Word) (f : List Word → Option (A × List Word)) (other : Option (A × List Word))
+  pub ahead_good : (Part : List Word → A → Type 0) (j k : TokenKind) (ws : List Word) (f : List Word → Option (A × List Word)) (other : Option (A × List Word))
       → ((more : List Word) → Good (λ back a. Part (plain j ∷ plain k ∷ back) a) more (f more)) → Good Part ws other → Good Part ws (if_some (after j ws) (λ rest. if_some (after k rest) f other) other)
   ahead_good Part j k ws f other g h = ahead_first Part j k ws (after j ws) f other refl g h

@@ -1,6 +1,6 @@
 -- Parts that may be left out, parts in either order and sequences of parts are read.
 use Rattle.std.proofs.Common.{◌≡◌, inl, inr, ℕ, zero, suc, ◌+◌, ◌≤◌, Option, Some, None, List, [], ◌∷◌, ◌++◌, length, sym, ◌∙◌, ap, subst, arith, append_assoc, append-nil, length-append}
-use Rattle.iv_lex.specs.declared.kind.Kind.{Kind}
+use Rattle.iv_lex.specs.declared.kind.TokenKind.{TokenKind}
 use Rattle.iv_lex.specs.Words.{Word}
 use Rattle.iv_parse_terms.specs.After.{after, if_some, then_read}
 use Rattle.iv_parse_data.proofs.Fronts.{same_found}
@@ -9,13 +9,13 @@ use Rattle.iv_parse_data.specs.readers.Series.{read_sequence, read_either_order,
 
 module _ {A : Type 0} where
   -- a part that may be left out, where it is left out or begins with another word
-  pub maybe_after : (Part : List Word → A → Type 0) (k : Kind) → ((a : A) (f ws : List Word) → Part f a → after k (f ++ ws) ≡ None)
+  pub maybe_after : (Part : List Word → A → Type 0) (k : TokenKind) → ((a : A) (f ws : List Word) → Part f a → after k (f ++ ws) ≡ None)
       → (o : Option A) (f ws : List Word) → Maybe Part f o → after k ws ≡ None → after k (f ++ ws) ≡ None
   maybe_after Part k other None f ws p e = ap (λ z. after k (z ++ ws)) p ∙ e
   maybe_after Part k other (Some a) f ws p e = other a f ws p
 
 module _ {A B : Type 0} where
-  pub either_after : (First : List Word → A → Type 0) (Second : List Word → B → Type 0) (k : Kind)
+  pub either_after : (First : List Word → A → Type 0) (Second : List Word → B → Type 0) (k : TokenKind)
       → ((a : A) (f ws : List Word) → First f a → after k (f ++ ws) ≡ None) → ((b : B) (f ws : List Word) → Second f b → after k (f ++ ws) ≡ None)
       → (a : Option A) (b : Option B) (front ws : List Word) → InEitherOrder (Maybe First) (Maybe Second) front (a, b) → after k ws ≡ None → after k (front ++ ws) ≡ None
   either_after First Second k one other a b front ws (f, g, p, q, inl w) e =

@@ -1,7 +1,7 @@
 -- What is in the grammar of CREATE TABLE and ALTER TABLE is read.
 use Rattle.std.proofs.Common.{◌≡◌, inl, inr, ℕ, Bool, true, false, Option, Some, None, List, [], ◌∷◌, ◌++◌, refl, sym, ◌∙◌, ap, subst, append_assoc}
-use Rattle.iv_lex.specs.declared.kind.Kind.{Kind}
-use Rattle.iv_lex.specs.declared.kind.Kind.TheVariants as kind
+use Rattle.iv_lex.specs.declared.kind.TokenKind.{TokenKind}
+use Rattle.iv_lex.specs.declared.kind.TokenKind.TheVariants as kind
 use Rattle.iv_lex.specs.Words.{Word, name, number, plain}
 use Rattle.iv_syntax.specs.declared.tree.Sign.{Sign}
 use Rattle.iv_syntax.specs.declared.tree.Sign.TheVariants as sign
@@ -135,7 +135,7 @@ update_apart : (a : ReferentialAction) (front rest : List Word) → IsOn kind.Up
 unfolding read_on
 update_apart a front rest h = ap (λ z. read_on kind.Delete (z ++ rest)) h ∙ ap (λ z. Some (None, z ++ rest)) (sym h)
 
-no_on : (event : Kind) (ws : List Word) → after kind.On ws ≡ None → read_on event ws ≡ Some (None, ws)
+no_on : (event : TokenKind) (ws : List Word) → after kind.On ws ≡ None → read_on event ws ≡ Some (None, ws)
 unfolding read_on
 no_on event ws e =
     ap (λ o. if_some o (λ rest. if_some (after event rest) (λ more. then_read (read_referential_action more) (λ a left. Some (Some a, left))) (Some (None, ws))) (Some (None, ws))) e
@@ -146,12 +146,12 @@ actions_read a b front rest p e =
     either_order_complete (IsOn kind.Delete) (IsOn kind.Update) (read_on kind.Delete) (read_on kind.Update)
     (record { firsts = delete_reads; seconds = update_reads; apart = update_apart }) rest (no_on kind.Delete rest e) (no_on kind.Update rest e) a b front p
 
-actions_after : (k : Kind) → same kind.On k ≡ false → (a b : Option ReferentialAction) (front ws : List Word) → AreActions front (a, b) → after k ws ≡ None → after k (front ++ ws) ≡ None
+actions_after : (k : TokenKind) → same kind.On k ≡ false → (a b : Option ReferentialAction) (front ws : List Word) → AreActions front (a, b) → after k ws ≡ None → after k (front ++ ws) ≡ None
 actions_after k h a b front ws p e =
     either_after (IsOn kind.Delete) (IsOn kind.Update) k
     (λ x f rest q. ap (λ z. after k (z ++ rest)) q ∙ other_word k kind.On _ h) (λ x f rest q. ap (λ z. after k (z ++ rest)) q ∙ other_word k kind.On _ h) a b front ws p e
 
-match_after : (k : Kind) → same kind.Match k ≡ false → (m : Option MatchType) (front ws : List Word) → Maybe IsMatch front m → after k ws ≡ None → after k (front ++ ws) ≡ None
+match_after : (k : TokenKind) → same kind.Match k ≡ false → (m : Option MatchType) (front ws : List Word) → Maybe IsMatch front m → after k ws ≡ None → after k (front ++ ws) ≡ None
 match_after k h m front ws p e = maybe_after IsMatch k (λ x f rest q. ap (λ z. after k (z ++ rest)) q ∙ other_word k kind.Match _ h) m front ws p e
 
 -- the words cannot go on with REFERENCES
@@ -178,11 +178,11 @@ references_read r front rest (columns, matching, actions, p, q, s, w) e = (
       (actions_read r.on_delete r.on_update actions rest s e.actions),
 )
 
-deferrable_after : (k : Kind) → same kind.Deferrable k ≡ false → same kind.Not k ≡ false → (a : Bool) (f ws : List Word) → IsDeferrable f a → after k (f ++ ws) ≡ None
+deferrable_after : (k : TokenKind) → same kind.Deferrable k ≡ false → same kind.Not k ≡ false → (a : Bool) (f ws : List Word) → IsDeferrable f a → after k (f ++ ws) ≡ None
 deferrable_after k h i true f ws p = ap (λ z. after k (z ++ ws)) p ∙ other_word k kind.Deferrable _ h
 deferrable_after k h i false f ws p = ap (λ z. after k (z ++ ws)) p ∙ other_word k kind.Not _ i
 
-time_after : (k : Kind) → same kind.Deferrable k ≡ false → same kind.Not k ≡ false → same kind.Initially k ≡ false
+time_after : (k : TokenKind) → same kind.Deferrable k ≡ false → same kind.Not k ≡ false → same kind.Initially k ≡ false
     → (t : ConstraintTime) (front ws : List Word) → IsTime front t → after k ws ≡ None → after k (front ++ ws) ≡ None
 time_after k h i j t front ws p e =
     either_after IsDeferrable IsInitially k (deferrable_after k h i) (λ x f rest q. ap (λ z. after k (z ++ rest)) q ∙ other_word k kind.Initially _ j) t.deferrable t.initially front ws p e

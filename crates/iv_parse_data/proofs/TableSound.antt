@@ -1,7 +1,7 @@
 -- What is read of the parts of CREATE TABLE and ALTER TABLE is in the grammar.
 use Rattle.std.proofs.Common.{◌≡◌, inl, inr, ℕ, true, false, Option, Some, None, List, [], ◌∷◌, ◌++◌, length, refl, sym, ◌∙◌, ap, subst, append-nil}
-use Rattle.iv_lex.specs.declared.kind.Kind.{Kind}
-use Rattle.iv_lex.specs.declared.kind.Kind.TheVariants as kind
+use Rattle.iv_lex.specs.declared.kind.TokenKind.{TokenKind}
+use Rattle.iv_lex.specs.declared.kind.TokenKind.TheVariants as kind
 use Rattle.iv_lex.specs.Words.{Word, name, plain}
 use Rattle.iv_parse_data.specs.Words.{ConstraintMode, MatchType, ReferentialAction, ColumnRule}
 use Rattle.iv_parse_data.specs.Words.mode.{Immediate, Deferred}
@@ -135,7 +135,7 @@ action_good ws =
     (λ rest. after_good _ kind.Action rest _ None (λ more. done_good _ more NoAction refl) (nothing_good _ rest))
     (after_good IsAction kind.Restrict ws _ None (λ rest. done_good _ rest Restrict refl) (nothing_good IsAction ws))))
 
-on_good : (event : Kind) (ws : List Word) → Good (Maybe (IsOn event)) ws (read_on event ws)
+on_good : (event : TokenKind) (ws : List Word) → Good (Maybe (IsOn event)) ws (read_on event ws)
 unfolding read_on
 on_good event ws =
     ahead_good (Maybe (IsOn event)) kind.On event ws _ (Some (None, ws))

@@ -1,6 +1,6 @@
 -- Data statements: which words are INSERT, UPDATE, DELETE and SELECT.
 use Rattle.std.specs.Prelude.{◌≡◌, ◌≤◌, ℕ, Option, Some, None, List, [], ◌∷◌, ◌++◌}
-use Rattle.iv_lex.specs.declared.kind.Kind.TheVariants as kind
+use Rattle.iv_lex.specs.declared.kind.TokenKind.TheVariants as kind
 use Rattle.iv_lex.specs.Words.{Word, name, plain}
 use Rattle.iv_parse_data.specs.Words.{Expression, ValueOrDefault, InsertSource, Insert, Condition, RangeName, SelectList, Assignment, Update, Delete, Select}
 use Rattle.iv_parse_data.specs.Words.given.{Value, Default}

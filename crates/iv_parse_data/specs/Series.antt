@@ -1,7 +1,7 @@
 -- Parts of a rule that come several times, with commas between them or without, or may be left out.
 use Rattle.std.specs.Prelude.{◌≡◌, ◌⊎◌, Option, Some, None, List, [], ◌∷◌, ◌++◌}
-use Rattle.iv_lex.specs.declared.kind.Kind.{Kind}
-use Rattle.iv_lex.specs.declared.kind.Kind.TheVariants as kind
+use Rattle.iv_lex.specs.declared.kind.TokenKind.{TokenKind}
+use Rattle.iv_lex.specs.declared.kind.TokenKind.TheVariants as kind
 use Rattle.iv_lex.specs.Words.{Word, plain}
 
 module _ {A : Type 0} where
@@ -37,5 +37,5 @@ InEitherOrder First Second ws p =
     (first : List Word) × (second : List Word) × First first p.0 × Second second p.1 × ((ws ≡ first ++ second) ⊎ (ws ≡ second ++ first))
 
 -- a word that may be left out
-abbrev pub Optional : Kind → List Word → Type 0
+abbrev pub Optional : TokenKind → List Word → Type 0
 Optional k ws = (ws ≡ []) ⊎ (ws ≡ plain k ∷ [])

@@ -1,7 +1,7 @@
 -- Tables: which words are the parts of CREATE TABLE and ALTER TABLE.
 use Rattle.std.specs.Prelude.{◌≡◌, ◌⊎◌, ℕ, Bool, true, false, Option, Some, None, List, [], ◌∷◌, ◌++◌}
-use Rattle.iv_lex.specs.declared.kind.Kind.{Kind}
-use Rattle.iv_lex.specs.declared.kind.Kind.TheVariants as kind
+use Rattle.iv_lex.specs.declared.kind.TokenKind.{TokenKind}
+use Rattle.iv_lex.specs.declared.kind.TokenKind.TheVariants as kind
 use Rattle.iv_lex.specs.Words.{Word, name, number, quoted, plain}
 use Rattle.iv_parse_data.specs.Words.{ConstraintMode, Literal, ColumnType, ConstraintTime, MatchType, ReferentialAction, References, ColumnRule, ColumnConstraint, TableRule, TableConstraint, ColumnDefinition, TableElement}
 use Rattle.iv_parse_data.specs.Words.mode.{Immediate, Deferred}
@@ -16,7 +16,7 @@ use Rattle.iv_parse_terms.specs.Expressions.{sign_kind}
 use Rattle.iv_parse_data.specs.Series.{Series, Sequence, Maybe, InParentheses, InEitherOrder}
 use Rattle.iv_parse_data.specs.Data.{Names, IsColumnList, IsShallowCondition}
 
-abbrev pub mode_kind : ConstraintMode → Kind
+abbrev pub mode_kind : ConstraintMode → TokenKind
 mode_kind Immediate = kind.Immediate
 mode_kind Deferred = kind.Deferred
 
@@ -59,7 +59,7 @@ IsInitially ws m = ws ≡ plain kind.Initially ∷ plain (mode_kind m) ∷ []
 abbrev pub IsTime : List Word → ConstraintTime → Type 0
 IsTime ws t = InEitherOrder (Maybe IsDeferrable) (Maybe IsInitially) ws (t.deferrable, t.initially)
 
-abbrev pub match_kind : MatchType → Kind
+abbrev pub match_kind : MatchType → TokenKind
 match_kind Simple = kind.Simple
 match_kind Full = kind.Full
 
@@ -76,7 +76,7 @@ action_words SetNull = plain kind.Set ∷ plain kind.Null ∷ []
 action_words SetDefault = plain kind.Set ∷ plain kind.Default ∷ []
 
 -- ON and DELETE or UPDATE, and an action
-abbrev pub IsOn : Kind → List Word → ReferentialAction → Type 0
+abbrev pub IsOn : TokenKind → List Word → ReferentialAction → Type 0
 IsOn event ws a = ws ≡ plain kind.On ∷ plain event ∷ action_words a
 
 -- ON DELETE and ON UPDATE, or one of them or neither, in either order

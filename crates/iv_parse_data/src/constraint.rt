@@ -11,7 +11,7 @@ use crate::parts::ParseSome;
 use crate::repeated::enclosed_series;
 use crate::selecting::enclosed_condition;
 use crate::time::{constraint_name, time};
-use iv_lex::{Kind, Token};
+use iv_lex::{Token, TokenKind};
 use iv_parse_terms::{after, name};
 use iv_syntax::{
     ColumnConstraint, ColumnRule, Condition, MatchType, Name, References, ReferentialAction,
@@ -24,10 +24,10 @@ use std::alloc::{AllocError, Global};
 fn match_type(tokens: &[Token]) -> Option<(MatchType, &[Token])>
     ensures { (text : List ℕ) → with_words text result ≡ read_match_type (words text tokens.now) }
 {
-    if let Some(rest) = after(Kind::Simple, tokens) {
+    if let Some(rest) = after(TokenKind::Simple, tokens) {
         return Some((MatchType::Simple, rest));
     }
-    match after(Kind::Full, tokens) {
+    match after(TokenKind::Full, tokens) {
         Some(rest) => Some((MatchType::Full, rest)),
         None => None,
     }
@@ -38,7 +38,7 @@ fn match_type(tokens: &[Token]) -> Option<(MatchType, &[Token])>
 fn matching(tokens: &[Token]) -> Option<(Option<MatchType>, &[Token])>
     ensures { (text : List ℕ) → with_words text result ≡ read_match (words text tokens.now) }
 {
-    let Some(rest) = after(Kind::Match, tokens) else {
+    let Some(rest) = after(TokenKind::Match, tokens) else {
         return Some((None, tokens));
     };
     let (found, rest) = match_type(rest)?;
@@ -48,10 +48,10 @@ fn matching(tokens: &[Token]) -> Option<(Option<MatchType>, &[Token])>
 fn set_action(tokens: &[Token]) -> Option<(ReferentialAction, &[Token])>
     ensures { (text : List ℕ) → with_words text result ≡ read_set_action (words text tokens.now) }
 {
-    if let Some(rest) = after(Kind::Null, tokens) {
+    if let Some(rest) = after(TokenKind::Null, tokens) {
         return Some((ReferentialAction::SetNull, rest));
     }
-    match after(Kind::Default, tokens) {
+    match after(TokenKind::Default, tokens) {
         Some(rest) => Some((ReferentialAction::SetDefault, rest)),
         None => None,
     }
@@ -62,13 +62,13 @@ fn strict_action(tokens: &[Token]) -> Option<(ReferentialAction, &[Token])>
     ensures { (text : List ℕ)
         → with_words text result ≡ read_strict_action (words text tokens.now) }
 {
-    if let Some(rest) = after(Kind::No, tokens) {
-        return match after(Kind::Action, rest) {
+    if let Some(rest) = after(TokenKind::No, tokens) {
+        return match after(TokenKind::Action, rest) {
             Some(rest) => Some((ReferentialAction::NoAction, rest)),
             None => None,
         };
     }
-    match after(Kind::Restrict, tokens) {
+    match after(TokenKind::Restrict, tokens) {
         Some(rest) => Some((ReferentialAction::Restrict, rest)),
         None => None,
     }
@@ -79,10 +79,10 @@ fn action(tokens: &[Token]) -> Option<(ReferentialAction, &[Token])>
     ensures { (text : List ℕ)
         → with_words text result ≡ read_referential_action (words text tokens.now) }
 {
-    if let Some(rest) = after(Kind::Cascade, tokens) {
+    if let Some(rest) = after(TokenKind::Cascade, tokens) {
         return Some((ReferentialAction::Cascade, rest));
     }
-    if let Some(rest) = after(Kind::Set, tokens) {
+    if let Some(rest) = after(TokenKind::Set, tokens) {
         return set_action(rest);
     }
     strict_action(tokens)
@@ -90,11 +90,11 @@ fn action(tokens: &[Token]) -> Option<(ReferentialAction, &[Token])>
 
 // ON, the event and an action, where they are given.
 #[tactic(auto, unfolding(crate::specs::readers::Tables::read_on))]
-fn on(event: Kind, tokens: &[Token]) -> Option<(Option<ReferentialAction>, &[Token])>
+fn on(event: TokenKind, tokens: &[Token]) -> Option<(Option<ReferentialAction>, &[Token])>
     requires { is_plain event ≡ true }
     ensures { (text : List ℕ) → with_words text result ≡ read_on event (words text tokens.now) }
 {
-    let Some(rest) = after(Kind::On, tokens) else {
+    let Some(rest) = after(TokenKind::On, tokens) else {
         return Some((None, tokens));
     };
     let Some(rest) = after(event, rest) else {
@@ -115,12 +115,12 @@ fn actions(
 >
     ensures { (text : List ℕ) → with_words text result ≡ read_actions (words text tokens.now) }
 {
-    let (before, rest) = on(Kind::Delete, tokens)?;
-    let (update, rest) = on(Kind::Update, rest)?;
+    let (before, rest) = on(TokenKind::Delete, tokens)?;
+    let (update, rest) = on(TokenKind::Update, rest)?;
     match before {
         Some(delete) => Some(((Some(delete), update), rest)),
         None => {
-            let (delete, rest) = on(Kind::Delete, rest)?;
+            let (delete, rest) = on(TokenKind::Delete, rest)?;
             Some(((delete, update), rest))
         }
     }
@@ -177,7 +177,7 @@ fn references<'a>(
 fn null_rule(tokens: &[Token]) -> Option<(Option<ColumnRule>, &[Token])>
     ensures { (text : List ℕ) → with_words text result ≡ read_null_rule (words text tokens.now) }
 {
-    let rest = after(Kind::Null, tokens)?;
+    let rest = after(TokenKind::Null, tokens)?;
     Some((Some(ColumnRule::NotNull), rest))
 }
 
@@ -185,10 +185,10 @@ fn null_rule(tokens: &[Token]) -> Option<(Option<ColumnRule>, &[Token])>
 fn primary_rule(tokens: &[Token]) -> Option<(Option<ColumnRule>, &[Token])>
     ensures { (text : List ℕ) → with_words text result ≡ read_primary_rule (words text tokens.now) }
 {
-    let Some(rest) = after(Kind::Primary, tokens) else {
+    let Some(rest) = after(TokenKind::Primary, tokens) else {
         return Some((None, tokens));
     };
-    let rest = after(Kind::Key, rest)?;
+    let rest = after(TokenKind::Key, rest)?;
     Some((Some(ColumnRule::PrimaryKey), rest))
 }
 
@@ -197,10 +197,10 @@ fn primary_rule(tokens: &[Token]) -> Option<(Option<ColumnRule>, &[Token])>
 fn plain_rule(tokens: &[Token]) -> Option<(Option<ColumnRule>, &[Token])>
     ensures { (text : List ℕ) → with_words text result ≡ read_plain_rule (words text tokens.now) }
 {
-    if let Some(rest) = after(Kind::Not, tokens) {
+    if let Some(rest) = after(TokenKind::Not, tokens) {
         return null_rule(rest);
     }
-    if let Some(rest) = after(Kind::Unique, tokens) {
+    if let Some(rest) = after(TokenKind::Unique, tokens) {
         return Some((Some(ColumnRule::Unique), rest));
     }
     primary_rule(tokens)
@@ -216,7 +216,7 @@ fn condition_rule<'a>(
     ensures { IfOk result (λ r. with_words text.now r
         ≡ read_condition_rule (words text.now tokens.now)) }
 {
-    let Some(rest) = after(Kind::Check, tokens) else {
+    let Some(rest) = after(TokenKind::Check, tokens) else {
         return Ok(plain_rule(tokens));
     };
     match enclosed_condition(alloc, text, rest)? {
@@ -235,7 +235,7 @@ fn column_rule<'a>(
     ensures { IfOk result (λ r. with_words text.now r
         ≡ read_column_rule (words text.now tokens.now)) }
 {
-    let Some(rest) = after(Kind::References, tokens) else {
+    let Some(rest) = after(TokenKind::References, tokens) else {
         return condition_rule(alloc, text, tokens);
     };
     match references(alloc, text, rest)? {
@@ -305,7 +305,7 @@ fn primary_key<'a>(
     ensures { IfOk result (λ r. with_words text.now r
         ≡ read_primary_key (words text.now tokens.now)) }
 {
-    let Some(rest) = after(Kind::Key, tokens) else {
+    let Some(rest) = after(TokenKind::Key, tokens) else {
         return Ok(None);
     };
     match key(alloc, text, rest)? {
@@ -323,13 +323,13 @@ fn foreign_key<'a>(
     ensures { IfOk result (λ r. with_words text.now r
         ≡ read_foreign_key (words text.now tokens.now)) }
 {
-    let Some(rest) = after(Kind::Key, tokens) else {
+    let Some(rest) = after(TokenKind::Key, tokens) else {
         return Ok(None);
     };
     let Some((names, rest)) = key(alloc, text, rest)? else {
         return Ok(None);
     };
-    let Some(rest) = after(Kind::References, rest) else {
+    let Some(rest) = after(TokenKind::References, rest) else {
         return Ok(None);
     };
     match references(alloc, text, rest)? {
@@ -347,7 +347,7 @@ fn check_rule<'a>(
     ensures { IfOk result (λ r. with_words text.now r
         ≡ read_check_rule (words text.now tokens.now)) }
 {
-    let Some(rest) = after(Kind::Check, tokens) else {
+    let Some(rest) = after(TokenKind::Check, tokens) else {
         return Ok(None);
     };
     match enclosed_condition(alloc, text, rest)? {
@@ -365,7 +365,7 @@ fn unique_rule<'a>(
     ensures { IfOk result (λ r. with_words text.now r
         ≡ read_unique_rule (words text.now tokens.now)) }
 {
-    let Some(rest) = after(Kind::Unique, tokens) else {
+    let Some(rest) = after(TokenKind::Unique, tokens) else {
         return check_rule(alloc, text, tokens);
     };
     match key(alloc, text, rest)? {
@@ -383,10 +383,10 @@ fn table_rule<'a>(
     ensures { IfOk result (λ r. with_words text.now r
         ≡ read_table_rule (words text.now tokens.now)) }
 {
-    if let Some(rest) = after(Kind::Primary, tokens) {
+    if let Some(rest) = after(TokenKind::Primary, tokens) {
         return primary_key(alloc, text, rest);
     }
-    if let Some(rest) = after(Kind::Foreign, tokens) {
+    if let Some(rest) = after(TokenKind::Foreign, tokens) {
         return foreign_key(alloc, text, rest);
     }
     unique_rule(alloc, text, tokens)

@@ -7,7 +7,7 @@ ghost use Rattle.iv_parse_data.specs.readers.Data.{read_shallow, read_value, rea
 use crate::parts::Parse;
 use crate::repeated::{closed_series, enclosed_series, series};
 use crate::selecting::{from, select_list};
-use iv_lex::{Kind, Token};
+use iv_lex::{Token, TokenKind};
 use iv_parse_terms::{after, name, read_expression};
 use iv_syntax::{Expression, Insert, InsertSource, Name, ValueOrDefault};
 use sqlite_items::Items;
@@ -35,7 +35,7 @@ impl Parse for ValueOrDefault {
         text: &str,
         tokens: &'a [Token],
     ) -> Result<Option<(ValueOrDefault, &'a [Token])>, AllocError> {
-        if let Some(rest) = after(Kind::Default, tokens) {
+        if let Some(rest) = after(TokenKind::Default, tokens) {
             return Ok(Some((ValueOrDefault::Default, rest)));
         }
         match Expression::parse(alloc, text, tokens)? {
@@ -68,7 +68,7 @@ pub fn column_list<'a>(
     ensures { IfOk result (λ r. with_words text.now r
         ≡ read_column_list (words text.now tokens.now)) }
 {
-    let Some(rest) = after(Kind::LeftParenthesis, tokens) else {
+    let Some(rest) = after(TokenKind::LeftParenthesis, tokens) else {
         return Ok(Some((None, tokens)));
     };
     match closed_series::<Name>(alloc, text, rest)? {
@@ -106,8 +106,8 @@ fn source<'a>(
 ) -> Result<Option<(InsertSource, &'a [Token])>, AllocError>
     ensures { IfOk result (λ r. with_words text.now r ≡ read_source (words text.now tokens.now)) }
 {
-    let Some(rest) = after(Kind::Values, tokens) else {
-        return match after(Kind::Select, tokens) {
+    let Some(rest) = after(TokenKind::Values, tokens) else {
+        return match after(TokenKind::Select, tokens) {
             Some(rest) => select_source(alloc, text, rest),
             None => Ok(None),
         };
@@ -154,10 +154,10 @@ fn insert_into<'a>(
     ensures { IfOk result (λ r. with_words text.now r
         ≡ read_insert_into table (words text.now tokens.now)) }
 {
-    let Some(rest) = after(Kind::Default, tokens) else {
+    let Some(rest) = after(TokenKind::Default, tokens) else {
         return insert_rows(alloc, text, table, tokens);
     };
-    match after(Kind::Values, rest) {
+    match after(TokenKind::Values, rest) {
         Some(rest) => Ok(Some((Insert::DefaultValues(table), rest))),
         None => Ok(None),
     }
@@ -172,7 +172,7 @@ pub fn insert<'a>(
 ) -> Result<Option<(Insert, &'a [Token])>, AllocError>
     ensures { IfOk result (λ r. with_words text.now r ≡ read_insert (words text.now tokens.now)) }
 {
-    let Some(rest) = after(Kind::Into, tokens) else {
+    let Some(rest) = after(TokenKind::Into, tokens) else {
         return Ok(None);
     };
     match name(alloc, text, rest)? {

@@ -7,7 +7,7 @@ ghost use Rattle.iv_parse_data.specs.readers.Items.{read_transition, read_refere
 use crate::parts::ParseSome;
 use crate::repeated::skip;
 use iv_expr::Side;
-use iv_lex::{Kind, Token};
+use iv_lex::{Token, TokenKind};
 use iv_parse_terms::{after, name};
 use iv_syntax::{Referencing, TransitionName};
 use std::alloc::{AllocError, Global};
@@ -18,9 +18,9 @@ fn transition(tokens: &[Token]) -> (TransitionName, &[Token])
     ensures { (text : List ℕ)
         → with_words text (Some result) ≡ read_transition (words text tokens.now) }
 {
-    match after(Kind::Table, tokens) {
+    match after(TokenKind::Table, tokens) {
         Some(rest) => (TransitionName::Table, rest),
-        None => (TransitionName::Row, skip(Kind::Row, tokens)),
+        None => (TransitionName::Row, skip(TokenKind::Row, tokens)),
     }
 }
 
@@ -36,7 +36,7 @@ fn item_of<'a>(
         ≡ read_referencing_item_of side (words text.now tokens.now)) }
 {
     let (what, rest) = transition(tokens);
-    match name(alloc, text, skip(Kind::As, rest))? {
+    match name(alloc, text, skip(TokenKind::As, rest))? {
         Some((name, rest)) => Ok(Some((Some(Referencing { side, what, name }), rest))),
         None => Ok(None),
     }
@@ -51,10 +51,10 @@ impl ParseSome for Referencing {
         text: &str,
         tokens: &'a [Token],
     ) -> Result<Option<(Option<Referencing>, &'a [Token])>, AllocError> {
-        if let Some(rest) = after(Kind::Old, tokens) {
+        if let Some(rest) = after(TokenKind::Old, tokens) {
             return item_of(alloc, text, Side::Old, rest);
         }
-        match after(Kind::New, tokens) {
+        match after(TokenKind::New, tokens) {
             Some(rest) => item_of(alloc, text, Side::New, rest),
             None => Ok(Some((None, tokens))),
         }

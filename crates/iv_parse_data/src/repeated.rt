@@ -6,7 +6,7 @@ ghost use Rattle.iv_parse_terms.specs.Seen.{with_words};
 ghost use Rattle.iv_parse_data.specs.readers.Series.{read_series, read_closed, read_enclosed, read_sequence, skip};
 
 use crate::parts::{Parse, ParseSome};
-use iv_lex::{Kind, Token};
+use iv_lex::{Token, TokenKind};
 use iv_parse_terms::after;
 use sqlite_items::Items;
 use std::alloc::{AllocError, Global};
@@ -27,7 +27,7 @@ pub fn series<'a, T: Parse + Drop>(
     items.push(first)?;
     let mut rest = rest;
     let mut most = rest.len();
-    while let Some(others) = after(Kind::Comma, rest) {
+    while let Some(others) = after(TokenKind::Comma, rest) {
         if most == 0 {
             return Ok(None);
         }
@@ -53,7 +53,7 @@ pub fn closed_series<'a, T: Parse + Drop>(
     let Some((items, rest)) = series::<T>(alloc, text, tokens)? else {
         return Ok(None);
     };
-    match after(Kind::RightParenthesis, rest) {
+    match after(TokenKind::RightParenthesis, rest) {
         Some(rest) => Ok(Some((items, rest))),
         None => Ok(None),
     }
@@ -68,7 +68,7 @@ pub fn enclosed_series<'a, T: Parse + Drop>(
     ensures { IfOk result (λ r. with_words text.now r
         ≡ read_enclosed (read_series T.found) (words text.now tokens.now)) }
 {
-    match after(Kind::LeftParenthesis, tokens) {
+    match after(TokenKind::LeftParenthesis, tokens) {
         Some(rest) => closed_series::<T>(alloc, text, rest),
         None => Ok(None),
     }
@@ -104,7 +104,7 @@ pub fn sequence<'a, T: ParseSome + Drop>(
 }
 
 /// The tokens after a word that may be left out.
-pub fn skip(kind: Kind, tokens: &[Token]) -> &[Token]
+pub fn skip(kind: TokenKind, tokens: &[Token]) -> &[Token]
     requires { is_plain kind ≡ true }
     ensures { (text : List ℕ) → words text result.now ≡ skip kind (words text tokens.now) }
 {

@@ -6,7 +6,7 @@ ghost use Rattle.iv_parse_data.specs.readers.Data.{read_shallow_condition, read_
 
 use crate::parts::Parse;
 use crate::repeated::series;
-use iv_lex::{Kind, Token};
+use iv_lex::{Token, TokenKind};
 use iv_parse_terms::{after, name, read_condition, read_from};
 use iv_syntax::{
     Assignment, Condition, Delete, Expression, Name, RangeName, Select, SelectList, Update,
@@ -48,13 +48,13 @@ pub fn enclosed_condition<'a>(
 ) -> Result<Option<(Condition, &'a [Token])>, AllocError>
     ensures { IfOk result (λ r. with_words text.now r ≡ read_check (words text.now tokens.now)) }
 {
-    let Some(rest) = after(Kind::LeftParenthesis, tokens) else {
+    let Some(rest) = after(TokenKind::LeftParenthesis, tokens) else {
         return Ok(None);
     };
     let Some((condition, rest)) = condition(alloc, text, rest)? else {
         return Ok(None);
     };
-    match after(Kind::RightParenthesis, rest) {
+    match after(TokenKind::RightParenthesis, rest) {
         Some(rest) => Ok(Some((condition, rest))),
         None => {
             drop(condition);
@@ -73,7 +73,7 @@ pub fn select_list<'a>(
     ensures { IfOk result (λ r. with_words text.now r
         ≡ read_select_list (words text.now tokens.now)) }
 {
-    if let Some(rest) = after(Kind::Asterisk, tokens) {
+    if let Some(rest) = after(TokenKind::Asterisk, tokens) {
         return Ok(Some((SelectList::Star, rest)));
     }
     match series::<Expression>(alloc, text, tokens)? {
@@ -94,7 +94,7 @@ impl Parse for Assignment {
         let Some((column, rest)) = name(alloc, text, tokens)? else {
             return Ok(None);
         };
-        let Some(rest) = after(Kind::Equals, rest) else {
+        let Some(rest) = after(TokenKind::Equals, rest) else {
             return Ok(None);
         };
         match ValueOrDefault::parse(alloc, text, rest)? {
@@ -113,7 +113,7 @@ fn filter<'a>(
 ) -> Result<Option<(Option<Condition>, &'a [Token])>, AllocError>
     ensures { IfOk result (λ r. with_words text.now r ≡ read_where (words text.now tokens.now)) }
 {
-    let Some(rest) = after(Kind::Where, tokens) else {
+    let Some(rest) = after(TokenKind::Where, tokens) else {
         return Ok(Some((None, tokens)));
     };
     match condition(alloc, text, rest)? {
@@ -159,7 +159,7 @@ pub fn update<'a>(
     let Some((table, rest)) = name(alloc, text, tokens)? else {
         return Ok(None);
     };
-    match after(Kind::Set, rest) {
+    match after(TokenKind::Set, rest) {
         Some(rest) => assignments(alloc, text, table, rest),
         None => Ok(None),
     }
@@ -174,7 +174,7 @@ pub fn delete<'a>(
 ) -> Result<Option<(Delete, &'a [Token])>, AllocError>
     ensures { IfOk result (λ r. with_words text.now r ≡ read_delete (words text.now tokens.now)) }
 {
-    let Some(rest) = after(Kind::From, tokens) else {
+    let Some(rest) = after(TokenKind::From, tokens) else {
         return Ok(None);
     };
     let Some((table, rest)) = name(alloc, text, rest)? else {
@@ -195,13 +195,13 @@ fn count<'a>(
 ) -> Result<Option<(Select, &'a [Token])>, AllocError>
     ensures { IfOk result (λ r. with_words text.now r ≡ read_count (words text.now tokens.now)) }
 {
-    let Some(rest) = after(Kind::LeftParenthesis, tokens) else {
+    let Some(rest) = after(TokenKind::LeftParenthesis, tokens) else {
         return Ok(None);
     };
-    let Some(rest) = after(Kind::Asterisk, rest) else {
+    let Some(rest) = after(TokenKind::Asterisk, rest) else {
         return Ok(None);
     };
-    let Some(rest) = after(Kind::RightParenthesis, rest) else {
+    let Some(rest) = after(TokenKind::RightParenthesis, rest) else {
         return Ok(None);
     };
     match from(alloc, text, rest)? {
@@ -236,7 +236,7 @@ pub fn select<'a>(
 ) -> Result<Option<(Select, &'a [Token])>, AllocError>
     ensures { IfOk result (λ r. with_words text.now r ≡ read_select (words text.now tokens.now)) }
 {
-    match after(Kind::Count, tokens) {
+    match after(TokenKind::Count, tokens) {
         Some(rest) => count(alloc, text, rest),
         None => query(alloc, text, tokens),
     }

@@ -8,7 +8,7 @@ use crate::constraint::table_constraint;
 use crate::parts::Parse;
 use crate::repeated::{enclosed_series, sequence};
 use crate::time::{column_type, default};
-use iv_lex::{Kind, Token};
+use iv_lex::{Token, TokenKind};
 use iv_parse_terms::{after, name};
 use iv_syntax::{ColumnConstraint, ColumnDefinition, Name, Statement, TableElement};
 use sqlite_items::Items;
@@ -129,13 +129,13 @@ pub fn alter_table<'a>(
 ) -> Result<Option<(Statement, &'a [Token])>, AllocError>
     ensures { IfOk result (λ r. with_words text.now r ≡ read_alter (words text.now tokens.now)) }
 {
-    let Some(rest) = after(Kind::Table, tokens) else {
+    let Some(rest) = after(TokenKind::Table, tokens) else {
         return Ok(None);
     };
     let Some((table, rest)) = name(alloc, text, rest)? else {
         return Ok(None);
     };
-    let Some(rest) = after(Kind::Add, rest) else {
+    let Some(rest) = after(TokenKind::Add, rest) else {
         return Ok(None);
     };
     match table_constraint(alloc, text, rest)? {

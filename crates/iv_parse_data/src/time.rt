@@ -5,7 +5,7 @@ ghost use Rattle.iv_parse_terms.specs.Seen.{with_words};
 ghost use Rattle.iv_parse_data.specs.readers.Series.{read_either_order};
 ghost use Rattle.iv_parse_data.specs.readers.Tables.{read_number, read_quoted, read_length, read_varying, read_varchar, read_type, text_or_null, read_literal, read_default, read_constraint_name, read_deferrable, read_mode, read_initially, read_time};
 
-use iv_lex::{Kind, Token, unquoted_text};
+use iv_lex::{Token, TokenKind, unquoted_text};
 use iv_parse_terms::{after, name, sign};
 use iv_syntax::{ColumnType, ConstraintMode, ConstraintTime, Literal, Name};
 use iv_value::Text;
@@ -18,7 +18,7 @@ fn number(tokens: &[Token]) -> Option<(u64, &[Token])>
         return None;
     };
     match first.kind {
-        Kind::Number(value) => Some((value, rest)),
+        TokenKind::Number(value) => Some((value, rest)),
         _ => None,
     }
 }
@@ -35,7 +35,7 @@ pub fn quoted<'a>(
         return Ok(None);
     };
     match first.kind {
-        Kind::Quoted => match unquoted_text(alloc, text, *first)? {
+        TokenKind::Quoted => match unquoted_text(alloc, text, *first)? {
             Some(quoted) => Ok(Some((quoted, rest))),
             None => Ok(None),
         },
@@ -48,16 +48,16 @@ pub fn quoted<'a>(
 fn length(tokens: &[Token]) -> Option<(ColumnType, &[Token])>
     ensures { (text : List ℕ) → with_words text result ≡ read_length (words text tokens.now) }
 {
-    let rest = after(Kind::LeftParenthesis, tokens)?;
+    let rest = after(TokenKind::LeftParenthesis, tokens)?;
     let (value, rest) = number(rest)?;
-    let rest = after(Kind::RightParenthesis, rest)?;
+    let rest = after(TokenKind::RightParenthesis, rest)?;
     Some((ColumnType::Varchar(value), rest))
 }
 
 fn varying(tokens: &[Token]) -> Option<(ColumnType, &[Token])>
     ensures { (text : List ℕ) → with_words text result ≡ read_varying (words text tokens.now) }
 {
-    let rest = after(Kind::Varying, tokens)?;
+    let rest = after(TokenKind::Varying, tokens)?;
     length(rest)
 }
 
@@ -65,13 +65,13 @@ fn varying(tokens: &[Token]) -> Option<(ColumnType, &[Token])>
 fn varchar(tokens: &[Token]) -> Option<(ColumnType, &[Token])>
     ensures { (text : List ℕ) → with_words text result ≡ read_varchar (words text tokens.now) }
 {
-    if let Some(rest) = after(Kind::Varchar, tokens) {
+    if let Some(rest) = after(TokenKind::Varchar, tokens) {
         return length(rest);
     }
-    if let Some(rest) = after(Kind::Character, tokens) {
+    if let Some(rest) = after(TokenKind::Character, tokens) {
         return varying(rest);
     }
-    match after(Kind::Char, tokens) {
+    match after(TokenKind::Char, tokens) {
         Some(rest) => varying(rest),
         None => None,
     }
@@ -82,10 +82,10 @@ fn varchar(tokens: &[Token]) -> Option<(ColumnType, &[Token])>
 pub fn column_type(tokens: &[Token]) -> Option<(ColumnType, &[Token])>
     ensures { (text : List ℕ) → with_words text result ≡ read_type (words text tokens.now) }
 {
-    if let Some(rest) = after(Kind::Integer, tokens) {
+    if let Some(rest) = after(TokenKind::Integer, tokens) {
         return Some((ColumnType::Integer, rest));
     }
-    if let Some(rest) = after(Kind::Int, tokens) {
+    if let Some(rest) = after(TokenKind::Int, tokens) {
         return Some((ColumnType::Integer, rest));
     }
     varchar(tokens)
@@ -101,7 +101,7 @@ fn text_or_null<'a>(
     if let Some((value, rest)) = quoted(alloc, text, tokens)? {
         return Ok(Some((Literal::Text(value), rest)));
     }
-    match after(Kind::Null, tokens) {
+    match after(TokenKind::Null, tokens) {
         Some(rest) => Ok(Some((Literal::Null, rest))),
         None => Ok(None),
     }
@@ -136,7 +136,7 @@ pub fn default<'a>(
 ) -> Result<Option<(Option<Literal>, &'a [Token])>, AllocError>
     ensures { IfOk result (λ r. with_words text.now r ≡ read_default (words text.now tokens.now)) }
 {
-    let Some(rest) = after(Kind::Default, tokens) else {
+    let Some(rest) = after(TokenKind::Default, tokens) else {
         return Ok(Some((None, tokens)));
     };
     match literal(alloc, text, rest)? {
@@ -155,7 +155,7 @@ pub fn constraint_name<'a>(
     ensures { IfOk result (λ r. with_words text.now r
         ≡ read_constraint_name (words text.now tokens.now)) }
 {
-    let Some(rest) = after(Kind::Constraint, tokens) else {
+    let Some(rest) = after(TokenKind::Constraint, tokens) else {
         return Ok(Some((None, tokens)));
     };
     match name(alloc, text, rest)? {
@@ -169,13 +169,13 @@ pub fn constraint_name<'a>(
 fn deferrable(tokens: &[Token]) -> Option<(Option<bool>, &[Token])>
     ensures { (text : List ℕ) → with_words text result ≡ read_deferrable (words text tokens.now) }
 {
-    if let Some(rest) = after(Kind::Deferrable, tokens) {
+    if let Some(rest) = after(TokenKind::Deferrable, tokens) {
         return Some((Some(true), rest));
     }
-    let Some(rest) = after(Kind::Not, tokens) else {
+    let Some(rest) = after(TokenKind::Not, tokens) else {
         return Some((None, tokens));
     };
-    match after(Kind::Deferrable, rest) {
+    match after(TokenKind::Deferrable, rest) {
         Some(rest) => Some((Some(false), rest)),
         None => Some((None, tokens)),
     }
@@ -186,10 +186,10 @@ fn deferrable(tokens: &[Token]) -> Option<(Option<bool>, &[Token])>
 pub fn mode(tokens: &[Token]) -> Option<(ConstraintMode, &[Token])>
     ensures { (text : List ℕ) → with_words text result ≡ read_mode (words text tokens.now) }
 {
-    if let Some(rest) = after(Kind::Deferred, tokens) {
+    if let Some(rest) = after(TokenKind::Deferred, tokens) {
         return Some((ConstraintMode::Deferred, rest));
     }
-    match after(Kind::Immediate, tokens) {
+    match after(TokenKind::Immediate, tokens) {
         Some(rest) => Some((ConstraintMode::Immediate, rest)),
         None => None,
     }
@@ -200,7 +200,7 @@ pub fn mode(tokens: &[Token]) -> Option<(ConstraintMode, &[Token])>
 fn initially(tokens: &[Token]) -> Option<(Option<ConstraintMode>, &[Token])>
     ensures { (text : List ℕ) → with_words text result ≡ read_initially (words text tokens.now) }
 {
-    let Some(rest) = after(Kind::Initially, tokens) else {
+    let Some(rest) = after(TokenKind::Initially, tokens) else {
         return Some((None, tokens));
     };
     let (mode, rest) = mode(rest)?;

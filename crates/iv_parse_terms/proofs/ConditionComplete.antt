@@ -7,7 +7,7 @@ use Rattle.iv_parse_terms.specs.Words.comparison
 use Rattle.iv_parse_terms.specs.Words.sign
 use Rattle.iv_parse_terms.specs.Words.expression.{Number, Text, Null, Column}
 use Rattle.iv_parse_terms.specs.Words.condition.{Compare, IsNull, IsNotNull, Exists}
-use Rattle.iv_lex.specs.declared.kind.Kind.TheVariants as kind
+use Rattle.iv_lex.specs.declared.kind.TokenKind.TheVariants as kind
 use Rattle.iv_lex.specs.Words.{Word, name, plain}
 use Rattle.iv_syntax.specs.declared.tree.ColumnName.{ColumnName}
 use Rattle.iv_parse_terms.specs.declared.item.Item.TheVariants.{Value, Truth}

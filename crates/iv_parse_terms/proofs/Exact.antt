@@ -1,15 +1,15 @@
 use Rattle.std.specs.Prelude.{◌≡◌, true, false, refl}
 use Rattle.std.proofs.Common.{ap}
 use Rattle.std.proofs.lemmas.Bool.{eqb-true, false≢true}
-use Rattle.iv_lex.specs.declared.kind.Kind.{Kind}
-use Rattle.iv_lex.specs.declared.kind.Kind.TheVariants as kind
+use Rattle.iv_lex.specs.declared.kind.TokenKind.{TokenKind}
+use Rattle.iv_lex.specs.declared.kind.TokenKind.TheVariants as kind
 use Rattle.iv_parse_terms.specs.After.{same}
 
 -- nothing holds where two kinds that differ are the same
 refute : {A : Type 0} → false ≡ true → A
 refute h = absurd (false≢true h)
 
-pub exact : (j k : Kind) → same j k ≡ true → j ≡ k
+pub exact : (j k : TokenKind) → same j k ≡ true → j ≡ k
 exact kind.Name kind.Name h = refl
 exact (kind.Number a) (kind.Number b) h = ap kind.Number (eqb-true a b h)
 exact kind.Quoted kind.Quoted h = refl

@@ -3,8 +3,8 @@ use Rattle.std.specs.Prelude.{◌≡◌, ℕ, Bool, true, false, if◌then◌els
 use Rattle.std.proofs.Common.{◌∙◌, ap}
 use Rattle.std.proofs.lemmas.Bool.{false≢true}
 use Rattle.std.proofs.lemmas.Option.{none-some}
-use Rattle.iv_lex.specs.declared.kind.Kind.{Kind}
-use Rattle.iv_lex.specs.declared.kind.Kind.TheVariants as kind
+use Rattle.iv_lex.specs.declared.kind.TokenKind.{TokenKind}
+use Rattle.iv_lex.specs.declared.kind.TokenKind.TheVariants as kind
 use Rattle.iv_lex.specs.Words.{Word, name, number, quoted, plain}
 use Rattle.iv_parse_terms.specs.Words.{Sign}
 use Rattle.iv_parse_terms.specs.Words.sign
@@ -21,7 +21,7 @@ pub if_some_has : {A B : Type 0} (P : B → Type 0) (o : Option A) (f : A → B)
 if_some_has P None f x g h = h refl
 if_some_has P (Some a) f x g h = g a refl
 
-pub front_by : (k : Kind) (w : Word) (ws rest : List Word) (b : Bool) → is_word k w ≡ b → (if b then Some ws else None) ≡ Some rest → w ∷ ws ≡ plain k ∷ rest
+pub front_by : (k : TokenKind) (w : Word) (ws rest : List Word) (b : Bool) → is_word k w ≡ b → (if b then Some ws else None) ≡ Some rest → w ∷ ws ≡ plain k ∷ rest
 front_by k (name n) ws rest true e h = absurd (false≢true e)
 front_by k (number n) ws rest true e h = absurd (false≢true e)
 front_by k (quoted t) ws rest true e h = absurd (false≢true e)
@@ -29,7 +29,7 @@ front_by k (plain j) ws rest true e h = ap (λ i. plain i ∷ ws) (exact j k e) 
 front_by k w ws rest false e h = absurd (none-some rest h)
 
 -- the symbol is at the front
-pub after_is : (k : Kind) (ws rest : List Word) → after k ws ≡ Some rest → ws ≡ plain k ∷ rest
+pub after_is : (k : TokenKind) (ws rest : List Word) → after k ws ≡ Some rest → ws ≡ plain k ∷ rest
 after_is k [] rest h = absurd (none-some rest h)
 after_is k (w ∷ ws) rest h = front_by k w ws rest (is_word k w) refl h
 

@@ -2,8 +2,8 @@
 use Rattle.std.specs.Prelude.{◌≡◌, ℕ, ◌≤◌, zero, suc, nat_le, Bool, true, false, if◌then◌else◌, Option, Some, None, List, [], ◌∷◌, ◌++◌, refl}
 use Rattle.std.proofs.Common.{sym, ◌∙◌, ap, arith, append_assoc}
 use Rattle.std.proofs.lemmas.Bool.{leb-true}
-use Rattle.iv_lex.specs.declared.kind.Kind.{Kind}
-use Rattle.iv_lex.specs.declared.kind.Kind.TheVariants as kind
+use Rattle.iv_lex.specs.declared.kind.TokenKind.{TokenKind}
+use Rattle.iv_lex.specs.declared.kind.TokenKind.TheVariants as kind
 use Rattle.iv_lex.specs.Words.{Word, name, number, quoted, plain}
 use Rattle.iv_parse_terms.specs.Words.{Sign, Expression}
 use Rattle.iv_parse_terms.specs.Words.expression.{Null}
@@ -53,7 +53,7 @@ column_good d n ws =
     (λ rest e. qualified_good d n ws rest (after_is kind.Period ws rest e) (after_name rest) refl)
     (λ _. record { formed = tt; shallow = omega arith; front = refl })
 
-pub null_good : (d : ℕ) (k : Kind) (ws : List Word) (b : Bool) → same k kind.Null ≡ b → Good primary (suc d) (plain k ∷ ws) (if b then Some (Null, ws) else None)
+pub null_good : (d : ℕ) (k : TokenKind) (ws : List Word) (b : Bool) → same k kind.Null ≡ b → Good primary (suc d) (plain k ∷ ws) (if b then Some (Null, ws) else None)
 null_good d k ws true e = record { formed = tt; shallow = omega arith; front = ap (λ j. plain j ∷ ws) (exact k kind.Null e) }
 null_good d k ws false e = tt
 

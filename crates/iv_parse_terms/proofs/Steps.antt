@@ -1,7 +1,7 @@
 -- One step of each reader, as the code takes it.
 use Rattle.std.proofs.Common.{◌≡◌, ◌≢◌, ℕ, ◌-◌, List, Some, None, refl, sym, ap, arith}
 use Rattle.std.specs.Prelude.{zero, suc}
-use Rattle.iv_lex.specs.declared.kind.Kind.TheVariants as kind
+use Rattle.iv_lex.specs.declared.kind.TokenKind.TheVariants as kind
 use Rattle.iv_lex.specs.Words.{Word}
 use Rattle.iv_parse_terms.specs.Words.{Sign, Expression}
 use Rattle.iv_syntax.specs.Trees.{product, sum}

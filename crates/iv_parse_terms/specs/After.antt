@@ -1,30 +1,30 @@
 -- What is at the front of a list of words.
 use Rattle.std.specs.Prelude.{ℕ, Bool, true, false, if◌then◌else◌, Option, Some, None, List, [], ◌∷◌}
-use Rattle.iv_lex.specs.declared.kind.Kind.{Kind}
-use Rattle.iv_lex.specs.declared.kind.Kind.TheVariants as kind
+use Rattle.iv_lex.specs.declared.kind.TokenKind.{TokenKind}
+use Rattle.iv_lex.specs.declared.kind.TokenKind.TheVariants as kind
 use Rattle.iv_lex.specs.Words.{Word, name, number, quoted, plain}
-use Rattle.iv_lex.specs.contracts.kind.KindPartialEq.TheImpl.{ghosts as equality}
+use Rattle.iv_lex.specs.contracts.kind.TokenKindPartialEq.TheImpl.{ghosts as equality}
 
 -- two kinds are the same
-abbrev pub same : Kind → Kind → Bool
+abbrev pub same : TokenKind → TokenKind → Bool
 same = equality.eq
 
 -- the kind is a symbol or a reserved word
-abbrev pub is_plain : Kind → Bool
+abbrev pub is_plain : TokenKind → Bool
 is_plain kind.Name = false
 is_plain (kind.Number n) = false
 is_plain kind.Quoted = false
 is_plain _ = true
 
 -- the word is this symbol or reserved word
-abbrev pub is_word : Kind → Word → Bool
+abbrev pub is_word : TokenKind → Word → Bool
 is_word k (name n) = false
 is_word k (number n) = false
 is_word k (quoted t) = false
 is_word k (plain j) = same j k
 
 -- the words after this symbol or reserved word, where it is at the front
-abbrev pub after : Kind → List Word → Option (List Word)
+abbrev pub after : TokenKind → List Word → Option (List Word)
 after k [] = None
 after k (w ∷ ws) = if is_word k w then Some ws else None
 

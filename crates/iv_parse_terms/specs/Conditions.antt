@@ -3,14 +3,14 @@ use Rattle.std.specs.Prelude.{◌≡◌, ℕ, ◌⊎◌, Option, Some, None, Lis
 use Rattle.iv_parse_terms.specs.Words.{Comparison, RangeName, Condition}
 use Rattle.iv_parse_terms.specs.Words.comparison
 use Rattle.iv_parse_terms.specs.Words.condition.{Compare, IsNull, IsNotNull, Exists}
-use Rattle.iv_lex.specs.declared.kind.Kind.{Kind}
-use Rattle.iv_lex.specs.declared.kind.Kind.TheVariants as kind
+use Rattle.iv_lex.specs.declared.kind.TokenKind.{TokenKind}
+use Rattle.iv_lex.specs.declared.kind.TokenKind.TheVariants as kind
 use Rattle.iv_lex.specs.Words.{Word, name, plain}
 use Rattle.iv_syntax.specs.Trees.{enclosed, negated, both, either, exists_where}
 use Rattle.iv_parse_terms.specs.After.{after, after_name}
 use Rattle.iv_parse_terms.specs.Expressions.{spelling, Formed, expression, EndsExpression}
 
-abbrev pub comparison_kind : Comparison → Kind
+abbrev pub comparison_kind : Comparison → TokenKind
 comparison_kind comparison.Equal = kind.Equals
 comparison_kind comparison.NotEqual = kind.NotEquals
 comparison_kind comparison.Less = kind.Less

@@ -1,7 +1,7 @@
 -- Which words are which value expression.
 use Rattle.std.specs.Prelude.{◌≡◌, ℕ, Option, Some, None, List, [], ◌∷◌, ◌++◌}
-use Rattle.iv_lex.specs.declared.kind.Kind.{Kind}
-use Rattle.iv_lex.specs.declared.kind.Kind.TheVariants as kind
+use Rattle.iv_lex.specs.declared.kind.TokenKind.{TokenKind}
+use Rattle.iv_lex.specs.declared.kind.TokenKind.TheVariants as kind
 use Rattle.iv_lex.specs.Words.{Word, name, number, quoted, plain}
 use Rattle.iv_parse_terms.specs.Words.{Sign, Expression}
 use Rattle.iv_parse_terms.specs.Words.sign
@@ -9,7 +9,7 @@ use Rattle.iv_parse_terms.specs.Words.expression.{Number, Text, Null, Column}
 use Rattle.iv_syntax.specs.Trees.{group, signed, product, sum}
 use Rattle.iv_parse_terms.specs.After.{after}
 
-abbrev pub sign_kind : Sign → Kind
+abbrev pub sign_kind : Sign → TokenKind
 sign_kind sign.Plus = kind.Plus
 sign_kind sign.Minus = kind.Minus
 

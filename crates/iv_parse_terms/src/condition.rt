@@ -17,7 +17,7 @@ use crate::limits::DEEPEST;
 use crate::predicate::{
     close_item, connective_after, discard, go_on, join_found, negate, truth, value_item,
 };
-use iv_lex::{Kind, Token};
+use iv_lex::{Token, TokenKind};
 use iv_syntax::{Condition, RangeName};
 use std::alloc::{AllocError, Global};
 
@@ -36,13 +36,13 @@ fn lead<'a>(
     if limit == 0 {
         return Ok(None);
     }
-    if let Some(rest) = after(Kind::LeftParenthesis, tokens) {
+    if let Some(rest) = after(TokenKind::LeftParenthesis, tokens) {
         return match item(alloc, limit - 1, &*text, rest)? {
             Some(inside) => close_item(alloc, limit, inside),
             None => Ok(None),
         };
     }
-    match after(Kind::Exists, tokens) {
+    match after(TokenKind::Exists, tokens) {
         Some(rest) => exists(alloc, limit, &*text, rest),
         None => Ok(value_item(simple(alloc, &*text, tokens)?)),
     }
@@ -81,13 +81,13 @@ fn from_range<'a>(
     requires { limit ≤ DEEPEST }
     ensures { IfOk result (λ r. from_found text.now r ≡ from limit (words text.now tokens.now)) }
 {
-    let Some(rest) = after(Kind::From, tokens) else {
+    let Some(rest) = after(TokenKind::From, tokens) else {
         return Ok(None);
     };
     let Some((range, rest)) = range(alloc, &*text, rest)? else {
         return Ok(None);
     };
-    match after(Kind::Where, rest) {
+    match after(TokenKind::Where, rest) {
         Some(rest) => with_where(range, item(alloc, limit, &*text, rest)),
         None => Ok(Some(without_where(range, rest))),
     }
@@ -139,7 +139,7 @@ fn negation<'a>(
     ensures { IfOk result (λ r. item_found text.now r
         ≡ read_negation limit (words text.now tokens.now)) }
 {
-    let Some(rest) = after(Kind::Not, tokens) else {
+    let Some(rest) = after(TokenKind::Not, tokens) else {
         return test(alloc, limit, &*text, tokens);
     };
     match test(alloc, limit, &*text, rest)? {

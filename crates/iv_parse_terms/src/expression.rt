@@ -9,7 +9,7 @@ use crate::expression_part::ExpressionPart;
 use crate::front::{after, name, sign};
 use crate::limits::DEEPEST;
 use crate::make::{group_of, product_of, signed_of, sum_of};
-use iv_lex::{Kind, Token, unquoted_text};
+use iv_lex::{Token, TokenKind, unquoted_text};
 use iv_syntax::{ColumnName, Expression, Name, Sign};
 use std::alloc::{AllocError, Global};
 
@@ -144,7 +144,7 @@ fn column<'a>(
     ensures { IfOk result (λ r. expression_found text.now r
         ≡ column_from first (words text.now tokens.now)) }
 {
-    let Some(rest) = after(Kind::Period, tokens) else {
+    let Some(rest) = after(TokenKind::Period, tokens) else {
         let column = ColumnName {
             qualifier: None,
             name: first,
@@ -176,13 +176,13 @@ pub fn simple<'a>(
         return Ok(None);
     };
     match first.kind {
-        Kind::Number(number) => Ok(Some(leaf(Expression::Number(number), rest))),
-        Kind::Quoted => match unquoted_text(alloc, text, *first)? {
+        TokenKind::Number(number) => Ok(Some(leaf(Expression::Number(number), rest))),
+        TokenKind::Quoted => match unquoted_text(alloc, text, *first)? {
             Some(quoted) => Ok(Some(leaf(Expression::Text(quoted), rest))),
             None => Ok(None),
         },
-        Kind::Null => Ok(Some(leaf(Expression::Null, rest))),
-        Kind::Name => match name(alloc, text, tokens)? {
+        TokenKind::Null => Ok(Some(leaf(Expression::Null, rest))),
+        TokenKind::Name => match name(alloc, text, tokens)? {
             Some((first, rest)) => column(alloc, text, first, rest),
             None => Ok(None),
         },
@@ -198,7 +198,7 @@ fn close<'a>(
     ensures { (text : List ℕ) → IfOk result (λ r. expression_found text r
         ≡ close_group limit inside.entry.tree (words text inside.entry.rest.now)) }
 {
-    match after(Kind::RightParenthesis, inside.rest) {
+    match after(TokenKind::RightParenthesis, inside.rest) {
         Some(rest) => make_group(alloc, limit, inside, rest),
         None => {
             drop(inside);
@@ -222,7 +222,7 @@ pub fn primary<'a>(
     if limit == 0 {
         return Ok(None);
     }
-    match after(Kind::LeftParenthesis, tokens) {
+    match after(TokenKind::LeftParenthesis, tokens) {
         Some(rest) => match expression(alloc, limit - 1, &*text, rest)? {
             Some(inside) => close(alloc, limit, inside),
             None => Ok(None),
@@ -267,7 +267,7 @@ pub fn factors<'a>(
         ≡ more_factors limit (read_factor limit) most left.entry.tree
         (words text.now left.entry.rest.now)) }
 {
-    let Some(rest) = after(Kind::Asterisk, left.rest) else {
+    let Some(rest) = after(TokenKind::Asterisk, left.rest) else {
         return Ok(Some(left));
     };
     if most == 0 {

@@ -13,7 +13,7 @@ use crate::front::{after, name};
 use crate::item_part::ItemPart;
 use crate::make::exists_of;
 use crate::predicate::{fit, truth};
-use iv_lex::{Kind, Token};
+use iv_lex::{Token, TokenKind};
 use iv_syntax::{Name, RangeName};
 use std::alloc::{AllocError, Global};
 
@@ -25,7 +25,7 @@ fn alias<'a>(
 ) -> Result<Option<(Option<Name>, &'a [Token])>, AllocError>
     ensures { IfOk result (λ r. with_words text.now r ≡ alias_from (words text.now tokens.now)) }
 {
-    if let Some(rest) = after(Kind::As, tokens) {
+    if let Some(rest) = after(TokenKind::As, tokens) {
         return match name(alloc, text, rest)? {
             Some((alias, rest)) => Ok(Some((Some(alias), rest))),
             None => Ok(None),
@@ -108,7 +108,7 @@ pub fn close_exists<'a>(
         ≡ closed_exists limit (found.entry.range, found.entry.condition)
         (words text found.entry.rest.now)) }
 {
-    let Some(rest) = after(Kind::RightParenthesis, found.rest) else {
+    let Some(rest) = after(TokenKind::RightParenthesis, found.rest) else {
         drop(found);
         return Ok(None);
     };

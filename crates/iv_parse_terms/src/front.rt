@@ -7,18 +7,18 @@ ghost use Rattle.iv_parse_terms.specs.readers.Conditions.{after_comparison, afte
 ghost use Rattle.iv_parse_terms.specs.Seen.{rest_words, with_words};
 
 use iv_expr::Comparison;
-use iv_lex::{Kind, Token, folded_text};
+use iv_lex::{Token, TokenKind, folded_text};
 use iv_syntax::{Name, Sign};
 use std::alloc::{AllocError, Global};
 
-fn is(token: &Token, kind: Kind) -> bool
+fn is(token: &Token, kind: TokenKind) -> bool
     ensures { result ≡ same token.now.kind kind }
 {
     token.kind == kind
 }
 
 /// The tokens after this symbol or reserved word, where it is at the front.
-pub fn after(kind: Kind, tokens: &[Token]) -> Option<&[Token]>
+pub fn after(kind: TokenKind, tokens: &[Token]) -> Option<&[Token]>
     requires { is_plain kind ≡ true }
     ensures { (text : List ℕ) → rest_words text result ≡ words_after kind (words text tokens.now) }
 {
@@ -32,10 +32,10 @@ pub fn after(kind: Kind, tokens: &[Token]) -> Option<&[Token]>
 pub fn sign(tokens: &[Token]) -> Option<(Sign, &[Token])>
     ensures { (text : List ℕ) → with_words text result ≡ after_sign (words text tokens.now) }
 {
-    if let Some(rest) = after(Kind::Plus, tokens) {
+    if let Some(rest) = after(TokenKind::Plus, tokens) {
         return Some((Sign::Plus, rest));
     }
-    match after(Kind::Minus, tokens) {
+    match after(TokenKind::Minus, tokens) {
         Some(rest) => Some((Sign::Minus, rest)),
         None => None,
     }
@@ -52,7 +52,7 @@ pub fn name<'a>(
     let [first, rest @ ..] = tokens else {
         return Ok(None);
     };
-    if first.kind != Kind::Name {
+    if first.kind != TokenKind::Name {
         return Ok(None);
     }
     match folded_text(alloc, text, *first)? {
@@ -69,12 +69,12 @@ pub fn comparison(tokens: &[Token]) -> Option<(Comparison, &[Token])>
         return None;
     };
     match first.kind {
-        Kind::Equals => Some((Comparison::Equal, rest)),
-        Kind::NotEquals => Some((Comparison::NotEqual, rest)),
-        Kind::Less => Some((Comparison::Less, rest)),
-        Kind::LessEquals => Some((Comparison::LessEqual, rest)),
-        Kind::Greater => Some((Comparison::Greater, rest)),
-        Kind::GreaterEquals => Some((Comparison::GreaterEqual, rest)),
+        TokenKind::Equals => Some((Comparison::Equal, rest)),
+        TokenKind::NotEquals => Some((Comparison::NotEqual, rest)),
+        TokenKind::Less => Some((Comparison::Less, rest)),
+        TokenKind::LessEquals => Some((Comparison::LessEqual, rest)),
+        TokenKind::Greater => Some((Comparison::Greater, rest)),
+        TokenKind::GreaterEquals => Some((Comparison::GreaterEqual, rest)),
         _ => None,
     }
 }
@@ -83,11 +83,11 @@ pub fn comparison(tokens: &[Token]) -> Option<(Comparison, &[Token])>
 pub fn select(tokens: &[Token]) -> Option<&[Token]>
     ensures { (text : List ℕ) → rest_words text result ≡ after_select (words text tokens.now) }
 {
-    let Some(rest) = after(Kind::LeftParenthesis, tokens) else {
+    let Some(rest) = after(TokenKind::LeftParenthesis, tokens) else {
         return None;
     };
-    match after(Kind::Select, rest) {
-        Some(rest) => after(Kind::Asterisk, rest),
+    match after(TokenKind::Select, rest) {
+        Some(rest) => after(TokenKind::Asterisk, rest),
         None => None,
     }
 }

@@ -18,7 +18,7 @@ use crate::item_part::ItemPart;
 use crate::limits::DEEPEST;
 use crate::make::{connected_of, enclosed_of, negated_of};
 use iv_expr::Comparison;
-use iv_lex::{Kind, Token};
+use iv_lex::{Token, TokenKind};
 use iv_syntax::Condition;
 use std::alloc::{AllocError, Global};
 
@@ -88,7 +88,7 @@ pub fn close_item<'a>(
         → IfOk result (λ r. item_found text r
         ≡ closed_item limit inside.entry.item (words text inside.entry.rest.now)) }
 {
-    match after(Kind::RightParenthesis, inside.rest) {
+    match after(TokenKind::RightParenthesis, inside.rest) {
         Some(rest) => enclose(alloc, limit, inside, rest),
         None => Ok(discard(inside)),
     }
@@ -104,8 +104,8 @@ fn test_null<'a>(limit: u8, value: ExpressionPart<'a>, tokens: &'a [Token]) -> O
         depth,
         rest: _,
     } = value;
-    if let Some(rest) = after(Kind::Not, tokens) {
-        return match after(Kind::Null, rest) {
+    if let Some(rest) = after(TokenKind::Not, tokens) {
+        return match after(TokenKind::Null, rest) {
             Some(rest) => fit(limit, Condition::IsNotNull(tree), depth, rest),
             None => {
                 drop(tree);
@@ -113,7 +113,7 @@ fn test_null<'a>(limit: u8, value: ExpressionPart<'a>, tokens: &'a [Token]) -> O
             }
         };
     }
-    match after(Kind::Null, tokens) {
+    match after(TokenKind::Null, tokens) {
         Some(rest) => fit(limit, Condition::IsNull(tree), depth, rest),
         None => {
             drop(tree);
@@ -165,7 +165,7 @@ fn test_whole<'a>(
     if let Some((by, rest)) = comparison(value.rest) {
         return compare(alloc, limit, by, value, text, rest);
     }
-    match after(Kind::Is, value.rest) {
+    match after(TokenKind::Is, value.rest) {
         Some(rest) => Ok(test_null(limit, value, rest)),
         None => Ok(value_item(Some(value))),
     }
@@ -243,8 +243,8 @@ pub fn connective_after<'a>(connective: Connective, found: &ItemPart<'a>) -> Opt
 {
     let rest = found.rest;
     match (&found.item, connective) {
-        (Item::Truth(_), Connective::And) => after(Kind::And, rest),
-        (Item::Truth(_), Connective::Or) => after(Kind::Or, rest),
+        (Item::Truth(_), Connective::And) => after(TokenKind::And, rest),
+        (Item::Truth(_), Connective::Or) => after(TokenKind::Or, rest),
         (Item::Value(_), _) => None,
     }
 }

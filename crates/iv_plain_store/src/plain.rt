@@ -13,7 +13,7 @@ use iv_expr::{Change, Rows, StoredRow, TableId};
 use iv_key::Key;
 use iv_machine::{Which, count_faults, first_violating, list_faults};
 use iv_modes::Modes;
-use iv_store::{AddFault, ChangeableRows, Keeper, Kin, Mark};
+use iv_store::{AddFault, ChangeableRows, Keeper, Mark, ReferencingRows};
 use iv_value::Value;
 use std::alloc::{AllocError, Global};
 use std::marker::Model;
@@ -64,7 +64,7 @@ impl Rows for PlainStore {
     }
 }
 
-impl Kin for PlainStore {
+impl ReferencingRows for PlainStore {
     ghost use Rattle.std.specs.Prelude.{false};
 
     ghost view = { λ s. s };
@@ -95,7 +95,7 @@ impl Kin for PlainStore {
         )
     }
 
-    fn looked(&self) -> u64 {
+    fn looked_up(&self) -> u64 {
         0
     }
 }
@@ -167,7 +167,7 @@ impl ChangeableRows for PlainStore {
         self.database.next()
     }
 
-    fn standing(&self) -> u64 {
+    fn change_count(&self) -> u64 {
         self.database.count()
     }
 

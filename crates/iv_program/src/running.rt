@@ -7,8 +7,8 @@ ghost use Rattle.iv_program.specs.Statuses.{status_of, stop_line, Stopped, Write
 
 use iv_machine::Limits;
 use iv_print::write_all;
-use iv_run::Executor;
 use iv_script::{DeviceFault, LONGEST, RunFault, Sink, Source, Summary, run};
+use iv_step::Executor;
 use std::alloc::Global;
 
 // Writes the line of a fault.

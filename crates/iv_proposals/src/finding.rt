@@ -11,7 +11,7 @@ ghost use Rattle.iv_proposals.specs.Steps.{added_of_numbers, added_of_row, numbe
 
 use iv_catalogue::{Cause, Refusal};
 use iv_expr::{Change, Cond, Row, Rows, Scope, Side, TableId};
-use iv_store::{ChangeableRows, Kin};
+use iv_store::{ChangeableRows, ReferencingRows};
 use iv_triggers::holds;
 use iv_value::Value;
 use std::alloc::Global;
@@ -113,7 +113,7 @@ pub fn count_where<R: Rows>(
 // ---- rows
 
 // Adds the row of a number, where it is there.
-fn push_row<K: Kin>(store: &K, number: u64, rows: &mut Vec<Row>) -> Result<(), Cause>
+fn push_row<K: ReferencingRows>(store: &K, number: u64, rows: &mut Vec<Row>) -> Result<(), Cause>
     ensures { AnswersCause (λ _. rows.new.items) result
         (added_of_row (λ r. Ok r.values)
         (row_at (K.view store.now).base.rows number) rows.old.items) }
@@ -128,7 +128,7 @@ fn push_row<K: Kin>(store: &K, number: u64, rows: &mut Vec<Row>) -> Result<(), C
 }
 
 /// The rows of these numbers, which share their values.
-pub fn rows_numbered<K: Kin>(store: &K, numbers: &[u64]) -> Result<Vec<Row>, Cause>
+pub fn rows_numbered<K: ReferencingRows>(store: &K, numbers: &[u64]) -> Result<Vec<Row>, Cause>
     ensures { AnswersCause (λ v. v.items) result
         (added_of_numbers (λ r. Ok r.values) (K.view store.now).base.rows numbers.now) }
 {

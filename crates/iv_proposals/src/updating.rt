@@ -13,7 +13,7 @@ use crate::finding::{numbers_where, push};
 use crate::making::{row_of, set};
 use iv_catalogue::{Cause, Refusal, Setting};
 use iv_expr::{Change, Cond, Row, Rows, Scope, StoredRow, TableId};
-use iv_store::{ChangeableRows, Kin};
+use iv_store::{ChangeableRows, ReferencingRows};
 use iv_triggers::{Context, stored_value};
 use iv_value::Value;
 use std::alloc::{AllocError, Global};
@@ -200,7 +200,11 @@ pub fn updates<K: ChangeableRows>(
 // ---- DELETE
 
 // Adds the deletion of the row of a number, where it is there.
-fn delete_number<K: Kin>(store: &K, number: u64, changes: &mut Vec<Change>) -> Result<(), Cause>
+fn delete_number<K: ReferencingRows>(
+    store: &K,
+    number: u64,
+    changes: &mut Vec<Change>,
+) -> Result<(), Cause>
     ensures { AnswersCause (λ _. changes.new.items) result
         (added_of_row (λ r. Ok (deletion r))
         (row_at (K.view store.now).base.rows number) changes.old.items) }
@@ -214,7 +218,7 @@ fn delete_number<K: Kin>(store: &K, number: u64, changes: &mut Vec<Change>) -> R
     }
 }
 
-fn delete_numbers<K: Kin>(store: &K, numbers: &[u64]) -> Result<Vec<Change>, Cause>
+fn delete_numbers<K: ReferencingRows>(store: &K, numbers: &[u64]) -> Result<Vec<Change>, Cause>
     ensures { AnswersCause (λ v. v.items) result
         (added_of_numbers (λ r. Ok (deletion r)) (K.view store.now).base.rows numbers.now) }
 {

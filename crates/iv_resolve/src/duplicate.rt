@@ -4,9 +4,9 @@ ghost use Rattle.iv_resolution.specs.Resolution.{is_duplicate};
 
 use iv_catalogue::Catalogue;
 use iv_resolve_changes::{duplicate_insert, duplicate_update};
+use iv_resolve_table_causes::{duplicate_addition, duplicate_table};
 use iv_resolve_triggers::duplicate_trigger;
 use iv_syntax::Statement;
-use iv_table_causes::{duplicate_addition, duplicate_table};
 use std::alloc::Global;
 
 /// Whether a new name of the statement is in use or comes twice, or a column comes twice in a list.

@@ -3,9 +3,9 @@ ghost use Rattle.std.specs.Prelude.{◌≡◌};
 ghost use Rattle.iv_resolution.specs.Resolution.{is_faulty};
 
 use iv_catalogue::Catalogue;
+use iv_resolve_table_causes::{faulty_addition, faulty_table};
+use iv_resolve_trigger_rules::faulty_trigger;
 use iv_syntax::Statement;
-use iv_table_causes::{faulty_addition, faulty_table};
-use iv_trigger_rules::faulty_trigger;
 use std::alloc::Global;
 
 /// Whether the statement defines what no schema can have.

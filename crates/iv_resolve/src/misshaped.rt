@@ -7,10 +7,10 @@ ghost use Rattle.iv_resolution.specs.Tables.{table_names};
 use crate::outside::table_names;
 use iv_catalogue::Catalogue;
 use iv_resolve_changes::{misshaped_delete, misshaped_insert, misshaped_select, misshaped_update};
+use iv_resolve_scope::Ranges;
+use iv_resolve_table_causes::{misshaped_addition, misshaped_table};
 use iv_resolve_triggers::misshaped_trigger;
-use iv_scope::Ranges;
 use iv_syntax::{Delete, Insert, Select, Statement, Update};
-use iv_table_causes::{misshaped_addition, misshaped_table};
 use std::alloc::Global;
 
 fn of_insert(insert: &Insert, catalogue: &Catalogue) -> bool

@@ -1,10 +1,10 @@
 //! What a statement outside of every trigger may name.
 ghost use Rattle.std.specs.Prelude.{◌≡◌, ◌≤◌, length};
 ghost use Rattle.iv_resolution.specs.Tables.{table_names};
-ghost use Rattle.iv_scope.specs.Seen.{names_seen};
+ghost use Rattle.iv_resolve_scope.specs.Seen.{names_seen};
 
 use iv_catalogue::{Catalogue, MOST_TABLES};
-use iv_scope::{Columns, Names, ReferencingItems};
+use iv_resolve_scope::{Columns, Names, ReferencingItems};
 
 /// The tables of the catalogue alone.
 pub fn table_names<'a>(catalogue: &'a Catalogue) -> Names<'a>

@@ -11,8 +11,8 @@ use iv_catalogue::{
     Catalogue, ConstraintId, ConstraintSet, Plan, SchemaPlan, TransactionPlan, TriggerId,
 };
 use iv_resolve_changes::{bound_delete, bound_insert, bound_select, bound_update};
+use iv_resolve_scope::Ranges;
 use iv_resolve_triggers::bound_trigger;
-use iv_scope::Ranges;
 use iv_syntax::{
     ConstraintList, ConstraintMode, Delete, Insert, Name, Select, TriggerDefinition, Update,
 };

@@ -15,8 +15,8 @@ use crate::planning::{
 use crate::unknown::is_unknown;
 use iv_catalogue::{Catalogue, Cause, Plan, Refusal, SchemaPlan, TransactionPlan};
 use iv_resolve_changes::table_id;
+use iv_resolve_table_plans::{bound_alteration, bound_table};
 use iv_syntax::Statement;
-use iv_table_plans::{bound_alteration, bound_table};
 use std::alloc::{AllocError, Global};
 
 // The least cause that the statement deserves. It takes no memory as seen from outside: where memory is refused, names are compared in

@@ -9,10 +9,10 @@ ghost use Rattle.iv_resolution.specs.Tables.{table_names};
 use crate::outside::table_names;
 use iv_catalogue::Catalogue;
 use iv_resolve_changes::{unknown_delete, unknown_insert, unknown_select, unknown_update};
+use iv_resolve_scope::Ranges;
+use iv_resolve_table_causes::{unknown_addition, unknown_table};
 use iv_resolve_triggers::unknown_trigger;
-use iv_scope::Ranges;
 use iv_syntax::{ConstraintList, Delete, Insert, Name, Select, Statement, Update};
-use iv_table_causes::{unknown_addition, unknown_table};
 use std::alloc::Global;
 
 fn of_insert(insert: &Insert, catalogue: &Catalogue) -> bool
@@ -43,7 +43,7 @@ fn of_select(select: &Select, catalogue: &Catalogue) -> bool
     unknown_select(select, &names, &Ranges::Nothing)
 }
 
-#[tactic(auto, using(iv_table_causes::proofs::Sets::found))]
+#[tactic(auto, using(iv_resolve_table_causes::proofs::Sets::found))]
 fn has_constraint(catalogue: &Catalogue, name: &str) -> bool
     ensures { result ≡ has_constraint catalogue.now name.now }
 {

@@ -2,7 +2,7 @@
 use Rattle.std.proofs.Common.{◌≡◌, refl, ℕ, ◌+◌, ◌<◌, ◌≤◌, false, ◌||◌, List, ◌∷◌, ◌∙◌, sym, ap, length, drop, get_or, slice_get, Option, Some, None, option_map, zip}
 use Rattle.std.proofs.lemmas.Option.{slice_get-map}
 use Rattle.std.specs.List.{list_any}
-use Rattle.iv_scope.proofs.Places.{next_of, none_left, next_got, some_not_none, none_at, no_pair}
+use Rattle.iv_resolve_scope.proofs.Places.{next_of, none_left, next_got, some_not_none, none_at, no_pair}
 use Rattle.iv_syntax.specs.declared.table.ColumnType.{ColumnType}
 use Rattle.iv_syntax.specs.declared.tree.Expression.{Expression}
 use Rattle.iv_syntax.specs.declared.statement.ValueOrDefault.{ValueOrDefault}

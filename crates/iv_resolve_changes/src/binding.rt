@@ -6,14 +6,14 @@ ghost use Rattle.iv_catalogue.specs.declared.plan.InsertRows.TheVariants as rows
 ghost use Rattle.iv_resolution.specs.Bound.{bound_assignment, bound_columns, bound_delete, bound_insert, bound_list, bound_select, bound_source, bound_tuple, bound_update, bound_value, default_at, table_id, target_place};
 ghost use Rattle.iv_resolution.specs.Scopes.{named_columns};
 ghost use Rattle.iv_resolution.specs.Terms.{bound_expression};
-ghost use Rattle.iv_scope.specs.Seen.{names_seen, ranges_seen};
+ghost use Rattle.iv_resolve_scope.specs.Seen.{names_seen, ranges_seen};
 
 use iv_catalogue::{
     Column, DataStatement, InsertColumns, InsertRows, MOST_TABLES, Outputs, QueryPlan, Setting,
 };
 use iv_expr::{Expr, TableId};
 use iv_resolution::Origin;
-use iv_scope::{
+use iv_resolve_scope::{
     Columns, Names, Ranges, bound_expression, bound_filter, inside, places_of, source_range,
     stored_columns, table_place,
 };

@@ -5,13 +5,13 @@ ghost use Rattle.std.specs.List.{list_any};
 ghost use Rattle.iv_resolution.specs.Changes.{list_clashes, misshaped_assignment, misshaped_delete, misshaped_insert, misshaped_list, misshaped_query, misshaped_select, misshaped_source, misshaped_tuple, misshaped_update, misshaped_value, target_types};
 ghost use Rattle.iv_resolution.specs.Scopes.{named_columns};
 ghost use Rattle.iv_resolution.specs.Terms.{misshaped_expression};
-ghost use Rattle.iv_scope.specs.Seen.{columns_seen, names_seen, ranges_seen};
+ghost use Rattle.iv_resolve_scope.specs.Seen.{columns_seen, names_seen, ranges_seen};
 ghost use Rattle.iv_resolve_changes.specs.Targets.{targets_seen};
 
 use crate::targets::{Targets, columns_clash, tuple_clashes, value_clashes, values_clash};
 use iv_catalogue::{Column, MOST_TABLES};
 use iv_resolution::Origin;
-use iv_scope::{
+use iv_resolve_scope::{
     Columns, Names, Ranges, inside, misshaped_expression, misshaped_filter, source_columns,
     stored_columns,
 };

@@ -2,11 +2,11 @@
 ghost use Rattle.std.specs.Prelude.{◌≡◌, None, Some, length, slice_get};
 ghost use Rattle.iv_resolution.specs.Changes.{columns_clash, target_types, tuple_clashes, value_clashes, values_clash};
 ghost use Rattle.iv_resolution.specs.Scopes.{named_columns};
-ghost use Rattle.iv_scope.specs.Seen.{columns_seen, ranges_seen};
+ghost use Rattle.iv_resolve_scope.specs.Seen.{columns_seen, ranges_seen};
 ghost use Rattle.iv_resolve_changes.specs.Targets.{targets_seen};
 
 use iv_catalogue::Column;
-use iv_scope::{Columns, Ranges, clashes_with, kinds_clash};
+use iv_resolve_scope::{Columns, Ranges, clashes_with, kinds_clash};
 use iv_syntax::{ColumnType, Expression, Name, ValueOrDefault};
 
 /// All columns of a table, or those of a list.

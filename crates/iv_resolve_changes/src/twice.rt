@@ -4,13 +4,13 @@ ghost use Rattle.std.specs.Prelude.{◌≡◌, IfOk, map};
 ghost use Rattle.iv_catalogue.specs.Names.{is_among};
 ghost use Rattle.iv_resolution.specs.Changes.{duplicate_insert, duplicate_update};
 ghost use Rattle.iv_resolution.specs.Constraints.{comes_twice};
-ghost use Rattle.iv_scope.specs.Sets.{comes_again};
+ghost use Rattle.iv_resolve_scope.specs.Sets.{comes_again};
 
-use iv_scope::{NameSet, comes_again, comes_twice};
+use iv_resolve_scope::{NameSet, comes_again, comes_twice};
 use iv_syntax::{Assignment, Insert, Update};
 use std::alloc::{AllocError, Global};
 
-#[tactic(auto, using(iv_scope::proofs::Sets::again_none, iv_scope::proofs::Places::none_left))]
+#[tactic(auto, using(iv_resolve_scope::proofs::Sets::again_none, iv_resolve_scope::proofs::Places::none_left))]
 fn some_comes_again(
     alloc: Global,
     set: &mut NameSet,
@@ -27,7 +27,7 @@ fn some_comes_again(
     Ok(false)
 }
 
-#[tactic(auto, using(iv_scope::proofs::Sets::again_first))]
+#[tactic(auto, using(iv_resolve_scope::proofs::Sets::again_first))]
 fn repeats_column(alloc: Global, assignments: &[Assignment]) -> Result<bool, AllocError>
     ensures { IfOk result (λ found. found ≡ comes_twice (map (λ a. a.column) assignments.now)) }
 {

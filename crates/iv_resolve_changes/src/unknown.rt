@@ -4,11 +4,11 @@ ghost use Rattle.std.specs.Prelude.{◌≡◌, ◌≤◌, length};
 ghost use Rattle.std.specs.List.{list_any};
 ghost use Rattle.iv_resolution.specs.Changes.{is_table, unknown_assignment, unknown_delete, unknown_insert, unknown_list, unknown_listed, unknown_query, unknown_select, unknown_source, unknown_update, unknown_value};
 ghost use Rattle.iv_resolution.specs.Terms.{unknown_expression};
-ghost use Rattle.iv_scope.specs.Seen.{columns_seen, names_seen, ranges_seen};
+ghost use Rattle.iv_resolve_scope.specs.Seen.{columns_seen, names_seen, ranges_seen};
 
 use iv_catalogue::MOST_TABLES;
 use iv_resolution::Origin;
-use iv_scope::{
+use iv_resolve_scope::{
     Columns, Names, Ranges, inside, is_source, stored_columns, table_place, unknown_expression,
     unknown_filter, unknown_names,
 };

@@ -2,14 +2,14 @@
 ghost use Rattle.std.specs.Prelude.{◌≡◌, ◌≤◌, IfOk, Ok, length, map};
 ghost use Rattle.iv_resolution.specs.Bound.{bound_action, bound_trigger, table_id};
 ghost use Rattle.iv_resolution.specs.Tables.{table_names};
-ghost use Rattle.iv_scope.specs.Seen.{names_seen, ranges_seen};
+ghost use Rattle.iv_resolve_scope.specs.Seen.{names_seen, ranges_seen};
 
 use iv_catalogue::{BodyStatement, Catalogue, MOST_TABLES, Setting, Trigger, TriggerId};
 use iv_expr::TableId;
 use iv_resolve_changes::{bound_delete, bound_insert, bound_update};
-use iv_scope::{Names, Ranges, bound_expression, bound_filter, table_place};
+use iv_resolve_scope::{Names, Ranges, bound_expression, bound_filter, table_place};
+use iv_resolve_trigger_rules::{trigger_names, variables};
 use iv_syntax::{TriggerAction, TriggerDefinition};
-use iv_trigger_rules::{trigger_names, variables};
 use sqlite_items::Items;
 use std::alloc::{AllocError, Global};
 

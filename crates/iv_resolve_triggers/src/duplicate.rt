@@ -6,11 +6,11 @@ ghost use Rattle.iv_catalogue.specs.Catalogues.{has_trigger};
 ghost use Rattle.iv_catalogue.specs.Names.{is_among};
 ghost use Rattle.iv_resolution.specs.Constraints.{comes_twice};
 ghost use Rattle.iv_resolution.specs.Triggers.{duplicate_action, duplicate_trigger};
-ghost use Rattle.iv_scope.specs.Sets.{comes_again};
+ghost use Rattle.iv_resolve_scope.specs.Sets.{comes_again};
 
 use iv_catalogue::{Catalogue, Trigger};
 use iv_resolve_changes::{duplicate_insert, duplicate_update};
-use iv_scope::{NameSet, comes_again};
+use iv_resolve_scope::{NameSet, comes_again};
 use iv_syntax::{Referencing, TriggerAction, TriggerDefinition};
 use std::alloc::{AllocError, Global};
 
@@ -38,7 +38,7 @@ fn names_item(items: &[Referencing], name: &str) -> bool
     false
 }
 
-#[tactic(auto, using(iv_scope::proofs::Sets::again_none, iv_scope::proofs::Places::none_left))]
+#[tactic(auto, using(iv_resolve_scope::proofs::Sets::again_none, iv_resolve_scope::proofs::Places::none_left))]
 fn some_comes_again(
     alloc: Global,
     set: &mut NameSet,
@@ -54,7 +54,7 @@ fn some_comes_again(
     Ok(false)
 }
 
-#[tactic(auto, using(iv_scope::proofs::Sets::again_first))]
+#[tactic(auto, using(iv_resolve_scope::proofs::Sets::again_first))]
 fn repeats_item(alloc: Global, items: &[Referencing]) -> Result<bool, AllocError>
     ensures { IfOk result (λ found. found ≡ comes_twice (map (λ i. i.name) items.now)) }
 {

@@ -2,13 +2,13 @@
 ghost use Rattle.std.specs.Prelude.{◌≡◌, ◌≤◌, length};
 ghost use Rattle.std.specs.List.{list_any};
 ghost use Rattle.iv_resolution.specs.Triggers.{misshaped_action, misshaped_trigger};
-ghost use Rattle.iv_scope.specs.Seen.{names_seen, ranges_seen};
+ghost use Rattle.iv_resolve_scope.specs.Seen.{names_seen, ranges_seen};
 
 use iv_catalogue::{Catalogue, MOST_TABLES};
 use iv_resolve_changes::{misshaped_delete, misshaped_insert, misshaped_update};
-use iv_scope::{Names, Ranges, clashes_with, misshaped_expression, misshaped_filter};
+use iv_resolve_scope::{Names, Ranges, clashes_with, misshaped_expression, misshaped_filter};
+use iv_resolve_trigger_rules::{trigger_names, variables};
 use iv_syntax::{TriggerAction, TriggerDefinition};
-use iv_trigger_rules::{trigger_names, variables};
 
 #[tactic(auto, unfolding(iv_resolution::specs::Triggers::misshaped_action))]
 fn misshaped_action<'a>(

@@ -2,15 +2,15 @@
 ghost use Rattle.std.specs.Prelude.{◌≡◌, ◌≤◌, length};
 ghost use Rattle.std.specs.List.{list_any};
 ghost use Rattle.iv_resolution.specs.Triggers.{row_variables, unknown_action, unknown_set, unknown_trigger};
-ghost use Rattle.iv_scope.specs.Seen.{columns_seen, items_seen, names_seen, ranges_seen};
+ghost use Rattle.iv_resolve_scope.specs.Seen.{columns_seen, items_seen, names_seen, ranges_seen};
 
 use iv_catalogue::{Catalogue, MOST_TABLES};
 use iv_resolve_changes::{is_table, unknown_delete, unknown_insert, unknown_update};
-use iv_scope::{
+use iv_resolve_scope::{
     Names, Ranges, ReferencingIndex, ReferencingItems, unknown_expression, unknown_filter,
 };
+use iv_resolve_trigger_rules::{names_among, variable_named, variables};
 use iv_syntax::{TriggerAction, TriggerDefinition};
-use iv_trigger_rules::{names_among, variable_named, variables};
 use std::alloc::Global;
 
 #[tactic(auto, unfolding(iv_resolution::specs::Triggers::unknown_set))]

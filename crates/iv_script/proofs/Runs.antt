@@ -9,14 +9,14 @@ use Rattle.iv_catalogue.specs.declared.cause.Cause.TheVariants as cause
 use Rattle.iv_catalogue.specs.declared.cause.Refusal.{Refusal}
 use Rattle.iv_machine.specs.declared.answer.Answer.{Answer}
 use Rattle.iv_catalogue.specs.Refusals.{is_memory, out_of_memory}
-use Rattle.iv_machine.specs.Machine.{State, Outcome, Starved, may_run_triggers}
-use Rattle.iv_run.specs.Step.{step, takes_no_memory, Executes}
+use Rattle.iv_machine.specs.Machine.{State, Outcome, MemoryRefused, may_run_triggers}
+use Rattle.iv_step.specs.Step.{step, takes_no_memory, Executes}
 use Rattle.iv_print.specs.Lines.{line}
 use Rattle.iv_print.specs.Sinks.{SinkState, FailsNever}
 use Rattle.iv_print.specs.Writing.{Writes}
 use Rattle.iv_print.proofs.WriteLemmas.{never_then}
 use Rattle.iv_script.specs.declared.statements.Tally.{Tally}
-use Rattle.iv_script.specs.Transcript.{Memory, IsDue, AreDue, granted, denied, Ran, following, outcome, lines, accepted_of, refused_of, run_from, starved_count}
+use Rattle.iv_script.specs.Transcript.{Memory, IsDue, AreDue, granted, denied, Ran, following, outcome, lines, accepted_of, refused_of, run_from, memory_refusals}
 use Rattle.iv_script.specs.Running.{RanOne, RanAll}
 
 -- ---- one statement
@@ -25,7 +25,7 @@ use Rattle.iv_script.specs.Running.{RanOne, RanAll}
 pub record Did (old new : State) (st : Statement) (r : Result Answer Refusal) : Type 0 where
   pub memory : Memory
   pub due : IsDue memory old st
-  pub counted : (if is_memory r then 1 else 0) ≡ starved_count (memory ∷ [])
+  pub counted : (if is_memory r then 1 else 0) ≡ memory_refusals (memory ∷ [])
   pub answer_is : r ≡ (outcome memory old st).answer
   pub state_is : new ≡ (outcome memory old st).state
 
@@ -44,7 +44,7 @@ is_due : (b : Bool) → (b ≡ true → true ≡ false) → b ≡ false
 is_due true sure = sure refl
 is_due false sure = refl
 
-did_denied : (old new : State) (st : Statement) (t : Option ℕ) → Starved old st (Err (record { cause = cause.OutOfMemory; trigger = t })) new
+did_denied : (old new : State) (st : Statement) (t : Option ℕ) → MemoryRefused old st (Err (record { cause = cause.OutOfMemory; trigger = t })) new
     → (takes_no_memory old st ≡ true → true ≡ false) → Did old new st (Err (record { cause = cause.OutOfMemory; trigger = t }))
 did_denied old new st t e sure = record { memory = denied t; due = is_due (takes_no_memory old st) sure; counted = refl; answer_is = denied_is (may_run_triggers old st) t e.1; state_is = e.0 }
 
@@ -80,7 +80,7 @@ did old new st (Err r) e sure = did_refused old new st r.cause r.trigger e sure
 -- a statement's lines were written, and its outcome was counted
 pub ran_one : (n : ℕ) (old new : State) (st : Statement) (r : Result Answer Refusal) (schema : Schema) (tally tally_then : Tally) (before after : SinkState)
     → Executes old st r new → (takes_no_memory old st ≡ true → is_memory r ≡ false) → schema ≡ new.schema → Writes before after (Ok tt) (line n r schema)
-    → tally_then.accepted ≡ tally.accepted + accepted_of r → tally_then.refused ≡ tally.refused + refused_of r → tally_then.starved ≡ tally.starved + (if is_memory r then 1 else 0)
+    → tally_then.accepted ≡ tally.accepted + accepted_of r → tally_then.refused ≡ tally.refused + refused_of r → tally_then.memory_refused ≡ tally.memory_refused + (if is_memory r then 1 else 0)
     → RanOne n old new st tally tally_then before after
 ran_one n old new st r schema tally tally_then before after e sure q w a f s =
     let d : Did old new st r = did old new st r e sure in
@@ -90,7 +90,7 @@ ran_one n old new st r schema tally tally_then before after e sure q w a f s =
       state_is = d.state_is;
       accepted_is = a ∙ ap (λ x. tally.accepted + accepted_of x) d.answer_is;
       refused_is = f ∙ ap (λ x. tally.refused + refused_of x) d.answer_is;
-      starved_is = s ∙ ap (λ k. tally.starved + k) d.counted;
+      memory_refusals_are = s ∙ ap (λ k. tally.memory_refused + k) d.counted;
       appended = subst (Appends before.contents after.contents)
           (ap (λ x. line n x schema) d.answer_is ∙ ap (λ c. line n (outcome d.memory old st).answer c) (q ∙ ap (λ t. t.schema) d.state_is)) w.0;
       works = w.1;
@@ -118,7 +118,7 @@ following_none r =
     ap (λ k. record { text = r.text; state = r.state; accepted = k; refused = r.refused }) (none_before r.accepted)
     ∙ ap (λ k. record { text = r.text; state = r.state; accepted = 0 + r.accepted; refused = k }) (none_before r.refused)
 
-counted_more : (ms : List Memory) (m : Memory) → starved_count (ms ++ m ∷ []) ≡ starved_count ms + starved_count (m ∷ [])
+counted_more : (ms : List Memory) (m : Memory) → memory_refusals (ms ++ m ∷ []) ≡ memory_refusals ms + memory_refusals (m ∷ [])
 counted_more [] (denied t) = refl
 counted_more [] granted = refl
 counted_more (denied t ∷ ms) m = omega (arith, counted_more ms m)
@@ -130,18 +130,18 @@ pub record Onward (old now : State) (all rest : List Statement) (n : ℕ) (tally
   pub written : List ℕ
   pub each : length memory ≡ n
   pub due : (more : List Memory) → AreDue now rest more → AreDue old all (memory ++ more)
-  pub starved_is : starved_count memory ≡ tally.starved
+  pub memory_refusals_are : memory_refusals memory ≡ tally.memory_refused
   pub appended : Appends before.contents after.contents written
   pub onward : (more : List Memory) → run_from old 0 all (memory ++ more) ≡ following written tally.accepted tally.refused (run_from now n rest more)
   pub works : FailsNever before after
 
-pub onward_start : (s : State) (all : List Statement) (tally : Tally) (a : SinkState) → tally.accepted ≡ 0 → tally.refused ≡ 0 → tally.starved ≡ 0 → Onward s s all all 0 tally a a
+pub onward_start : (s : State) (all : List Statement) (tally : Tally) (a : SinkState) → tally.accepted ≡ 0 → tally.refused ≡ 0 → tally.memory_refused ≡ 0 → Onward s s all all 0 tally a a
 onward_start s all tally a p q z = record {
   memory = [];
   written = [];
   each = refl;
   due = λ more left. left;
-  starved_is = sym z;
+  memory_refusals_are = sym z;
   appended = Appends-nil a.contents;
   onward = λ more. rw (p, q) (following_none (run_from s 0 all more));
   works = (refl, refl);
@@ -158,7 +158,7 @@ onward_more old now new all left rest st n t u a before after w e r =
       due = λ more left.
           subst (AreDue old all) (sym (append_assoc w.memory (r.memory ∷ []) more))
           (w.due (r.memory ∷ more) (subst (λ l. AreDue now l (r.memory ∷ more)) (sym e) (r.due, subst (λ s. AreDue s rest more) r.state_is left)));
-      starved_is = counted_more w.memory r.memory ∙ ap (λ z. z + starved_count (r.memory ∷ [])) w.starved_is ∙ sym r.starved_is;
+      memory_refusals_are = counted_more w.memory r.memory ∙ ap (λ z. z + memory_refusals (r.memory ∷ [])) w.memory_refusals_are ∙ sym r.memory_refusals_are;
       appended = Appends-trans a.contents before.contents after.contents w.written (lines (n + 1) o) w.appended r.appended;
       onward = λ more.
           ap (λ l. run_from old 0 all l) (append_assoc w.memory (r.memory ∷ []) more)
@@ -179,7 +179,7 @@ onward_end old now all rest n t a b w e q =
       memory = w.memory;
       each = w.each ∙ q;
       due = subst (AreDue old all) (append-nil w.memory) (w.due [] (subst (λ l. AreDue now l []) (sym e) tt));
-      starved_is = w.starved_is;
+      memory_refusals_are = w.memory_refusals_are;
       accepted_is = ap (λ r. r.accepted) done ∙ none_more t.accepted;
       refused_is = ap (λ r. r.refused) done ∙ none_more t.refused;
       state_is = sym (ap (λ r. r.state) done);
@@ -195,15 +195,15 @@ one_refused : (r : Result Answer Refusal) → refused_of r ≤ 1
 one_refused (Ok a) = omega arith
 one_refused (Err r) = omega arith
 
-one_starved : (m : Memory) → starved_count (m ∷ []) ≤ 1
-one_starved (denied t) = omega arith
-one_starved granted = omega arith
+one_memory_refusal : (m : Memory) → memory_refusals (m ∷ []) ≤ 1
+one_memory_refusal (denied t) = omega arith
+one_memory_refusal granted = omega arith
 
 -- a statement is counted once
 pub few_more : (n k : ℕ) (now new : State) (st : Statement) (t u : Tally) (before after : SinkState) → RanOne n now new st t u before after
-    → t.accepted ≤ k → t.refused ≤ k → t.starved ≤ k → (u.accepted ≤ k + 1) × (u.refused ≤ k + 1) × (u.starved ≤ k + 1)
+    → t.accepted ≤ k → t.refused ≤ k → t.memory_refused ≤ k → (u.accepted ≤ k + 1) × (u.refused ≤ k + 1) × (u.memory_refused ≤ k + 1)
 few_more n k now new st t u before after r a f s = (
   omega (arith, r.accepted_is, one_accepted (outcome r.memory now st).answer, a),
   omega (arith, r.refused_is, one_refused (outcome r.memory now st).answer, f),
-  omega (arith, r.starved_is, one_starved r.memory, s),
+  omega (arith, r.memory_refusals_are, one_memory_refusal r.memory, s),
 )

@@ -6,14 +6,14 @@ use Rattle.iv_syntax.specs.declared.statement.Statement.{Statement}
 use Rattle.iv_parse.specs.Script.{IsScript}
 use Rattle.iv_machine.specs.Bounds.{Bounds}
 use Rattle.iv_machine.specs.Machine.{State, empty_state}
-use Rattle.iv_run.specs.Step.{step}
+use Rattle.iv_step.specs.Step.{step}
 use Rattle.iv_print.specs.Sinks.{SinkState}
 use Rattle.iv_print.specs.Writing.{Writes}
 use Rattle.iv_print.proofs.WriteLemmas.{never_then}
 use Rattle.iv_parse.specs.declared.parser.SyntaxFault.{SyntaxFault}
 use Rattle.iv_script.specs.declared.statements.Tally.{Tally}
 use Rattle.iv_script.specs.declared.summary.Summary.{Summary}
-use Rattle.iv_script.specs.Transcript.{Memory, granted, denied, Ran, following, outcome, lines, accepted_of, refused_of, run_from, starved_count, fault_line, end_line, closing_lines, fault_place, RanScript, RanFed}
+use Rattle.iv_script.specs.Transcript.{Memory, granted, denied, Ran, following, outcome, lines, accepted_of, refused_of, run_from, memory_refusals, fault_line, end_line, closing_lines, fault_place, RanScript, RanWithMemory}
 use Rattle.iv_script.specs.Running.{RanAll, RanParsed}
 
 pub ran_parsed : (old new : State) (sts : List Statement) (fault : Option ℕ) (tally : Tally) (b0 b1 b2 b3 : SinkState)
@@ -23,7 +23,7 @@ ran_parsed old new sts fault tally b0 b1 b2 b3 r p q = record {
   memory = r.memory;
   each = r.each;
   due = r.due;
-  starved_is = r.starved_is;
+  memory_refusals_are = r.memory_refusals_are;
   accepted_is = r.accepted_is;
   refused_is = r.refused_is;
   appended = Appends-trans b0.contents b1.contents b3.contents _ _ r.appended
@@ -34,7 +34,7 @@ ran_parsed old new sts fault tally b0 b1 b2 b3 r p q = record {
 
 -- the summary of a run with this tally, over a script with this fault
 abbrev pub summary_of : Tally → Option SyntaxFault → Summary
-summary_of tally fault = record { accepted = tally.accepted; refused = tally.refused; starved = tally.starved; fault = fault }
+summary_of tally fault = record { accepted = tally.accepted; refused = tally.refused; memory_refused = tally.memory_refused; fault = fault }
 
 pub ran_script : (bytes : List ℕ) (limits : Bounds) (sts : List Statement) (fault : Option SyntaxFault) (tally : Tally) (a b : SinkState)
     → IsScript bytes sts (option_map (λ f. f.at) fault) → RanParsed (empty_state limits) sts (option_map (λ f. f.at) fault) tally a b
@@ -45,25 +45,25 @@ ran_script bytes limits sts fault tally a b s r = record {
   is_script = s;
   each = r.each;
   due = r.due;
-  starved_is = r.starved_is;
+  memory_refusals_are = r.memory_refusals_are;
   accepted_is = r.accepted_is;
   refused_is = r.refused_is;
   appended = r.appended;
 }
 
 -- where no statement wants memory, the run is the machine's
-run_fed : (s : State) (n : ℕ) (sts : List Statement) (memory : List Memory) → starved_count memory ≡ 0 → run_from s n sts memory ≡ run_from s n sts []
-run_fed s n [] memory h = refl
-run_fed s n (st ∷ sts) [] h = refl
-run_fed s n (st ∷ sts) (denied t ∷ ms) h = absurd (omega (arith, h))
-run_fed s n (st ∷ sts) (granted ∷ ms) h =
-    ap (following (lines (n + 1) (outcome granted s st)) (accepted_of (step s st).answer) (refused_of (step s st).answer)) (run_fed (step s st).state (n + 1) sts ms h)
+run_with_memory : (s : State) (n : ℕ) (sts : List Statement) (memory : List Memory) → memory_refusals memory ≡ 0 → run_from s n sts memory ≡ run_from s n sts []
+run_with_memory s n [] memory h = refl
+run_with_memory s n (st ∷ sts) [] h = refl
+run_with_memory s n (st ∷ sts) (denied t ∷ ms) h = absurd (omega (arith, h))
+run_with_memory s n (st ∷ sts) (granted ∷ ms) h =
+    ap (following (lines (n + 1) (outcome granted s st)) (accepted_of (step s st).answer) (refused_of (step s st).answer)) (run_with_memory (step s st).state (n + 1) sts ms h)
 
-pub ran_fed : (bytes : List ℕ) (limits : Bounds) (summary : Summary) (a b : SinkState)
-    → RanScript bytes limits summary a b → summary.starved ≡ 0 → RanFed bytes limits (fault_place summary) a b
-ran_fed bytes limits summary a b r z = record {
+pub ran_with_memory : (bytes : List ℕ) (limits : Bounds) (summary : Summary) (a b : SinkState)
+    → RanScript bytes limits summary a b → summary.memory_refused ≡ 0 → RanWithMemory bytes limits (fault_place summary) a b
+ran_with_memory bytes limits summary a b r z = record {
   statements = r.statements;
   is_script = r.is_script;
   appended = subst (λ (q : Ran). Appends a.contents b.contents (q.text ++ closing_lines (length r.statements) (fault_place summary) q.state))
-      (run_fed (empty_state limits) 0 r.statements r.memory (r.starved_is ∙ z)) r.appended;
+      (run_with_memory (empty_state limits) 0 r.statements r.memory (r.memory_refusals_are ∙ z)) r.appended;
 }

@@ -5,7 +5,7 @@ use Rattle.iv_syntax.specs.declared.statement.Statement.{Statement}
 use Rattle.iv_machine.specs.Machine.{State}
 use Rattle.iv_print.specs.Sinks.{SinkState, FailsNever}
 use Rattle.iv_script.specs.declared.statements.Tally.{Tally}
-use Rattle.iv_script.specs.Transcript.{Memory, IsDue, AreDue, outcome, lines, accepted_of, refused_of, run_from, starved_count, closing_lines}
+use Rattle.iv_script.specs.Transcript.{Memory, IsDue, AreDue, outcome, lines, accepted_of, refused_of, run_from, memory_refusals, closing_lines}
 
 -- one statement ran, with or without memory: its lines were written, and this is the state after it
 pub record RanOne (n : ℕ) (old new : State) (st : Statement) (tally tally_then : Tally)
@@ -16,7 +16,7 @@ pub record RanOne (n : ℕ) (old new : State) (st : Statement) (tally tally_then
   pub accepted_is : tally_then.accepted
       ≡ tally.accepted + accepted_of (outcome memory old st).answer
   pub refused_is : tally_then.refused ≡ tally.refused + refused_of (outcome memory old st).answer
-  pub starved_is : tally_then.starved ≡ tally.starved + starved_count (memory ∷ [])
+  pub memory_refusals_are : tally_then.memory_refused ≡ tally.memory_refused + memory_refusals (memory ∷ [])
   pub appended : Appends before.contents after.contents (lines n (outcome memory old st))
   pub works : FailsNever before after
 
@@ -26,7 +26,7 @@ pub record RanAll (old new : State) (sts : List Statement) (tally : Tally)
   pub memory : List Memory
   pub each : length memory ≡ length sts
   pub due : AreDue old sts memory
-  pub starved_is : starved_count memory ≡ tally.starved
+  pub memory_refusals_are : memory_refusals memory ≡ tally.memory_refused
   pub accepted_is : (run_from old 0 sts memory).accepted ≡ tally.accepted
   pub refused_is : (run_from old 0 sts memory).refused ≡ tally.refused
   pub state_is : new ≡ (run_from old 0 sts memory).state
@@ -39,7 +39,7 @@ pub record RanParsed (old : State) (sts : List Statement) (fault : Option ℕ) (
   pub memory : List Memory
   pub each : length memory ≡ length sts
   pub due : AreDue old sts memory
-  pub starved_is : starved_count memory ≡ tally.starved
+  pub memory_refusals_are : memory_refusals memory ≡ tally.memory_refused
   pub accepted_is : (run_from old 0 sts memory).accepted ≡ tally.accepted
   pub refused_is : (run_from old 0 sts memory).refused ≡ tally.refused
   pub appended : Appends before.contents after.contents

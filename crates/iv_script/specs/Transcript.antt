@@ -8,7 +8,7 @@ use Rattle.iv_catalogue.specs.declared.cause.Refusal.{Refusal}
 use Rattle.iv_machine.specs.declared.answer.Answer.{Answer}
 use Rattle.iv_machine.specs.Bounds.{Bounds}
 use Rattle.iv_machine.specs.Machine.{State, Outcome, no_work, may_run_triggers, empty_state}
-use Rattle.iv_run.specs.Step.{step, takes_no_memory}
+use Rattle.iv_step.specs.Step.{step, takes_no_memory}
 use Rattle.iv_print.specs.Lines.{line}
 use Rattle.iv_print.specs.Sinks.{SinkState}
 use Rattle.iv_script.specs.declared.summary.Summary.{Summary}
@@ -44,8 +44,8 @@ pub data Memory : Type 0 where
   denied : Option ℕ → Memory
 
 -- Cause 22, which leaves the state. It names a trigger only where one may have run.
-abbrev pub starved_outcome : State → Statement → Option ℕ → Outcome
-starved_outcome s st trigger = record {
+abbrev pub memory_refused_outcome : State → Statement → Option ℕ → Outcome
+memory_refused_outcome s st trigger = record {
   answer = Err (record { cause = OutOfMemory; trigger = if may_run_triggers s st then trigger else None });
   state = s;
   work = no_work;
@@ -54,7 +54,7 @@ starved_outcome s st trigger = record {
 -- what a statement does: the machine's step, or cause 22
 abbrev pub outcome : Memory → State → Statement → Outcome
 outcome granted s st = step s st
-outcome (denied trigger) s st = starved_outcome s st trigger
+outcome (denied trigger) s st = memory_refused_outcome s st trigger
 
 -- Memory is refused only to a statement that takes some: not to COMMIT or ROLLBACK, nor to one that is refused for the transaction
 -- that is open or isn't.
@@ -110,10 +110,10 @@ transcript limits statements fault memory =
     r.text ++ closing_lines (length statements) fault r.state
 
 -- how many statements are refused memory
-abbrev pub starved_count : List Memory → ℕ
-starved_count [] = 0
-starved_count (denied trigger ∷ ms) = 1 + starved_count ms
-starved_count (granted ∷ ms) = starved_count ms
+abbrev pub memory_refusals : List Memory → ℕ
+memory_refusals [] = 0
+memory_refusals (denied trigger ∷ ms) = 1 + memory_refusals ms
+memory_refusals (granted ∷ ms) = memory_refusals ms
 
 -- the place of the script's fault, where it has one
 abbrev pub fault_place : Summary → Option ℕ
@@ -129,14 +129,14 @@ pub record RanScript (bytes : List ℕ) (limits : Bounds) (summary : Summary)
   pub is_script : IsScript bytes statements (fault_place summary)
   pub each : length memory ≡ length statements
   pub due : AreDue (empty_state limits) statements memory
-  pub starved_is : starved_count memory ≡ summary.starved
+  pub memory_refusals_are : memory_refusals memory ≡ summary.memory_refused
   pub accepted_is : (run_from (empty_state limits) 0 statements memory).accepted ≡ summary.accepted
   pub refused_is : (run_from (empty_state limits) 0 statements memory).refused ≡ summary.refused
   pub appended : Appends before.contents after.contents
       (transcript limits statements (fault_place summary) memory)
 
 -- The transcript of these bytes was appended, and no statement was refused memory.
-pub record RanFed (bytes : List ℕ) (limits : Bounds) (fault : Option ℕ)
+pub record RanWithMemory (bytes : List ℕ) (limits : Bounds) (fault : Option ℕ)
     (before after : SinkState) : Type 0 where
   pub statements : List Statement
   pub is_script : IsScript bytes statements fault

@@ -5,7 +5,7 @@ ghost use Rattle.iv_print.specs.Counts.{counted};
 ghost use Rattle.iv_print.specs.Sinks.{FailsOnce, FailsNever};
 ghost use Rattle.iv_print.specs.Writing.{Writes};
 ghost use Rattle.iv_script.specs.Lengths.{Fits, IsExact};
-ghost use Rattle.iv_script.specs.Transcript.{fault_line, end_line, fault_place, RanScript, RanFed};
+ghost use Rattle.iv_script.specs.Transcript.{fault_line, end_line, fault_place, RanScript, RanWithMemory};
 ghost use Rattle.iv_script.specs.Running.{RanParsed};
 
 use crate::read::{LONGEST, read_script};
@@ -14,7 +14,7 @@ use crate::summary::{RunFault, Summary};
 use iv_machine::Limits;
 use iv_parse::{Parsed, SyntaxFault, script};
 use iv_print::{Buffered, DeviceFault, Sink, Source, write_all, write_number};
-use iv_run::Executor;
+use iv_step::Executor;
 use iv_syntax::Statement;
 use std::alloc::Global;
 use std::str::from_utf8;
@@ -100,8 +100,8 @@ fn run_text<S: Executor + Drop, W: Sink>(
     requires { length text.now ≤ LONGEST }
     ensures transcript { IfOk result (λ s.
         RanScript text.now limits s (W.state writer.old) (W.state writer.new)) }
-    ensures fed { IfOk result (λ s. s.starved ≡ 0
-        → RanFed text.now limits (fault_place s) (W.state writer.old) (W.state writer.new)) }
+    ensures with_memory { IfOk result (λ s. s.memory_refused ≡ 0
+        → RanWithMemory text.now limits (fault_place s) (W.state writer.old) (W.state writer.new)) }
     ensures kinds { IfErr result (λ e.
         (e ≢ RunFault.Read) × (e ≢ RunFault.TooLong) × (e ≢ RunFault.NotUtf8)) }
     ensures write { IsErrOf result RunFault.Write
@@ -117,7 +117,7 @@ fn run_text<S: Executor + Drop, W: Sink>(
         Ok(tally) => Ok(Summary {
             accepted: tally.accepted,
             refused: tally.refused,
-            starved: tally.starved,
+            memory_refused: tally.memory_refused,
             fault,
         }),
         Err(_) => Err(RunFault::Write),
@@ -134,8 +134,8 @@ fn run_bytes<S: Executor + Drop, W: Sink>(
     requires { length bytes.now ≤ LONGEST }
     ensures transcript { IfOk result (λ s.
         RanScript bytes.now limits s (W.state writer.old) (W.state writer.new)) }
-    ensures fed { IfOk result (λ s. s.starved ≡ 0
-        → RanFed bytes.now limits (fault_place s) (W.state writer.old) (W.state writer.new)) }
+    ensures with_memory { IfOk result (λ s. s.memory_refused ≡ 0
+        → RanWithMemory bytes.now limits (fault_place s) (W.state writer.old) (W.state writer.new)) }
     ensures utf8 { OnOk result (IsUtf8 bytes.now) }
     ensures write_utf8 { IsErrOf result RunFault.Write → IsUtf8 bytes.now }
     ensures not_utf8 { IsErrOf result RunFault.NotUtf8 → ¬ (IsUtf8 bytes.now) }
@@ -159,7 +159,7 @@ fn run_bytes<S: Executor + Drop, W: Sink>(
 /// every 8,192 bytes of the transcript, and one at the end for the rest.
 ///
 /// A statement that is refused memory has an outcome of its own, with cause 22; the
-/// summary's `starved` counts these, and `refused` counts them too. After `RunFault::Write` nothing
+/// summary's `memory_refused` counts these, and `refused` counts them too. After `RunFault::Write` nothing
 /// is said of how much was written.
 pub fn run<S: Executor + Drop, R: Source, W: Sink>(
     alloc: Global,
@@ -167,12 +167,12 @@ pub fn run<S: Executor + Drop, R: Source, W: Sink>(
     writer: &mut W,
     limits: Limits,
 ) -> Result<Summary, RunFault>
-    // What was written is the transcript, for some choice of the `starved` statements.
+    // What was written is the transcript, for some choice of the `memory_refused` statements.
     ensures transcript { IfOk result (λ s. IfSome (R.remaining reader.old) (λ bytes.
         RanScript bytes limits s (W.state writer.old) (W.state writer.new))) }
-    // Where `starved` is 0 it is the transcript of the machine.
-    ensures fed { IfOk result (λ s. s.starved ≡ 0 → IfSome (R.remaining reader.old) (λ bytes.
-        RanFed bytes limits (fault_place s) (W.state writer.old) (W.state writer.new))) }
+    // Where `memory_refused` is 0 it is the transcript of the machine.
+    ensures with_memory { IfOk result (λ s. s.memory_refused ≡ 0 → IfSome (R.remaining reader.old) (λ bytes.
+        RanWithMemory bytes limits (fault_place s) (W.state writer.old) (W.state writer.new))) }
     // A script that ran is short enough and UTF-8, and so is one whose transcript couldn't be
     // written.
     ensures fits { OnOk result (IfSome (R.remaining reader.old) (λ bytes. Fits LONGEST bytes)) }

@@ -7,7 +7,7 @@ ghost use Rattle.iv_script.specs.Running.{RanOne, RanAll};
 
 use iv_catalogue::Cause;
 use iv_print::{DeviceFault, Sink, write_outcome};
-use iv_run::{Executor, Outcome};
+use iv_step::{Executor, Outcome};
 use iv_syntax::Statement;
 
 /// How many statements were accepted and refused, and how many of the refused had cause 22.
@@ -15,10 +15,10 @@ use iv_syntax::Statement;
 pub struct Tally {
     pub accepted: u64,
     pub refused: u64,
-    pub starved: u64,
+    pub memory_refused: u64,
 }
 
-fn is_starved(outcome: &Outcome) -> bool
+fn is_memory_refused(outcome: &Outcome) -> bool
     ensures { result ≡ is_memory outcome.now }
 {
     match outcome {
@@ -31,22 +31,22 @@ fn is_starved(outcome: &Outcome) -> bool
 fn with(tally: Tally, outcome: &Outcome) -> Tally
     requires accepted { tally.accepted < 2 ^ 63 }
     requires refused { tally.refused < 2 ^ 63 }
-    requires starved { tally.starved < 2 ^ 63 }
+    requires memory_refused { tally.memory_refused < 2 ^ 63 }
     ensures accepted { result.accepted ≡ tally.accepted + accepted_of outcome.now }
     ensures refused { result.refused ≡ tally.refused + refused_of outcome.now }
-    ensures starved { result.starved ≡ tally.starved + (if is_memory outcome.now then 1 else 0) }
+    ensures memory_refused { result.memory_refused ≡ tally.memory_refused + (if is_memory outcome.now then 1 else 0) }
 {
-    let starved = if is_starved(outcome) { 1 } else { 0 };
+    let memory_refused = if is_memory_refused(outcome) { 1 } else { 0 };
     match outcome {
         Ok(_) => Tally {
             accepted: tally.accepted + 1,
             refused: tally.refused,
-            starved: tally.starved + starved,
+            memory_refused: tally.memory_refused + memory_refused,
         },
         Err(_) => Tally {
             accepted: tally.accepted,
             refused: tally.refused + 1,
-            starved: tally.starved + starved,
+            memory_refused: tally.memory_refused + memory_refused,
         },
     }
 }
@@ -61,7 +61,7 @@ fn run_one<S: Executor, W: Sink>(
 ) -> Result<Tally, DeviceFault>
     requires accepted { tally.accepted < 2 ^ 63 }
     requires refused { tally.refused < 2 ^ 63 }
-    requires starved { tally.starved < 2 ^ 63 }
+    requires memory_refused { tally.memory_refused < 2 ^ 63 }
     ensures { MatchResult result
         (λ t. RanOne number (S.state session.old) (S.state session.new) statement.now tally t
         (W.state writer.old) (W.state writer.new))
@@ -91,7 +91,7 @@ pub fn run_statements<S: Executor, W: Sink>(
     let mut tally = Tally {
         accepted: 0,
         refused: 0,
-        starved: 0,
+        memory_refused: 0,
     };
     while let Some((statement, others)) = rest.split_first() {
         number += 1;

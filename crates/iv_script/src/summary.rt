@@ -12,7 +12,7 @@ use thiserror::Error;
 pub struct Summary {
     pub accepted: u64,
     pub refused: u64,
-    pub starved: u64,
+    pub memory_refused: u64,
     pub fault: Option<SyntaxFault>,
 }
 

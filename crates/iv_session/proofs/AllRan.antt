@@ -2,8 +2,8 @@
 use Rattle.std.proofs.Common.{◌≡◌, Bool, true, false, not, cond, List, [], ◌∷◌, ◌++◌, filter, length, Result, refl, sym, ap, ◌∙◌, append-nil, append_assoc, length-append, arith, MatchBool}
 use Rattle.iv_session.specs.Words.{Statement, Refusal, Answer}
 use Rattle.iv_catalogue.specs.Refusals.{is_memory}
-use Rattle.iv_machine.specs.Machine.{State, Starved}
-use Rattle.iv_run.specs.Step.{Executes, run, step}
+use Rattle.iv_machine.specs.Machine.{State, MemoryRefused}
+use Rattle.iv_step.specs.Step.{Executes, run, step}
 use Rattle.iv_session.specs.RunningAll.{IsRunOf, has_memory, supplied_statements}
 
 abbrev Answered : Type 0
@@ -71,7 +71,7 @@ ran_more old now new all left rest st outcomes r w e x = by (is_memory r) refl x
   kept : (b : Bool) → is_memory r ≡ b → filter has_memory (outcomes ++ r ∷ []) ≡ filter has_memory outcomes ++ cond (not b) (r ∷ []) []
   kept b h = filter_more has_memory outcomes r ∙ ap (λ x. filter has_memory outcomes ++ cond (not x) (r ∷ []) []) h
 
-  by : (b : Bool) → is_memory r ≡ b → MatchBool b (Starved now st r new) ((r ≡ (step now st).answer) × (new ≡ (step now st).state)) → Ran old new all rest (outcomes ++ r ∷ [])
+  by : (b : Bool) → is_memory r ≡ b → MatchBool b (MemoryRefused now st r new) ((r ≡ (step now st).answer) × (new ≡ (step now st).state)) → Ran old new all rest (outcomes ++ r ∷ [])
   by true h x = record {
     done = w.done ++ st ∷ [];
     split = split;

@@ -8,7 +8,7 @@ use Rattle.iv_catalogue.specs.declared.plan.TransactionPlan.{TransactionPlan}
 use Rattle.iv_catalogue.specs.declared.plan.TransactionPlan.TheVariants as transaction
 use Rattle.iv_catalogue.specs.Refusals.{is_memory_cause}
 use Rattle.iv_machine.specs.Machine.{Occasion, State, Work, always, beginning, inside, occasion_of, outside, plan_occasion}
-use Rattle.iv_row_laws.specs.Changing.{UnlessMemory}
+use Rattle.iv_laws_rows.specs.Changing.{UnlessMemory}
 use Rattle.iv_store.specs.Lookups.{most_lookups_for_a_change}
 use Rattle.iv_state.specs.Kept.{Seen}
 use Rattle.iv_state.specs.Looking.{LookedUp, LooksUpFew, is_definition}
@@ -68,23 +68,23 @@ unless_then {P = P} {Q = Q} (Err r) f h = by (is_memory_cause r.cause) h where
   by false h = f h
 
 -- by a call that began with the same schema and the same count
-pub few_from : (r : Result Answer Refusal) (old other new : Seen) → other.state ≡ old.state → other.looked ≡ old.looked
+pub few_from : (r : Result Answer Refusal) (old other new : Seen) → other.state ≡ old.state → other.looked_up ≡ old.looked_up
     → UnlessMemory r (LooksUpFew other new) → UnlessMemory r (LooksUpFew old new)
 few_from r old other new e f h =
-    subst (λ (s : State). UnlessMemory r (LookedUp (length s.schema.constraints) new.work old.looked new.looked)) e
-    (subst (λ (n : ℕ). UnlessMemory r (LookedUp (length other.state.schema.constraints) new.work n new.looked)) f h)
+    subst (λ (s : State). UnlessMemory r (LookedUp (length s.schema.constraints) new.work old.looked_up new.looked_up)) e
+    (subst (λ (n : ℕ). UnlessMemory r (LookedUp (length other.state.schema.constraints) new.work n new.looked_up)) f h)
 
 grown : (before after k lookups : ℕ) → after ≤ before + k → lookups ≡ after - before → lookups ≤ k
 grown before after k lookups h e = omega (arith, h, e)
 
 -- what a call is said to have looked up is by how much the count grew
-pub few_grown : (old new : Seen) → LooksUpFew old new → new.lookups ≡ new.looked - old.looked → FewLookups old.state new
-few_grown old new h e = grown old.looked new.looked (most_lookups_for_a_change * length old.state.schema.constraints * (new.work.changes + new.work.undone)) new.lookups h e
+pub few_grown : (old new : Seen) → LooksUpFew old new → new.lookups ≡ new.looked_up - old.looked_up → FewLookups old.state new
+few_grown old new h e = grown old.looked_up new.looked_up (most_lookups_for_a_change * length old.state.schema.constraints * (new.work.changes + new.work.undone)) new.lookups h e
 
 -- so where it is said after the call
-pub few_counted : (r : Result Answer Refusal) (old ran new : Seen) → UnlessMemory r (LooksUpFew old ran) → new.lookups ≡ ran.looked - old.looked → new.work ≡ ran.work
+pub few_counted : (r : Result Answer Refusal) (old ran new : Seen) → UnlessMemory r (LooksUpFew old ran) → new.lookups ≡ ran.looked_up - old.looked_up → new.work ≡ ran.work
     → UnlessMemory r (FewLookups old.state new)
 few_counted r old ran new h e w =
     unless_then r
     (λ (few : LooksUpFew old ran). subst (λ (x : Work). new.lookups ≤ most_lookups_for_a_change * length old.state.schema.constraints * (x.changes + x.undone)) (sym w)
-    (grown old.looked ran.looked (most_lookups_for_a_change * length old.state.schema.constraints * (ran.work.changes + ran.work.undone)) new.lookups few e)) h
+    (grown old.looked_up ran.looked_up (most_lookups_for_a_change * length old.state.schema.constraints * (ran.work.changes + ran.work.undone)) new.lookups few e)) h

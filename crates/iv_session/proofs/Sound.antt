@@ -4,8 +4,8 @@ use Rattle.iv_session.specs.Words.{Statement, Refusal, Answer}
 use Rattle.iv_catalogue.specs.declared.plan.TransactionPlan.{TransactionPlan}
 use Rattle.iv_catalogue.specs.declared.plan.Plan.TheVariants as plan
 use Rattle.iv_catalogue.specs.Refusals.{is_memory, out_of_memory}
-use Rattle.iv_laws.specs.Reached.{planned}
-use Rattle.iv_laws.proofs.ReachedStates.{reachable_is_sound}
+use Rattle.iv_laws_levels.specs.Reached.{planned}
+use Rattle.iv_laws_levels.proofs.ReachedStates.{reachable_is_sound}
 use Rattle.iv_machine.specs.declared.database.Which.TheVariants.{All}
 use Rattle.iv_machine.specs.Databases.{is_chosen, scan}
 use Rattle.iv_catalogue.specs.declared.plan.TransactionPlan.TheVariants as transaction
@@ -14,8 +14,8 @@ use Rattle.iv_machine.specs.Machine.{State, Outcome, commit_outcome, is_open, ma
 use Rattle.iv_catalogue.specs.declared.cause.Cause.{Cause}
 use Rattle.iv_resolution.specs.Resolution.{resolution}
 use Rattle.iv_state.proofs.Performed.{always_runs}
-use Rattle.iv_run.specs.Step.{step}
-use Rattle.iv_run.proofs.Reached.{IsReached, control_reached, step_reached}
+use Rattle.iv_step.specs.Step.{step}
+use Rattle.iv_step.proofs.Reached.{IsReached, control_reached, step_reached}
 use Rattle.iv_state.specs.Kept.{Seen}
 use Rattle.iv_state.specs.Performing.{Did, Performs, Runs}
 

@@ -3,7 +3,7 @@ use Rattle.std.specs.Prelude.{◌≡◌, Bool, not, if◌then◌else◌, List, [
 use Rattle.iv_session.specs.Words.{Statement, Refusal, Answer}
 use Rattle.iv_catalogue.specs.Refusals.{is_memory}
 use Rattle.iv_machine.specs.Machine.{State}
-use Rattle.iv_run.specs.Step.{run}
+use Rattle.iv_step.specs.Step.{run}
 
 -- the statements that were not refused memory, by their outcomes
 abbrev pub supplied_statements : List Statement → List (Result Answer Refusal) → List Statement

@@ -3,22 +3,22 @@ ghost use Rattle.std.specs.Prelude.{◌≡◌, ◌-◌, true, false, None, IfOk,
 ghost use Rattle.iv_catalogue.specs.Refusals.{is_memory};
 ghost use Rattle.iv_machine.specs.Machine.{is_open, occasion_of, resolution_outcome, transaction_cause};
 ghost use Rattle.iv_resolution.specs.Resolution.{resolution};
-ghost use Rattle.iv_run.specs.Step.{Executes, step, takes_no_memory};
+ghost use Rattle.iv_step.specs.Step.{Executes, step, takes_no_memory};
 ghost use Rattle.iv_state.specs.Performing.{Runs};
 ghost use Rattle.iv_session.specs.RunningAll.{IsRunOf};
 ghost use Rattle.iv_session.specs.FewLookups.{FewLookups, defines_schema};
 ghost use Rattle.iv_session.specs.Sure.{is_rollback_to};
-ghost use Rattle.iv_row_laws.specs.Changing.{UnlessMemory};
+ghost use Rattle.iv_laws_rows.specs.Changing.{UnlessMemory};
 ghost use Rattle.iv_state.specs.Looking.{LooksUpFew};
 
 use crate::levels::Levels;
 use crate::session::Session;
 use iv_catalogue::Cause;
 use iv_resolve::resolve;
-use iv_run::Outcome;
+use iv_resolve_writable::is_writable;
+use iv_step::Outcome;
 use iv_store::Keeper;
 use iv_syntax::Statement;
-use iv_writable::is_writable;
 use std::alloc::AllocError;
 
 impl<K: Keeper + Drop> Session<K> {
@@ -28,7 +28,7 @@ impl<K: Keeper + Drop> Session<K> {
         ensures runs { Runs self.old.state statement.now
             (resolution_outcome self.old.state (resolution self.old.state.schema statement.now))
             result self.new }
-        ensures looked { defines_schema statement.now ≡ false
+        ensures looked_up { defines_schema statement.now ≡ false
             → UnlessMemory result (LooksUpFew self.old self.new) }
     {
         self.state.clear_work();
@@ -42,7 +42,7 @@ impl<K: Keeper + Drop> Session<K> {
     fn run(&mut self, statement: &Statement) -> Outcome
         ensures runs { Runs self.old.state statement.now
             (step self.old.state statement.now) result self.new }
-        ensures looked { defines_schema statement.now ≡ false
+        ensures looked_up { defines_schema statement.now ≡ false
             → UnlessMemory result (LooksUpFew self.old self.new) }
         ensures sure { takes_no_memory self.old.state statement.now ≡ true
             → is_memory result ≡ false }
@@ -77,16 +77,16 @@ impl<K: Keeper + Drop> Session<K> {
             → is_memory result ≡ false }
         ensures work { MatchBool (is_memory result) (Unit {0}) (self.new.work
             ≡ (step self.old.state statement.now).work) }
-        ensures lookups { self.new.lookups ≡ self.new.looked - self.old.looked }
+        ensures lookups { self.new.lookups ≡ self.new.looked_up - self.old.looked_up }
         // one that doesn't change the schema
         ensures bounded { defines_schema statement.now ≡ false
             → UnlessMemory result (FewLookups self.old.state self.new) }
         // a store that counts no look-up
-        ensures unlooked { ((store : K) → K.lookups store ≡ 0) → self.new.lookups ≡ 0 }
+        ensures not_looked_up { ((store : K) → K.lookups store ≡ 0) → self.new.lookups ≡ 0 }
     {
-        let looked = self.state.looked();
+        let looked_up = self.state.looked_up();
         let answer = self.run(statement);
-        self.state.count_lookups(looked);
+        self.state.count_lookups(looked_up);
         answer
     }
 

@@ -3,7 +3,7 @@
 use crate::session::Session;
 use iv_catalogue::Catalogue;
 use iv_machine::Limits;
-use iv_run::{Executor, Outcome};
+use iv_step::{Executor, Outcome};
 use iv_store::Keeper;
 use iv_syntax::Statement;
 use std::alloc::{AllocError, Global};

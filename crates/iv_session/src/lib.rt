@@ -7,6 +7,6 @@ mod levels;
 mod session;
 
 pub use iv_machine::{Answer, Limits};
-pub use iv_run::Outcome;
 pub use iv_state::Work;
+pub use iv_step::Outcome;
 pub use session::Session;

@@ -10,8 +10,8 @@ ghost use Rattle.iv_session.specs.FewLookups.{FewLookups};
 
 use iv_catalogue::{Catalogue, Fault};
 use iv_machine::Limits;
-use iv_run::Outcome;
 use iv_state::{SessionState, Work};
+use iv_step::Outcome;
 use iv_store::Keeper;
 use std::alloc::{AllocError, Global};
 use std::marker::Model;
@@ -27,7 +27,7 @@ impl<K: Keeper + Drop> Model for Session<K> {
     ghost use Rattle.iv_expr.specs.contracts.tree.Cond as cond;
     ghost use Rattle.iv_expr.specs.contracts.tree.Expr as expr;
     ghost use Rattle.std.specs.Coded.{codes};
-    ghost use Rattle.iv_run.proofs.Reached.{IsReached};
+    ghost use Rattle.iv_step.proofs.Reached.{IsReached};
 
     ghost Value = { Seen };
 
@@ -43,7 +43,7 @@ impl<K: Keeper + Drop> Session<K> {
     /// A session over no table, with these limits.
     pub fn new(alloc: Global, limits: Limits) -> Result<Self, AllocError>
         ensures { IfOk result (λ s. s
-            ≡ record { state = empty_state limits; work = no_work; lookups = 0; looked = 0 }) }
+            ≡ record { state = empty_state limits; work = no_work; lookups = 0; looked_up = 0 }) }
     {
         Ok(Session {
             state: SessionState::new(alloc, limits)?,
@@ -101,8 +101,8 @@ impl<K: Keeper + Drop> Session<K> {
         ensures state { self.new.state ≡ (rollback_outcome self.old.state).state }
         ensures work { self.new.work ≡ (rollback_outcome self.old.state).work }
         ensures bounded { FewLookups self.old.state self.new }
-        ensures lookups { self.new.lookups ≡ self.new.looked - self.old.looked }
-        ensures unlooked { ((store : K) → K.lookups store ≡ 0) → self.new.lookups ≡ 0 }
+        ensures lookups { self.new.lookups ≡ self.new.looked_up - self.old.looked_up }
+        ensures not_looked_up { ((store : K) → K.lookups store ≡ 0) → self.new.lookups ≡ 0 }
     {
         self.state.rollback();
     }
@@ -114,8 +114,8 @@ impl<K: Keeper + Drop> Session<K> {
         ensures state { self.new.state ≡ (commit_outcome self.old.state).state }
         ensures work { self.new.work ≡ (commit_outcome self.old.state).work }
         ensures bounded { FewLookups self.old.state self.new }
-        ensures lookups { self.new.lookups ≡ self.new.looked - self.old.looked }
-        ensures unlooked { ((store : K) → K.lookups store ≡ 0) → self.new.lookups ≡ 0 }
+        ensures lookups { self.new.lookups ≡ self.new.looked_up - self.old.looked_up }
+        ensures not_looked_up { ((store : K) → K.lookups store ≡ 0) → self.new.lookups ≡ 0 }
         // It is accepted exactly where the scan of all constraints is empty.
         ensures accepted { OnOk result
             (scan self.old.state.database.rows self.old.state.schema.constraints
@@ -132,8 +132,8 @@ impl<K: Keeper + Drop> Session<K> {
     /// no memory, and on a store that goes back to a mark without memory it never takes any.
     pub fn rollback_to(&mut self, name: &str) -> Outcome
         ensures bounded { FewLookups self.old.state self.new }
-        ensures lookups { self.new.lookups ≡ self.new.looked - self.old.looked }
-        ensures unlooked { ((store : K) → K.lookups store ≡ 0) → self.new.lookups ≡ 0 }
+        ensures lookups { self.new.lookups ≡ self.new.looked_up - self.old.looked_up }
+        ensures not_looked_up { ((store : K) → K.lookups store ≡ 0) → self.new.lookups ≡ 0 }
         ensures sure { is_open self.old.state ≡ false → is_memory result ≡ false }
         ensures sure_store { K.sure ≡ true → is_memory result ≡ false }
         ensures performs { Performs self.old.state

@@ -11,7 +11,7 @@ use Rattle.iv_store.specs.Stores.{StoreState, store_with_mark, store_before_mark
 use Rattle.iv_state.specs.Changing.{Changes, outcome_said, said_of, size_said, store_said, work_said}
 use Rattle.iv_state.specs.Kept.{Parts, Seen, current, state_of}
 use Rattle.iv_state.specs.Performing.{Follows}
-use Rattle.iv_row_laws.specs.Changing.{AnswersAt, database_and_size, with_database}
+use Rattle.iv_laws_rows.specs.Changing.{AnswersAt, database_and_size, with_database}
 
 -- ---- undone
 

@@ -8,22 +8,22 @@ use Rattle.iv_state.specs.Words.answer.{Done}
 use Rattle.iv_catalogue.specs.Catalogues.{Schema, with_constraint, with_table}
 use Rattle.iv_catalogue.specs.Refusals.{is_memory, out_of_memory}
 use Rattle.iv_machine.specs.Databases.{first, initial_modes, scan}
-use Rattle.iv_machine.specs.Machine.{State, Outcome, Work, no_work, accept, refuse, refuse_first, add_constraint_outcome, with_schema, may_run_triggers, resolution_outcome, Starved}
+use Rattle.iv_machine.specs.Machine.{State, Outcome, Work, no_work, accept, refuse, refuse_first, add_constraint_outcome, with_schema, may_run_triggers, resolution_outcome, MemoryRefused}
 use Rattle.iv_modes.specs.ModeMaps.{ModeMap, initial_map}
 use Rattle.iv_resolution.specs.Resolution.{resolution}
 use Rattle.iv_store.specs.Stores.{AnswersAdding, StoreState, first_violating_row, fits_table, store_with_constraint, store_with_table}
 use Rattle.iv_store.proofs.Adding.{added_violation}
-use Rattle.iv_fitting.specs.ConstraintShapes.{SchemaSuits}
+use Rattle.iv_laws_fitting.specs.ConstraintShapes.{SchemaSuits}
 use Rattle.iv_state.specs.Kept.{Parts, IsCalm, Kept, Seen, StandsAs, current, later, savepoints_of, started, state_of}
 use Rattle.iv_state.specs.Performing.{Did, Performs, PerformsPlan, Runs}
-use Rattle.iv_row_laws.specs.RowFits.{row_fits, rows_fit}
+use Rattle.iv_laws_rows.specs.RowFits.{row_fits, rows_fit}
 use Rattle.iv_state.specs.Fits.{adding_refusal}
 use Rattle.iv_store.specs.declared.fault.AddFault.{AddFault}
 use Rattle.iv_store.specs.declared.fault.AddFault.TheVariants as fault
 use Rattle.iv_state.proofs.Performed.{refuse_performs}
-use Rattle.iv_run.specs.Step.{Executes, step}
+use Rattle.iv_step.specs.Step.{Executes, step}
 use Rattle.iv_state.proofs.Fitting.{runs_as}
-use Rattle.iv_fitting.proofs.Plans.{accepted}
+use Rattle.iv_laws_fitting.proofs.Plans.{accepted}
 use Rattle.iv_state.proofs.Saves.{two, parts_of}
 
 pub shut_is : (b : Bool) (s : StoreState) → is_some (started b s) ≡ false → b ≡ false
@@ -116,7 +116,7 @@ runs_of s st p r x e h =
 pub executes_of : (s : State) (st : Statement) (r : Result Answer Refusal) (x : Seen) (new : State) → new ≡ x.state → Runs s st (step s st) r x → Executes s st r new
 executes_of s st r x new e h = by (is_memory r) h where
   by : (b : Bool) → MatchBool b ((x.state ≡ s) × (may_run_triggers s st ≡ false → r ≡ Err out_of_memory)) (Did (step s st) r x)
-      → MatchBool b (Starved s st r new) ((r ≡ (step s st).answer) × (new ≡ (step s st).state))
+      → MatchBool b (MemoryRefused s st r new) ((r ≡ (step s st).answer) × (new ≡ (step s st).state))
   by true h = (e ∙ h.0, h.1)
   by false h = (h.0, e ∙ h.1)
 

@@ -16,12 +16,12 @@ use Rattle.iv_resolution.specs.Constraints.{WrittenConstraint, comes_twice, tabl
 use Rattle.iv_resolution.specs.Resolution.{resolution}
 use Rattle.iv_resolution.specs.Tables.{altered_at, table_names}
 use Rattle.iv_resolution.specs.Triggers.{duplicate_action, trigger_names, trigger_variables}
-use Rattle.iv_naming.proofs.Firsts.{neither}
-use Rattle.iv_fitting.specs.ConstraintShapes.{SchemaSuits}
-use Rattle.iv_fitting.proofs.Plans.{Accepted, accepted, changes_fit}
-use Rattle.iv_fitting.proofs.Pointwise.{mapped_length}
-use Rattle.iv_fitting.proofs.Schemas.{tables_fit, additions_fit}
-use Rattle.iv_fitting.proofs.Staying.{schemas_stay}
+use Rattle.iv_laws_naming.proofs.Firsts.{neither}
+use Rattle.iv_laws_fitting.specs.ConstraintShapes.{SchemaSuits}
+use Rattle.iv_laws_fitting.proofs.Plans.{Accepted, accepted, changes_fit}
+use Rattle.iv_laws_fitting.proofs.Pointwise.{mapped_length}
+use Rattle.iv_laws_fitting.proofs.Schemas.{tables_fit, additions_fit}
+use Rattle.iv_laws_fitting.proofs.Staying.{schemas_stay}
 use Rattle.iv_state.specs.Performing.{plan_may_run}
 use Rattle.iv_state.specs.Fits.{AdditionFits, PlanFits, TriggerFits}
 

@@ -8,7 +8,7 @@ use Rattle.iv_machine.specs.Machine.{Savepoint, NamedSavepoint, State, savepoint
 use Rattle.iv_modes.specs.ModeMaps.{ModeMap}
 use Rattle.iv_store.specs.Stores.{StoreState, marked_database, store_at_mark}
 use Rattle.iv_state.specs.Saved.{Saved}
-use Rattle.iv_row_laws.specs.RowFits.{rows_fit}
+use Rattle.iv_laws_rows.specs.RowFits.{rows_fit}
 use Rattle.iv_state.specs.Kept.{Parts, Kept, IsOpen, StandsAs, AllModes, AreModes, AreSaved, all_fit, brought_back, current, later, savepoint_at, savepoints_of, started, state_of}
 use Rattle.iv_state.specs.Saving.{last_named, with_marks}
 use Rattle.iv_state.proofs.Saves.{two, parts_of, saves_more, first_or, later_length}

@@ -6,7 +6,7 @@ use Rattle.iv_machine.specs.Machine.{Savepoint, without_name, state_with_savepoi
 use Rattle.iv_modes.specs.ModeMaps.{ModeMap}
 use Rattle.iv_store.specs.Stores.{StoreState, marked_database, store_with_mark}
 use Rattle.iv_state.specs.Saved.{Saved}
-use Rattle.iv_row_laws.specs.RowFits.{rows_fit}
+use Rattle.iv_laws_rows.specs.RowFits.{rows_fit}
 use Rattle.iv_state.specs.Kept.{Parts, Kept, IsOpen, StandsAs, AllModes, AreModes, AreSaved, all_fit, current, later, savepoint_at, savepoints_of, started, state_of}
 use Rattle.iv_state.specs.Saving.{saves_without, marks_without, IsWithout}
 

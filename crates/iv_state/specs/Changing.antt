@@ -10,7 +10,7 @@ use Rattle.iv_machine.specs.Context.{Failure}
 use Rattle.iv_machine.specs.Levels.{level}
 use Rattle.iv_machine.specs.Machine.{State, Outcome, Work, with_transaction}
 use Rattle.iv_store.specs.Stores.{StoreState}
-use Rattle.iv_row_laws.specs.Changing.{database_and_size}
+use Rattle.iv_laws_rows.specs.Changing.{database_and_size}
 
 -- what the level says of a statement
 abbrev pub said_of : Schema → List ConstraintMode → Bounds → DataStatement → Database → Result (Database × ℕ) Failure

@@ -10,8 +10,8 @@ use Rattle.iv_catalogue.specs.Refusals.{out_of_memory, refusal_of}
 use Rattle.iv_store.specs.declared.fault.AddFault.{AddFault}
 use Rattle.iv_store.specs.declared.fault.AddFault.TheVariants as fault
 use Rattle.iv_machine.specs.Machine.{State, is_open, transaction_cause, transaction_occasion}
-use Rattle.iv_fitting.specs.ConstraintShapes.{ConstraintFits, SchemaSuits, TableFits}
-use Rattle.iv_fitting.specs.PlanShapes.{data_suits, plain_shape}
+use Rattle.iv_laws_fitting.specs.ConstraintShapes.{ConstraintFits, SchemaSuits, TableFits}
+use Rattle.iv_laws_fitting.specs.PlanShapes.{data_suits, plain_shape}
 
 -- All holds that adding a trigger to the catalogue asks for.
 pub record TriggerFits (c : Schema) (t : Trigger) : Type 0 where

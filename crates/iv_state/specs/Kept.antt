@@ -9,8 +9,8 @@ use Rattle.iv_modes.specs.ModeMaps.{ModeMap, initial_map}
 use Rattle.iv_store.specs.Stores.{StoreState, marked_database}
 use Rattle.iv_state.specs.Saved.{Saved}
 use Rattle.iv_state.specs.declared.session_state.SessionState.TheInside.{Inside}
-use Rattle.iv_row_laws.specs.Changing.{StoreFits}
-use Rattle.iv_row_laws.specs.RowFits.{rows_fit}
+use Rattle.iv_laws_rows.specs.Changing.{StoreFits}
+use Rattle.iv_laws_rows.specs.RowFits.{rows_fit}
 
 -- A session: the state of the machine; the row changes that the last call made and undid, and the keys that it looked up; and the keys
 -- that were looked up so far.
@@ -18,7 +18,7 @@ pub record Seen : Type 0 where
   pub state : State
   pub work : Work
   pub lookups : ℕ
-  pub looked : ℕ
+  pub looked_up : ℕ
 
 -- ---- the parts
 
@@ -89,7 +89,7 @@ seen view lookups s = record {
   state = state_of (parts view s);
   work = record { changes = s.work.changes; undone = s.work.undone };
   lookups = s.work.lookups;
-  looked = lookups s.store;
+  looked_up = lookups s.store;
 }
 
 -- ---- what holds of them

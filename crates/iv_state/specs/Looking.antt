@@ -12,7 +12,7 @@ LookedUp constraints work before after = after ≤ before + most_lookups_for_a_c
 
 -- so by a call, for the constraints of the catalogue
 abbrev pub LooksUpFew : Seen → Seen → Type 0
-LooksUpFew old new = LookedUp (length old.state.schema.constraints) new.work old.looked new.looked
+LooksUpFew old new = LookedUp (length old.state.schema.constraints) new.work old.looked_up new.looked_up
 
 -- the plan changes the schema
 abbrev pub is_definition : Plan → Bool

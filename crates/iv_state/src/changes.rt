@@ -1,20 +1,20 @@
 //! INSERT, UPDATE and DELETE.
 ghost use Rattle.std.specs.Prelude.{◌≡◌, true, false, length, OnOk};
 ghost use Rattle.iv_catalogue.specs.Refusals.{is_memory_cause, out_of_memory};
-ghost use Rattle.iv_fitting.specs.PlanShapes.{data_suits, plain_shape};
+ghost use Rattle.iv_laws_fitting.specs.PlanShapes.{data_suits, plain_shape};
 ghost use Rattle.iv_machine.specs.Machine.{change_outcome};
 ghost use Rattle.iv_state.specs.Changing.{Changes, said_of};
 ghost use Rattle.iv_state.specs.Kept.{current};
 ghost use Rattle.iv_state.specs.Performing.{Follows};
 ghost use Rattle.iv_state.specs.Looking.{LookedUp, LooksUpFew};
 ghost use Rattle.iv_store.specs.Lookups.{LooksUp};
-ghost use Rattle.iv_row_laws.specs.Changing.{AnswersAt, StoreFits, UnlessMemory, with_database};
+ghost use Rattle.iv_laws_rows.specs.Changing.{AnswersAt, StoreFits, UnlessMemory, with_database};
 
 use crate::session_state::{SessionState, Work};
 use iv_catalogue::{Catalogue, Cause, DataStatement, Refusal};
 use iv_machine::{Answer, Limits};
 use iv_modes::Modes;
-use iv_run::Outcome;
+use iv_step::Outcome;
 use iv_store::{ChangeableRows, Keeper};
 
 /// How data statements change a store.
@@ -37,7 +37,7 @@ pub trait DataStatements {
             (K.view store.new).base.count result
             (said_of catalogue.now modes.now.modes limits statement.now (K.view store.old).base) }
         ensures kept { K.view store.new ≡ with_database (K.view store.old) (K.view store.new).base }
-        ensures looked { UnlessMemory result (LooksUp
+        ensures looked_up { UnlessMemory result (LooksUp
             (K.view store.old) (K.lookups store.old) (K.view store.new) (K.lookups store.new)) }
         ensures store { OnOk result (StoreFits catalogue.now (K.view store.new)) };
 }
@@ -69,16 +69,16 @@ fn run_change<D: DataStatements, K: Keeper>(
         (said_of catalogue.now modes.now.modes limits statement.now (K.view store.old).base)
         result (K.view store.new)
         (record { changes = work.new.changes; undone = work.new.undone }) }
-    ensures looked { UnlessMemory result (LookedUp (length (K.view store.old).constraints)
+    ensures looked_up { UnlessMemory result (LookedUp (length (K.view store.old).constraints)
         (record { changes = work.new.changes; undone = work.new.undone })
         (K.lookups store.old) (K.lookups store.new)) }
     ensures store { StoreFits catalogue.now (K.view store.new) }
 {
-    let before = store.standing();
+    let before = store.change_count();
     let mark = store.mark()?;
     match D::change(store, statement, catalogue, modes, limits) {
         Ok(size) => {
-            work.changes = store.standing().saturating_sub(before);
+            work.changes = store.change_count().saturating_sub(before);
             work.undone = 0;
             if !begins {
                 store.forget(mark);
@@ -86,7 +86,7 @@ fn run_change<D: DataStatements, K: Keeper>(
             Ok(size)
         }
         Err(refusal) => {
-            let made = store.standing().saturating_sub(before);
+            let made = store.change_count().saturating_sub(before);
             work.changes = made;
             work.undone = made;
             store.undo(mark);
@@ -121,7 +121,7 @@ impl<K: Keeper + Drop> SessionState<K> {
             (plain_shape self.old.state.schema.tables) statement.now ≡ true }
         ensures follows { Follows self.old.state
             (change_outcome self.old.state statement.now) result self.new }
-        ensures looked { UnlessMemory result (LooksUpFew self.old self.new) }
+        ensures looked_up { UnlessMemory result (LooksUpFew self.old self.new) }
     {
         let begins = !self.active;
         match run_change::<D, K>(

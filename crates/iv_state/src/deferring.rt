@@ -13,7 +13,7 @@ use crate::session_state::{SessionState, Work};
 use iv_catalogue::{Catalogue, Cause, Constraint, ConstraintId, ConstraintSet, Fault};
 use iv_machine::Answer;
 use iv_modes::Modes;
-use iv_run::Outcome;
+use iv_step::Outcome;
 use iv_store::Keeper;
 use iv_syntax::ConstraintMode;
 use std::alloc::{AllocError, Global};
@@ -96,7 +96,7 @@ impl<K: Keeper + Drop> SessionState<K> {
         requires { is_open self.old.state ≡ true }
         ensures performs { Performs self.old.state
             (set_constraints_outcome self.old.state ids.now mode) result self.new }
-        ensures still { self.new.looked ≡ self.old.looked }
+        ensures still { self.new.looked_up ≡ self.old.looked_up }
     {
         self.work = Work::none();
         let mut modes = self.modes().copy()?;
@@ -118,7 +118,7 @@ impl<K: Keeper + Drop> SessionState<K> {
         ensures performs { Performs self.old.state
             (set_constraints_outcome self.old.state
             (constraints_meant self.old.state.schema set.now) mode) result self.new }
-        ensures still { self.new.looked ≡ self.old.looked }
+        ensures still { self.new.looked_up ≡ self.old.looked_up }
     {
         match set {
             ConstraintSet::All => {

@@ -2,8 +2,8 @@
 ghost use Rattle.std.specs.Prelude.{◌≡◌, true, false, None};
 ghost use Rattle.iv_catalogue.specs.Refusals.{is_memory, refusal_answer};
 ghost use Rattle.iv_machine.specs.Machine.{change_outcome, commit_outcome, is_open, no_work, occasion_of, query_outcome, rollback_outcome, schema_outcome, transaction_cause, transaction_occasion, transaction_outcome};
-ghost use Rattle.iv_fitting.specs.PlanShapes.{data_suits, plain_shape};
-ghost use Rattle.iv_row_laws.specs.Changing.{UnlessMemory};
+ghost use Rattle.iv_laws_fitting.specs.PlanShapes.{data_suits, plain_shape};
+ghost use Rattle.iv_laws_rows.specs.Changing.{UnlessMemory};
 ghost use Rattle.iv_state.specs.Fits.{PlanFits, SchemaFits};
 ghost use Rattle.iv_state.specs.Looking.{LooksUpFew, is_definition};
 ghost use Rattle.iv_state.specs.Performing.{Follows, Performs, PerformsPlan};
@@ -13,7 +13,7 @@ use crate::savepoints::refuse;
 use crate::session_state::{SessionState, Work};
 use iv_catalogue::{Cause, DataStatement, Plan, QueryPlan, SchemaPlan, TransactionPlan};
 use iv_machine::Answer;
-use iv_run::Outcome;
+use iv_step::Outcome;
 use iv_store::Keeper;
 use iv_syntax::Statement;
 
@@ -21,7 +21,7 @@ impl<K: Keeper + Drop> SessionState<K> {
     /// COMMIT as a statement ("Commit statement").
     pub fn commit_statement(&mut self) -> Outcome
         ensures performs { Performs self.old.state (commit_outcome self.old.state) result self.new }
-        ensures looked { LooksUpFew self.old self.new }
+        ensures looked_up { LooksUpFew self.old self.new }
         ensures sure { is_memory result ≡ false }
     {
         match self.commit() {
@@ -34,7 +34,7 @@ impl<K: Keeper + Drop> SessionState<K> {
     pub fn rollback_statement(&mut self) -> Outcome
         ensures performs { Performs self.old.state
             (rollback_outcome self.old.state) result self.new }
-        ensures looked { LooksUpFew self.old self.new }
+        ensures looked_up { LooksUpFew self.old self.new }
         ensures sure { is_memory result ≡ false }
     {
         self.rollback();
@@ -47,7 +47,7 @@ impl<K: Keeper + Drop> SessionState<K> {
             ≡ None }
         ensures performs { Performs self.old.state
             (transaction_outcome self.old.state plan.now) result self.new }
-        ensures looked { LooksUpFew self.old self.new }
+        ensures looked_up { LooksUpFew self.old self.new }
     {
         match plan {
             TransactionPlan::Start => self.start(),
@@ -82,7 +82,7 @@ impl<K: Keeper + Drop> SessionState<K> {
             (plain_shape self.old.state.schema.tables) statement ≡ true }
         ensures follows { Follows self.old.state
             (change_outcome self.old.state statement) result self.new }
-        ensures looked { UnlessMemory result (LooksUpFew self.old self.new) }
+        ensures looked_up { UnlessMemory result (LooksUpFew self.old self.new) }
     {
         let answer = self.change::<D>(&statement);
         drop(statement);
@@ -93,7 +93,7 @@ impl<K: Keeper + Drop> SessionState<K> {
     fn query_whole(&mut self, plan: QueryPlan) -> Outcome
         ensures performs { Performs self.old.state
             (query_outcome self.old.state plan) result self.new }
-        ensures still { self.new.looked ≡ self.old.looked }
+        ensures still { self.new.looked_up ≡ self.old.looked_up }
     {
         let answer = self.query(&plan);
         drop(plan);
@@ -105,7 +105,7 @@ impl<K: Keeper + Drop> SessionState<K> {
         requires { transaction_cause (is_open self.old.state) (transaction_occasion plan) ≡ None }
         ensures performs { Performs self.old.state
             (transaction_outcome self.old.state plan) result self.new }
-        ensures looked { LooksUpFew self.old self.new }
+        ensures looked_up { LooksUpFew self.old self.new }
     {
         let answer = self.transact(&plan);
         drop(plan);
@@ -116,7 +116,7 @@ impl<K: Keeper + Drop> SessionState<K> {
     pub fn perform<D: DataStatements>(&mut self, plan: Plan) -> Outcome
         requires { PlanFits self.old.state plan }
         ensures performs { PerformsPlan self.old.state plan result self.new }
-        ensures looked { is_definition plan ≡ false
+        ensures looked_up { is_definition plan ≡ false
             → UnlessMemory result (LooksUpFew self.old self.new) }
     {
         match plan {
@@ -150,7 +150,7 @@ impl<K: Keeper + Drop> SessionState<K> {
     pub fn refuse_now(&mut self, cause: Cause) -> Outcome
         ensures answer { result ≡ refusal_answer cause }
         ensures state { self.new.state ≡ self.old.state }
-        ensures still { self.new.looked ≡ self.old.looked }
+        ensures still { self.new.looked_up ≡ self.old.looked_up }
         ensures work { self.new.work ≡ no_work }
     {
         self.work = Work::none();

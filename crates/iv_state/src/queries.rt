@@ -7,7 +7,7 @@ use crate::session_state::{SessionState, Work};
 use iv_catalogue::{QueryPlan, Refusal};
 use iv_machine::Answer;
 use iv_proposals::select;
-use iv_run::Outcome;
+use iv_step::Outcome;
 use iv_store::Keeper;
 
 impl<K: Keeper + Drop> SessionState<K> {
@@ -15,7 +15,7 @@ impl<K: Keeper + Drop> SessionState<K> {
     pub(crate) fn query(&mut self, plan: &QueryPlan) -> Outcome
         ensures performs { Performs self.old.state
             (query_outcome self.old.state plan.now) result self.new }
-        ensures still { self.new.looked ≡ self.old.looked }
+        ensures still { self.new.looked_up ≡ self.old.looked_up }
     {
         self.work = Work::none();
         match select(&self.store, plan) {

@@ -17,7 +17,7 @@ use crate::session_state::{SessionState, Work};
 use iv_catalogue::{Cause, Refusal};
 use iv_machine::Answer;
 use iv_modes::Modes;
-use iv_run::Outcome;
+use iv_step::Outcome;
 use iv_store::{Keeper, Mark};
 use iv_syntax::Name;
 use std::alloc::AllocError;
@@ -51,7 +51,7 @@ fn take_out<K: Keeper>(store: &mut K, saves: &mut SavepointList, place: usize)
     ensures saves { saves.new.saves ≡ remove saves.old.saves place }
     ensures store { K.view store.new ≡ store_without_mark (K.view store.old) (place + 1) }
     ensures room { saves.old.room ≤ saves.new.room }
-    ensures unlooked { K.lookups store.new ≡ K.lookups store.old }
+    ensures not_looked_up { K.lookups store.new ≡ K.lookups store.old }
 {
     store.forget(Mark::new(place + 1));
     saves.remove(place);
@@ -64,7 +64,7 @@ fn take_named<K: Keeper>(store: &mut K, saves: &mut SavepointList, name: &str)
         (K.view store.new) }
     ensures none { last_named name.now saves.new.saves ≡ None }
     ensures room { saves.old.room ≤ saves.new.room }
-    ensures unlooked { K.lookups store.new ≡ K.lookups store.old }
+    ensures not_looked_up { K.lookups store.new ≡ K.lookups store.old }
 {
     while let Some(place) = saves.place_of(name) {
         take_out(store, saves, place);
@@ -78,7 +78,7 @@ fn take_from<K: Keeper>(store: &mut K, saves: &mut SavepointList, place: usize)
     ensures saves { saves.new.saves ≡ take place saves.old.saves }
     ensures store { K.view store.new
         ≡ with_marks (K.view store.old) (take (place + 1) (K.view store.old).marks) }
-    ensures unlooked { K.lookups store.new ≡ K.lookups store.old }
+    ensures not_looked_up { K.lookups store.new ≡ K.lookups store.old }
 {
     let mut left = saves.len();
     while place < left {
@@ -99,7 +99,7 @@ impl<K: Keeper + Drop> SessionState<K> {
         requires { is_open self.old.state ≡ false }
         ensures performs { Performs self.old.state
             (accept (with_transaction self.old.state) Done) result self.new }
-        ensures still { self.new.looked ≡ self.old.looked }
+        ensures still { self.new.looked_up ≡ self.old.looked_up }
     {
         let _ = self.store.mark()?;
         self.active = true;
@@ -112,7 +112,7 @@ impl<K: Keeper + Drop> SessionState<K> {
         requires { is_open self.old.state ≡ true }
         ensures performs { Performs self.old.state
             (accept (state_with_savepoint self.old.state name.now) Done) result self.new }
-        ensures still { self.new.looked ≡ self.old.looked }
+        ensures still { self.new.looked_up ≡ self.old.looked_up }
     {
         let own = String::from_str(self.store.allocator(), name.as_str())?;
         let modes = copied(&self.changed)?;
@@ -130,7 +130,7 @@ impl<K: Keeper + Drop> SessionState<K> {
         ensures performs { Performs self.old.state
             (release_outcome self.old.state (savepoint_named name.now self.old.state.savepoints))
             result self.new }
-        ensures still { self.new.looked ≡ self.old.looked }
+        ensures still { self.new.looked_up ≡ self.old.looked_up }
     {
         self.work = Work::none();
         match self.saves.place_of(name.as_str()) {
@@ -145,7 +145,7 @@ impl<K: Keeper + Drop> SessionState<K> {
     // ROLLBACK TO SAVEPOINT.
     pub(crate) fn back_to(&mut self, name: &str) -> Outcome
         requires { is_open self.old.state ≡ true }
-        ensures looked { LooksUpFew self.old self.new }
+        ensures looked_up { LooksUpFew self.old self.new }
         ensures sure_store { K.sure ≡ true → is_memory result ≡ false }
         ensures performs { Performs self.old.state
             (rollback_to_outcome self.old.state
@@ -156,11 +156,11 @@ impl<K: Keeper + Drop> SessionState<K> {
             Some(place) => place,
             None => return refuse(Cause::UnknownSavepoint),
         };
-        let standing = self.store.standing();
+        let change_count = self.store.change_count();
         self.store.undo_to(Mark::new(place + 1))?;
         bring_back(&mut self.changed, &self.initial, self.saves.modes_at(place));
         self.saves.truncate(place + 1);
-        self.work.undone = standing.saturating_sub(self.store.standing());
+        self.work.undone = change_count.saturating_sub(self.store.change_count());
         Ok(Answer::Done)
     }
 
@@ -170,7 +170,7 @@ impl<K: Keeper + Drop> SessionState<K> {
             (outcome_unless self.old.state (transaction_cause (is_open self.old.state) inside)
             (rollback_to_outcome self.old.state
             (savepoint_named name.now self.old.state.savepoints))) result self.new }
-        ensures looked { LooksUpFew self.old self.new }
+        ensures looked_up { LooksUpFew self.old self.new }
         ensures sure { is_open self.old.state ≡ false → is_memory result ≡ false }
         ensures sure_store { K.sure ≡ true → is_memory result ≡ false }
     {
@@ -185,9 +185,9 @@ impl<K: Keeper + Drop> SessionState<K> {
     /// those of the machine, or memory was refused and the state is as before. Outside a transaction it takes
     /// no memory, and on a store that goes back to a mark without memory it never takes any.
     pub fn rollback_to(&mut self, name: &str) -> Outcome
-        ensures looked { LooksUpFew self.old self.new }
-        ensures lookups { self.new.lookups ≡ self.new.looked - self.old.looked }
-        ensures unlooked { ((store : K) → K.lookups store ≡ 0) → self.new.lookups ≡ 0 }
+        ensures looked_up { LooksUpFew self.old self.new }
+        ensures lookups { self.new.lookups ≡ self.new.looked_up - self.old.looked_up }
+        ensures not_looked_up { ((store : K) → K.lookups store ≡ 0) → self.new.lookups ≡ 0 }
         ensures sure { is_open self.old.state ≡ false → is_memory result ≡ false }
         ensures sure_store { K.sure ≡ true → is_memory result ≡ false }
         ensures performs { Performs self.old.state
@@ -195,9 +195,9 @@ impl<K: Keeper + Drop> SessionState<K> {
             (rollback_to_outcome self.old.state
             (savepoint_named name.now self.old.state.savepoints))) result self.new }
     {
-        let looked = self.looked();
+        let looked_up = self.looked_up();
         let answer = self.back_to_or_refuse(name);
-        self.count_lookups(looked);
+        self.count_lookups(looked_up);
         answer
     }
 }

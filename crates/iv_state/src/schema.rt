@@ -11,7 +11,7 @@ use crate::session_state::{SessionState, Work};
 use iv_additions::{add_constraint, add_table};
 use iv_catalogue::{Cause, Constraint, Constraints, Refusal, Table, Trigger, TriggerId};
 use iv_machine::Answer;
-use iv_run::Outcome;
+use iv_step::Outcome;
 use iv_store::{AddFault, Keeper};
 use std::alloc::AllocError;
 

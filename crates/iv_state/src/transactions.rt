@@ -65,14 +65,14 @@ impl<K: Keeper + Drop> SessionState<K> {
     }
 
     // Says what a call did, which began when so many keys were looked up.
-    pub(crate) fn note(&mut self, changes: u64, undone: u64, looked: u64)
+    pub(crate) fn note(&mut self, changes: u64, undone: u64, looked_up: u64)
         ensures state { self.new.state ≡ self.old.state }
         ensures work { self.new.work ≡ record { changes = changes; undone = undone } }
-        ensures lookups { self.new.lookups ≡ self.old.looked - looked }
-        ensures unlooked { ((store : K) → K.lookups store ≡ 0) → self.new.lookups ≡ 0 }
-        ensures looked { self.new.looked ≡ self.old.looked }
+        ensures lookups { self.new.lookups ≡ self.old.looked_up - looked_up }
+        ensures not_looked_up { ((store : K) → K.lookups store ≡ 0) → self.new.lookups ≡ 0 }
+        ensures looked_up { self.new.looked_up ≡ self.old.looked_up }
     {
-        let lookups = self.store.looked().saturating_sub(looked);
+        let lookups = self.store.looked_up().saturating_sub(looked_up);
         self.work = Work {
             changes,
             undone,
@@ -81,10 +81,10 @@ impl<K: Keeper + Drop> SessionState<K> {
     }
 
     /// How many keys were looked up so far; the count stays at 2^64 - 1 once it is there.
-    pub fn looked(&self) -> u64
-        ensures { result ≡ self.now.looked }
+    pub fn looked_up(&self) -> u64
+        ensures { result ≡ self.now.looked_up }
     {
-        self.store.looked()
+        self.store.looked_up()
     }
 
     /// Says that the last call did nothing.
@@ -92,20 +92,20 @@ impl<K: Keeper + Drop> SessionState<K> {
         ensures state { self.new.state ≡ self.old.state }
         ensures work { self.new.work ≡ no_work }
         ensures lookups { self.new.lookups ≡ 0 }
-        ensures looked { self.new.looked ≡ self.old.looked }
+        ensures looked_up { self.new.looked_up ≡ self.old.looked_up }
     {
         self.work = Work::none();
     }
 
     /// Says how many keys the last call looked up, which began when there had been so many look-ups.
-    pub fn count_lookups(&mut self, looked: u64)
+    pub fn count_lookups(&mut self, looked_up: u64)
         ensures state { self.new.state ≡ self.old.state }
         ensures work { self.new.work ≡ self.old.work }
-        ensures lookups { self.new.lookups ≡ self.old.looked - looked }
-        ensures unlooked { ((store : K) → K.lookups store ≡ 0) → self.new.lookups ≡ 0 }
-        ensures looked { self.new.looked ≡ self.old.looked }
+        ensures lookups { self.new.lookups ≡ self.old.looked_up - looked_up }
+        ensures not_looked_up { ((store : K) → K.lookups store ≡ 0) → self.new.lookups ≡ 0 }
+        ensures looked_up { self.new.looked_up ≡ self.old.looked_up }
     {
-        self.work.lookups = self.store.looked().saturating_sub(looked);
+        self.work.lookups = self.store.looked_up().saturating_sub(looked_up);
     }
 
     // How many changes a ROLLBACK takes back.
@@ -113,7 +113,7 @@ impl<K: Keeper + Drop> SessionState<K> {
         ensures { result ≡ (rollback_outcome self.now.state).work.undone }
     {
         if self.active {
-            self.store.standing()
+            self.store.change_count()
         } else {
             0
         }
@@ -122,8 +122,8 @@ impl<K: Keeper + Drop> SessionState<K> {
     // Ends the transaction with the database from its start.
     fn undo_transaction(&mut self)
         ensures state { self.new.state ≡ (rollback_outcome self.old.state).state }
-        ensures looked { LookedUp (length self.old.state.schema.constraints)
-            (rollback_outcome self.old.state).work self.old.looked self.new.looked }
+        ensures looked_up { LookedUp (length self.old.state.schema.constraints)
+            (rollback_outcome self.old.state).work self.old.looked_up self.new.looked_up }
     {
         if self.active {
             self.store.undo(Mark::new(0));
@@ -139,14 +139,14 @@ impl<K: Keeper + Drop> SessionState<K> {
     pub fn rollback(&mut self)
         ensures state { self.new.state ≡ (rollback_outcome self.old.state).state }
         ensures work { self.new.work ≡ (rollback_outcome self.old.state).work }
-        ensures looked { LooksUpFew self.old self.new }
-        ensures lookups { self.new.lookups ≡ self.new.looked - self.old.looked }
-        ensures unlooked { ((store : K) → K.lookups store ≡ 0) → self.new.lookups ≡ 0 }
+        ensures looked_up { LooksUpFew self.old self.new }
+        ensures lookups { self.new.lookups ≡ self.new.looked_up - self.old.looked_up }
+        ensures not_looked_up { ((store : K) → K.lookups store ≡ 0) → self.new.lookups ≡ 0 }
     {
-        let looked = self.looked();
+        let looked_up = self.looked_up();
         let undone = self.undone_at_end();
         self.undo_transaction();
-        self.note(0, undone, looked);
+        self.note(0, undone, looked_up);
     }
 
     // Ends the transaction with the database as it is.
@@ -155,9 +155,9 @@ impl<K: Keeper + Drop> SessionState<K> {
             (if is_open self.old.state then state_at_end self.old.state self.old.state.database else
             self.old.state) }
         ensures work { self.new.work ≡ no_work }
-        ensures still { self.new.looked ≡ self.old.looked }
-        ensures lookups { self.new.lookups ≡ self.new.looked - self.old.looked }
-        ensures unlooked { ((store : K) → K.lookups store ≡ 0) → self.new.lookups ≡ 0 }
+        ensures still { self.new.looked_up ≡ self.old.looked_up }
+        ensures lookups { self.new.lookups ≡ self.new.looked_up - self.old.looked_up }
+        ensures not_looked_up { ((store : K) → K.lookups store ≡ 0) → self.new.lookups ≡ 0 }
     {
         if self.active {
             self.store.settle();
@@ -174,9 +174,9 @@ impl<K: Keeper + Drop> SessionState<K> {
         ensures answer { commit_answer result ≡ (commit_outcome self.old.state).answer }
         ensures state { self.new.state ≡ (commit_outcome self.old.state).state }
         ensures work { self.new.work ≡ (commit_outcome self.old.state).work }
-        ensures looked { LooksUpFew self.old self.new }
-        ensures lookups { self.new.lookups ≡ self.new.looked - self.old.looked }
-        ensures unlooked { ((store : K) → K.lookups store ≡ 0) → self.new.lookups ≡ 0 }
+        ensures looked_up { LooksUpFew self.old self.new }
+        ensures lookups { self.new.lookups ≡ self.new.looked_up - self.old.looked_up }
+        ensures not_looked_up { ((store : K) → K.lookups store ≡ 0) → self.new.lookups ≡ 0 }
         // Inside a transaction it is accepted exactly where the scan of all constraints is empty.
         ensures accepted { OnOk result (is_open self.old.state ≡ true →
             scan self.old.state.database.rows self.old.state.schema.constraints

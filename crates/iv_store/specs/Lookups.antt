@@ -10,16 +10,16 @@ use Rattle.iv_store.specs.Stores.{StoreState, reference_at}
 
 -- the count of look-ups after one more; it stays at 2^64 - 1 once it is there
 abbrev pub counted : ℕ → ℕ
-counted looked = min (looked + 1) (2 ^ 64 - 1)
+counted looked_up = min (looked_up + 1) (2 ^ 64 - 1)
 
 -- the count after a key is looked up by a foreign key; a key with a null isn't, since no row holds it
 abbrev pub counted_by : List Value → Option Reference → ℕ → ℕ
-counted_by key None looked = looked
-counted_by key (Some k) looked = if none_null key then counted looked else looked
+counted_by key None looked_up = looked_up
+counted_by key (Some k) looked_up = if none_null key then counted looked_up else looked_up
 
 -- The count after the rows that hold a key by the foreign key of this number are asked for: they are found by one look-up.
 abbrev pub counted_children : StoreState → ℕ → List Value → ℕ → ℕ
-counted_children s id key looked = counted_by key (reference_at s.constraints id) looked
+counted_children s id key looked_up = counted_by key (reference_at s.constraints id) looked_up
 
 -- how many of these constraints are foreign keys
 abbrev pub foreign_keys : List Constraint → ℕ
@@ -35,4 +35,4 @@ most_lookups_for_a_change = 8
 -- looked up than that.
 pub record LooksUp (old : StoreState) (before : ℕ) (new : StoreState) (after : ℕ) : Type 0 where
   pub more : old.base.count ≤ new.base.count
-  pub looked : after ≤ before + most_lookups_for_a_change * length old.constraints * (new.base.count - old.base.count)
+  pub looked_up : after ≤ before + most_lookups_for_a_change * length old.constraints * (new.base.count - old.base.count)

@@ -6,7 +6,7 @@ ghost use Rattle.iv_machine.specs.Invariants.{Rising};
 ghost use Rattle.iv_machine.specs.Waves.{values_at};
 ghost use Rattle.iv_store.specs.Stores.{fits_table, store_after, store_faults, most_lookups};
 
-use crate::kin::Kin;
+use crate::referencing_rows::ReferencingRows;
 use iv_catalogue::Fault;
 use iv_expr::{Change, Rows};
 use iv_machine::Which;
@@ -16,7 +16,7 @@ use std::alloc::AllocError;
 /// Rows that are scanned, found by their keys and changed one by one. There is no mark, and no way back: who lends
 /// such rows undoes their changes. Every call leaves what its clauses don't name as it was; where memory is refused
 /// all is as before but the count of look-ups.
-pub trait ChangeableRows: Rows + Kin {
+pub trait ChangeableRows: Rows + ReferencingRows {
     /// The number that the next new row takes, from 1.
     fn next_row(&self) -> u64
         ensures next { result ≡ (Self.view self.now).base.next }
@@ -24,7 +24,7 @@ pub trait ChangeableRows: Rows + Kin {
         ensures within { (Self.view self.now).base.next ≤ last_row_number + 1 };
 
     /// The count of row changes in the transaction.
-    fn standing(&self) -> u64
+    fn change_count(&self) -> u64
         ensures count { result ≡ (Self.view self.now).base.count }
         ensures within { (Self.view self.now).base.count ≤ most_changes_in_a_transaction };
 
@@ -42,7 +42,7 @@ pub trait ChangeableRows: Rows + Kin {
         ensures ok { OnOk result (Self.view self.new ≡ store_after (Self.view self.old) change) }
         ensures err { OnErr result (Self.view self.new ≡ Self.view self.old) }
         ensures grows { Self.lookups self.old ≤ Self.lookups self.new }
-        ensures looked { OnOk result (Self.lookups self.new ≤
+        ensures looked_up { OnOk result (Self.lookups self.new ≤
             Self.lookups self.old + most_lookups * length (Self.view self.old).constraints) };
 
     /// The first violation of the constraints that are meant, by creation, then by row. It takes no memory.

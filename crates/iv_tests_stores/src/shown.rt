@@ -91,5 +91,5 @@ pub fn show_rows<K: Keeper>(store: &K, tables: u32, shown: &mut String) -> Resul
         show_table(store, TableId::new(table), shown)?;
         shown.push_str("/ ")?;
     }
-    write!(shown, "{} {} | ", store.next_row(), store.standing())
+    write!(shown, "{} {} | ", store.next_row(), store.change_count())
 }

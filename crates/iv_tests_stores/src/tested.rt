@@ -168,7 +168,7 @@ impl<K: Keeper + Drop> Tested<K> {
         if number == 0 || number > LAST_ROW_NUMBER {
             return Err(Stopped::Unasked);
         }
-        if self.store.standing() >= MOST_CHANGES_IN_A_TRANSACTION {
+        if self.store.change_count() >= MOST_CHANGES_IN_A_TRANSACTION {
             return Err(Stopped::Unasked);
         }
         if table.place() as usize >= self.tables.len()

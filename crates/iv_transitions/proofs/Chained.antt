@@ -10,11 +10,11 @@ use Rattle.iv_expr.specs.Changes.{Wave, wave_of, RisingChangesFrom, RisingChange
 use Rattle.iv_machine.specs.declared.database.Database.{Database}
 use Rattle.iv_machine.specs.Databases.{row_at, has_change, next_after, database_after}
 use Rattle.iv_machine.specs.Waves.{in_waves}
-use Rattle.iv_laws.specs.FittingWaves.{old_row, Current, NumbersFrom, Numbered, Chain}
-use Rattle.iv_laws.specs.Reorderings.{after_changes}
-use Rattle.iv_laws.proofs.RowNumbers.{some_none, some_same}
-use Rattle.iv_laws.proofs.AppliedRows.{row_of, news, side_here, side_elsewhere, no_side, row_at_rows_after}
-use Rattle.iv_laws.proofs.NumberedRows.{Below, parts_of}
+use Rattle.iv_laws_levels.specs.FittingWaves.{old_row, Current, NumbersFrom, Numbered, Chain}
+use Rattle.iv_laws_levels.specs.Reorderings.{after_changes}
+use Rattle.iv_laws_levels.proofs.RowNumbers.{some_none, some_same}
+use Rattle.iv_laws_levels.proofs.AppliedRows.{row_of, news, side_here, side_elsewhere, no_side, row_at_rows_after}
+use Rattle.iv_laws_levels.proofs.NumberedRows.{Below, parts_of}
 use Rattle.iv_transitions.proofs.ChangesAt.{change_at, change_some_none, number_at, at_head, at_other, at_above}
 
 -- ---- one wave

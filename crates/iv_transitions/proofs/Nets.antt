@@ -11,13 +11,13 @@ use Rattle.iv_expr.specs.Changes.{Wave, wave_of, RisingChangesFrom, RisingChange
 use Rattle.iv_machine.specs.declared.database.Database.{Database}
 use Rattle.iv_machine.specs.Databases.{row_at, has_change}
 use Rattle.iv_machine.specs.Waves.{in_waves, values_at, net_wave}
-use Rattle.iv_laws.specs.FittingWaves.{Current, Chain}
-use Rattle.iv_laws.specs.Reorderings.{after_changes}
-use Rattle.iv_laws.specs.RisingRows.{Every, Above, InOrder}
-use Rattle.iv_laws.proofs.RowNumbers.{row_at_filter_in_order, passing, number_of_row_at, in_order_filter}
-use Rattle.iv_laws.proofs.AppliedRows.{row_of}
-use Rattle.iv_laws.proofs.NumberedRows.{Below, parts_of}
-use Rattle.iv_laws.proofs.FittingWaves.{Present, present_itself}
+use Rattle.iv_laws_levels.specs.FittingWaves.{Current, Chain}
+use Rattle.iv_laws_levels.specs.Reorderings.{after_changes}
+use Rattle.iv_laws_levels.specs.RisingRows.{Every, Above, InOrder}
+use Rattle.iv_laws_levels.proofs.RowNumbers.{row_at_filter_in_order, passing, number_of_row_at, in_order_filter}
+use Rattle.iv_laws_levels.proofs.AppliedRows.{row_of}
+use Rattle.iv_laws_levels.proofs.NumberedRows.{Below, parts_of}
+use Rattle.iv_laws_levels.proofs.FittingWaves.{Present, present_itself}
 use Rattle.iv_transitions.specs.Merging.{kept, merged}
 use Rattle.iv_transitions.proofs.ChangesAt.{change_at, number_at, at_kept_here, at_kept_elsewhere, at_above, rising_kept, join, join_none, at_merged, rising_merged, same_changes}
 use Rattle.iv_transitions.proofs.Chained.{option_cases, in_wave_some, in_wave_none, after_some, current_at, Across, across, across_twice, either_wave, parted}

@@ -4,7 +4,7 @@ ghost use Rattle.std.specs.List.{cons_option};
 ghost use Rattle.iv_expr.specs.Changes.{RisingChanges, RisingChangesFrom, last_row};
 ghost use Rattle.iv_machine.specs.declared.database.Database.{Database};
 ghost use Rattle.iv_machine.specs.Waves.{net_wave};
-ghost use Rattle.iv_laws.specs.FittingWaves.{Chain};
+ghost use Rattle.iv_laws_levels.specs.FittingWaves.{Chain};
 ghost use Rattle.iv_transitions.specs.Merging.{joined, kept, merged, Merging};
 
 use iv_expr::{Change, Row, Wave};

@@ -16,7 +16,7 @@ pub fn cause_of(fault: ExprFault) -> Cause
 {
     match fault {
         ExprFault::OutOfRange => Cause::NumberOutOfRange,
-        ExprFault::Misfit => Cause::WrongShape,
+        ExprFault::IllTyped => Cause::WrongShape,
         ExprFault::NoMemory => Cause::OutOfMemory,
     }
 }

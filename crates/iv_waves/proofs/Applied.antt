@@ -15,15 +15,15 @@ use Rattle.iv_machine.specs.Bounds.{last_row_number, most_changes_in_a_transacti
 use Rattle.iv_machine.specs.Databases.{row_at, has_change, database_after}
 use Rattle.iv_machine.specs.Waves.{values_at, is_beyond_last_row}
 use Rattle.iv_store.specs.Stores.{StoreState, fits_table, most_lookups, store_after}
-use Rattle.iv_fitting.specs.PlanShapes.{is_there}
-use Rattle.iv_laws.specs.FittingWaves.{old_row, Current, Numbered}
-use Rattle.iv_laws.specs.Reorderings.{Distinct, after_changes, one_by_one}
-use Rattle.iv_laws.proofs.AnyOrder.{applied_one_by_one}
-use Rattle.iv_laws.proofs.AppliedRows.{news, row_at_rows_after}
-use Rattle.iv_laws.proofs.NumberedRows.{Positive, parts_of}
-use Rattle.iv_laws.proofs.FittingWaves.{rising_distinct, rising_positive}
-use Rattle.iv_row_laws.specs.RowFits.{side_fits, change_fits, changes_fit}
-use Rattle.iv_row_laws.specs.Changing.{with_database}
+use Rattle.iv_laws_fitting.specs.PlanShapes.{is_there}
+use Rattle.iv_laws_levels.specs.FittingWaves.{old_row, Current, Numbered}
+use Rattle.iv_laws_levels.specs.Reorderings.{Distinct, after_changes, one_by_one}
+use Rattle.iv_laws_levels.proofs.AnyOrder.{applied_one_by_one}
+use Rattle.iv_laws_levels.proofs.AppliedRows.{news, row_at_rows_after}
+use Rattle.iv_laws_levels.proofs.NumberedRows.{Positive, parts_of}
+use Rattle.iv_laws_levels.proofs.FittingWaves.{rising_distinct, rising_positive}
+use Rattle.iv_laws_rows.specs.RowFits.{side_fits, change_fits, changes_fit}
+use Rattle.iv_laws_rows.specs.Changing.{with_database}
 use Rattle.iv_waves.specs.Applying.{Applicable, IsNext}
 
 -- ---- what is still to be applied, and to what

@@ -16,16 +16,16 @@ use Rattle.iv_machine.specs.Context.{Context, Failure, fails, with_count}
 use Rattle.iv_machine.specs.BeforeTriggers.{wave_after_triggers}
 use Rattle.iv_machine.specs.Waves.{with_numbers, numbered_wave, is_beyond_last_row, wave_as_applied}
 use Rattle.iv_store.specs.Stores.{StoreState}
-use Rattle.iv_laws.proofs.Chains.{not_ok}
-use Rattle.iv_laws.proofs.Settling.{applied_is, size_applied}
-use Rattle.iv_laws.proofs.BeforeRows.{AllAlike, applied_alike}
-use Rattle.iv_laws.proofs.FittingWaves.{applied_fits}
+use Rattle.iv_laws_levels.proofs.Chains.{not_ok}
+use Rattle.iv_laws_levels.proofs.Settling.{applied_is, size_applied}
+use Rattle.iv_laws_levels.proofs.BeforeRows.{AllAlike, applied_alike}
+use Rattle.iv_laws_levels.proofs.FittingWaves.{applied_fits}
 use Rattle.iv_triggers.specs.Answering.{AnswersRefusal}
 use Rattle.iv_triggers.proofs.Answers.{unless_memory}
-use Rattle.iv_row_laws.specs.RowFits.{changes_fit}
-use Rattle.iv_row_laws.specs.Changing.{AnswersAt}
+use Rattle.iv_laws_rows.specs.RowFits.{changes_fit}
+use Rattle.iv_laws_rows.specs.Changing.{AnswersAt}
 use Rattle.iv_waves.specs.Applying.{Applicable}
-use Rattle.iv_waves.specs.Standing.{Standing}
+use Rattle.iv_waves.specs.Progress.{Progress}
 use Rattle.iv_waves.proofs.Applied.{least}
 use Rattle.iv_waves.proofs.Rows.{applied_wave_fits}
 
@@ -113,7 +113,7 @@ pub record Enters (s : StoreState) (budget : ℕ) (changes : List Change) (out :
   pub fits : size out ≤ budget
   pub same : size out ≡ length changes
 
-pub enters : (w : Context) (s : StoreState) (budget : ℕ) (changes : List Change) (out : Wave) → Standing w s changes
+pub enters : (w : Context) (s : StoreState) (budget : ℕ) (changes : List Change) (out : Wave) → Progress w s changes
     → wave_as_applied w s.base budget (wave_of changes) ≡ Ok out → Enters s budget changes out
 enters w s budget changes out h e =
     let is = applied_is w s.base budget (wave_of changes) out e in

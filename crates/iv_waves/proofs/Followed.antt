@@ -14,8 +14,8 @@ use Rattle.iv_machine.specs.Databases.{database_after}
 use Rattle.iv_machine.specs.Context.{Context, Failure, fails, unless_first}
 use Rattle.iv_machine.specs.ReferentialActions.{conflicts, following_wave, lost_keys, next_wave, restricted_rows}
 use Rattle.iv_machine.specs.Waves.{AppliedWave}
-use Rattle.iv_laws.proofs.NumberedRows.{parts_of}
-use Rattle.iv_action_laws.specs.RowByRow.{LedTo}
+use Rattle.iv_laws_levels.proofs.NumberedRows.{parts_of}
+use Rattle.iv_laws_actions.specs.RowByRow.{LedTo}
 use Rattle.iv_actions.specs.Answers.{AnswersWave, uncounted}
 use Rattle.iv_triggers.proofs.Answers.{unless_memory}
 use Rattle.iv_waves.specs.Applying.{Applicable}

@@ -10,22 +10,22 @@ use Rattle.iv_machine.specs.Databases.{size, database_after}
 use Rattle.iv_machine.specs.Context.{Context, Failure}
 use Rattle.iv_machine.specs.Waves.{AppliedWave, SettledWaves, is_empty, one_wave, settled_waves}
 use Rattle.iv_store.specs.Stores.{StoreState}
-use Rattle.iv_laws.proofs.Settling.{applied_of_one, followed_of_one, then_settled, nothing_settled}
-use Rattle.iv_laws.proofs.WaveEquations.{waves_are_settled_one_by_one}
-use Rattle.iv_laws.proofs.NumberedRows.{numbered_applied}
-use Rattle.iv_laws.proofs.FittingWaves.{applied_fits, rising_positive}
-use Rattle.iv_laws.proofs.Readying.{followed_ready, proposed_ready}
-use Rattle.iv_laws.specs.FittingWaves.{Numbered}
-use Rattle.iv_row_laws.specs.RowFits.{changes_fit}
+use Rattle.iv_laws_levels.proofs.Settling.{applied_of_one, followed_of_one, then_settled, nothing_settled}
+use Rattle.iv_laws_levels.proofs.WaveEquations.{waves_are_settled_one_by_one}
+use Rattle.iv_laws_levels.proofs.NumberedRows.{numbered_applied}
+use Rattle.iv_laws_levels.proofs.FittingWaves.{applied_fits, rising_positive}
+use Rattle.iv_laws_levels.proofs.Readying.{followed_ready, proposed_ready}
+use Rattle.iv_laws_levels.specs.FittingWaves.{Numbered}
+use Rattle.iv_laws_rows.specs.RowFits.{changes_fit}
 use Rattle.std.specs.Bool.{◌==◌}
 use Rattle.std.proofs.lemmas.Bool.Decides.{nat_tests}
 use Rattle.iv_triggers.proofs.Answers.{unless_memory}
-use Rattle.iv_row_laws.specs.Changing.{StoreFits, with_database}
+use Rattle.iv_laws_rows.specs.Changing.{StoreFits, with_database}
 use Rattle.iv_waves.specs.Applying.{Proposes}
-use Rattle.iv_waves.specs.Standing.{Standing}
+use Rattle.iv_waves.specs.Progress.{Progress}
 use Rattle.iv_waves.proofs.Entered.{enters}
-use Rattle.iv_row_laws.proofs.FittingChanges.{rows_after_fit}
-use Rattle.iv_row_laws.proofs.FollowingRows.{following_waves_fit}
+use Rattle.iv_laws_rows.proofs.FittingChanges.{rows_after_fit}
+use Rattle.iv_laws_rows.proofs.FollowingRows.{following_waves_fit}
 use Rattle.iv_waves.proofs.Rows.{applied_wave_fits}
 
 -- ---- the waves that came before, and these
@@ -84,9 +84,9 @@ settled_nothing w db budget (c ∷ changes) done h = absurd (omega (arith, h))
 pub record NextRound (w : Context) (s : StoreState) (budget : ℕ) (changes : List Change) (one : AppliedWave) : Type 0 where
   pub fits : size one.wave ≤ budget
   pub same : size one.wave ≡ length changes
-  pub standing : Standing w (with_database s (database_after s.base one.wave)) one.next.changes
+  pub progress : Progress w (with_database s (database_after s.base one.wave)) one.next.changes
 
-pub next_round : (w : Context) (s : StoreState) (budget : ℕ) (changes : List Change) (one : AppliedWave) → Standing w s changes
+pub next_round : (w : Context) (s : StoreState) (budget : ℕ) (changes : List Change) (one : AppliedWave) → Progress w s changes
     → one_wave w s.base budget (wave_of changes) ≡ Ok one → NextRound w s budget changes one
 next_round w s budget changes one h e =
     let is_applied = applied_of_one w s.base budget (wave_of changes) one e in
@@ -98,7 +98,7 @@ next_round w s budget changes one h e =
     record {
       fits = entered.fits;
       same = entered.same;
-      standing = record {
+      progress = record {
         fits = record { tables = h.fits.tables; constraints = h.fits.constraints; suits = h.fits.suits; rows = rows };
         numbered = numbered_applied s.base one.wave.changes h.numbered (rising_positive one.wave.changes entered.applicable.rising);
         fit = following_waves_fit w s.base one.wave one.next h.fits.suits h.numbered fits_database h.fits.rows fit is_followed;
@@ -113,7 +113,7 @@ none_before (Ok s) = refl
 none_before (Err e) = refl
 
 pub first_round : (w : Context) (s : StoreState) (changes : List Change) → StoreFits w.schema s → Numbered s.base → changes_fit w.schema.tables changes ≡ true
-    → Proposes w s.base changes → Standing w s changes
+    → Proposes w s.base changes → Progress w s changes
 first_round w s changes fits numbered fit h = record {
   fits = fits;
   numbered = numbered;
@@ -136,10 +136,10 @@ pub round_so_far : (w : Context) (s later : StoreState) (budget less : ℕ) (cha
 round_so_far w s later budget less changes next done more all one h so_far e is_later is_less is_next is_more =
     (λ i. after_waves (is_more i) (settled_waves w (is_later i) (is_less i) (wave_of (is_next i)))) ∙ settled_step w s.base budget changes done one h e ∙ so_far
 
-pub round_standing : (w : Context) (s later : StoreState) (budget : ℕ) (changes next : List Change) (one : AppliedWave) → Standing w s changes
+pub round_progress : (w : Context) (s later : StoreState) (budget : ℕ) (changes next : List Change) (one : AppliedWave) → Progress w s changes
     → one_wave w s.base budget (wave_of changes) ≡ Ok one → later.base ≡ database_after s.base one.wave → later ≡ with_database s later.base → next ≡ one.next.changes
-    → Standing w later next
-round_standing w s later budget changes next one h e is_later kept is_next =
+    → Progress w later next
+round_progress w s later budget changes next one h e is_later kept is_next =
     let round = next_round w s budget changes one h e in
-    subst (Standing w later) (sym is_next)
-    (subst (λ x. Standing w x one.next.changes) (sym (kept ∙ ap (with_database s) is_later)) round.standing)
+    subst (Progress w later) (sym is_next)
+    (subst (λ x. Progress w x one.next.changes) (sym (kept ∙ ap (with_database s) is_later)) round.progress)

@@ -3,7 +3,7 @@ use Rattle.std.proofs.Common.{◌≡◌, ℕ, Result, Ok, Err, MatchBool, IsErrA
 use Rattle.iv_catalogue.specs.Refusals.{is_memory_cause}
 use Rattle.iv_catalogue.specs.declared.cause.Refusal.{Refusal}
 use Rattle.iv_machine.specs.Context.{Failure}
-use Rattle.iv_row_laws.specs.Changing.{AnswersAt, UnlessMemory}
+use Rattle.iv_laws_rows.specs.Changing.{AnswersAt, UnlessMemory}
 
 pub told_on : {A B : Type 0} (view : A → B) (count : ℕ) (r : Result A Refusal) (e : Refusal) (said : Result B Failure) → IsErrAnd r (λ y. y ≡ e)
     → MatchBool (is_memory_cause e.cause) (Unit {0}) (said ≡ Err (record { cause = e.cause; trigger = e.trigger; count = count })) → AnswersAt view count r said

@@ -12,8 +12,8 @@ use Rattle.iv_machine.specs.Databases.{row_at}
 use Rattle.iv_machine.specs.Proposals.{proposed_changes}
 use Rattle.iv_machine.specs.Waves.{values_at, is_beyond_last_row}
 use Rattle.iv_store.specs.Stores.{StoreState, fits_table}
-use Rattle.iv_laws.specs.FittingWaves.{Current, Numbered}
-use Rattle.iv_row_laws.specs.RowFits.{changes_fit}
+use Rattle.iv_laws_levels.specs.FittingWaves.{Current, Numbered}
+use Rattle.iv_laws_rows.specs.RowFits.{changes_fit}
 
 -- a change that the store takes
 pub record IsNext (s : StoreState) (c : Change) : Type 0 where

@@ -1,3 +1,3 @@
 pub mod Applying
-pub mod Standing
+pub mod Progress
 pub mod Steps

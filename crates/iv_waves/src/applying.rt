@@ -3,7 +3,7 @@ ghost use Rattle.std.specs.Prelude.{◌≡◌, ◌+◌, ◌*◌, ◌≤◌, leng
 ghost use Rattle.iv_expr.specs.Changes.{wave_of};
 ghost use Rattle.iv_machine.specs.Databases.{database_after};
 ghost use Rattle.iv_store.specs.Stores.{most_lookups, store_after};
-ghost use Rattle.iv_row_laws.specs.Changing.{with_database};
+ghost use Rattle.iv_laws_rows.specs.Changing.{with_database};
 ghost use Rattle.iv_waves.specs.Applying.{Applicable, IsNext};
 
 use iv_expr::Change;
@@ -15,7 +15,7 @@ fn apply<K: ChangeableRows>(store: &mut K, change: &Change) -> Result<(), AllocE
     requires { IsNext (K.view store.old) change.now }
     ensures ok { OnOk result (K.view store.new ≡ store_after (K.view store.old) change.now) }
     ensures err { OnErr result (K.view store.new ≡ K.view store.old) }
-    ensures looked { OnOk result (K.lookups store.new ≤
+    ensures looked_up { OnOk result (K.lookups store.new ≤
         K.lookups store.old + most_lookups * length (K.view store.old).constraints) }
 {
     let copy = change.clone()?;
@@ -29,7 +29,7 @@ pub fn apply_all<K: ChangeableRows>(store: &mut K, changes: &[Change]) -> Result
         database_after (K.view store.old).base (wave_of changes.now)) }
     ensures kept { K.view store.new ≡
         with_database (K.view store.old) (K.view store.new).base }
-    ensures looked { OnOk result (K.lookups store.new ≤ K.lookups store.old
+    ensures looked_up { OnOk result (K.lookups store.new ≤ K.lookups store.old
         + most_lookups * length (K.view store.old).constraints * length changes.now) }
 {
     for change in changes {

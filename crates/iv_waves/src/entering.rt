@@ -2,8 +2,8 @@
 ghost use Rattle.std.specs.Prelude.{◌≡◌, length};
 ghost use Rattle.iv_expr.specs.Changes.{wave_of};
 ghost use Rattle.iv_machine.specs.Waves.{wave_as_applied};
-ghost use Rattle.iv_row_laws.specs.Changing.{AnswersAt};
-ghost use Rattle.iv_waves.specs.Standing.{Standing};
+ghost use Rattle.iv_laws_rows.specs.Changing.{AnswersAt};
+ghost use Rattle.iv_waves.specs.Progress.{Progress};
 
 use crate::numbering::number;
 use iv_catalogue::{Cause, Refusal};
@@ -28,7 +28,7 @@ fn prepare<K: ChangeableRows>(
     if budget < size {
         return Err(Refusal::of(Cause::TooManyChanges));
     }
-    if MOST_CHANGES_IN_A_TRANSACTION - store.standing() < size {
+    if MOST_CHANGES_IN_A_TRANSACTION - store.change_count() < size {
         return Err(Refusal::of(Cause::TransactionTooLarge));
     }
     if !number(store.next_row(), changes) {
@@ -44,7 +44,7 @@ pub fn enter<K: ChangeableRows>(
     budget: u64,
     changes: Vec<Change>,
 ) -> Result<Wave, Refusal>
-    requires { Standing context.now (K.view store.now) changes.items }
+    requires { Progress context.now (K.view store.now) changes.items }
     ensures answer { AnswersAt (λ wave. wave) (K.view store.now).base.count result
         (wave_as_applied context.now (K.view store.now).base budget (wave_of changes.items)) }
 {

@@ -1,13 +1,13 @@
 //! Waves until nothing follows.
 ghost use Rattle.std.specs.Prelude.{◌≡◌, ◌+◌, ◌-◌, ◌*◌, ◌≤◌, ◌++◌, ◌∷◌, [], length, true, IfOk, OnOk};
 ghost use Rattle.iv_expr.specs.Changes.{wave_of};
-ghost use Rattle.iv_laws.specs.FittingWaves.{Chain};
+ghost use Rattle.iv_laws_levels.specs.FittingWaves.{Chain};
 ghost use Rattle.iv_machine.specs.Databases.{database_after};
 ghost use Rattle.iv_machine.specs.Waves.{one_wave, settled_waves};
-ghost use Rattle.iv_row_laws.specs.RowFits.{changes_fit};
-ghost use Rattle.iv_row_laws.specs.Changing.{AnswersAt, StoreFits, UnlessMemory, with_database};
+ghost use Rattle.iv_laws_rows.specs.RowFits.{changes_fit};
+ghost use Rattle.iv_laws_rows.specs.Changing.{AnswersAt, StoreFits, UnlessMemory, with_database};
 ghost use Rattle.iv_waves.specs.Applying.{Applicable, Proposes};
-ghost use Rattle.iv_waves.specs.Standing.{Standing};
+ghost use Rattle.iv_waves.specs.Progress.{Progress};
 ghost use Rattle.iv_waves.specs.Steps.{followed_by};
 ghost use Rattle.iv_store.specs.Lookups.{LooksUp};
 
@@ -42,7 +42,7 @@ fn follow<K: ChangeableRows>(
     ensures applied { IfOk result (λ x. (K.view store.new).base
         ≡ database_after (K.view store.old).base x.wave) }
     ensures kept { K.view store.new ≡ with_database (K.view store.old) (K.view store.new).base }
-    ensures looked { UnlessMemory result
+    ensures looked_up { UnlessMemory result
         (LooksUp (K.view store.old) (K.lookups store.old)
         (K.view store.new) (K.lookups store.new)) }
 {
@@ -58,14 +58,14 @@ fn one_wave<K: ChangeableRows>(
     budget: u64,
     changes: Vec<Change>,
 ) -> Result<AppliedWave, Refusal>
-    requires { Standing context.now (K.view store.old) changes.items }
+    requires { Progress context.now (K.view store.old) changes.items }
     ensures answer { AnswersAt (λ x. record { wave = x.wave; next = x.next })
         (K.view store.new).base.count result
         (one_wave context.now (K.view store.old).base budget (wave_of changes.items)) }
     ensures applied { IfOk result (λ x. (K.view store.new).base
         ≡ database_after (K.view store.old).base x.wave) }
     ensures kept { K.view store.new ≡ with_database (K.view store.old) (K.view store.new).base }
-    ensures looked { UnlessMemory result
+    ensures looked_up { UnlessMemory result
         (LooksUp (K.view store.old) (K.lookups store.old)
         (K.view store.new) (K.lookups store.new)) }
 {
@@ -103,7 +103,7 @@ pub fn settle<K: ChangeableRows>(
     ensures store { OnOk result (StoreFits context.now.schema (K.view store.new)) }
     ensures chain { IfOk result
         (λ waves. Chain (K.view store.old).base waves.items (K.view store.new).base) }
-    ensures looked { UnlessMemory result
+    ensures looked_up { UnlessMemory result
         (LooksUp (K.view store.old) (K.lookups store.old)
         (K.view store.new) (K.lookups store.new)) }
 {

@@ -1,6 +1,6 @@
 -- Statements as they are found at the front of words, with one word of look-ahead.
 use Rattle.std.specs.Prelude.{Some, List}
-use Rattle.iv_lex.specs.declared.kind.Kind.TheVariants as kind
+use Rattle.iv_lex.specs.declared.kind.TokenKind.TheVariants as kind
 use Rattle.iv_lex.specs.Words.{Word}
 use Rattle.iv_parse.specs.Words.{Statement, ConstraintList}
 use Rattle.iv_parse.specs.Words.statement.{DropTrigger, StartTransaction, Commit, Rollback, Savepoint, Release, RollbackTo, SetConstraints}

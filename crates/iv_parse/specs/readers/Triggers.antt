@@ -1,6 +1,6 @@
 -- The parts of CREATE TRIGGER as they are found at the front of words.
 use Rattle.std.specs.Prelude.{ℕ, Option, Some, None, List, [], ◌∷◌, length}
-use Rattle.iv_lex.specs.declared.kind.Kind.TheVariants as kind
+use Rattle.iv_lex.specs.declared.kind.TokenKind.TheVariants as kind
 use Rattle.iv_lex.specs.Words.{Word}
 use Rattle.iv_parse.specs.Words.{Condition, ActionTime, TriggerEvent, Granularity, Referencing, TriggerAction, TriggerDefinition}
 use Rattle.iv_parse.specs.Words.time as action_time

@@ -1,7 +1,7 @@
 -- Data statements as they are found at the front of words.
 use Rattle.std.specs.Prelude.{ℕ, Option, Some, None, List}
-use Rattle.iv_lex.specs.declared.kind.Kind.{Kind}
-use Rattle.iv_lex.specs.declared.kind.Kind.TheVariants as kind
+use Rattle.iv_lex.specs.declared.kind.TokenKind.{TokenKind}
+use Rattle.iv_lex.specs.declared.kind.TokenKind.TheVariants as kind
 use Rattle.iv_lex.specs.Words.{Word}
 use Rattle.iv_parse_data.specs.Words.{Expression, ValueOrDefault, InsertSource, Insert, RangeName, SelectList, Assignment, Update, Delete, Select, Condition}
 use Rattle.iv_parse_data.specs.Words.given.{Value, Default}
@@ -20,7 +20,7 @@ abbrev pub FoundPart : Type 0 → Type 0
 FoundPart A = Option (A × List Word)
 
 -- this word, and then what the function finds
-abbrev pub then_word : {A : Type 0} → Kind → List Word → (List Word → FoundPart A) → FoundPart A
+abbrev pub then_word : {A : Type 0} → TokenKind → List Word → (List Word → FoundPart A) → FoundPart A
 then_word k ws f = if_some (after k ws) f None
 
 abbrev pub read_name : List Word → FoundPart (List ℕ)

@@ -1,6 +1,6 @@
 -- Items of REFERENCING as they are found at the front of words.
 use Rattle.std.specs.Prelude.{Option, Some, None, List}
-use Rattle.iv_lex.specs.declared.kind.Kind.TheVariants as kind
+use Rattle.iv_lex.specs.declared.kind.TokenKind.TheVariants as kind
 use Rattle.iv_lex.specs.Words.{Word}
 use Rattle.iv_parse_data.specs.Words.{Side, TransitionName, Referencing}
 use Rattle.iv_parse_data.specs.Words.side

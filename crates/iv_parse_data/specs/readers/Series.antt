@@ -1,7 +1,7 @@
 -- Parts that come several times, or may be left out, as they are found at the front of words.
 use Rattle.std.specs.Prelude.{ℕ, zero, suc, Option, Some, None, List, [], ◌∷◌, length}
-use Rattle.iv_lex.specs.declared.kind.Kind.{Kind}
-use Rattle.iv_lex.specs.declared.kind.Kind.TheVariants as kind
+use Rattle.iv_lex.specs.declared.kind.TokenKind.{TokenKind}
+use Rattle.iv_lex.specs.declared.kind.TokenKind.TheVariants as kind
 use Rattle.iv_lex.specs.Words.{Word}
 use Rattle.iv_parse_terms.specs.After.{after, if_some, then_read}
 
@@ -45,5 +45,5 @@ module _ {A B : Type 0} where
       if_some a (λ x. Some ((Some x, b), more)) (then_read (first more) (λ c left. Some ((c, b), left)))))
 
 -- the words after a word that may be left out
-abbrev pub skip : Kind → List Word → List Word
+abbrev pub skip : TokenKind → List Word → List Word
 skip k ws = if_some (after k ws) (λ rest. rest) ws

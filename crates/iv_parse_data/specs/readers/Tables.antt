@@ -1,7 +1,7 @@
 -- The parts of CREATE TABLE and ALTER TABLE as they are found at the front of words.
 use Rattle.std.specs.Prelude.{ℕ, Bool, true, false, Option, Some, None, List, [], ◌∷◌, length}
-use Rattle.iv_lex.specs.declared.kind.Kind.{Kind}
-use Rattle.iv_lex.specs.declared.kind.Kind.TheVariants as kind
+use Rattle.iv_lex.specs.declared.kind.TokenKind.{TokenKind}
+use Rattle.iv_lex.specs.declared.kind.TokenKind.TheVariants as kind
 use Rattle.iv_lex.specs.Words.{Word, name, number, quoted, plain}
 use Rattle.iv_parse_data.specs.Words.{ConstraintMode, Statement, Literal, ColumnType, ConstraintTime, MatchType, ReferentialAction, References, ColumnRule, ColumnConstraint, TableRule, TableConstraint, ColumnDefinition, TableElement}
 use Rattle.iv_parse_data.specs.Words.mode.{Immediate, Deferred}
@@ -113,7 +113,7 @@ read_referential_action ws =
     (read_strict_action ws))
 
 -- ON is looked at with the word after it
-unfoldable pub read_on : Kind → List Word → FoundPart (Option ReferentialAction)
+unfoldable pub read_on : TokenKind → List Word → FoundPart (Option ReferentialAction)
 read_on event ws =
     if_some (after kind.On ws)
     (λ rest. if_some (after event rest)

@@ -4,8 +4,8 @@ use Rattle.std.specs.Prelude.{ℕ, zero, suc, nat_le, if◌then◌else◌, Optio
 use Rattle.iv_parse_terms.specs.Words.{Comparison, RangeName, Expression, Condition}
 use Rattle.iv_parse_terms.specs.Words.comparison
 use Rattle.iv_parse_terms.specs.Words.condition.{Compare, IsNull, IsNotNull, Exists}
-use Rattle.iv_lex.specs.declared.kind.Kind.{Kind}
-use Rattle.iv_lex.specs.declared.kind.Kind.TheVariants as kind
+use Rattle.iv_lex.specs.declared.kind.TokenKind.{TokenKind}
+use Rattle.iv_lex.specs.declared.kind.TokenKind.TheVariants as kind
 use Rattle.iv_lex.specs.Words.{Word, plain}
 use Rattle.iv_parse_terms.specs.declared.item.Item.{Item}
 use Rattle.iv_parse_terms.specs.declared.item.Item.TheVariants.{Value, Truth}
@@ -128,7 +128,7 @@ negate limit (Truth c) ws = condition_fits limit (negated c) ws
 abbrev pub negation_by : ℕ → (List Word → FoundItem) → List Word → FoundItem
 negation_by limit tests ws = if_some (after kind.Not ws) (λ rest. then_read (tests rest) (negate limit)) (tests ws)
 
-abbrev pub connective_kind : Connective → Kind
+abbrev pub connective_kind : Connective → TokenKind
 connective_kind And = kind.And
 connective_kind Or = kind.Or
 

@@ -1,6 +1,6 @@
 -- The expression at the front of words, read with one word of look-ahead and no deeper than a limit.
 use Rattle.std.specs.Prelude.{ℕ, zero, suc, nat_le, if◌then◌else◌, Option, Some, None, List, [], ◌∷◌}
-use Rattle.iv_lex.specs.declared.kind.Kind.TheVariants as kind
+use Rattle.iv_lex.specs.declared.kind.TokenKind.TheVariants as kind
 use Rattle.iv_lex.specs.Words.{Word, name, number, quoted, plain}
 use Rattle.iv_parse_terms.specs.Words.{Sign, Expression}
 use Rattle.iv_parse_terms.specs.Words.sign

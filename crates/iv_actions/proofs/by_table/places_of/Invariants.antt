@@ -4,4 +4,4 @@ use Rattle.iv_actions.proofs.by_table.places_of.Given as goal
 
 abbrev pub invariant-loop-place : goal.invariant-loop-place
 invariant-loop-place l =
-    (t : ℕ) → at_places l.losings (get_or l.lists.items t []) ++ on_table t (drop l.place l.losings) ≡ on_table t l.losings
+    (t : ℕ) → at_places l.affected_keys (get_or l.lists.items t []) ++ on_table t (drop l.place l.affected_keys) ≡ on_table t l.affected_keys

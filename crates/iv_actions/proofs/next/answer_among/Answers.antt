@@ -7,9 +7,9 @@ use Rattle.iv_actions.proofs.next.answer_among.Goals as goal
 
 pub returns-then-is_empty : goal.returns-then-is_empty
 returns-then-is_empty g c =
-    let later = (g.K.Kin.view c.args.store.now).base in
+    let later = (g.K.ReferencingRows.view c.args.store.now).base in
     ap (λ changes. Ok (wave_of changes)) c.new.ensures
     ∙ ap uncounted
     (sym (nothing_follows c.args.catalogue.now c.args.changes.now later c.args.numbers.now)
     ∙ ap (λ xs. answer_among c.args.catalogue.now xs c.args.changes.now later c.args.numbers.now)
-    (sym (none_there c.args.losings.now (sym c.is_empty.ensures ∙ c.if-is_empty.true))))
+    (sym (none_there c.args.affected_keys.now (sym c.is_empty.ensures ∙ c.if-is_empty.true))))

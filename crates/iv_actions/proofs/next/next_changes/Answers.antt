@@ -5,7 +5,7 @@ use Rattle.iv_actions.proofs.next.next_changes.Goals as goal
 
 pub loop-number-preserved : goal.loop-number-preserved
 loop-number-preserved g c =
-    let f = change_at c.args.catalogue.now c.args.losings.now c.args.changes.now (g.K.Kin.view c.args.store.now).base.rows in
+    let f = change_at c.args.catalogue.now c.args.affected_keys.now c.args.changes.now (g.K.ReferencingRows.view c.args.store.now).base.rows in
     let numbers = c.args.numbers.now in
     let i = c.loop-number.number-index in
     record {

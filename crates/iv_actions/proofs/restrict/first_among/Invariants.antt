@@ -5,4 +5,4 @@ use Rattle.iv_actions.proofs.restrict.first_among.Given as goal
 
 abbrev pub invariant-loop-place : goal.invariant-loop-place
 invariant-loop-place l =
-    find (restricts l.row) (at_places l.losings (drop l.place-index l.places)) ≡ find (restricts l.row) (at_places l.losings l.places)
+    find (restricts l.row) (at_places l.affected_keys (drop l.place-index l.places)) ≡ find (restricts l.row) (at_places l.affected_keys l.places)

@@ -1,8 +1,8 @@
 use Rattle.std.proofs.Common.{ℕ, refl, ap, sym, ◌∙◌, arith}
 use Rattle.iv_machine.specs.Levels.{Firing, nested_level}
-use Rattle.iv_exec.specs.Steps.{standing}
+use Rattle.iv_exec.specs.Steps.{progress}
 use Rattle.iv_waves.proofs.ToldOn.{told_on, told_unless}
-use Rattle.iv_waves.proofs.Looking.{kept_both, looked_both, looked_refused}
+use Rattle.iv_waves.proofs.Looking.{kept_both, looked_up_both, looked_refused}
 use Rattle.iv_exec.proofs.Refusing.{answers_as}
 use Rattle.iv_exec.proofs.Levels.{finished_is, level_done, nested_opens, waves_done, waves_refused}
 use Rattle.iv_exec.proofs.Turns.{rows_refused, rows_so_far, statements_refused, statements_so_far, triggers_refused, triggers_so_far}
@@ -10,35 +10,35 @@ use Rattle.iv_exec.proofs.level.+level.Goals as goal
 
 pub finish-returns-clause-answer : goal.finish-returns-clause-answer
 finish-returns-clause-answer g t c net h =
-    let later = g.K.Kin.view c.fire_all.new.store in
-    answers_as (λ (u : Unit {0}). standing later.base c.fire_all.new.budget) later.base.count c.fire_all.result _ _
+    let later = g.K.ReferencingRows.view c.fire_all.new.store in
+    answers_as (λ (u : Unit {0}). progress later.base c.fire_all.new.budget) later.base.count c.fire_all.result _ _
     (sym (finished_is (nested_level c.args.deeper c.args.context.now) c.args.context.now c.args.statement.now c.args.transitions.now net c.triggers.result.now
-    (standing (g.K.Kin.view c.args.store.now).base c.args.budget.now) _ c.in_ok-check.ensures h (c.triggers.ensures.triggers ∙ ap (λ s. s.triggers) c.catalogue.ensures) refl)) c.fire_all.ensures.answer
+    (progress (g.K.ReferencingRows.view c.args.store.now).base c.args.budget.now) _ c.in_ok-check.ensures h (c.triggers.ensures.triggers ∙ ap (λ s. s.triggers) c.catalogue.ensures) refl)) c.fire_all.ensures.answer
 
 pub fire_all-returns-in_err-fire_trigger-clause-answer : goal.fire_all-returns-in_err-fire_trigger-clause-answer
 fire_all-returns-in_err-fire_trigger-clause-answer g t c =
     told_on _ _ c.from_residual.result c.in_err-fire_trigger.field-0.0 _ c.from_residual.ensures.1
     (triggers_refused _ (nested_level c.args.deeper c.args.context.now) c.args.statement.now c.args.transitions.now c.args.triggers.now c.loop-at.at c.trigger_at-trigger.result.now
-    (standing (g.K.Kin.view c.loop-at.store).base c.loop-at.budget) _ _ c.trigger_at-trigger.ensures.trigger c.loop-at.invariant.so_far c.in_err-fire_trigger.ensures.answer)
+    (progress (g.K.ReferencingRows.view c.loop-at.store).base c.loop-at.budget) _ _ c.trigger_at-trigger.ensures.trigger c.loop-at.invariant.so_far c.in_err-fire_trigger.ensures.answer)
 
-pub fire_all-returns-in_err-fire_trigger-clause-looked : goal.fire_all-returns-in_err-fire_trigger-clause-looked
-fire_all-returns-in_err-fire_trigger-clause-looked g t c =
+pub fire_all-returns-in_err-fire_trigger-clause-looked_up : goal.fire_all-returns-in_err-fire_trigger-clause-looked_up
+fire_all-returns-in_err-fire_trigger-clause-looked_up g t c =
     told_unless c.from_residual.result c.in_err-fire_trigger.field-0.0 _ c.from_residual.ensures.1
-    (looked_refused _ (g.K.Kin.view c.args.store.now) (g.K.Kin.view c.loop-at.store) (g.K.Kin.view c.fire_trigger.new.store) (g.K.Kin.lookups c.args.store.now) (g.K.Kin.lookups c.loop-at.store)
-    (g.K.Kin.lookups c.fire_trigger.new.store) c.loop-at.invariant.kept c.loop-at.invariant.looked c.in_err-fire_trigger.ensures.looked)
+    (looked_refused _ (g.K.ReferencingRows.view c.args.store.now) (g.K.ReferencingRows.view c.loop-at.store) (g.K.ReferencingRows.view c.fire_trigger.new.store) (g.K.ReferencingRows.lookups c.args.store.now) (g.K.ReferencingRows.lookups c.loop-at.store)
+    (g.K.ReferencingRows.lookups c.fire_trigger.new.store) c.loop-at.invariant.kept c.loop-at.invariant.looked_up c.in_err-fire_trigger.ensures.looked_up)
 
 pub fire_all-loop-at-preserved : goal.fire_all-loop-at-preserved
 fire_all-loop-at-preserved g t c =
-    let old = g.K.Kin.view c.args.store.now in
-    let now = g.K.Kin.view c.loop-at.store in
-    let later = g.K.Kin.view c.fire_trigger.new.store in
+    let old = g.K.ReferencingRows.view c.args.store.now in
+    let now = g.K.ReferencingRows.view c.loop-at.store in
+    let later = g.K.ReferencingRows.view c.fire_trigger.new.store in
     record {
       within = omega arith;
       so_far = triggers_so_far (nested_level c.args.deeper c.args.context.now) c.args.statement.now c.args.transitions.now c.args.triggers.now c.loop-at.at c.trigger_at-trigger.result.now
-          (standing now.base c.loop-at.budget) _ _ c.trigger_at-trigger.ensures.trigger c.in_ok-fire_trigger.ensures.answer c.loop-at.invariant.so_far;
+          (progress now.base c.loop-at.budget) _ _ c.trigger_at-trigger.ensures.trigger c.in_ok-fire_trigger.ensures.answer c.loop-at.invariant.so_far;
       kept = kept_both old now later c.loop-at.invariant.kept c.in_ok-fire_trigger.ensures.kept;
-      looked = looked_both old now later (g.K.Kin.lookups c.args.store.now) (g.K.Kin.lookups c.loop-at.store) (g.K.Kin.lookups c.fire_trigger.new.store)
-          c.loop-at.invariant.kept c.loop-at.invariant.looked c.in_ok-fire_trigger.ensures.looked;
+      looked_up = looked_up_both old now later (g.K.ReferencingRows.lookups c.args.store.now) (g.K.ReferencingRows.lookups c.loop-at.store) (g.K.ReferencingRows.lookups c.fire_trigger.new.store)
+          c.loop-at.invariant.kept c.loop-at.invariant.looked_up c.in_ok-fire_trigger.ensures.looked_up;
       fits = c.in_ok-fire_trigger.ensures.store;
     }
 
@@ -46,84 +46,84 @@ pub fire_rows-returns-in_err-fire-clause-answer : goal.fire_rows-returns-in_err-
 fire_rows-returns-in_err-fire-clause-answer g t c =
     told_on _ _ c.from_residual.result c.in_err-fire.field-0.0 _ c.from_residual.ensures.1
     (rows_refused _ (nested_level c.args.deeper c.args.context.now) c.args.trigger.now c.args.transitions.now c.loop-at.at c.row_frame-frame.result
-    (standing (g.K.Kin.view c.loop-at.store).base c.loop-at.budget) _ _ c.row_frame-frame.ensures.firing c.loop-at.invariant.so_far c.in_err-fire.ensures.answer)
+    (progress (g.K.ReferencingRows.view c.loop-at.store).base c.loop-at.budget) _ _ c.row_frame-frame.ensures.firing c.loop-at.invariant.so_far c.in_err-fire.ensures.answer)
 
-pub fire_rows-returns-in_err-fire-clause-looked : goal.fire_rows-returns-in_err-fire-clause-looked
-fire_rows-returns-in_err-fire-clause-looked g t c =
+pub fire_rows-returns-in_err-fire-clause-looked_up : goal.fire_rows-returns-in_err-fire-clause-looked_up
+fire_rows-returns-in_err-fire-clause-looked_up g t c =
     told_unless c.from_residual.result c.in_err-fire.field-0.0 _ c.from_residual.ensures.1
-    (looked_refused _ (g.K.Kin.view c.args.store.now) (g.K.Kin.view c.loop-at.store) (g.K.Kin.view c.fire.new.store) (g.K.Kin.lookups c.args.store.now) (g.K.Kin.lookups c.loop-at.store)
-    (g.K.Kin.lookups c.fire.new.store) c.loop-at.invariant.kept c.loop-at.invariant.looked c.in_err-fire.ensures.looked)
+    (looked_refused _ (g.K.ReferencingRows.view c.args.store.now) (g.K.ReferencingRows.view c.loop-at.store) (g.K.ReferencingRows.view c.fire.new.store) (g.K.ReferencingRows.lookups c.args.store.now) (g.K.ReferencingRows.lookups c.loop-at.store)
+    (g.K.ReferencingRows.lookups c.fire.new.store) c.loop-at.invariant.kept c.loop-at.invariant.looked_up c.in_err-fire.ensures.looked_up)
 
 pub fire_rows-loop-at-preserved : goal.fire_rows-loop-at-preserved
 fire_rows-loop-at-preserved g t c =
-    let old = g.K.Kin.view c.args.store.now in
-    let now = g.K.Kin.view c.loop-at.store in
-    let later = g.K.Kin.view c.fire.new.store in
+    let old = g.K.ReferencingRows.view c.args.store.now in
+    let now = g.K.ReferencingRows.view c.loop-at.store in
+    let later = g.K.ReferencingRows.view c.fire.new.store in
     record {
       within = omega arith;
       so_far = rows_so_far (nested_level c.args.deeper c.args.context.now) c.args.trigger.now c.args.transitions.now c.loop-at.at c.row_frame-frame.result
-          (standing now.base c.loop-at.budget) _ _ c.row_frame-frame.ensures.firing c.in_ok-fire.ensures.answer c.loop-at.invariant.so_far;
+          (progress now.base c.loop-at.budget) _ _ c.row_frame-frame.ensures.firing c.in_ok-fire.ensures.answer c.loop-at.invariant.so_far;
       kept = kept_both old now later c.loop-at.invariant.kept c.in_ok-fire.ensures.kept;
-      looked = looked_both old now later (g.K.Kin.lookups c.args.store.now) (g.K.Kin.lookups c.loop-at.store) (g.K.Kin.lookups c.fire.new.store)
-          c.loop-at.invariant.kept c.loop-at.invariant.looked c.in_ok-fire.ensures.looked;
+      looked_up = looked_up_both old now later (g.K.ReferencingRows.lookups c.args.store.now) (g.K.ReferencingRows.lookups c.loop-at.store) (g.K.ReferencingRows.lookups c.fire.new.store)
+          c.loop-at.invariant.kept c.loop-at.invariant.looked_up c.in_ok-fire.ensures.looked_up;
       fits = c.in_ok-fire.ensures.store;
     }
 
 pub nested-returns-clause-answer : goal.nested-returns-clause-answer
 nested-returns-clause-answer g t c =
-    let later = g.K.Kin.view c.run_level.new.store in
+    let later = g.K.ReferencingRows.view c.run_level.new.store in
     answers_as (λ (n : ℕ). record { database = later.base; rest = c.run_level.new.budget; size = n }) later.base.count c.run_level.result _ _
-    (sym (nested_opens c.args.deeper c.args.context.now c.args.trigger c.args.statement.now c.args.frame.now (g.K.Kin.view c.args.store.now).base c.args.budget.now c.if-deeper-eq0.false)) c.run_level.ensures.answer
+    (sym (nested_opens c.args.deeper c.args.context.now c.args.trigger c.args.statement.now c.args.frame.now (g.K.ReferencingRows.view c.args.store.now).base c.args.budget.now c.if-deeper-eq0.false)) c.run_level.ensures.answer
 
-pub run_body-returns-in_err-run_statement-clause-looked : goal.run_body-returns-in_err-run_statement-clause-looked
-run_body-returns-in_err-run_statement-clause-looked g t c =
+pub run_body-returns-in_err-run_statement-clause-looked_up : goal.run_body-returns-in_err-run_statement-clause-looked_up
+run_body-returns-in_err-run_statement-clause-looked_up g t c =
     told_unless c.from_residual.result c.in_err-run_statement.field-0.0 _ c.from_residual.ensures.1
-    (looked_refused _ (g.K.Kin.view c.args.store.now) (g.K.Kin.view c.loop-at.store) (g.K.Kin.view c.run_statement.new.store) (g.K.Kin.lookups c.args.store.now) (g.K.Kin.lookups c.loop-at.store)
-    (g.K.Kin.lookups c.run_statement.new.store) c.loop-at.invariant.kept c.loop-at.invariant.looked c.in_err-run_statement.ensures.looked)
+    (looked_refused _ (g.K.ReferencingRows.view c.args.store.now) (g.K.ReferencingRows.view c.loop-at.store) (g.K.ReferencingRows.view c.run_statement.new.store) (g.K.ReferencingRows.lookups c.args.store.now) (g.K.ReferencingRows.lookups c.loop-at.store)
+    (g.K.ReferencingRows.lookups c.run_statement.new.store) c.loop-at.invariant.kept c.loop-at.invariant.looked_up c.in_err-run_statement.ensures.looked_up)
 
 pub run_level-returns-clause-answer : goal.run_level-returns-clause-answer
 run_level-returns-clause-answer g t c =
-    let later = g.K.Kin.view c.run_waves.new.store in
+    let later = g.K.ReferencingRows.view c.run_waves.new.store in
     answers_as (λ (n : ℕ). record { database = later.base; rest = c.run_waves.new.budget; size = n }) later.base.count c.run_waves.result _ _
-    (sym (level_done c.args.deeper c.args.context.now c.args.statement.now c.args.frame.now (g.K.Kin.view c.args.store.now).base c.args.budget.now _ _ c.if-budget-eq0.false c.in_ok-changes.ensures.answer refl)) c.run_waves.ensures.answer
+    (sym (level_done c.args.deeper c.args.context.now c.args.statement.now c.args.frame.now (g.K.ReferencingRows.view c.args.store.now).base c.args.budget.now _ _ c.if-budget-eq0.false c.in_ok-changes.ensures.answer refl)) c.run_waves.ensures.answer
 
 pub run_waves-returns-clause-answer : goal.run_waves-returns-clause-answer
 run_waves-returns-clause-answer g t c =
-    waves_done (nested_level c.args.deeper c.args.context.now) c.args.context.now c.args.statement.now (g.K.Kin.view c.args.store.now).base (g.K.Kin.view c.settle_waves.new.store).base
+    waves_done (nested_level c.args.deeper c.args.context.now) c.args.context.now c.args.statement.now (g.K.ReferencingRows.view c.args.store.now).base (g.K.ReferencingRows.view c.settle_waves.new.store).base
     c.args.budget.now c.settle_waves.new.budget c.args.changes.items c.in_ok-transitions.transitions _ _ c.in_ok-transitions.ensures.answer (c.len-size.ensures ∙ c.args.changes.ok.0) c.in_ok-finish.ensures.answer
 
 pub run_waves-returns-in_err-finish-clause-answer : goal.run_waves-returns-in_err-finish-clause-answer
 run_waves-returns-in_err-finish-clause-answer g t c =
     told_on _ _ c.from_residual-in_err-finish.result c.in_err-finish.field-0.0 _ c.from_residual-in_err-finish.ensures.1
-    (waves_refused _ (nested_level c.args.deeper c.args.context.now) c.args.context.now c.args.statement.now (g.K.Kin.view c.args.store.now).base (g.K.Kin.view c.settle_waves.new.store).base
+    (waves_refused _ (nested_level c.args.deeper c.args.context.now) c.args.context.now c.args.statement.now (g.K.ReferencingRows.view c.args.store.now).base (g.K.ReferencingRows.view c.settle_waves.new.store).base
     c.args.budget.now c.settle_waves.new.budget c.args.changes.items c.in_ok-transitions.transitions _ c.in_ok-transitions.ensures.answer c.in_err-finish.ensures.answer)
 
-pub run_waves-returns-in_err-finish-clause-looked : goal.run_waves-returns-in_err-finish-clause-looked
-run_waves-returns-in_err-finish-clause-looked g t c =
+pub run_waves-returns-in_err-finish-clause-looked_up : goal.run_waves-returns-in_err-finish-clause-looked_up
+run_waves-returns-in_err-finish-clause-looked_up g t c =
     told_unless c.from_residual-in_err-finish.result c.in_err-finish.field-0.0 _ c.from_residual-in_err-finish.ensures.1
-    (looked_refused _ (g.K.Kin.view c.args.store.now) (g.K.Kin.view c.settle_waves.new.store) (g.K.Kin.view c.finish.new.store) (g.K.Kin.lookups c.args.store.now) (g.K.Kin.lookups c.settle_waves.new.store)
-    (g.K.Kin.lookups c.finish.new.store) c.in_ok-transitions.ensures.kept c.in_ok-transitions.ensures.looked c.in_err-finish.ensures.looked)
+    (looked_refused _ (g.K.ReferencingRows.view c.args.store.now) (g.K.ReferencingRows.view c.settle_waves.new.store) (g.K.ReferencingRows.view c.finish.new.store) (g.K.ReferencingRows.lookups c.args.store.now) (g.K.ReferencingRows.lookups c.settle_waves.new.store)
+    (g.K.ReferencingRows.lookups c.finish.new.store) c.in_ok-transitions.ensures.kept c.in_ok-transitions.ensures.looked_up c.in_err-finish.ensures.looked_up)
 
 pub run_body-returns-in_err-run_statement-clause-answer : goal.run_body-returns-in_err-run_statement-clause-answer
 run_body-returns-in_err-run_statement-clause-answer g t c =
     let x : Firing = record { trigger = c.args.trigger.now; frame = c.args.frame.now } in
     told_on _ _ c.from_residual.result c.in_err-run_statement.field-0.0 _ c.from_residual.ensures.1
     (statements_refused _ (nested_level c.args.deeper c.args.context.now) x c.as_slice-body.result.now c.loop-at.place c.loop-at.at c.statement_at-statement.result.now
-    (standing (g.K.Kin.view c.loop-at.store).base c.loop-at.budget) _ _ c.statement_at-statement.ensures.statement c.loop-at.invariant.so_far c.in_err-run_statement.ensures.answer)
+    (progress (g.K.ReferencingRows.view c.loop-at.store).base c.loop-at.budget) _ _ c.statement_at-statement.ensures.statement c.loop-at.invariant.so_far c.in_err-run_statement.ensures.answer)
 
 pub run_body-loop-at-preserved : goal.run_body-loop-at-preserved
 run_body-loop-at-preserved g t c =
     let x : Firing = record { trigger = c.args.trigger.now; frame = c.args.frame.now } in
-    let old = g.K.Kin.view c.args.store.now in
-    let now = g.K.Kin.view c.loop-at.store in
-    let later = g.K.Kin.view c.run_statement.new.store in
+    let old = g.K.ReferencingRows.view c.args.store.now in
+    let now = g.K.ReferencingRows.view c.loop-at.store in
+    let later = g.K.ReferencingRows.view c.run_statement.new.store in
     record {
       within = omega arith;
       counted = omega (arith, c.loop-at.invariant.counted);
       so_far = statements_so_far (nested_level c.args.deeper c.args.context.now) x c.as_slice-body.result.now c.loop-at.place c.loop-at.at c.statement_at-statement.result.now
-          (standing now.base c.loop-at.budget) _ _ c.statement_at-statement.ensures.statement c.in_ok-run_statement.ensures.answer c.loop-at.invariant.so_far;
+          (progress now.base c.loop-at.budget) _ _ c.statement_at-statement.ensures.statement c.in_ok-run_statement.ensures.answer c.loop-at.invariant.so_far;
       kept = kept_both old now later c.loop-at.invariant.kept c.in_ok-run_statement.ensures.kept;
-      looked = looked_both old now later (g.K.Kin.lookups c.args.store.now) (g.K.Kin.lookups c.loop-at.store) (g.K.Kin.lookups c.run_statement.new.store)
-          c.loop-at.invariant.kept c.loop-at.invariant.looked c.in_ok-run_statement.ensures.looked;
+      looked_up = looked_up_both old now later (g.K.ReferencingRows.lookups c.args.store.now) (g.K.ReferencingRows.lookups c.loop-at.store) (g.K.ReferencingRows.lookups c.run_statement.new.store)
+          c.loop-at.invariant.kept c.loop-at.invariant.looked_up c.in_ok-run_statement.ensures.looked_up;
       fits = c.in_ok-run_statement.ensures.store;
     }

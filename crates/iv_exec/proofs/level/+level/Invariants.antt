@@ -3,9 +3,9 @@ use Rattle.std.specs.List.{enumerate_from}
 use Rattle.iv_machine.specs.Levels.{Firing, body_run, firings_run, nested_level, row_firing}
 use Rattle.iv_machine.specs.BeforeTriggers.{placed_statements}
 use Rattle.iv_transitions.specs.ByTable.{all_firings}
-use Rattle.iv_row_laws.specs.Changing.{StoreFits, with_database}
+use Rattle.iv_laws_rows.specs.Changing.{StoreFits, with_database}
 use Rattle.iv_store.specs.Lookups.{LooksUp}
-use Rattle.iv_exec.specs.Steps.{standing}
+use Rattle.iv_exec.specs.Steps.{progress}
 use Rattle.iv_exec.proofs.level.+level.Given as goal
 
 -- A nested level is one less deep; the functions between two levels are in the order of their calls.
@@ -49,28 +49,28 @@ decreases-run_level g l = 11 * l.deeper + 10
 abbrev pub invariant-fire_all-loop-at : goal.invariant-fire_all-loop-at
 invariant-fire_all-loop-at g l =
     let run = nested_level l.deeper l.context in
-    let old = g.K.Kin.view l.initial.store in
-    let now = g.K.Kin.view l.store in
+    let old = g.K.ReferencingRows.view l.initial.store in
+    let now = g.K.ReferencingRows.view l.store in
     record {
       within : l.at ≤ length l.triggers;
-      so_far : firings_run run (all_firings l.statement l.transitions (drop l.at l.triggers)) (standing now.base l.budget)
-          ≡ firings_run run (all_firings l.statement l.transitions l.triggers) (standing old.base l.initial.budget);
+      so_far : firings_run run (all_firings l.statement l.transitions (drop l.at l.triggers)) (progress now.base l.budget)
+          ≡ firings_run run (all_firings l.statement l.transitions l.triggers) (progress old.base l.initial.budget);
       kept : now ≡ with_database old now.base;
-      looked : LooksUp old (g.K.Kin.lookups l.initial.store) now (g.K.Kin.lookups l.store);
+      looked_up : LooksUp old (g.K.ReferencingRows.lookups l.initial.store) now (g.K.ReferencingRows.lookups l.store);
       fits : StoreFits l.context.schema now;
     }
 
 abbrev pub invariant-fire_rows-loop-at : goal.invariant-fire_rows-loop-at
 invariant-fire_rows-loop-at g l =
     let run = nested_level l.deeper l.context in
-    let old = g.K.Kin.view l.initial.store in
-    let now = g.K.Kin.view l.store in
+    let old = g.K.ReferencingRows.view l.initial.store in
+    let now = g.K.ReferencingRows.view l.store in
     record {
       within : l.at ≤ length l.transitions;
-      so_far : firings_run run (map (row_firing l.trigger l.transitions) (drop l.at l.transitions)) (standing now.base l.budget)
-          ≡ firings_run run (map (row_firing l.trigger l.transitions) l.transitions) (standing old.base l.initial.budget);
+      so_far : firings_run run (map (row_firing l.trigger l.transitions) (drop l.at l.transitions)) (progress now.base l.budget)
+          ≡ firings_run run (map (row_firing l.trigger l.transitions) l.transitions) (progress old.base l.initial.budget);
       kept : now ≡ with_database old now.base;
-      looked : LooksUp old (g.K.Kin.lookups l.initial.store) now (g.K.Kin.lookups l.store);
+      looked_up : LooksUp old (g.K.ReferencingRows.lookups l.initial.store) now (g.K.ReferencingRows.lookups l.store);
       fits : StoreFits l.context.schema now;
     }
 
@@ -78,15 +78,15 @@ abbrev pub invariant-run_body-loop-at : goal.invariant-run_body-loop-at
 invariant-run_body-loop-at g l =
     let run = nested_level l.deeper l.context in
     let x : Firing = record { trigger = l.trigger; frame = l.frame } in
-    let old = g.K.Kin.view l.initial.store in
-    let now = g.K.Kin.view l.store in
+    let old = g.K.ReferencingRows.view l.initial.store in
+    let now = g.K.ReferencingRows.view l.store in
     record {
       within : l.at ≤ length l.body;
       counted : l.place ≡ 1 + l.at;
-      so_far : body_run run x (enumerate_from l.place (drop l.at l.body)) (standing now.base l.budget)
-          ≡ body_run run x (placed_statements l.trigger) (standing old.base l.initial.budget);
+      so_far : body_run run x (enumerate_from l.place (drop l.at l.body)) (progress now.base l.budget)
+          ≡ body_run run x (placed_statements l.trigger) (progress old.base l.initial.budget);
       kept : now ≡ with_database old now.base;
-      looked : LooksUp old (g.K.Kin.lookups l.initial.store) now (g.K.Kin.lookups l.store);
+      looked_up : LooksUp old (g.K.ReferencingRows.lookups l.initial.store) now (g.K.ReferencingRows.lookups l.store);
       fits : StoreFits l.context.schema now;
     }
 

@@ -1,6 +1,6 @@
 use Rattle.std.proofs.Common.{subst, sym}
-use Rattle.iv_row_laws.specs.RowFits.{StatementFits}
-use Rattle.iv_row_laws.proofs.FittingFrames.{plain_statements_fit}
+use Rattle.iv_laws_rows.specs.RowFits.{StatementFits}
+use Rattle.iv_laws_rows.proofs.FittingFrames.{plain_statements_fit}
 use Rattle.iv_exec.proofs.level.change.Goals as goal
 
 pub run_level-requires-clause-statement : goal.run_level-requires-clause-statement

@@ -1,7 +1,7 @@
 use Rattle.std.proofs.Common.{◌≡◌, ◌&&◌, not, sym, ap, ◌∙◌}
 use Rattle.iv_value.specs.Values.{all_same}
 use Rattle.iv_key.specs.Keys.{key_of}
-use Rattle.iv_laws.proofs.RowNumbers.{some_same}
+use Rattle.iv_laws_levels.proofs.RowNumbers.{some_same}
 use Rattle.iv_laws_kept.specs.Kept.{KeyConstraint, groups_of, rows_in, is_empty}
 use Rattle.iv_laws_kept.proofs.Naming.{Named, named_of}
 use Rattle.iv_marks.specs.Shown.{shown_of}

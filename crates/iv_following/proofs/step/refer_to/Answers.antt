@@ -1,5 +1,5 @@
 use Rattle.std.proofs.Common.{◌<◌, length, refl, sym, ap, subst, ◌∙◌}
-use Rattle.iv_laws.proofs.Keys.{all_same_swap}
+use Rattle.iv_laws_levels.proofs.Keys.{all_same_swap}
 use Rattle.iv_laws_kept.specs.Marks.{marks_of, rows_at}
 use Rattle.iv_marks.specs.Shown.{shown_of}
 use Rattle.iv_following.specs.KeyGroups.{violate_by}

@@ -1,6 +1,6 @@
 use Rattle.std.proofs.Common.{◌≡◌, refl, false, sym, ap, subst, ◌∙◌}
 use Rattle.std.specs.Option.{option_copied}
-use Rattle.iv_laws.proofs.RowNumbers.{some_none, some_same}
+use Rattle.iv_laws_levels.proofs.RowNumbers.{some_none, some_same}
 use Rattle.iv_laws_kept.specs.Marks.{marks_of}
 use Rattle.iv_marks.specs.Shown.{shown_of}
 use Rattle.iv_following.specs.Words.{Constraint}

@@ -7,6 +7,6 @@ use Rattle.iv_proposals.proofs.finding.rows_numbered.Given as goal
 
 abbrev pub invariant-loop-number : goal.invariant-loop-number
 invariant-loop-number g l =
-    let rows = (g.K.Kin.view l.store).base.rows in
+    let rows = (g.K.ReferencingRows.view l.store).base.rows in
     in_turn (λ n. added_of_row (λ (r : StoredRow). Ok r.values) (row_at rows n)) (drop l.number-index l.numbers) l.rows.items
     ≡ added_of_numbers (λ (r : StoredRow). Ok r.values) rows l.numbers

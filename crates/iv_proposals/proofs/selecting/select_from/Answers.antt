@@ -12,7 +12,7 @@ use Rattle.iv_proposals.proofs.selecting.select_from.Goals as goal
 
 pub returns-in-Rows : goal.returns-in-Rows
 returns-in-Rows g c =
-    let rows = (g.K.Kin.view c.args.store.now).base.rows in
+    let rows = (g.K.ReferencingRows.view c.args.store.now).base.rows in
     answers_as (λ v. v.items) c.select_rows.result _ (rows_selected rows c.args.query.now)
     (ap (λ (s : Scope). and_then (matching_rows s c.in-Rows.filter (table_rows s.rows c.in-Rows.table)) (each (λ (r : StoredRow). output_row s c.in-Rows.outputs r.values))) c.requires
     ∙ ap (λ (q : QueryPlan). rows_selected rows q) (sym c.in-Rows.is))

@@ -7,6 +7,6 @@ use Rattle.iv_proposals.proofs.updating.delete_numbers.Given as goal
 
 abbrev pub invariant-loop-number : goal.invariant-loop-number
 invariant-loop-number g l =
-    let rows = (g.K.Kin.view l.store).base.rows in
+    let rows = (g.K.ReferencingRows.view l.store).base.rows in
     in_turn (λ n. added_of_row (λ r. Ok (deletion r)) (row_at rows n)) (drop l.number-index l.numbers) l.changes.items
     ≡ added_of_numbers (λ r. Ok (deletion r)) rows l.numbers

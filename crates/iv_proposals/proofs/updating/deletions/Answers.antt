@@ -6,7 +6,7 @@ use Rattle.iv_proposals.proofs.updating.deletions.Goals as goal
 
 pub returns : goal.returns
 returns g c =
-    answers_by_numbers_made (λ v. v.items) c.delete_numbers.result deletion c.args.scope.now c.args.filter.now c.args.table (g.K.Kin.view c.args.store.now).base.rows
+    answers_by_numbers_made (λ v. v.items) c.delete_numbers.result deletion c.args.scope.now c.args.filter.now c.args.table (g.K.ReferencingRows.view c.args.store.now).base.rows
     c.in_ok-numbers.numbers.items c.as_slice.result.now c.known.ensures c.requires c.in_ok-numbers.ensures c.as_slice.ensures.value c.delete_numbers.ensures
 
 pub returns-in_err-numbers : goal.returns-in_err-numbers

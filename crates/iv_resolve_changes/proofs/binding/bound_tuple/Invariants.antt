@@ -2,7 +2,7 @@ use Rattle.std.proofs.Common.{◌≡◌, ◌++◌, drop, map}
 use Rattle.std.specs.List.{enumerate_from}
 use Rattle.iv_resolution.specs.Bound.{bound_value, target_place, bound_tuple}
 use Rattle.iv_resolution.specs.Scopes.{named_columns}
-use Rattle.iv_scope.specs.Seen.{ranges_seen}
+use Rattle.iv_resolve_scope.specs.Seen.{ranges_seen}
 use Rattle.iv_resolve_changes.proofs.binding.bound_tuple.Given as goal
 
 abbrev pub invariant-loop-value : goal.invariant-loop-value

@@ -1,6 +1,6 @@
 use Rattle.std.proofs.Common.{◌≡◌, ◌++◌, drop, map}
 use Rattle.iv_resolution.specs.Bound.{bound_tuple}
-use Rattle.iv_scope.specs.Seen.{ranges_seen}
+use Rattle.iv_resolve_scope.specs.Seen.{ranges_seen}
 use Rattle.iv_resolve_changes.proofs.binding.bound_tuples.Given as goal
 
 abbrev pub invariant-loop-tuple : goal.invariant-loop-tuple

@@ -1,6 +1,6 @@
 use Rattle.std.proofs.Common.{◌≡◌, ◌++◌, drop, map}
 use Rattle.iv_resolution.specs.Terms.{bound_expression}
-use Rattle.iv_scope.specs.Seen.{ranges_seen}
+use Rattle.iv_resolve_scope.specs.Seen.{ranges_seen}
 use Rattle.iv_resolve_changes.proofs.binding.bound_values.Given as goal
 
 abbrev pub invariant-loop-value : goal.invariant-loop-value

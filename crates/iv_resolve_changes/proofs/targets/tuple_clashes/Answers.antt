@@ -1,8 +1,8 @@
 use Rattle.std.proofs.Common.{◌∙◌, sym, ◌+◌, drop}
-use Rattle.iv_scope.specs.Seen.{ranges_seen}
+use Rattle.iv_resolve_scope.specs.Seen.{ranges_seen}
 use Rattle.iv_resolution.specs.Changes.{tuple_clashes, value_clashes}
 use Rattle.iv_resolve_changes.specs.Targets.{targets_seen}
-use Rattle.iv_scope.proofs.Places.{or_true, or_false}
+use Rattle.iv_resolve_scope.proofs.Places.{or_true, or_false}
 use Rattle.iv_resolve_changes.proofs.Pairs.{tuple_step}
 use Rattle.iv_resolve_changes.proofs.targets.tuple_clashes.Goals as goal
 

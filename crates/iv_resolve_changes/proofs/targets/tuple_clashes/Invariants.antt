@@ -1,6 +1,6 @@
 use Rattle.std.proofs.Common.{◌≡◌, drop}
 use Rattle.iv_resolution.specs.Changes.{tuple_clashes}
-use Rattle.iv_scope.specs.Seen.{ranges_seen}
+use Rattle.iv_resolve_scope.specs.Seen.{ranges_seen}
 use Rattle.iv_resolve_changes.specs.Targets.{targets_seen}
 use Rattle.iv_resolve_changes.proofs.targets.tuple_clashes.Given as goal
 

@@ -1,6 +1,6 @@
 use Rattle.std.proofs.Common.{◌≡◌, ◌++◌, drop, map}
 use Rattle.iv_resolution.specs.Bound.{bound_action}
-use Rattle.iv_scope.specs.Seen.{names_seen, ranges_seen}
+use Rattle.iv_resolve_scope.specs.Seen.{names_seen, ranges_seen}
 use Rattle.iv_resolve_triggers.proofs.binding.bound_body.Given as goal
 
 abbrev pub invariant-loop-action : goal.invariant-loop-action

@@ -1,5 +1,5 @@
 use Rattle.std.proofs.Common.{◌≡◌, drop, map}
-use Rattle.iv_scope.specs.Sets.{comes_again}
+use Rattle.iv_resolve_scope.specs.Sets.{comes_again}
 use Rattle.iv_resolve_triggers.proofs.duplicate.some_comes_again.Given as goal
 
 abbrev pub invariant-loop-item : goal.invariant-loop-item

@@ -1,11 +1,11 @@
 use Rattle.std.proofs.Common.{option_map, subst}
 use Rattle.iv_machine.specs.Machine.{empty_state}
 use Rattle.iv_script.specs.Running.{RanParsed}
-use Rattle.iv_script.proofs.Scripts.{summary_of, ran_script, ran_fed}
+use Rattle.iv_script.proofs.Scripts.{summary_of, ran_script, ran_with_memory}
 use Rattle.iv_script.proofs.running.run_text.Goals as goal
 
-pub returns-in-Ok-clause-fed : goal.returns-in-Ok-clause-fed
-returns-in-Ok-clause-fed g c = λ none.
+pub returns-in-Ok-clause-with_memory : goal.returns-in-Ok-clause-with_memory
+returns-in-Ok-clause-with_memory g c = λ none.
     let before = g.W.Sink.state c.args.writer.now in
     let after = g.W.Sink.state c.run_buffered-done.new.writer in
     let fault = c.in_ok-statements.field-0.fault in
@@ -15,5 +15,5 @@ returns-in-Ok-clause-fed g c = λ none.
     = subst (λ s. RanParsed s c.as_slice.result.now place tally before after) c.in_ok-session.ensures c.in-Ok.ensures in
     let of_script : RanParsed (empty_state c.args.limits) c.in_ok-statements.field-0.statements place tally before after
     = subst (λ l. RanParsed (empty_state c.args.limits) l place tally before after) c.as_slice.ensures from_empty in
-    ran_fed c.args.text.now c.args.limits (summary_of tally fault) before after
+    ran_with_memory c.args.text.now c.args.limits (summary_of tally fault) before after
     (ran_script c.args.text.now c.args.limits c.in_ok-statements.field-0.statements fault tally before after c.in_ok-statements.ensures of_script) none

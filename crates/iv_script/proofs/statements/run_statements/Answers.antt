@@ -8,7 +8,7 @@ loop-statement-init g c = record {
   counted = omega arith;
   accepted_few = omega arith;
   refused_few = omega arith;
-  starved_few = omega arith;
+  memory_refusals_few = omega arith;
   onward = onward_start (g.S.Executor.state c.args.session.now) c.args.statements.now _ (g.W.Sink.state c.args.writer.now) refl refl refl;
 }
 
@@ -18,12 +18,12 @@ loop-statement-preserved g c =
     let n : length c.loop-statement.rest.now ≡ length c.in-Some.others.now + 1 = grind (arith, common_steps, e) in
     let few = few_more (c.loop-statement.number + 1) c.loop-statement.number (g.S.Executor.state c.loop-statement.session) (g.S.Executor.state c.run_one.new.session) c.in-Some.statement.now c.loop-statement.tally c.in_ok-tally.tally
     (g.W.Sink.state c.loop-statement.writer) (g.W.Sink.state c.run_one.new.writer)
-    c.in_ok-tally.ensures c.loop-statement.invariant.accepted_few c.loop-statement.invariant.refused_few c.loop-statement.invariant.starved_few in
+    c.in_ok-tally.ensures c.loop-statement.invariant.accepted_few c.loop-statement.invariant.refused_few c.loop-statement.invariant.memory_refusals_few in
     record {
       counted = omega (arith, n, c.loop-statement.invariant.counted);
       accepted_few = few.0;
       refused_few = few.1;
-      starved_few = few.2;
+      memory_refusals_few = few.2;
       onward = onward_more (g.S.Executor.state c.args.session.now) (g.S.Executor.state c.loop-statement.session) (g.S.Executor.state c.run_one.new.session) c.args.statements.now c.loop-statement.rest.now c.in-Some.others.now c.in-Some.statement.now
           c.loop-statement.number c.loop-statement.tally c.in_ok-tally.tally
           (g.W.Sink.state c.args.writer.now) (g.W.Sink.state c.loop-statement.writer) (g.W.Sink.state c.run_one.new.writer)

@@ -7,7 +7,7 @@ invariant-loop-statement g l = record {
   counted : l.number + length l.rest ≡ length l.statements;
   accepted_few : l.tally.accepted ≤ l.number;
   refused_few : l.tally.refused ≤ l.number;
-  starved_few : l.tally.starved ≤ l.number;
+  memory_refusals_few : l.tally.memory_refused ≤ l.number;
   onward : Onward (g.S.Executor.state l.initial.session) (g.S.Executor.state l.session) l.statements l.rest l.number l.tally (g.W.Sink.state l.initial.writer) (g.W.Sink.state l.writer);
 }
 

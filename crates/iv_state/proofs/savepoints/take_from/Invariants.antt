@@ -8,8 +8,8 @@ invariant-loop-left g l = record {
   below : l.left ≤ length l.initial.saves.saves;
   small : l.left < 2 ^ 63;
   saves : l.saves.saves ≡ take l.left l.initial.saves.saves;
-  store : g.K.Kin.view l.store ≡ with_marks (g.K.Kin.view l.initial.store) (take (l.left + 1) (g.K.Kin.view l.initial.store).marks);
-  unlooked : g.K.Kin.lookups l.store ≡ g.K.Kin.lookups l.initial.store;
+  store : g.K.ReferencingRows.view l.store ≡ with_marks (g.K.ReferencingRows.view l.initial.store) (take (l.left + 1) (g.K.ReferencingRows.view l.initial.store).marks);
+  not_looked_up : g.K.ReferencingRows.lookups l.store ≡ g.K.ReferencingRows.lookups l.initial.store;
 }
 
 abbrev pub decreases-loop-left : goal.decreases-loop-left

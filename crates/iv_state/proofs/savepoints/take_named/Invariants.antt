@@ -4,9 +4,9 @@ use Rattle.iv_state.proofs.savepoints.take_named.Given as goal
 
 abbrev pub invariant-loop-place : goal.invariant-loop-place
 invariant-loop-place g l = record {
-  between : Between l.name l.initial.saves.saves (g.K.Kin.view l.initial.store) l.saves.saves (g.K.Kin.view l.store);
+  between : Between l.name l.initial.saves.saves (g.K.ReferencingRows.view l.initial.store) l.saves.saves (g.K.ReferencingRows.view l.store);
   room : l.initial.saves.room ≤ l.saves.room;
-  unlooked : g.K.Kin.lookups l.store ≡ g.K.Kin.lookups l.initial.store;
+  not_looked_up : g.K.ReferencingRows.lookups l.store ≡ g.K.ReferencingRows.lookups l.initial.store;
 }
 
 abbrev pub decreases-loop-place : goal.decreases-loop-place

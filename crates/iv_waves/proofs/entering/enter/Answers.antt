@@ -6,7 +6,7 @@ use Rattle.iv_waves.proofs.entering.enter.Goals as goal
 
 pub from_vec-requires : goal.from_vec-requires
 from_vec-requires g c =
-    let view = g.K.Kin.view c.args.store.now in
+    let view = g.K.ReferencingRows.view c.args.store.now in
     let same = c.as_mut_slice.ensures.value in
     let said = ap (λ l. wave_as_applied c.args.context.now view.base c.args.budget (wave_of l)) (sym same) ∙ c.in_ok-prepare.ensures.answer in
     let long : length c.prepare.new.changes ≡ length c.args.changes.items = c.in_ok-prepare.ensures.length ∙ ap length same in

@@ -13,8 +13,8 @@ use Rattle.iv_waves.proofs.settling.follow.Goals as goal
 
 pub returns-clause-answer : goal.returns-clause-answer
 returns-clause-answer g c =
-    let old = g.K.Kin.view c.args.store.now in
-    let later = g.K.Kin.view c.apply_all.new.store in
+    let old = g.K.ReferencingRows.view c.args.store.now in
+    let later = g.K.ReferencingRows.view c.apply_all.new.store in
     let is = c.in_ok-apply_all.ensures.applied ∙ ap (λ l. database_after old.base (wave_of l)) c.changes.ensures.list in
     let constraints = ap (λ s. s.constraints) c.in_ok-apply_all.ensures.kept ∙ c.requires.store.constraints ∙ ap (λ s. s.constraints) (sym c.catalogue.ensures) in
     followed_ok c.args.context.now old.base later.base c.args.wave c.in_ok-next.next is
@@ -22,32 +22,32 @@ returns-clause-answer g c =
 
 pub returns-in_err-next-clause-answer : goal.returns-in_err-next-clause-answer
 returns-in_err-next-clause-answer g c =
-    let old = g.K.Kin.view c.args.store.now in
-    let later = g.K.Kin.view c.apply_all.new.store in
+    let old = g.K.ReferencingRows.view c.args.store.now in
+    let later = g.K.ReferencingRows.view c.apply_all.new.store in
     let is = c.in_ok-apply_all.ensures.applied ∙ ap (λ l. database_after old.base (wave_of l)) c.changes.ensures.list in
     let constraints = ap (λ s. s.constraints) c.in_ok-apply_all.ensures.kept ∙ c.requires.store.constraints ∙ ap (λ s. s.constraints) (sym c.catalogue.ensures) in
     told_on _ _ c.from_residual-in_err-next.result c.in_err-next.field-0.0 _ c.from_residual-in_err-next.ensures.1
-    (followed_refused c.args.context.now old.base later.base c.args.wave c.in_err-next.field-0.0 (g.K.Kin.view c.next_wave.new.store).base.count is
+    (followed_refused c.args.context.now old.base later.base c.args.wave c.in_err-next.field-0.0 (g.K.ReferencingRows.view c.next_wave.new.store).base.count is
     (ap (λ s. s.base.count) c.in_err-next.ensures.kept)
     (c.in_err-next.ensures.followed old.base c.args.context.now (sym c.catalogue.ensures) constraints (led old.tables old.base later.base c.args.wave.changes c.requires.applicable is)))
 
-pub returns-clause-looked : goal.returns-clause-looked
-returns-clause-looked g c =
-    let old = g.K.Kin.view c.args.store.now in
+pub returns-clause-looked_up : goal.returns-clause-looked_up
+returns-clause-looked_up g c =
+    let old = g.K.ReferencingRows.view c.args.store.now in
     let constraints = ap (λ (s : Schema). s.constraints) c.catalogue.ensures ∙ sym c.requires.store.constraints in
-    looked_on old (g.K.Kin.view c.apply_all.new.store) (g.K.Kin.view c.next_wave.new.store) (length c.args.wave.changes) c.catalogue.result.now.constraints
-    (g.K.Kin.lookups c.args.store.now) (g.K.Kin.lookups c.apply_all.new.store) (g.K.Kin.lookups c.next_wave.new.store) constraints
+    looked_on old (g.K.ReferencingRows.view c.apply_all.new.store) (g.K.ReferencingRows.view c.next_wave.new.store) (length c.args.wave.changes) c.catalogue.result.now.constraints
+    (g.K.ReferencingRows.lookups c.args.store.now) (g.K.ReferencingRows.lookups c.apply_all.new.store) (g.K.ReferencingRows.lookups c.next_wave.new.store) constraints
     (ap (λ (db : Database). db.count) c.in_ok-apply_all.ensures.applied ∙ ap (λ (l : List Change). old.base.count + length l) c.changes.ensures.list) c.in_ok-next.ensures.kept
-    (subst (λ (l : List Change). g.K.Kin.lookups c.apply_all.new.store ≤ g.K.Kin.lookups c.args.store.now + most_lookups * length old.constraints * length l) c.changes.ensures.list c.in_ok-apply_all.ensures.looked)
-    c.in_ok-next.ensures.looked
+    (subst (λ (l : List Change). g.K.ReferencingRows.lookups c.apply_all.new.store ≤ g.K.ReferencingRows.lookups c.args.store.now + most_lookups * length old.constraints * length l) c.changes.ensures.list c.in_ok-apply_all.ensures.looked_up)
+    c.in_ok-next.ensures.looked_up
 
-pub returns-in_err-next-clause-looked : goal.returns-in_err-next-clause-looked
-returns-in_err-next-clause-looked g c =
-    let old = g.K.Kin.view c.args.store.now in
+pub returns-in_err-next-clause-looked_up : goal.returns-in_err-next-clause-looked_up
+returns-in_err-next-clause-looked_up g c =
+    let old = g.K.ReferencingRows.view c.args.store.now in
     let constraints = ap (λ (s : Schema). s.constraints) c.catalogue.ensures ∙ sym c.requires.store.constraints in
     told_unless c.from_residual-in_err-next.result c.in_err-next.field-0.0 _ c.from_residual-in_err-next.ensures.1 (anyway _ _ (
-    looked_on old (g.K.Kin.view c.apply_all.new.store) (g.K.Kin.view c.next_wave.new.store) (length c.args.wave.changes) c.catalogue.result.now.constraints
-    (g.K.Kin.lookups c.args.store.now) (g.K.Kin.lookups c.apply_all.new.store) (g.K.Kin.lookups c.next_wave.new.store) constraints
+    looked_on old (g.K.ReferencingRows.view c.apply_all.new.store) (g.K.ReferencingRows.view c.next_wave.new.store) (length c.args.wave.changes) c.catalogue.result.now.constraints
+    (g.K.ReferencingRows.lookups c.args.store.now) (g.K.ReferencingRows.lookups c.apply_all.new.store) (g.K.ReferencingRows.lookups c.next_wave.new.store) constraints
     (ap (λ (db : Database). db.count) c.in_ok-apply_all.ensures.applied ∙ ap (λ (l : List Change). old.base.count + length l) c.changes.ensures.list) c.in_err-next.ensures.kept
-    (subst (λ (l : List Change). g.K.Kin.lookups c.apply_all.new.store ≤ g.K.Kin.lookups c.args.store.now + most_lookups * length old.constraints * length l) c.changes.ensures.list c.in_ok-apply_all.ensures.looked)
-    c.in_err-next.ensures.looked))
+    (subst (λ (l : List Change). g.K.ReferencingRows.lookups c.apply_all.new.store ≤ g.K.ReferencingRows.lookups c.args.store.now + most_lookups * length old.constraints * length l) c.changes.ensures.list c.in_ok-apply_all.ensures.looked_up)
+    c.in_err-next.ensures.looked_up))

@@ -2,35 +2,35 @@ use Rattle.std.proofs.Common.{◌≡◌, ◌<◌, ◌-◌, ◌∙◌, refl, ap, 
 use Rattle.iv_expr.specs.Changes.{wave_of}
 use Rattle.iv_machine.specs.Databases.{size}
 use Rattle.iv_machine.specs.Waves.{AppliedWave, settled_waves}
-use Rattle.iv_laws.proofs.FittingWaves.{settled_fits}
-use Rattle.iv_waves.proofs.Looking.{kept_both, looked_both, looked_refused, none_looked}
-use Rattle.iv_waves.proofs.Rounds.{after_waves, first_round, more_than_none, next_round, none_before, none_left, round_standing, round_so_far, settled_nothing, settled_refused}
+use Rattle.iv_laws_levels.proofs.FittingWaves.{settled_fits}
+use Rattle.iv_waves.proofs.Looking.{kept_both, looked_up_both, looked_refused, none_looked}
+use Rattle.iv_waves.proofs.Rounds.{after_waves, first_round, more_than_none, next_round, none_before, none_left, round_progress, round_so_far, settled_nothing, settled_refused}
 use Rattle.iv_waves.proofs.ToldOn.{told_on, told_unless}
 use Rattle.iv_waves.proofs.settling.settle.Goals as goal
 
 pub loop-store-init : goal.loop-store-init
 loop-store-init g c =
-    let s = g.K.Kin.view c.args.store.now in
+    let s = g.K.ReferencingRows.view c.args.store.now in
     let all = settled_waves c.args.context.now s.base c.args.budget.now (wave_of c.args.changes.items) in
     record {
       so_far = ap (λ done. after_waves done all) c.new-waves.ensures.items ∙ none_before all;
-      standing = first_round c.args.context.now s c.args.changes.items c.requires.store c.next_row.ensures.rising c.requires.fit c.requires.proposed;
+      progress = first_round c.args.context.now s c.args.changes.items c.requires.store c.next_row.ensures.rising c.requires.fit c.requires.proposed;
       kept = refl;
-      looked = none_looked s (g.K.Kin.lookups c.args.store.now);
+      looked_up = none_looked s (g.K.ReferencingRows.lookups c.args.store.now);
     }
 
 pub overflow_sub-budget : goal.overflow_sub-budget
 overflow_sub-budget g c =
-    let s = g.K.Kin.view c.loop-store.store in
+    let s = g.K.ReferencingRows.view c.loop-store.store in
     let one : AppliedWave = record { wave = c.in_ok-applied.applied.wave; next = c.in_ok-applied.applied.next } in
-    let round = next_round c.args.context.now s c.loop-store.budget c.loop-store.changes.items one c.loop-store.invariant.standing c.in_ok-applied.ensures.answer in
+    let round = next_round c.args.context.now s c.loop-store.budget c.loop-store.changes.items one c.loop-store.invariant.progress c.in_ok-applied.ensures.answer in
     omega (arith, round.fits, ap length c.changes.ensures.list)
 
 pub loop-store-smaller : goal.loop-store-smaller
 loop-store-smaller g c =
-    let s = g.K.Kin.view c.loop-store.store in
+    let s = g.K.ReferencingRows.view c.loop-store.store in
     let one : AppliedWave = record { wave = c.in_ok-applied.applied.wave; next = c.in_ok-applied.applied.next } in
-    let round = next_round c.args.context.now s c.loop-store.budget c.loop-store.changes.items one c.loop-store.invariant.standing c.in_ok-applied.ensures.answer in
+    let round = next_round c.args.context.now s c.loop-store.budget c.loop-store.changes.items one c.loop-store.invariant.progress c.in_ok-applied.ensures.answer in
     let test = c.loop-store-test.ensures in
     let long = c.loop-store.changes.ok.0 in
     let more : 0 < length c.loop-store.changes.items = more_than_none _ _ test long in
@@ -38,8 +38,8 @@ loop-store-smaller g c =
 
 pub loop-store-preserved : goal.loop-store-preserved
 loop-store-preserved g c =
-    let s = g.K.Kin.view c.loop-store.store in
-    let later = g.K.Kin.view c.one_wave.new.store in
+    let s = g.K.ReferencingRows.view c.loop-store.store in
+    let later = g.K.ReferencingRows.view c.one_wave.new.store in
     let one : AppliedWave = record { wave = c.in_ok-applied.applied.wave; next = c.in_ok-applied.applied.next } in
     let less : c.loop-store.budget - length c.changes.result.now ≡ c.loop-store.budget - size one.wave = ap (λ l. c.loop-store.budget - length l) c.changes.ensures.list in
     let test = c.loop-store-test.ensures in
@@ -48,39 +48,39 @@ loop-store-preserved g c =
     record {
       so_far = round_so_far c.args.context.now s later c.loop-store.budget (c.loop-store.budget - length c.changes.result.now) c.loop-store.changes.items c.into_vec-changes.result.items
           c.loop-store.waves.items c.add.new.waves.items _ one more c.loop-store.invariant.so_far c.in_ok-applied.ensures.answer c.in_ok-applied.ensures.applied less c.into_vec-changes.ensures c.in_ok-add.ensures;
-      standing = round_standing c.args.context.now s later c.loop-store.budget c.loop-store.changes.items c.into_vec-changes.result.items one c.loop-store.invariant.standing
+      progress = round_progress c.args.context.now s later c.loop-store.budget c.loop-store.changes.items c.into_vec-changes.result.items one c.loop-store.invariant.progress
           c.in_ok-applied.ensures.answer c.in_ok-applied.ensures.applied c.in_ok-applied.ensures.kept c.into_vec-changes.ensures;
-      kept = kept_both (g.K.Kin.view c.args.store.now) s later c.loop-store.invariant.kept c.in_ok-applied.ensures.kept;
-      looked = looked_both (g.K.Kin.view c.args.store.now) s later (g.K.Kin.lookups c.args.store.now) (g.K.Kin.lookups c.loop-store.store) (g.K.Kin.lookups c.one_wave.new.store)
-          c.loop-store.invariant.kept c.loop-store.invariant.looked c.in_ok-applied.ensures.looked;
+      kept = kept_both (g.K.ReferencingRows.view c.args.store.now) s later c.loop-store.invariant.kept c.in_ok-applied.ensures.kept;
+      looked_up = looked_up_both (g.K.ReferencingRows.view c.args.store.now) s later (g.K.ReferencingRows.lookups c.args.store.now) (g.K.ReferencingRows.lookups c.loop-store.store) (g.K.ReferencingRows.lookups c.one_wave.new.store)
+          c.loop-store.invariant.kept c.loop-store.invariant.looked_up c.in_ok-applied.ensures.looked_up;
     }
 
 pub returns-in_err-applied-clause-answer : goal.returns-in_err-applied-clause-answer
 returns-in_err-applied-clause-answer g c =
-    let s = g.K.Kin.view c.loop-store.store in
+    let s = g.K.ReferencingRows.view c.loop-store.store in
     let test = c.loop-store-test.ensures in
     let long = c.loop-store.changes.ok.0 in
     let more : 0 < length c.loop-store.changes.items = more_than_none _ _ test long in
     told_on _ _ c.from_residual.result c.in_err-applied.field-0.0 _ c.from_residual.ensures.1
     (settled_refused c.args.context.now s.base c.loop-store.budget c.loop-store.changes.items c.loop-store.waves.items _ c.in_err-applied.field-0.0 _ more c.loop-store.invariant.so_far c.in_err-applied.ensures.answer)
 
-pub returns-in_err-applied-clause-looked : goal.returns-in_err-applied-clause-looked
-returns-in_err-applied-clause-looked g c =
+pub returns-in_err-applied-clause-looked_up : goal.returns-in_err-applied-clause-looked_up
+returns-in_err-applied-clause-looked_up g c =
     told_unless c.from_residual.result c.in_err-applied.field-0.0 _ c.from_residual.ensures.1
-    (looked_refused _ (g.K.Kin.view c.args.store.now) (g.K.Kin.view c.loop-store.store) (g.K.Kin.view c.one_wave.new.store)
-    (g.K.Kin.lookups c.args.store.now) (g.K.Kin.lookups c.loop-store.store) (g.K.Kin.lookups c.one_wave.new.store)
-    c.loop-store.invariant.kept c.loop-store.invariant.looked c.in_err-applied.ensures.looked)
+    (looked_refused _ (g.K.ReferencingRows.view c.args.store.now) (g.K.ReferencingRows.view c.loop-store.store) (g.K.ReferencingRows.view c.one_wave.new.store)
+    (g.K.ReferencingRows.lookups c.args.store.now) (g.K.ReferencingRows.lookups c.loop-store.store) (g.K.ReferencingRows.lookups c.one_wave.new.store)
+    c.loop-store.invariant.kept c.loop-store.invariant.looked_up c.in_err-applied.ensures.looked_up)
 
 pub returns-clause-answer : goal.returns-clause-answer
 returns-clause-answer g c =
-    let s = g.K.Kin.view c.loop-store.store in
+    let s = g.K.ReferencingRows.view c.loop-store.store in
     let test = c.loop-store-test.ensures in
     sym c.loop-store.invariant.so_far ∙ settled_nothing c.args.context.now s.base c.loop-store.budget c.loop-store.changes.items c.loop-store.waves.items (none_left _ _ test c.loop-store.changes.ok.0)
 
 pub returns-clause-chain : goal.returns-clause-chain
 returns-clause-chain g c =
-    let old = g.K.Kin.view c.args.store.now in
-    let s = g.K.Kin.view c.loop-store.store in
+    let old = g.K.ReferencingRows.view c.args.store.now in
+    let s = g.K.ReferencingRows.view c.loop-store.store in
     let first = first_round c.args.context.now old c.args.changes.items c.requires.store c.next_row.ensures.rising c.requires.fit c.requires.proposed in
     let test = c.loop-store-test.ensures in
     let so_far = sym c.loop-store.invariant.so_far ∙ settled_nothing c.args.context.now s.base c.loop-store.budget c.loop-store.changes.items c.loop-store.waves.items (none_left _ _ test c.loop-store.changes.ok.0) in

@@ -1,22 +1,22 @@
 use Rattle.std.proofs.Common.{◌≡◌}
 use Rattle.iv_expr.specs.Changes.{wave_of}
 use Rattle.iv_machine.specs.Waves.{settled_waves}
-use Rattle.iv_row_laws.specs.Changing.{with_database}
+use Rattle.iv_laws_rows.specs.Changing.{with_database}
 use Rattle.iv_store.specs.Lookups.{LooksUp}
-use Rattle.iv_waves.specs.Standing.{Standing}
+use Rattle.iv_waves.specs.Progress.{Progress}
 use Rattle.iv_waves.proofs.Rounds.{after_waves}
 use Rattle.iv_waves.proofs.settling.settle.Given as goal
 
 abbrev pub invariant-loop-store : goal.invariant-loop-store
 invariant-loop-store g l =
-    let old = g.K.Kin.view l.initial.store in
-    let now = g.K.Kin.view l.store in
+    let old = g.K.ReferencingRows.view l.initial.store in
+    let now = g.K.ReferencingRows.view l.store in
     record {
       so_far : after_waves l.waves.items (settled_waves l.context now.base l.budget (wave_of l.changes.items))
           ≡ settled_waves l.context old.base l.initial.budget (wave_of l.initial.changes.items);
-      standing : Standing l.context now l.changes.items;
+      progress : Progress l.context now l.changes.items;
       kept : now ≡ with_database old now.base;
-      looked : LooksUp old (g.K.Kin.lookups l.initial.store) now (g.K.Kin.lookups l.store);
+      looked_up : LooksUp old (g.K.ReferencingRows.lookups l.initial.store) now (g.K.ReferencingRows.lookups l.store);
     }
 
 abbrev pub decreases-loop-store : goal.decreases-loop-store

@@ -2,7 +2,7 @@ use Rattle.std.proofs.Common.{◌≡◌, ◌∙◌, [], ap, sym, subst, OnOk}
 use Rattle.iv_machine.specs.declared.database.Which.TheVariants.{All}
 use Rattle.iv_machine.specs.Databases.{is_chosen, scan}
 use Rattle.iv_machine.specs.Machine.{commit_outcome}
-use Rattle.iv_run.proofs.Reached.{IsReached}
+use Rattle.iv_step.proofs.Reached.{IsReached}
 use Rattle.iv_state.specs.Kept.{Seen}
 use Rattle.iv_session.proofs.Sound.{accepted_always, committed_reached}
 use Rattle.iv_session.proofs.session.Session.commit.Goals as goal

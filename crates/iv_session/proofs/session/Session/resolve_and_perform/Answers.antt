@@ -6,8 +6,8 @@ use Rattle.iv_state.specs.Kept.{Seen}
 use Rattle.iv_state.specs.Performing.{Runs}
 use Rattle.iv_state.proofs.Defined.{runs_of}
 use Rattle.iv_state.proofs.Fitting.{plan_fits}
-use Rattle.iv_run.proofs.Occasions.{plans_keep}
-use Rattle.iv_run.proofs.Reached.{IsReached}
+use Rattle.iv_step.proofs.Occasions.{plans_keep}
+use Rattle.iv_step.proofs.Reached.{IsReached}
 use Rattle.iv_session.proofs.Few.{few_from, no_definition}
 use Rattle.iv_session.proofs.Sound.{resolved_reached}
 use Rattle.iv_session.proofs.session.Session.resolve_and_perform.Goals as goal
@@ -35,9 +35,9 @@ invariant_of-self g c =
     (runs_of c.clear_work.new.self.state c.args.statement.now c.in-Ok.plan c.perform.result c.perform.new.self
     (c.in-Ok.ensures ∙ ap (λ (x : Schema). resolution x c.args.statement.now) c.catalogue.ensures.now) c.perform.ensures.performs))
 
-pub returns-in-Ok-clause-looked : goal.returns-in-Ok-clause-looked
-returns-in-Ok-clause-looked g c = λ plain.
+pub returns-in-Ok-clause-looked_up : goal.returns-in-Ok-clause-looked_up
+returns-in-Ok-clause-looked_up g c = λ plain.
     let same : c.clear_work.new.self.state ≡ c.args.self.now.state = c.clear_work.ensures.state ∙ ap (λ (x : Seen). x.state) c.self.view_is in
     let planned = sym {b = resolution c.clear_work.new.self.state.schema c.args.statement.now} (c.in-Ok.ensures ∙ ap (λ (x : Schema). resolution x c.args.statement.now) c.catalogue.ensures.now) in
-    few_from c.perform.result c.args.self.now c.clear_work.new.self c.perform.new.self same (c.clear_work.ensures.looked ∙ ap (λ (x : Seen). x.looked) c.self.view_is)
-    (c.perform.ensures.looked (no_definition c.in-Ok.plan c.args.statement.now (plans_keep c.clear_work.new.self.state.schema c.args.statement.now c.in-Ok.plan planned) plain))
+    few_from c.perform.result c.args.self.now c.clear_work.new.self c.perform.new.self same (c.clear_work.ensures.looked_up ∙ ap (λ (x : Seen). x.looked_up) c.self.view_is)
+    (c.perform.ensures.looked_up (no_definition c.in-Ok.plan c.args.statement.now (plans_keep c.clear_work.new.self.state.schema c.args.statement.now c.in-Ok.plan planned) plain))

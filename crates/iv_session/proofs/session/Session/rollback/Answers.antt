@@ -1,5 +1,5 @@
 use Rattle.std.proofs.Common.{sym, subst}
-use Rattle.iv_run.proofs.Reached.{IsReached}
+use Rattle.iv_step.proofs.Reached.{IsReached}
 use Rattle.iv_session.proofs.Sound.{rolled_back_reached}
 use Rattle.iv_session.proofs.session.Session.rollback.Goals as goal
 

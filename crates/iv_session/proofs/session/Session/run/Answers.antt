@@ -1,7 +1,7 @@
 use Rattle.std.proofs.Common.{subst, sym}
 use Rattle.iv_syntax.specs.declared.statement.Statement.TheVariants as statement
 use Rattle.iv_machine.specs.Machine.{Outcome, State, commit_outcome, rollback_outcome}
-use Rattle.iv_run.specs.Step.{step}
+use Rattle.iv_step.specs.Step.{step}
 use Rattle.iv_session.specs.Words.{Statement}
 use Rattle.iv_state.specs.Kept.{Seen}
 use Rattle.iv_state.specs.Performing.{Performs, Runs}

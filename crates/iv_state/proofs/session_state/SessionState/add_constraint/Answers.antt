@@ -12,32 +12,32 @@ use Rattle.iv_state.proofs.session_state.SessionState.add_constraint.Goals as go
 
 pub returns-in-Ok : goal.returns-in-Ok
 returns-in-Ok g c =
-    let h : Parts = parts g.K.Kin.view c.self.inside in
+    let h : Parts = parts g.K.ReferencingRows.view c.self.inside in
     let v : state_of h ≡ c.args.self.now.state = ap (λ x. x.state) c.self.view_is in
-    let x : Seen = record { state = state_of h; work = record { changes = c.none-self-inside.result.changes; undone = c.none-self-inside.result.undone }; lookups = c.none-self-inside.result.lookups; looked = g.K.Kin.lookups c.self.inside.store } in
+    let x : Seen = record { state = state_of h; work = record { changes = c.none-self-inside.result.changes; undone = c.none-self-inside.result.undone }; lookups = c.none-self-inside.result.lookups; looked_up = g.K.ReferencingRows.lookups c.self.inside.store } in
     let w : x.work ≡ no_work = ap (λ w. record { changes = w.changes; undone = w.undone }) c.none-self-inside.ensures in
     let a : h.active ≡ false = shut_is h.active h.store (ap is_open v ∙ c.requires.outside) in
     let none : first_violating_row h.store c.args.constraint ≡ None = c.in-Ok.ensures.answer in
     accept_performs c.args.self.now.state (add_constraint_outcome c.args.self.now.state c.args.constraint)
     (with_schema c.args.self.now.state (with_constraint c.args.self.now.state.schema c.args.constraint)) Done
-    (record x { state = state_of (defined h c.add_constraint.new.catalogue (g.K.Kin.view c.add_constraint.new.store) c.in-Ok.modes); looked = g.K.Kin.lookups c.add_constraint.new.store })
+    (record x { state = state_of (defined h c.add_constraint.new.catalogue (g.K.ReferencingRows.view c.add_constraint.new.store) c.in-Ok.modes); looked_up = g.K.ReferencingRows.lookups c.add_constraint.new.store })
     (ap (λ (y : State). add_constraint_outcome y c.args.constraint) (sym v) ∙ add_is h c.args.constraint c.self.invariant ∙ ap (by_row (state_of h) c.args.constraint) none
     ∙ ap (λ (y : State). by_row y c.args.constraint None) v)
-    (added_state h c.args.constraint c.add_constraint.new.catalogue (g.K.Kin.view c.add_constraint.new.store) c.in-Ok.modes a c.self.invariant
+    (added_state h c.args.constraint c.add_constraint.new.catalogue (g.K.ReferencingRows.view c.add_constraint.new.store) c.in-Ok.modes a c.self.invariant
     c.in-Ok.ensures.catalogue c.in-Ok.ensures.store c.in-Ok.ensures.modes
     ∙ ap (λ (y : State). with_schema y (with_constraint y.schema c.args.constraint)) v) w
 
 pub returns-in-Err : goal.returns-in-Err
 returns-in-Err g c =
-    let h : Parts = parts g.K.Kin.view c.self.inside in
+    let h : Parts = parts g.K.ReferencingRows.view c.self.inside in
     let v : state_of h ≡ c.args.self.now.state = ap (λ x. x.state) c.self.view_is in
-    let x : Seen = record { state = state_of h; work = record { changes = c.none-self-inside.result.changes; undone = c.none-self-inside.result.undone }; lookups = c.none-self-inside.result.lookups; looked = g.K.Kin.lookups c.self.inside.store } in
+    let x : Seen = record { state = state_of h; work = record { changes = c.none-self-inside.result.changes; undone = c.none-self-inside.result.undone }; lookups = c.none-self-inside.result.lookups; looked_up = g.K.ReferencingRows.lookups c.self.inside.store } in
     let w : x.work ≡ no_work = ap (λ w. record { changes = w.changes; undone = w.undone }) c.none-self-inside.ensures in
-    let kept : state_of (defined h c.add_constraint.new.catalogue (g.K.Kin.view c.add_constraint.new.store) h.initial) ≡ state_of h =
+    let kept : state_of (defined h c.add_constraint.new.catalogue (g.K.ReferencingRows.view c.add_constraint.new.store) h.initial) ≡ state_of h =
     λ i. state_of (defined h (c.in-Err.ensures.same i) (c.in-Err.ensures.kept i) h.initial) in
     subst (λ (y : State). Performs y (add_constraint_outcome y c.args.constraint) (Err c.adding_refusal.result)
-    (record x { state = state_of (defined h c.add_constraint.new.catalogue (g.K.Kin.view c.add_constraint.new.store) h.initial); looked = g.K.Kin.lookups c.add_constraint.new.store })) v
+    (record x { state = state_of (defined h c.add_constraint.new.catalogue (g.K.ReferencingRows.view c.add_constraint.new.store) h.initial); looked_up = g.K.ReferencingRows.lookups c.add_constraint.new.store })) v
     (subst (λ (r : Refusal). Performs (state_of h) (add_constraint_outcome (state_of h) c.args.constraint) (Err r)
-    (record x { state = state_of (defined h c.add_constraint.new.catalogue (g.K.Kin.view c.add_constraint.new.store) h.initial); looked = g.K.Kin.lookups c.add_constraint.new.store })) (sym c.adding_refusal.ensures)
-    (added_refused h c.args.constraint c.in-Err.fault (record x { state = state_of (defined h c.add_constraint.new.catalogue (g.K.Kin.view c.add_constraint.new.store) h.initial); looked = g.K.Kin.lookups c.add_constraint.new.store })
+    (record x { state = state_of (defined h c.add_constraint.new.catalogue (g.K.ReferencingRows.view c.add_constraint.new.store) h.initial); looked_up = g.K.ReferencingRows.lookups c.add_constraint.new.store })) (sym c.adding_refusal.ensures)
+    (added_refused h c.args.constraint c.in-Err.fault (record x { state = state_of (defined h c.add_constraint.new.catalogue (g.K.ReferencingRows.view c.add_constraint.new.store) h.initial); looked_up = g.K.ReferencingRows.lookups c.add_constraint.new.store })
     c.in-Err.ensures.answer c.self.invariant kept w))

@@ -6,11 +6,11 @@ use Rattle.iv_state.proofs.session_state.SessionState.change.Goals as goal
 
 pub returns-in-Err-clause-follows : goal.returns-in-Err-clause-follows
 returns-in-Err-clause-follows g c =
-    let h : Parts = parts g.K.Kin.view c.self.inside in
+    let h : Parts = parts g.K.ReferencingRows.view c.self.inside in
     let changes : Changes (not h.active) h.store (said_of h.schema (current h.initial h.changed).modes h.limits c.args.statement.now h.store.base) (Err c.in-Err.refusal)
-    (g.K.Kin.view c.run_change.new.store) (record { changes = c.run_change.new.work.changes; undone = c.run_change.new.work.undone }) =
+    (g.K.ReferencingRows.view c.run_change.new.store) (record { changes = c.run_change.new.work.changes; undone = c.run_change.new.work.undone }) =
     rw (← c.modes_now.ensures) c.in-Err.ensures.changes in
     rw (← c.self.view_is)
-    (change_refused h c.args.statement.now (not h.active) c.is_empty-untriggered.result c.in-Err.refusal c.outside_triggers.result (g.K.Kin.view c.run_change.new.store)
-    (record { state = state_of (stored h (g.K.Kin.view c.run_change.new.store)); work = record { changes = c.run_change.new.work.changes; undone = c.run_change.new.work.undone }; lookups = c.run_change.new.work.lookups; looked = g.K.Kin.lookups c.run_change.new.store })
+    (change_refused h c.args.statement.now (not h.active) c.is_empty-untriggered.result c.in-Err.refusal c.outside_triggers.result (g.K.ReferencingRows.view c.run_change.new.store)
+    (record { state = state_of (stored h (g.K.ReferencingRows.view c.run_change.new.store)); work = record { changes = c.run_change.new.work.changes; undone = c.run_change.new.work.undone }; lookups = c.run_change.new.work.lookups; looked_up = g.K.ReferencingRows.lookups c.run_change.new.store })
     changes c.outside_triggers.ensures.other c.outside_triggers.ensures.memory c.outside_triggers.ensures.outside (λ n. c.is_empty-untriggered.ensures ∙ ap (λ l. length l == 0) c.triggers.ensures.triggers ∙ none_is (length h.schema.triggers) n) refl)

@@ -12,7 +12,7 @@ use Rattle.iv_state.proofs.session_state.SessionState.set_modes.Goals as goal
 
 pub invariant_of-self-in-None : goal.invariant_of-self-in-None
 invariant_of-self-in-None g c =
-    let h : Parts = parts g.K.Kin.view c.self.inside in
+    let h : Parts = parts g.K.ReferencingRows.view c.self.inside in
     let a : h.active ≡ true = open_is h.active h.store (ap (λ x. is_open x.state) c.self.view_is ∙ c.requires) in
     let o : IsOpen h = subst (λ b. StandsAs b h) a c.self.invariant.stands in
     let m : c.set.new.self.deferrable ≡ map (λ k. k.deferrable) h.schema.constraints =
@@ -25,10 +25,10 @@ invariant_of-self-in-None g c =
 
 pub returns-in-Err-clause-performs : goal.returns-in-Err-clause-performs
 returns-in-Err-clause-performs g c =
-    let h : Parts = parts g.K.Kin.view c.self.inside in
+    let h : Parts = parts g.K.ReferencingRows.view c.self.inside in
     let s : State = c.args.self.now.state in
     let v : state_of h ≡ s = ap (λ x. x.state) c.self.view_is in
-    let x : Seen = record { state = state_of h; work = record { changes = c.none-self-inside.result.changes; undone = c.none-self-inside.result.undone }; lookups = c.none-self-inside.result.lookups; looked = g.K.Kin.lookups c.self.inside.store } in
+    let x : Seen = record { state = state_of h; work = record { changes = c.none-self-inside.result.changes; undone = c.none-self-inside.result.undone }; lookups = c.none-self-inside.result.lookups; looked_up = g.K.ReferencingRows.lookups c.self.inside.store } in
     let w : x.work ≡ no_work = ap (λ w. record { changes = w.changes; undone = w.undone }) c.none-self-inside.ensures in
     refuse_performs s (set_constraints_outcome s c.args.ids.now c.args.mode) (NotDeferrable c.in-Err.refused.0) c.refuse.result x
     (set_refused s c.args.ids.now c.args.mode c.in_ok-modes.modes c.in-Err.refused.0
@@ -37,10 +37,10 @@ returns-in-Err-clause-performs g c =
 
 pub returns-in-Some-clause-performs : goal.returns-in-Some-clause-performs
 returns-in-Some-clause-performs g c =
-    let h : Parts = parts g.K.Kin.view c.self.inside in
+    let h : Parts = parts g.K.ReferencingRows.view c.self.inside in
     let s : State = c.args.self.now.state in
     let v : state_of h ≡ s = ap (λ x. x.state) c.self.view_is in
-    let x : Seen = record { state = state_of h; work = record { changes = c.none-self-inside.result.changes; undone = c.none-self-inside.result.undone }; lookups = c.none-self-inside.result.lookups; looked = g.K.Kin.lookups c.self.inside.store } in
+    let x : Seen = record { state = state_of h; work = record { changes = c.none-self-inside.result.changes; undone = c.none-self-inside.result.undone }; lookups = c.none-self-inside.result.lookups; looked_up = g.K.ReferencingRows.lookups c.self.inside.store } in
     let w : x.work ≡ no_work = ap (λ w. record { changes = w.changes; undone = w.undone }) c.none-self-inside.ensures in
     let seen : set_constraints_outcome s c.args.ids.now c.args.mode ≡ refuse_first s Violation c.in_ok-fault.field-0 (accept (record s { modes = c.set.new.self.modes }) Done) =
     set_seen s c.args.ids.now c.args.mode c.in_ok-modes.modes c.set.new.self c.in_ok-fault.field-0
@@ -53,10 +53,10 @@ returns-in-Some-clause-performs g c =
 
 pub returns-in-None-clause-performs : goal.returns-in-None-clause-performs
 returns-in-None-clause-performs g c =
-    let h : Parts = parts g.K.Kin.view c.self.inside in
+    let h : Parts = parts g.K.ReferencingRows.view c.self.inside in
     let s : State = c.args.self.now.state in
     let v : state_of h ≡ s = ap (λ x. x.state) c.self.view_is in
-    let x : Seen = record { state = state_of h; work = record { changes = c.none-self-inside.result.changes; undone = c.none-self-inside.result.undone }; lookups = c.none-self-inside.result.lookups; looked = g.K.Kin.lookups c.self.inside.store } in
+    let x : Seen = record { state = state_of h; work = record { changes = c.none-self-inside.result.changes; undone = c.none-self-inside.result.undone }; lookups = c.none-self-inside.result.lookups; looked_up = g.K.ReferencingRows.lookups c.self.inside.store } in
     let w : x.work ≡ no_work = ap (λ w. record { changes = w.changes; undone = w.undone }) c.none-self-inside.ensures in
     let seen : set_constraints_outcome s c.args.ids.now c.args.mode ≡ refuse_first s Violation c.in_ok-fault.field-0 (accept (record s { modes = c.set.new.self.modes }) Done) =
     set_seen s c.args.ids.now c.args.mode c.in_ok-modes.modes c.set.new.self c.in_ok-fault.field-0

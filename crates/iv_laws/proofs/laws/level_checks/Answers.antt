@@ -1,8 +1,0 @@
-use Rattle.iv_laws.proofs.Checking.{nested_checks, level_checks}
-use Rattle.iv_laws.proofs.laws.level_checks.Goals as goal
-
-pub returns-clause-level : goal.returns-clause-level
-returns-clause-level c = level_checks
-
-pub returns-clause-nested : goal.returns-clause-nested
-returns-clause-nested c = nested_checks

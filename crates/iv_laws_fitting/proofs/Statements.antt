@@ -1,0 +1,186 @@
+-- Whole INSERT, UPDATE and DELETE statements.
+use Rattle.std.proofs.Common.{◌≡◌, ℕ, ◌≤◌, Bool, true, false, not, ◌&&◌, ◌||◌, ◌==◌, List, ◌∷◌, ◌∙◌, Option, refl, sym, ap, length, map, option_map, subst, arith}
+use Rattle.std.specs.List.{list_any, list_all}
+use Rattle.iv_laws_fitting.specs.Words.{Kind, Column}
+use Rattle.iv_expr.specs.Suiting.{Shape, shape_within, suits}
+use Rattle.iv_syntax.specs.declared.table.ColumnType.{ColumnType}
+use Rattle.iv_syntax.specs.declared.statement.Insert.{Insert}
+use Rattle.iv_syntax.specs.declared.statement.Insert.TheVariants as insert
+use Rattle.iv_syntax.specs.declared.statement.Assignment.{Assignment}
+use Rattle.iv_syntax.specs.declared.statement.Update.{Update}
+use Rattle.iv_syntax.specs.declared.statement.Delete.{Delete}
+use Rattle.iv_resolution.specs.Scopes.{NamedRange, Names, named_columns, place_of, has_column, type_named, own_range}
+use Rattle.iv_resolution.specs.Terms.{unknown_filter, misshaped_filter, bound_filter}
+use Rattle.iv_resolution.specs.Changes.{is_table, stored_columns, target_columns, unknown_listed, unknown_value, unknown_source, unknown_insert, unknown_assignment, unknown_update, unknown_delete, value_clashes, misshaped_value, target_types, misshaped_source, misshaped_insert, misshaped_assignment, misshaped_update, misshaped_delete}
+use Rattle.iv_resolution.specs.Bound.{table_id, bound_value, bound_source, bound_columns, bound_insert, bound_assignment, bound_update, bound_delete}
+use Rattle.iv_resolution.specs.Writable.{is_filter, is_insert_source, is_insert, is_update, is_delete, is_name, is_name_list_or_none, is_assignment}
+use Rattle.iv_laws_naming.proofs.Firsts.{neither}
+use Rattle.iv_laws_fitting.specs.PlanShapes.{kinds_of, table_kinds, is_there, value_suits, default_suits, table_suits, target_kinds, rows_suit, setting_suits, data_suits}
+use Rattle.iv_laws_fitting.proofs.ColumnKinds.{greatest, Matches, stored_match}
+use Rattle.iv_laws_fitting.proofs.Conditions.{sources_within}
+use Rattle.iv_laws_fitting.proofs.Pointwise.{two, parts_of, any_at, all_at, map_at, made_of, all_by}
+use Rattle.iv_laws_fitting.proofs.Targets.{Target, target_of, target_id, target_stored, target_kinds_of, place_is_there, few_columns, defaults_suit, column_target, value_of_column}
+use Rattle.iv_laws_fitting.proofs.Changes.{Around, filter_suits, source_suits}
+
+table_of_target : (names : Names) (ranges : List NamedRange) (shape : Shape) → Around names ranges shape → (name : List ℕ) (t : Target names.tables name) → table_suits t.table ≡ true
+table_of_target names ranges shape a name t = all_at table_suits names.tables a.suit t.place t.table t.there
+
+-- ---- INSERT
+
+pub insert_suits : (names : Names) (ranges : List NamedRange) (shape : Shape) → Around names ranges shape → (i : Insert)
+    → is_insert i ≡ true → unknown_insert names ranges i ≡ false → misshaped_insert names ranges i ≡ false
+    → data_suits names.tables shape (bound_insert names ranges i) ≡ true
+insert_suits names ranges shape a (insert.DefaultValues table) i u w =
+    let t = target_of names table u in
+    two _ _ (ap (is_there names.tables) (target_id names table t) ∙ place_is_there names.tables t.place t.table t.there) refl
+insert_suits names ranges shape a (insert.Rows table listed s) i u w = by (target_of names table parts.0)
+  where
+    parts : (not (is_table names table) ≡ false) × ((unknown_listed (target_columns names table) listed || unknown_source names ranges s) ≡ false)
+    parts = neither (not (is_table names table)) (unknown_listed (target_columns names table) listed || unknown_source names ranges s) u
+
+    known : (unknown_listed (target_columns names table) listed ≡ false) × (unknown_source names ranges s ≡ false)
+    known = neither (unknown_listed (target_columns names table) listed) (unknown_source names ranges s) parts.1
+
+    writable : is_insert_source s ≡ true
+    writable = (parts_of (is_name_list_or_none listed) (is_insert_source s) (parts_of (is_name table) (is_name_list_or_none listed && is_insert_source s) i).1).1
+
+    whole : ℕ → List Column → Bool
+    whole id columns =
+        is_there names.tables id
+        && rows_suit names.tables shape (target_kinds (table_kinds names.tables id) (bound_columns (named_columns columns) listed)) (bound_source names ranges columns listed s)
+
+    by : Target names.tables table → whole (table_id names table) (stored_columns names.tables table) ≡ true
+    by t =
+        let sound = table_of_target names ranges shape a table t in
+        let stored = target_stored names.tables table t in
+        ap (λ id. whole id (stored_columns names.tables table)) (target_id names table t)
+        ∙ ap (whole t.place) stored
+        ∙ two _ _ (place_is_there names.tables t.place t.table t.there)
+        (ap (λ (kinds : List Kind). rows_suit names.tables shape (target_kinds kinds (bound_columns (named_columns t.table.columns) listed)) (bound_source names ranges t.table.columns listed s))
+        (target_kinds_of names.tables table t)
+        ∙ source_suits names ranges shape a t.table.columns (few_columns t.table sound) (defaults_suit t.table sound) listed
+        (subst (λ (columns : List Column). unknown_listed (named_columns columns) listed ≡ false) stored known.0) s writable known.1
+        (subst (λ (columns : List Column). misshaped_source names ranges (target_types (named_columns columns) listed) s ≡ false) stored w))
+
+-- ---- UPDATE and DELETE
+
+-- the range of the table that is changed, inside the row variables
+own_matches : (names : Names) (ranges : List NamedRange) (shape : Shape) → Around names ranges shape → (name : List ℕ) (t : Target names.tables name)
+    → Matches (own_range name (named_columns t.table.columns) ∷ ranges) (shape_within shape (kinds_of t.table))
+own_matches names ranges shape a name t = record {
+  rows = own_range name (named_columns t.table.columns) ∷ a.matches.rows;
+  variables = a.matches.variables;
+  split = ap (λ l. own_range name (named_columns t.table.columns) ∷ l) a.matches.split;
+  rows_match = (refl, stored_match t.table (few_columns t.table (table_of_target names ranges shape a name t)), a.matches.rows_match);
+  variables_match = a.matches.variables_match;
+}
+
+assignment_suits : (ranges : List NamedRange) (shape : Shape) → Matches ranges shape → length ranges ≤ greatest → (columns : List Column) → length columns ≤ greatest
+    → list_all default_suits columns ≡ true → (a : Assignment) → unknown_assignment (named_columns columns) ranges a ≡ false → misshaped_assignment (named_columns columns) ranges a ≡ false
+    → setting_suits shape (map (λ c. c.kind) columns) (bound_assignment columns ranges a) ≡ true
+unfolding bound_assignment misshaped_assignment
+assignment_suits ranges shape m deep columns few d a u w =
+    let known = neither (not (has_column (named_columns columns) a.column)) (unknown_value ranges a.value) u in
+    let kinds = neither (value_clashes (type_named (named_columns columns) a.column) ranges a.value) (misshaped_value ranges a.value) w in
+    let target = column_target columns a.column few known.0 in
+    let at = map_at (λ (c : Column). c.kind) columns (place_of (named_columns columns) a.column) in
+    ap (λ (o : Option Kind). value_suits shape o (bound_value columns ranges (place_of (named_columns columns) a.column) a.value))
+    (at ∙ ap (option_map (λ (c : Column). c.kind)) target.at)
+    ∙ value_of_column ranges shape m deep columns d (place_of (named_columns columns) a.column) target.column target.at a.value known.1 kinds.1
+    (ap (λ (o : Option ColumnType). value_clashes o ranges a.value) (sym target.type) ∙ kinds.0)
+
+pub update_suits : (names : Names) (ranges : List NamedRange) (shape : Shape) → Around names ranges shape → (u : Update)
+    → is_update u ≡ true → unknown_update names ranges u ≡ false → misshaped_update names ranges u ≡ false
+    → data_suits names.tables shape (bound_update names ranges u) ≡ true
+update_suits names ranges shape a u i n w = by (target_of names u.table parts.0)
+  where
+    unknown : List Column → Bool
+    unknown columns =
+        list_any (unknown_assignment (named_columns columns) (own_range u.table (named_columns columns) ∷ ranges)) u.assignments
+        || unknown_filter names (own_range u.table (named_columns columns) ∷ ranges) u.filter
+
+    misshaped : List Column → Bool
+    misshaped columns =
+        list_any (misshaped_assignment (named_columns columns) (own_range u.table (named_columns columns) ∷ ranges)) u.assignments
+        || misshaped_filter names (own_range u.table (named_columns columns) ∷ ranges) u.filter
+
+    parts : (not (is_table names u.table) ≡ false) × (unknown (stored_columns names.tables u.table) ≡ false)
+    parts = neither (not (is_table names u.table)) (unknown (stored_columns names.tables u.table)) n
+
+    writable : is_filter u.filter ≡ true
+    writable =
+        (parts_of (list_all is_assignment u.assignments) (is_filter u.filter)
+        (parts_of (not (length u.assignments == 0)) (list_all is_assignment u.assignments && is_filter u.filter)
+        (parts_of (is_name u.table) (not (length u.assignments == 0) && (list_all is_assignment u.assignments && is_filter u.filter)) i).1).1).1
+
+    whole : ℕ → List Column → Bool
+    whole id columns =
+        is_there names.tables id
+        && (list_all (setting_suits (shape_within shape (table_kinds names.tables id)) (table_kinds names.tables id))
+        (map (bound_assignment columns (own_range u.table (named_columns columns) ∷ ranges)) u.assignments)
+        && suits (shape_within shape (table_kinds names.tables id)) (bound_filter names (own_range u.table (named_columns columns) ∷ ranges) u.filter))
+
+    of_kinds : List Column → List Kind → Bool
+    of_kinds columns kinds =
+        list_all (setting_suits (shape_within shape kinds) kinds) (map (bound_assignment columns (own_range u.table (named_columns columns) ∷ ranges)) u.assignments)
+        && suits (shape_within shape kinds) (bound_filter names (own_range u.table (named_columns columns) ∷ ranges) u.filter)
+
+    by : Target names.tables u.table → whole (table_id names u.table) (stored_columns names.tables u.table) ≡ true
+    by t =
+        let sound = table_of_target names ranges shape a u.table t in
+        let stored = target_stored names.tables u.table t in
+        let matches = own_matches names ranges shape a u.table t in
+        let few = a.few in
+        let columns = t.table.columns in
+        let inner = own_range u.table (named_columns columns) ∷ ranges in
+        let kinds = kinds_of t.table in
+        let known = neither (list_any (unknown_assignment (named_columns columns) inner) u.assignments) (unknown_filter names inner u.filter)
+        (subst (λ (cs : List Column). unknown cs ≡ false) stored parts.1) in
+        let shaped = neither (list_any (misshaped_assignment (named_columns columns) inner) u.assignments) (misshaped_filter names inner u.filter)
+        (subst (λ (cs : List Column). misshaped cs ≡ false) stored w) in
+        ap (λ id. whole id (stored_columns names.tables u.table)) (target_id names u.table t)
+        ∙ ap (whole t.place) stored
+        ∙ two _ _ (place_is_there names.tables t.place t.table t.there)
+        (ap (of_kinds columns) (target_kinds_of names.tables u.table t)
+        ∙ two _ _
+        (all_by (setting_suits (shape_within shape kinds) kinds) (map (bound_assignment columns inner) u.assignments)
+        (λ j s h.
+        let made = made_of (bound_assignment columns inner) u.assignments j s h in
+        ap (setting_suits (shape_within shape kinds) kinds) made.2
+        ∙ assignment_suits inner (shape_within shape kinds) matches (omega arith) columns (few_columns t.table sound) (defaults_suit t.table sound) made.0
+        (any_at (unknown_assignment (named_columns columns) inner) u.assignments known.0 j made.0 made.1)
+        (any_at (misshaped_assignment (named_columns columns) inner) u.assignments shaped.0 j made.0 made.1)))
+        (filter_suits names inner (shape_within shape kinds) matches (omega arith) (sources_within names shape kinds a.sources) u.filter writable known.1 shaped.1))
+
+pub delete_suits : (names : Names) (ranges : List NamedRange) (shape : Shape) → Around names ranges shape → (d : Delete)
+    → is_delete d ≡ true → unknown_delete names ranges d ≡ false → misshaped_delete names ranges d ≡ false
+    → data_suits names.tables shape (bound_delete names ranges d) ≡ true
+delete_suits names ranges shape a d i n w = by (target_of names d.table parts.0)
+  where
+    unknown : List Column → Bool
+    unknown columns = unknown_filter names (own_range d.table (named_columns columns) ∷ ranges) d.filter
+
+    misshaped : List Column → Bool
+    misshaped columns = misshaped_filter names (own_range d.table (named_columns columns) ∷ ranges) d.filter
+
+    parts : (not (is_table names d.table) ≡ false) × (unknown (stored_columns names.tables d.table) ≡ false)
+    parts = neither (not (is_table names d.table)) (unknown (stored_columns names.tables d.table)) n
+
+    writable : is_filter d.filter ≡ true
+    writable = (parts_of (is_name d.table) (is_filter d.filter) i).1
+
+    whole : ℕ → List Column → Bool
+    whole id columns = is_there names.tables id && suits (shape_within shape (table_kinds names.tables id)) (bound_filter names (own_range d.table (named_columns columns) ∷ ranges) d.filter)
+
+    by : Target names.tables d.table → whole (table_id names d.table) (stored_columns names.tables d.table) ≡ true
+    by t =
+        let stored = target_stored names.tables d.table t in
+        let few = a.few in
+        let inner = own_range d.table (named_columns t.table.columns) ∷ ranges in
+        ap (λ id. whole id (stored_columns names.tables d.table)) (target_id names d.table t)
+        ∙ ap (whole t.place) stored
+        ∙ two _ _ (place_is_there names.tables t.place t.table t.there)
+        (ap (λ (kinds : List Kind). suits (shape_within shape kinds) (bound_filter names inner d.filter)) (target_kinds_of names.tables d.table t)
+        ∙ filter_suits names inner (shape_within shape (kinds_of t.table)) (own_matches names ranges shape a d.table t) (omega arith)
+        (sources_within names shape (kinds_of t.table) a.sources) d.filter writable
+        (subst (λ (cs : List Column). unknown cs ≡ false) stored parts.1) (subst (λ (cs : List Column). misshaped cs ≡ false) stored w))

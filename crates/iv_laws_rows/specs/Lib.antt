@@ -1,0 +1,6 @@
+pub mod Words
+pub mod RowFits
+pub mod Changing
+pub mod Laws
+pub mod Starting
+pub mod WellTyped

@@ -1,6 +1,0 @@
-pub mod Words
-pub mod RowFits
-pub mod Changing
-pub mod Laws
-pub mod Starting
-pub mod Misfits

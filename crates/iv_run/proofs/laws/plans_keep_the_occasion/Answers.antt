@@ -1,5 +1,0 @@
-use Rattle.iv_run.proofs.Occasions.{plans_keep}
-use Rattle.iv_run.proofs.laws.plans_keep_the_occasion.Goals as goal
-
-pub returns : goal.returns
-returns c = plans_keep

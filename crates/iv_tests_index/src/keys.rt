@@ -1,0 +1,89 @@
+//! The rows of keys of one column and of two, of texts and of nulls.
+use crate::checked;
+use iv_index::Groups;
+use iv_key::Key;
+use iv_value::{Value, text};
+use std::alloc::{AllocError, Global};
+use std::test::Fail;
+
+// Rows 5 and 3 are added under the key 1, and 5 is removed: whether the rows are 3 and 5 before, and the look-ups then;
+// whether they are 3 alone after, and the room.
+fn one_key(groups: &mut Groups) -> Result<(bool, u64, bool, u64), AllocError> {
+    let values = [Value::Int(1)];
+    let key = Key::new(&[0], &values);
+    groups.cover(1)?;
+    checked::add(groups, 0, &key, 5)?;
+    checked::add(groups, 0, &key, 3)?;
+    let both = groups.rows(0, &key) == [3u64, 5].as_slice();
+    checked::remove(groups, 0, &key, 5);
+    let looked_up = groups.looked_up();
+    let one = groups.holders(0, &key) == [3u64].as_slice();
+    Ok((both, looked_up, one, groups.room(0, &key)))
+}
+
+// The keys (ab, c), (a, bc) and (c, ab) have the rows 1, 2 and 3: whether each is found under its own alone.
+fn two_columns(alloc: Global, groups: &mut Groups) -> Result<[bool; 4], AllocError> {
+    let first = [text(alloc, "ab")?, text(alloc, "c")?];
+    let second = [text(alloc, "a")?, text(alloc, "bc")?];
+    groups.cover(1)?;
+    checked::add(groups, 0, &Key::new(&[0, 1], &first), 1)?;
+    checked::add(groups, 0, &Key::new(&[0, 1], &second), 2)?;
+    checked::add(groups, 0, &Key::new(&[1, 0], &first), 3)?;
+    Ok([
+        groups.rows(0, &Key::new(&[0, 1], &first)) == [1u64].as_slice(),
+        groups.rows(0, &Key::new(&[0, 1], &second)) == [2u64].as_slice(),
+        groups.rows(0, &Key::new(&[1, 0], &first)) == [3u64].as_slice(),
+        groups.rows(0, &Key::new(&[1, 0], &second)).is_empty(),
+    ])
+}
+
+// Null and the least integer have one hash, so that one is found behind the other: whether each has its own row, the
+// places of both, and whether a key of two nulls has none.
+fn nulls(groups: &mut Groups) -> Result<([bool; 3], [Option<usize>; 2]), AllocError> {
+    let values = [Value::Null, Value::Int(-9_223_372_036_854_775_808)];
+    let null = Key::new(&[0], &values);
+    let least = Key::new(&[1], &values);
+    groups.cover(1)?;
+    checked::add(groups, 0, &null, 8)?;
+    checked::add(groups, 0, &least, 9)?;
+    let found = [
+        groups.rows(0, &null) == [8u64].as_slice(),
+        groups.rows(0, &least) == [9u64].as_slice(),
+        groups.rows(0, &Key::new(&[0, 0], &values)).is_empty(),
+    ];
+    let places = [groups.place(0, &null), groups.place(0, &least)];
+    Ok((found, places))
+}
+
+#[test]
+fn rows_of_one_key_rise(rt: HostRuntime) -> Result<(), Fail> {
+    let mut groups = Groups::new(rt.alloc());
+    let said = one_key(&mut groups);
+    drop(groups);
+    let (both, looked_up, one, room) = said?;
+    assert!(rt; both);
+    assert_eq!(rt; looked_up, 4);
+    assert!(rt; one);
+    assert_eq!(rt; room, 1);
+    Ok(())
+}
+
+#[test]
+fn keys_of_texts_are_apart(rt: HostRuntime) -> Result<(), Fail> {
+    let mut groups = Groups::new(rt.alloc());
+    let found = two_columns(rt.alloc(), &mut groups);
+    drop(groups);
+    assert_eq!(rt; found?, [true; 4]);
+    Ok(())
+}
+
+#[test]
+fn null_is_a_key_of_its_own(rt: HostRuntime) -> Result<(), Fail> {
+    let mut groups = Groups::new(rt.alloc());
+    let said = nulls(&mut groups);
+    drop(groups);
+    let (found, places) = said?;
+    assert_eq!(rt; found, [true; 3]);
+    assert_eq!(rt; places, [Some(0), Some(1)]);
+    Ok(())
+}

@@ -1,0 +1,79 @@
+//! Each law is a call that returns.
+
+#[test]
+fn laws_of_values_are_called(rt: HostRuntime) {
+    iv_value::worked_values();
+    iv_expr::worked_values();
+}
+
+#[test]
+fn laws_of_tokens_are_called(rt: HostRuntime) {
+    iv_lex::laws::tokens_of_a_text();
+    iv_lex::laws::characters_of_tokens();
+}
+
+#[test]
+fn laws_of_the_grammar_are_called(rt: HostRuntime) {
+    iv_parse_terms::expression_laws();
+    iv_parse_terms::condition_laws();
+    iv_parse_terms::from_laws();
+    iv_parse::laws::one_statement();
+    iv_parse::laws::no_other_begins();
+    iv_parse::laws::one_script();
+}
+
+#[test]
+fn laws_of_names_are_called(rt: HostRuntime) {
+    iv_laws_naming::names_are_found();
+}
+
+#[test]
+fn laws_of_plans_are_called(rt: HostRuntime) {
+    iv_laws_fitting::plans_fit();
+    iv_laws_fitting::schemas_suit();
+    iv_laws_fitting::proposals_are_well_typed();
+}
+
+#[test]
+fn laws_of_levels_and_waves_are_called(rt: HostRuntime) {
+    iv_laws_levels::budget_falls();
+    iv_laws_levels::changes_are_counted();
+    iv_laws_levels::waves_one_by_one();
+    iv_laws_levels::level_checks();
+    iv_laws_levels::any_order();
+    iv_laws_levels::waves_fit();
+    iv_laws_levels::net_changes_follow();
+    iv_laws_levels::holders_before_a_wave();
+    iv_laws_levels::a_change_is_local();
+    iv_laws_levels::deletion_closure();
+    iv_laws_levels::planned_states_are_sound();
+}
+
+#[test]
+fn laws_of_rows_are_called(rt: HostRuntime) {
+    iv_laws_rows::statements_fit();
+    iv_laws_rows::proposals_fit();
+    iv_laws_rows::waves_fit();
+    iv_laws_rows::waves_start();
+    iv_laws_rows::firings_fit();
+    iv_laws_rows::levels_keep_rows_fitting();
+    iv_laws_rows::levels_are_well_typed();
+}
+
+#[test]
+fn laws_of_runs_are_called(rt: HostRuntime) {
+    iv_step::plans_keep_the_occasion();
+    iv_step::reached_states_are_sound();
+    iv_step::refusals_change_nothing();
+    iv_step::worked_scripts();
+}
+
+#[test]
+fn worked_scripts_are_called(rt: HostRuntime) {
+    iv_worked_machine::worked_scripts();
+}
+
+#[test]
+fn worked_statements_are_called(rt: HostRuntime) {
+    iv_worked_resolution::worked_statements();
+}

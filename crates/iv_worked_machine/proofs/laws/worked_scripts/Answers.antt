@@ -1,0 +1,35 @@
+use Rattle.iv_worked_machine.proofs.Worked.{constraints, actions, triggers, statements, keys, transactions, effects, before_triggers, transitions, limits, occasions}
+use Rattle.iv_worked_machine.proofs.laws.worked_scripts.Goals as goal
+
+pub returns-clause-constraints : goal.returns-clause-constraints
+returns-clause-constraints c = constraints
+
+pub returns-clause-actions : goal.returns-clause-actions
+returns-clause-actions c = actions
+
+pub returns-clause-triggers : goal.returns-clause-triggers
+returns-clause-triggers c = triggers
+
+pub returns-clause-statements : goal.returns-clause-statements
+returns-clause-statements c = statements
+
+pub returns-clause-keys : goal.returns-clause-keys
+returns-clause-keys c = keys
+
+pub returns-clause-transactions : goal.returns-clause-transactions
+returns-clause-transactions c = transactions
+
+pub returns-clause-effects : goal.returns-clause-effects
+returns-clause-effects c = effects
+
+pub returns-clause-before_triggers : goal.returns-clause-before_triggers
+returns-clause-before_triggers c = before_triggers
+
+pub returns-clause-transitions : goal.returns-clause-transitions
+returns-clause-transitions c = transitions
+
+pub returns-clause-limits : goal.returns-clause-limits
+returns-clause-limits c = limits
+
+pub returns-clause-occasions : goal.returns-clause-occasions
+returns-clause-occasions c = occasions

@@ -1,0 +1,20 @@
+use Rattle.iv_worked_resolution.proofs.Computed.{unknown, duplicates, faults, shapes, limits, order}
+use Rattle.iv_worked_resolution.proofs.laws.worked_statements.Goals as goal
+
+pub returns-clause-unknown : goal.returns-clause-unknown
+returns-clause-unknown c = unknown
+
+pub returns-clause-duplicates : goal.returns-clause-duplicates
+returns-clause-duplicates c = duplicates
+
+pub returns-clause-faults : goal.returns-clause-faults
+returns-clause-faults c = faults
+
+pub returns-clause-shapes : goal.returns-clause-shapes
+returns-clause-shapes c = shapes
+
+pub returns-clause-limits : goal.returns-clause-limits
+returns-clause-limits c = limits
+
+pub returns-clause-order : goal.returns-clause-order
+returns-clause-order c = order
