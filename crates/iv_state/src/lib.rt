@@ -1,6 +1,7 @@
 //! The state of a session: one database in memory, its catalogue, and the transaction that is open.
 #![tactic(auto)]
 
+mod adding;
 mod changes;
 mod deferring;
 mod performing;

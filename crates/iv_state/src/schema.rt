@@ -7,8 +7,8 @@ ghost use Rattle.iv_machine.specs.Machine.{accept, add_constraint_outcome, with_
 ghost use Rattle.iv_state.specs.Fits.{SchemaFits, adding_refusal};
 ghost use Rattle.iv_state.specs.Performing.{Performs};
 
+use crate::adding::{add_constraint, add_table};
 use crate::session_state::{SessionState, Work};
-use iv_additions::{add_constraint, add_table};
 use iv_catalogue::{Cause, Constraint, Constraints, Refusal, Table, Trigger, TriggerId};
 use iv_machine::Answer;
 use iv_step::Outcome;

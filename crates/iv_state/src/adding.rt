@@ -34,9 +34,9 @@ fn copy_table<K: Keeper>(
     Ok(modes)
 }
 
-/// Adds a table and its constraints to the catalogue and to the store, or to neither. The answer is the modes of
-/// all constraints as they are initially. ("Table definition")
-pub fn add_table<K: Keeper>(
+// Adds a table and its constraints to the catalogue and to the store, or to neither. The answer is the modes of
+// all constraints as they are initially. ("Table definition")
+pub(crate) fn add_table<K: Keeper>(
     store: &mut K,
     catalogue: &mut Catalogue,
     table: Table,
@@ -87,9 +87,9 @@ fn copy_constraint<K: Keeper>(
     Ok(modes)
 }
 
-/// Adds a constraint to the catalogue and to the store, or to neither. The answer is the modes of all constraints
-/// as they are initially. It is refused where a row violates the constraint. ("Add table constraint definition")
-pub fn add_constraint<K: Keeper>(
+// Adds a constraint to the catalogue and to the store, or to neither. The answer is the modes of all constraints
+// as they are initially. It is refused where a row violates the constraint. ("Add table constraint definition")
+pub(crate) fn add_constraint<K: Keeper>(
     store: &mut K,
     catalogue: &mut Catalogue,
     constraint: Constraint,
