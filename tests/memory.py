@@ -15,7 +15,7 @@ CRATES = os.path.join(os.path.dirname(os.path.abspath(__file__)), '..', 'crates'
 # The file, the function, the word, and why it is there.
 EXCEPTIONS = [
     ('iv_expr/src/expression.rt', 'copy', 'NoMemory', 'the copy of a text, which answers an AllocError or none'),
-    ('iv_triggers/src/values.rt', 'cause_of', 'OutOfMemory', 'the evaluation was refused memory, which is a fault of its own'),
+    ('iv_catalogue/src/cause.rt', 'from', 'OutOfMemory', 'the evaluation was refused memory, which is a fault of its own'),
     ('iv_state/src/schema.rt', 'adding_refusal', 'AllocError', 'the store was refused memory, which is a fault of its own'),
     ('iv_program/src/program.rt', 'words', 'NoMemory', 'std tells by a kind of its error that memory for the words was refused'),
     ('iv_program/src/program.rt', 'refuse_words', 'NoMemory', 'memory was refused for the options, which iv_options says by an error of its own'),
@@ -141,7 +141,7 @@ def is_declared(words, at, head):
 def sources():
     for folder, folders, files in os.walk(CRATES):
         left_out = {'out', 'tests', 'specs', 'proofs', 'must-fail'}
-        folders[:] = sorted(name for name in folders if name not in left_out and not name.endswith('_tests'))
+        folders[:] = sorted(name for name in folders if name not in left_out and not name.startswith('iv_tests_'))
         for name in sorted(files):
             if name.endswith('.rt') and name != 'tests.rt':
                 path = os.path.join(folder, name)

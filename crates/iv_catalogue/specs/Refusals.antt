@@ -1,7 +1,9 @@
--- Refusals outside any trigger, and the refusal OutOfMemory.
+-- Refusals outside any trigger, the refusal OutOfMemory, and the causes that faults of evaluation are.
 use Rattle.std.specs.Prelude.{Bool, true, false, None, Result, Ok, Err}
 use Rattle.iv_catalogue.specs.declared.cause.Cause.{Cause}
-use Rattle.iv_catalogue.specs.declared.cause.Cause.TheVariants.{OutOfMemory}
+use Rattle.iv_expr.specs.declared.tree.ExprFault.{ExprFault}
+use Rattle.iv_expr.specs.declared.tree.ExprFault.TheVariants as fault
+use Rattle.iv_catalogue.specs.declared.cause.Cause.TheVariants.{NumberOutOfRange, OutOfMemory, WrongShape}
 use Rattle.iv_catalogue.specs.declared.cause.Refusal.{Refusal}
 
 -- the refusal for a cause, outside any trigger
@@ -24,3 +26,9 @@ is_memory_cause _ = false
 abbrev pub is_memory : {A : Type 0} → Result A Refusal → Bool
 is_memory (Ok a) = false
 is_memory (Err r) = is_memory_cause r.cause
+
+-- why a statement is refused for a fault of evaluation; a resolved statement is well-typed, and a definition never runs out of memory
+abbrev pub cause_of : ExprFault → Cause
+cause_of fault.OutOfRange = NumberOutOfRange
+cause_of fault.IllTyped = WrongShape
+cause_of fault.NoMemory = OutOfMemory

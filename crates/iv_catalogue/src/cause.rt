@@ -3,6 +3,7 @@ ghost use Rattle.std.specs.Prelude.{◌≡◌};
 ghost use Rattle.iv_catalogue.specs.Refusals.{refusal_of};
 
 use crate::number::{ConstraintId, TriggerId};
+use iv_expr::ExprFault;
 use std::alloc::{AllocError, AllocFailed};
 
 /// A violation: the constraint and the number of the row that violates it.
@@ -70,6 +71,54 @@ impl Refusal {
             cause,
             trigger: None,
         }
+    }
+}
+
+impl From<AllocError> for Cause {
+    ghost use Rattle.std.specs.Prelude.{◌≡◌};
+    ghost use Rattle.iv_catalogue.specs.declared.cause.Cause.TheVariants.{OutOfMemory};
+
+    ghost from_gives = { λ _ cause. cause ≡ OutOfMemory };
+
+    fn from(_: AllocError) -> Cause {
+        Cause::OutOfMemory
+    }
+}
+
+impl<T: Drop> From<AllocFailed<T>> for Cause {
+    ghost use Rattle.std.specs.Prelude.{◌≡◌};
+    ghost use Rattle.iv_catalogue.specs.declared.cause.Cause.TheVariants.{OutOfMemory};
+
+    ghost from_gives = { λ _ cause. cause ≡ OutOfMemory };
+
+    fn from(failed: AllocFailed<T>) -> Cause {
+        Cause::from(AllocError::from(failed))
+    }
+}
+
+impl From<ExprFault> for Cause {
+    ghost use Rattle.std.specs.Prelude.{◌≡◌};
+    ghost use Rattle.iv_catalogue.specs.Refusals.{cause_of};
+
+    ghost from_gives = { λ fault cause. cause ≡ cause_of fault };
+
+    fn from(fault: ExprFault) -> Cause {
+        match fault {
+            ExprFault::OutOfRange => Cause::NumberOutOfRange,
+            ExprFault::IllTyped => Cause::WrongShape,
+            ExprFault::NoMemory => Cause::OutOfMemory,
+        }
+    }
+}
+
+impl From<Cause> for Refusal {
+    ghost use Rattle.std.specs.Prelude.{◌≡◌};
+    ghost use Rattle.iv_catalogue.specs.Refusals.{refusal_of};
+
+    ghost from_gives = { λ cause refusal. refusal ≡ refusal_of cause };
+
+    fn from(cause: Cause) -> Refusal {
+        Refusal::of(cause)
     }
 }
 

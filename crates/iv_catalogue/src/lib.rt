@@ -15,9 +15,8 @@ pub use catalogue::{Catalogue, Column, Table};
 pub use cause::{Cause, Fault, Refusal};
 pub use constraint::{Constraint, Constraints, ForeignKey, Rule};
 pub use limits::{
-    DEEPEST_TREE, GREATEST_INTEGER, LONGEST_NAME, MOST_BODY_STATEMENTS, MOST_CHARACTERS,
-    MOST_COLUMNS, MOST_CONSTRAINTS, MOST_KEY_COLUMNS, MOST_TABLES, MOST_TRIGGERS,
-    MOST_TRIGGERS_EVER,
+    MOST_BODY_STATEMENTS, MOST_CHARACTERS, MOST_COLUMNS, MOST_CONSTRAINTS, MOST_KEY_COLUMNS,
+    MOST_TABLES, MOST_TRIGGERS, MOST_TRIGGERS_EVER,
 };
 pub use number::{ConstraintId, OfConstraint, OfTrigger, TriggerId};
 pub use plan::{

@@ -23,12 +23,3 @@ pub const MOST_BODY_STATEMENTS: usize = 32;
 
 /// The most characters of a VARCHAR.
 pub const MOST_CHARACTERS: u64 = 4096;
-
-/// The greatest INTEGER, 2^63 - 1.
-pub const GREATEST_INTEGER: u64 = 9_223_372_036_854_775_807;
-
-/// The depth of the deepest value expression and search condition.
-pub const DEEPEST_TREE: u32 = 64;
-
-/// The most characters of a name.
-pub const LONGEST_NAME: usize = 128;

@@ -14,7 +14,7 @@ use Rattle.iv_syntax.specs.declared.statement.SelectList.TheVariants as list
 use Rattle.iv_syntax.specs.declared.statement.InsertSource.{InsertSource}
 use Rattle.iv_syntax.specs.declared.statement.InsertSource.TheVariants as source
 use Rattle.iv_syntax.specs.Trees.{condition_depth}
-use Rattle.iv_catalogue.specs.declared.limits.TheConstants.{DEEPEST_TREE}
+use Rattle.iv_syntax.specs.declared.limits.TheConstants.{DEEPEST_TREE}
 use Rattle.iv_resolution.specs.Scopes.{NamedColumn, NamedRange, Names, Source, type_of, named_columns, source_named, is_source, source_columns, source_range, range_of}
 use Rattle.iv_resolution.specs.Terms.{unknown_expression, unknown_filter, misshaped_expression, misshaped_filter, bound_expression, bound_filter}
 use Rattle.iv_resolution.specs.Changes.{unknown_listed, unknown_value, unknown_list, unknown_source, clashes_with, value_clashes, misshaped_value, target_types, tuple_clashes, misshaped_tuple, kinds_clash, values_clash, columns_clash, list_clashes, misshaped_list, misshaped_source}

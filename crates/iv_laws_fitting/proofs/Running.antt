@@ -24,7 +24,8 @@ use Rattle.iv_expr.proofs.Suiting.{Sorted, Fine, value_sorted, truth_fine}
 use Rattle.iv_catalogue.specs.Catalogues.{Schema}
 use Rattle.std.proofs.lemmas.Bool.Decides.{nat_tests}
 use Rattle.iv_machine.specs.Context.{Context, each}
-use Rattle.iv_machine.specs.Proposals.{cause_of, holds, column_at, value_for_column, stored_value, stored_values, element_where_true, where_true, matching_rows, outputs_of, values_by_column, row_of_values, insertion, insertion_of, proposed_insertions, update_of, deletion, with_columns, proposed_changes}
+use Rattle.iv_catalogue.specs.Refusals.{cause_of}
+use Rattle.iv_machine.specs.Proposals.{holds, column_at, value_for_column, stored_value, stored_values, element_where_true, where_true, matching_rows, outputs_of, values_by_column, row_of_values, insertion, insertion_of, proposed_insertions, update_of, deletion, with_columns, proposed_changes}
 use Rattle.iv_laws_fitting.specs.PlanShapes.{kinds_of, table_kinds, sort_suits, value_suits, values_suit, kind_suits, kinds_suit, target_kinds, outputs_suit, rows_suit, setting_suits, data_suits, is_there, is_range_there}
 use Rattle.iv_laws_fitting.specs.Running.{is_of_values, ProposalsAreWellTyped}
 use Rattle.iv_laws_fitting.proofs.ColumnKinds.{some_is}

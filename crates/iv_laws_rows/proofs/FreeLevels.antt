@@ -1,4 +1,4 @@
--- The waves of a statement that fits meet no misfit, and nor do the levels that it leads to.
+-- The waves of a statement that fits are well-typed, and so are the levels that it leads to.
 use Rattle.std.proofs.Common.{◌≡◌, ℕ, zero, suc, ◌+◌, ◌-◌, nat_lt, Bool, true, false, if◌then◌else◌, List, [], ◌∷◌, ◌∙◌, Some, Result, Ok, Err, refl, ap, filter}
 use Rattle.iv_laws_rows.specs.Words.{Change, Cause, BodyStatement, DataStatement, Database}
 use Rattle.iv_laws_rows.specs.Words.cause.{Restrict, ActionConflict, Violation, TooManyChanges, TransactionTooLarge, Limit}
@@ -114,7 +114,7 @@ waves_are_well_typed w db budget wave failure s start e =
 
 -- ---- the triggers that fire
 
--- data statements that fit meet no misfit
+-- data statements that fit are well-typed
 abbrev pub RunsFree : Context → Runs → Type 0
 RunsFree w run =
     (trigger : ℕ) (d : DataStatement) (f : Frame) (db : Database) (budget : ℕ)

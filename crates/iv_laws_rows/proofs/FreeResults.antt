@@ -1,4 +1,4 @@
--- Results that are free of misfits, one step after another.
+-- Results that are without a fault of types, one step after another.
 use Rattle.std.proofs.Common.{◌≡◌, ℕ, true, false, List, [], ◌∷◌, Some, is_none, Result, Ok, Err, if◌then◌else◌, refl, subst, inl, inr}
 use Rattle.iv_expr.specs.Evaluation.{and_then}
 use Rattle.iv_laws_rows.specs.Words.{Cause, Refusal, Database}

@@ -1,4 +1,4 @@
--- BEFORE triggers that suit meet no misfit on changes that fit.
+-- BEFORE triggers that suit are well-typed on changes that fit.
 use Rattle.std.proofs.Common.{◌≡◌, ℕ, Bool, true, false, not, ◌&&◌, ◌==◌, if◌then◌else◌, List, [], ◌∙◌, Option, Some, None, is_none, Result, Ok, Err, refl, sym, ap, find, filter, slice_get, slice_set}
 use Rattle.std.specs.List.{list_all}
 use Rattle.iv_laws_rows.specs.Words.{Value, StoredRow, Change, TriggerEvent, Table, Cause, Refusal, BodyStatement, Trigger}
@@ -37,7 +37,7 @@ trigger_parts tables t s =
     let q = parts_of (suits (shape_of tables t) t.when) all p.1 in
     record { when = q.0; actions = q.1 }
 
--- WHEN meets no misfit under a frame that has the kinds of the trigger's shape
+-- WHEN is well-typed under a frame that has the kinds of the trigger's shape
 pub when_free : (tables : List Table) (t : Trigger) (frame : Frame) (rows : List StoredRow) → trigger_suits tables t ≡ true → Sees tables t frame
     → rows_fit tables rows ≡ true → FreeCause (holds (scope_of frame rows) t.when)
 when_free tables t frame rows s sees h =

@@ -22,7 +22,7 @@ is_ill_typed _ = false
 
 -- ---- BEFORE triggers
 
--- BEFORE row triggers that suit meet no misfit on changes that fit.
+-- BEFORE row triggers that suit are well-typed on changes that fit.
 abbrev pub RowTriggersAreWellTyped : Type 0
 RowTriggersAreWellTyped =
     (context : Context) (rows : List StoredRow) (triggers : List Trigger) (changes : List Change) (refusal : Refusal)
@@ -42,7 +42,7 @@ StatementTriggersAreWellTyped =
 
 -- ---- waves and levels
 
--- All waves from one that may start meet no misfit.
+-- All waves from one that may start are well-typed.
 abbrev pub WavesAreWellTyped : Type 0
 WavesAreWellTyped =
     (context : Context) (db : Database) (budget : ℕ) (wave : Wave) (failure : Failure)

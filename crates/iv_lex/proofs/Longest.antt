@@ -6,7 +6,7 @@ use Rattle.std.proofs.lemmas.Grind.{common_steps}
 use Rattle.std.proofs.lemmas.Bool.Decides.{nat_tests}
 use Rattle.iv_lex.specs.declared.kind.TokenKind.{TokenKind}
 use Rattle.iv_lex.specs.declared.kind.TokenKind.TheVariants as kind
-use Rattle.iv_lex.specs.declared.limits.TheConstants.{LONGEST_WORD, GREATEST_NUMBER}
+use Rattle.iv_syntax.specs.declared.limits.TheConstants.{LONGEST_NAME, GREATEST_INTEGER}
 use Rattle.iv_lex.proofs.Scanning.{map_twice}
 use Rattle.iv_lex.specs.Reserved.{word_kind}
 use Rattle.iv_lex.specs.Tokens.{is_letter, is_digit, is_word_byte, front_length, value_from, single_symbol, double_symbol, closing, symbol_by, quoted_by, with_length, word_at, number_at, symbol_at, token_at}
@@ -415,7 +415,7 @@ symbol_good b bs p None None o h s e = absurd (cc)
 le_true : (a b : ℕ) → nat_le a b ≡ true → a ≤ b
 le_true a b h = grind (arith, nat_tests)
 
-word_by : (bs : List ℕ) (n : ℕ) (p : TokenKind × ℕ) (x : Bool) → nat_le (length (take n bs)) LONGEST_WORD ≡ x → with_length n (if x then Some (word_kind (take n bs)) else None) ≡ Some p
+word_by : (bs : List ℕ) (n : ℕ) (p : TokenKind × ℕ) (x : Bool) → nat_le (length (take n bs)) LONGEST_NAME ≡ x → with_length n (if x then Some (word_kind (take n bs)) else None) ≡ Some p
     → IsLongestRun bs (take n bs) → IsWord (take n bs) → IsGood bs p
 word_by bs n p true e h l w = subst (IsGood bs) (pair_same (word_kind (take n bs), n) p h) (l, a_word w (le_true _ _ e) refl)
 word_by bs n p false e h l w = absurd (cc)
@@ -424,10 +424,10 @@ word_good : (b : ℕ) (bs : List ℕ) (p : TokenKind × ℕ) → is_letter b ≡
 word_good b bs p e h =
     let t = sym (word_taken b bs e) in
     let n : ℕ = front_length is_word_byte (b ∷ bs) in
-    word_by (b ∷ bs) n p (nat_le (length (take n (b ∷ bs))) LONGEST_WORD) refl h
+    word_by (b ∷ bs) n p (nat_le (length (take n (b ∷ bs))) LONGEST_NAME) refl h
     (subst (IsLongestRun (b ∷ bs)) t (word_longest b bs e)) (subst IsWord t (e, front_all is_word_byte bs))
 
-number_by : (bs : List ℕ) (n : ℕ) (p : TokenKind × ℕ) (x : Bool) → nat_le (value_from 0 (take n bs)) (GREATEST_NUMBER) ≡ x → with_length n (if x then Some (kind.Number (value_from 0 (take n bs))) else None) ≡ Some p
+number_by : (bs : List ℕ) (n : ℕ) (p : TokenKind × ℕ) (x : Bool) → nat_le (value_from 0 (take n bs)) (GREATEST_INTEGER) ≡ x → with_length n (if x then Some (kind.Number (value_from 0 (take n bs))) else None) ≡ Some p
     → IsLongestRun bs (take n bs) → IsDigits (take n bs) → IsGood bs p
 number_by bs n p true e h l w = subst (IsGood bs) (pair_same (kind.Number (value_from 0 (take n bs)), n) p h) (l, a_number w (le_true _ _ e) refl)
 number_by bs n p false e h l w = absurd (cc)
@@ -436,7 +436,7 @@ number_good : (b : ℕ) (bs : List ℕ) (p : TokenKind × ℕ) → is_digit b �
 number_good b bs p e h =
     let t = sym (number_taken b bs e) in
     let n : ℕ = front_length is_digit (b ∷ bs) in
-    number_by (b ∷ bs) n p (nat_le (value_from 0 (take n (b ∷ bs))) (GREATEST_NUMBER)) refl h
+    number_by (b ∷ bs) n p (nat_le (value_from 0 (take n (b ∷ bs))) (GREATEST_INTEGER)) refl h
     (subst (IsLongestRun (b ∷ bs)) t (number_longest b bs e)) (subst IsDigits t (e, front_all is_digit bs))
 
 text_by : (bs : List ℕ) (p : TokenKind × ℕ) (o : Option ℕ) → closing bs ≡ o → quoted_by o ≡ Some p → IsGood (39 ∷ bs) p
@@ -474,14 +474,14 @@ not_empty k (a_text (inside, q, w) e) = empty 39 _ w
 not_empty k (a_symbol (one a w s)) = empty a _ w
 not_empty k (a_symbol (two a b w s)) = empty a _ w
 
-letter_token : (b : ℕ) (fs : List ℕ) (k : TokenKind) → is_letter b ≡ true → IsToken (b ∷ fs) k → length (b ∷ fs) ≤ LONGEST_WORD
+letter_token : (b : ℕ) (fs : List ℕ) (k : TokenKind) → is_letter b ≡ true → IsToken (b ∷ fs) k → length (b ∷ fs) ≤ LONGEST_NAME
 letter_token b fs k h (a_word w l e) = l
 letter_token b fs k h (a_number d l e) = absurd (no_digit b h d.0)
 letter_token b fs k h (a_text (inside, q, w) e) = absurd (no_quote b h (head b 39 fs _ w))
 letter_token b fs k h (a_symbol (one a w s)) = omega (arith, ap length w)
 letter_token b fs k h (a_symbol (two a c w s)) = omega (arith, ap length w)
 
-digit_token : (b : ℕ) (fs : List ℕ) (k : TokenKind) → is_digit b ≡ true → IsToken (b ∷ fs) k → value_from 0 (b ∷ fs) ≤ GREATEST_NUMBER
+digit_token : (b : ℕ) (fs : List ℕ) (k : TokenKind) → is_digit b ≡ true → IsToken (b ∷ fs) k → value_from 0 (b ∷ fs) ≤ GREATEST_INTEGER
 digit_token b fs k h (a_word w l e) = absurd (no_digit b w.0 h)
 digit_token b fs k h (a_number d l e) = l
 digit_token b fs k h (a_text (inside, q, w) e) = absurd (digit_no_quote b h (head b 39 fs _ w))
@@ -504,15 +504,15 @@ symbol_token b fs k o (a_number d l e) = absurd (other_number b o d.0)
 symbol_token b fs k o (a_text (inside, q, w) e) = absurd (other_text b o (head b 39 fs _ w))
 symbol_token b fs k o (a_symbol s) = s
 
-word_bad : (bs f : List ℕ) (n : ℕ) → f ≡ take n bs → length f ≤ LONGEST_WORD → word_at bs n ≡ None → ⊥
+word_bad : (bs f : List ℕ) (n : ℕ) → f ≡ take n bs → length f ≤ LONGEST_NAME → word_at bs n ≡ None → ⊥
 word_bad bs f n e l h =
-    let g : nat_le (length (take n bs)) LONGEST_WORD ≡ true = yes_le _ _ (subst (λ z. length z ≤ LONGEST_WORD) e l) in
+    let g : nat_le (length (take n bs)) LONGEST_NAME ≡ true = yes_le _ _ (subst (λ z. length z ≤ LONGEST_NAME) e l) in
     let i : word_at bs n ≡ Some (word_kind (take n bs), n) = ap (λ x. with_length n (if x then Some (word_kind (take n bs)) else None)) g in
     absurd (cc)
 
-number_bad : (bs f : List ℕ) (n : ℕ) → f ≡ take n bs → value_from 0 f ≤ GREATEST_NUMBER → number_at bs n ≡ None → ⊥
+number_bad : (bs f : List ℕ) (n : ℕ) → f ≡ take n bs → value_from 0 f ≤ GREATEST_INTEGER → number_at bs n ≡ None → ⊥
 number_bad bs f n e l h =
-    let g : nat_le (value_from 0 (take n bs)) (GREATEST_NUMBER) ≡ true = yes_le _ _ (subst (λ z. value_from 0 z ≤ GREATEST_NUMBER) e l) in
+    let g : nat_le (value_from 0 (take n bs)) (GREATEST_INTEGER) ≡ true = yes_le _ _ (subst (λ z. value_from 0 z ≤ GREATEST_INTEGER) e l) in
     let i : number_at bs n ≡ Some (kind.Number (value_from 0 (take n bs)), n) = ap (λ x. with_length n (if x then Some (kind.Number (value_from 0 (take n bs))) else None)) g in
     absurd (cc)
 

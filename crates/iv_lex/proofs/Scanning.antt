@@ -5,7 +5,7 @@ use Rattle.std.proofs.lemmas.Bool.Decides.{nat_tests}
 use Rattle.iv_lex.specs.declared.kind.TokenKind.{TokenKind}
 use Rattle.iv_lex.specs.declared.token.Token.{Token}
 use Rattle.iv_lex.specs.declared.lexer.Lexed.{Lexed}
-use Rattle.iv_lex.specs.declared.limits.TheConstants.{GREATEST_NUMBER}
+use Rattle.iv_syntax.specs.declared.limits.TheConstants.{GREATEST_INTEGER}
 use Rattle.iv_lex.specs.Tokens.{tokens_from, after_gap, with_token, no_tokens, gap, token_at, tokens_of, value_from, number_kind}
 
 yes_le : (a b : ℕ) → a ≤ b → nat_le a b ≡ true
@@ -96,9 +96,9 @@ pub value_grows : (n : ℕ) (ds : List ℕ) → n ≤ value_from n ds
 value_grows n [] = omega arith
 value_grows n (d ∷ ds) = omega (arith, value_grows (n * 10 + (d - 48)) ds)
 
-pub no_number : (ds : List ℕ) (n : ℕ) (rest : List ℕ) → value_from n rest ≡ value_from 0 ds → GREATEST_NUMBER < n → number_kind ds ≡ None
+pub no_number : (ds : List ℕ) (n : ℕ) (rest : List ℕ) → value_from n rest ≡ value_from 0 ds → GREATEST_INTEGER < n → number_kind ds ≡ None
 no_number ds n rest e h =
-    let f : nat_le (value_from 0 ds) (GREATEST_NUMBER) ≡ false = grind (arith, nat_tests, value_grows n rest) in
+    let f : nat_le (value_from 0 ds) (GREATEST_INTEGER) ≡ false = grind (arith, nat_tests, value_grows n rest) in
     rw f
 
 pub map_twice : (a b : ℕ) (o : Option ℕ) → option_map (λ n. a + n) (option_map (λ n. b + n) o) ≡ option_map (λ n. a + b + n) o
@@ -106,7 +106,7 @@ map_twice a b None = refl
 map_twice a b (Some n) = ap (λ m. Some m) (omega arith)
 
 -- one digit more makes the number too large
-pub too_large : (ds : List ℕ) (n i : ℕ) → value_from n (drop i ds) ≡ value_from 0 ds → i < length ds → GREATEST_NUMBER < n * 10 + (get_or ds i 0 - 48) → number_kind ds ≡ None
+pub too_large : (ds : List ℕ) (n i : ℕ) → value_from n (drop i ds) ≡ value_from 0 ds → i < length ds → GREATEST_INTEGER < n * 10 + (get_or ds i 0 - 48) → number_kind ds ≡ None
 too_large ds n i e l h =
     let e2 : value_from (n * 10 + (get_or ds i 0 - 48)) (drop (suc i) ds) ≡ value_from 0 ds = ap (value_from n) (sym (drop-cons ds i 0 l)) ∙ e in
     no_number ds (n * 10 + (get_or ds i 0 - 48)) (drop (suc i) ds) e2 h

@@ -5,7 +5,7 @@ use Rattle.std.specs.List.{list_all}
 use Rattle.iv_lex.specs.declared.kind.TokenKind.{TokenKind}
 use Rattle.iv_lex.specs.declared.kind.TokenKind.TheVariants as kind
 use Rattle.iv_lex.specs.Reserved.{word_kind}
-use Rattle.iv_lex.specs.declared.limits.TheConstants.{LONGEST_WORD, GREATEST_NUMBER}
+use Rattle.iv_syntax.specs.declared.limits.TheConstants.{LONGEST_NAME, GREATEST_INTEGER}
 use Rattle.iv_lex.specs.Tokens.{is_letter, is_digit, is_word_byte, value_from, single_symbol, double_symbol}
 
 -- a letter or an underscore, and then letters, digits and underscores
@@ -48,8 +48,8 @@ pub data IsRun (bs : List ℕ) : Type 0 where
 -- These characters are one token, of this kind: a word that isn't too long, which is the reserved
 -- word that it is or else a name; a number by its value that isn't too large; a text; or a symbol.
 pub data IsToken (bs : List ℕ) (k : TokenKind) : Type 0 where
-  a_word : IsWord bs → length bs ≤ LONGEST_WORD → k ≡ word_kind bs → IsToken bs k
-  a_number : IsDigits bs → value_from 0 bs ≤ GREATEST_NUMBER → k ≡ kind.Number (value_from 0 bs)
+  a_word : IsWord bs → length bs ≤ LONGEST_NAME → k ≡ word_kind bs → IsToken bs k
+  a_number : IsDigits bs → value_from 0 bs ≤ GREATEST_INTEGER → k ≡ kind.Number (value_from 0 bs)
       → IsToken bs k
   a_text : IsText bs → k ≡ kind.Quoted → IsToken bs k
   a_symbol : IsSymbol bs k → IsToken bs k

@@ -4,7 +4,7 @@ use Rattle.iv_lex.specs.declared.kind.TokenKind.{TokenKind}
 use Rattle.iv_lex.specs.declared.kind.TokenKind.TheVariants as kind
 use Rattle.iv_lex.specs.declared.token.Token.{Token}
 use Rattle.iv_lex.specs.declared.lexer.Lexed.{Lexed}
-use Rattle.iv_lex.specs.declared.limits.TheConstants.{LONGEST_WORD, GREATEST_NUMBER}
+use Rattle.iv_syntax.specs.declared.limits.TheConstants.{LONGEST_NAME, GREATEST_INTEGER}
 use Rattle.iv_lex.specs.Reserved.{word_kind}
 
 -- space, tab, CR and LF
@@ -52,12 +52,12 @@ value_from before (d ∷ ds) = value_from (before * 10 + (d - 48)) ds
 -- the number that digits write, where it isn't too large
 abbrev pub number_kind : List ℕ → Option TokenKind
 number_kind digits =
-    if nat_le (value_from 0 digits) GREATEST_NUMBER then Some (kind.Number (value_from 0 digits))
+    if nat_le (value_from 0 digits) GREATEST_INTEGER then Some (kind.Number (value_from 0 digits))
     else None
 
 -- the reserved word or the name that a word is, where it isn't too long
 abbrev pub short_word : List ℕ → Option TokenKind
-short_word word = if nat_le (length word) LONGEST_WORD then Some (word_kind word) else None
+short_word word = if nat_le (length word) LONGEST_NAME then Some (word_kind word) else None
 
 -- how many bytes there are up to the quote that ends a text, and with it; two quotes are one of the text
 abbrev pub closing : List ℕ → Option ℕ

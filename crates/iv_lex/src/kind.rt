@@ -5,7 +5,7 @@
 pub enum TokenKind {
     /// A word that is no reserved word.
     Name,
-    /// A number by its value, at most `GREATEST_NUMBER`.
+    /// A number by its value, at most `GREATEST_INTEGER`.
     Number(u64),
     /// A text between single quotes.
     Quoted,

@@ -4,7 +4,6 @@
 mod kind;
 pub mod laws;
 mod lexer;
-mod limits;
 mod reserved;
 mod scan;
 mod spelling;
@@ -12,6 +11,5 @@ mod token;
 
 pub use kind::TokenKind;
 pub use lexer::{Lexed, tokens};
-pub use limits::{GREATEST_NUMBER, LONGEST_WORD};
 pub use spelling::{folded_text, unquoted_text};
 pub use token::Token;

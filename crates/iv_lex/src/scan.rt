@@ -3,8 +3,8 @@ ghost use Rattle.std.specs.Prelude.{◌≡◌, ◌+◌, ◌≤◌, ◌<◌, leng
 ghost use Rattle.iv_lex.specs.Tokens.{is_space, is_digit, is_letter, is_word_byte, front_length, gap_step, gap, number_kind, short_word, closing, text_end, double_symbol, single_symbol, symbol_at, token_at, word_at, number_at, quoted_by};
 
 use crate::kind::TokenKind;
-use crate::limits::{GREATEST_NUMBER, LONGEST_WORD};
 use crate::reserved::word_kind;
+use iv_syntax::{GREATEST_INTEGER, LONGEST_NAME};
 
 fn is_space(byte: u8) -> bool
     ensures { result ≡ is_space byte }
@@ -104,7 +104,7 @@ fn number(digits: &[u8]) -> Option<TokenKind>
     let mut value = 0u64;
     for digit in digits {
         let next = u128::from(value) * 10 + u128::from(digit.saturating_sub(b'0'));
-        if next > u128::from(GREATEST_NUMBER) {
+        if next > u128::from(GREATEST_INTEGER) {
             return None;
         }
         value = next as u64;
@@ -115,7 +115,7 @@ fn number(digits: &[u8]) -> Option<TokenKind>
 fn short_word(word: &[u8]) -> Option<TokenKind>
     ensures { result ≡ short_word word.now }
 {
-    if word.len() <= LONGEST_WORD {
+    if word.len() <= LONGEST_NAME {
         Some(word_kind(word))
     } else {
         None

@@ -4,9 +4,8 @@ use Rattle.std.specs.Prelude.{ℕ, Bool, if◌then◌else◌, List, [], map, fil
 use Rattle.std.specs.List.{enumerate_from}
 use Rattle.iv_machine.specs.Words.{Value, StoredRow, Change, Cond, ExprFault, TriggerEvent, Column, Cause, Setting, Outputs, InsertColumns, InsertRows, DataStatement, Database}
 use Rattle.iv_machine.specs.Words.fit.{Yes, WrongKind, TooLong}
-use Rattle.iv_machine.specs.Words.expr_fault.{OutOfRange, IllTyped, NoMemory}
 use Rattle.iv_machine.specs.Words.event
-use Rattle.iv_machine.specs.Words.cause.{NumberOutOfRange, TextTooLong, WrongShape, OutOfMemory}
+use Rattle.iv_machine.specs.Words.cause.{TextTooLong, WrongShape}
 use Rattle.iv_machine.specs.Words.outputs.{Star, Values}
 use Rattle.iv_machine.specs.Words.insert_columns as columns
 use Rattle.iv_machine.specs.Words.insert_rows as rows
@@ -17,15 +16,10 @@ use Rattle.iv_expr.specs.Changes.{Wave, wave_of}
 use Rattle.iv_expr.specs.Scopes.{Scope, Frame, scope_of, within, range_rows, table_rows}
 use Rattle.iv_expr.specs.Evaluation.{value, truth, and_then}
 use Rattle.iv_catalogue.specs.Catalogues.{Schema}
+use Rattle.iv_catalogue.specs.Refusals.{cause_of}
 use Rattle.iv_machine.specs.Context.{Context, each}
 
 -- ---- values and conditions
-
--- why a statement is refused for a fault of evaluation; a resolved statement has no misfit, and a definition never runs out of memory
-abbrev pub cause_of : ExprFault → Cause
-cause_of OutOfRange = NumberOutOfRange
-cause_of IllTyped = WrongShape
-cause_of NoMemory = OutOfMemory
 
 abbrev pub with_cause : {A : Type 0} → Result A ExprFault → Result A Cause
 with_cause (Ok a) = Ok a

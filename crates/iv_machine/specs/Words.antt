@@ -6,7 +6,6 @@ pub use Rattle.iv_expr.specs.declared.row.StoredRow.{StoredRow}
 pub use Rattle.iv_expr.specs.declared.row.Change.{Change}
 pub use Rattle.iv_expr.specs.declared.tree.Cond.{Cond}
 pub use Rattle.iv_expr.specs.declared.tree.ExprFault.{ExprFault}
-pub use Rattle.iv_expr.specs.declared.tree.ExprFault.TheVariants as expr_fault
 pub use Rattle.iv_syntax.specs.declared.table.MatchType.{MatchType}
 pub use Rattle.iv_syntax.specs.declared.table.MatchType.TheVariants as matching
 pub use Rattle.iv_syntax.specs.declared.table.ReferentialAction.{ReferentialAction}

@@ -12,7 +12,7 @@ use Rattle.iv_parse_terms.specs.Expressions.{IsExpression}
 use Rattle.iv_syntax.specs.Trees.{depth, condition_depth}
 use Rattle.iv_parse_terms.specs.Conditions.{IsCondition, IsFrom}
 use Rattle.iv_parse_terms.specs.ItemDepth.{where_depth}
-use Rattle.iv_parse_terms.specs.declared.limits.TheConstants.{DEEPEST}
+use Rattle.iv_syntax.specs.declared.limits.TheConstants.{DEEPEST_TREE}
 use Rattle.iv_parse_data.specs.Series.{Series, Maybe, InParentheses}
 
 abbrev pub IsName : List Word → List ℕ → Type 0
@@ -22,13 +22,13 @@ IsName ws n = ws ≡ name n ∷ []
 abbrev pub Names : List Word → List (List ℕ) → Type 0
 Names = Series IsName
 
--- an expression whose tree is no deeper than DEEPEST
+-- an expression whose tree is no deeper than DEEPEST_TREE
 abbrev pub IsShallow : List Word → Expression → Type 0
-IsShallow ws e = IsExpression ws e × (depth e ≤ DEEPEST)
+IsShallow ws e = IsExpression ws e × (depth e ≤ DEEPEST_TREE)
 
--- a condition whose tree is no deeper than DEEPEST
+-- a condition whose tree is no deeper than DEEPEST_TREE
 abbrev pub IsShallowCondition : List Word → Condition → Type 0
-IsShallowCondition ws c = IsCondition ws c × (condition_depth c ≤ DEEPEST)
+IsShallowCondition ws c = IsCondition ws c × (condition_depth c ≤ DEEPEST_TREE)
 
 -- expression | DEFAULT
 abbrev pub IsValue : List Word → ValueOrDefault → Type 0
@@ -44,9 +44,9 @@ abbrev pub IsColumnList : List Word → Option (List (List ℕ)) → Type 0
 IsColumnList ws None = ws ≡ []
 IsColumnList ws (Some ns) = InParentheses Names ws ns
 
--- FROM, a table, its alias and WHERE with a condition no deeper than DEEPEST
+-- FROM, a table, its alias and WHERE with a condition no deeper than DEEPEST_TREE
 abbrev pub IsShallowFrom : List Word → RangeName × Option Condition → Type 0
-IsShallowFrom ws p = IsFrom ws p.0 p.1 × (where_depth p.1 ≤ DEEPEST)
+IsShallowFrom ws p = IsFrom ws p.0 p.1 × (where_depth p.1 ≤ DEEPEST_TREE)
 
 -- * | expression {, expression}
 abbrev pub IsSelectList : List Word → SelectList → Type 0

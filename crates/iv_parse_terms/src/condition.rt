@@ -13,12 +13,11 @@ use crate::from_part::FromPart;
 use crate::front::{after, select, sign};
 use crate::item::Connective;
 use crate::item_part::ItemPart;
-use crate::limits::DEEPEST;
 use crate::predicate::{
     close_item, connective_after, discard, go_on, join_found, negate, truth, value_item,
 };
 use iv_lex::{Token, TokenKind};
-use iv_syntax::{Condition, RangeName};
+use iv_syntax::{Condition, DEEPEST_TREE, RangeName};
 use std::alloc::{AllocError, Global};
 
 // What comes first in a test.
@@ -29,7 +28,7 @@ fn lead<'a>(
     text: &str,
     tokens: &'a [Token],
 ) -> Result<Option<ItemPart<'a>>, AllocError>
-    requires { limit ≤ DEEPEST }
+    requires { limit ≤ DEEPEST_TREE }
     ensures { IfOk result (λ r. item_found text.now r
         ≡ read_lead limit (words text.now tokens.now)) }
 {
@@ -56,7 +55,7 @@ fn exists<'a>(
     text: &str,
     tokens: &'a [Token],
 ) -> Result<Option<ItemPart<'a>>, AllocError>
-    requires low { limit ≤ DEEPEST }
+    requires low { limit ≤ DEEPEST_TREE }
     requires some { 0 < limit }
     ensures { IfOk result (λ r. item_found text.now r
         ≡ exists_by limit (read_item (limit - 1)) (words text.now tokens.now)) }
@@ -78,7 +77,7 @@ fn from_range<'a>(
     text: &str,
     tokens: &'a [Token],
 ) -> Result<Option<FromPart<'a>>, AllocError>
-    requires { limit ≤ DEEPEST }
+    requires { limit ≤ DEEPEST_TREE }
     ensures { IfOk result (λ r. from_found text.now r ≡ from limit (words text.now tokens.now)) }
 {
     let Some(rest) = after(TokenKind::From, tokens) else {
@@ -101,7 +100,7 @@ fn lead_factor<'a>(
     text: &str,
     tokens: &'a [Token],
 ) -> Result<Option<ItemPart<'a>>, AllocError>
-    requires { limit ≤ DEEPEST }
+    requires { limit ≤ DEEPEST_TREE }
     ensures { IfOk result (λ r. item_found text.now r
         ≡ lead_factor_of limit (words text.now tokens.now)) }
 {
@@ -118,7 +117,7 @@ fn test<'a>(
     text: &str,
     tokens: &'a [Token],
 ) -> Result<Option<ItemPart<'a>>, AllocError>
-    requires { limit ≤ DEEPEST }
+    requires { limit ≤ DEEPEST_TREE }
     ensures { IfOk result (λ r. item_found text.now r
         ≡ read_test limit (words text.now tokens.now)) }
 {
@@ -135,7 +134,7 @@ fn negation<'a>(
     text: &str,
     tokens: &'a [Token],
 ) -> Result<Option<ItemPart<'a>>, AllocError>
-    requires { limit ≤ DEEPEST }
+    requires { limit ≤ DEEPEST_TREE }
     ensures { IfOk result (λ r. item_found text.now r
         ≡ read_negation limit (words text.now tokens.now)) }
 {
@@ -157,7 +156,7 @@ fn operand<'a>(
     text: &str,
     tokens: &'a [Token],
 ) -> Result<Option<ItemPart<'a>>, AllocError>
-    requires { limit ≤ DEEPEST }
+    requires { limit ≤ DEEPEST_TREE }
     ensures { IfOk result (λ r. item_found text.now r
         ≡ read_operand connective limit (words text.now tokens.now)) }
 {
@@ -177,8 +176,8 @@ fn operands<'a>(
     text: &str,
     left: ItemPart<'a>,
 ) -> Result<Option<ItemPart<'a>>, AllocError>
-    requires low { limit ≤ DEEPEST }
-    requires few { most ≤ DEEPEST }
+    requires low { limit ≤ DEEPEST_TREE }
+    requires few { most ≤ DEEPEST_TREE }
     ensures { IfOk result (λ r. item_found text.now r
         ≡ more_by connective limit (read_operand connective limit) most left.entry.item
         (words text.now left.entry.rest.now)) }
@@ -205,7 +204,7 @@ fn chain<'a>(
     text: &str,
     tokens: &'a [Token],
 ) -> Result<Option<ItemPart<'a>>, AllocError>
-    requires { limit ≤ DEEPEST }
+    requires { limit ≤ DEEPEST_TREE }
     ensures { IfOk result (λ r. item_found text.now r
         ≡ read_chain connective limit (words text.now tokens.now)) }
 {
@@ -223,7 +222,7 @@ fn item<'a>(
     text: &str,
     tokens: &'a [Token],
 ) -> Result<Option<ItemPart<'a>>, AllocError>
-    requires { limit ≤ DEEPEST }
+    requires { limit ≤ DEEPEST_TREE }
     ensures { IfOk result (λ r. item_found text.now r
         ≡ read_item limit (words text.now tokens.now)) }
 {
@@ -231,15 +230,15 @@ fn item<'a>(
 }
 
 /// The condition at the front of the tokens of `text`, as long as it can be, and the tokens after
-/// it. `None` where there is none, or where its tree is deeper than `DEEPEST`.
+/// it. `None` where there is none, or where its tree is deeper than `DEEPEST_TREE`.
 pub fn read_condition<'a>(
     alloc: Global,
     text: &str,
     tokens: &'a [Token],
 ) -> Result<Option<(Condition, &'a [Token])>, AllocError>
-    ensures { IfOk result (λ r. with_words text.now r ≡ read DEEPEST (words text.now tokens.now)) }
+    ensures { IfOk result (λ r. with_words text.now r ≡ read DEEPEST_TREE (words text.now tokens.now)) }
 {
-    let Some(found) = item(alloc, DEEPEST, text, tokens)? else {
+    let Some(found) = item(alloc, DEEPEST_TREE, text, tokens)? else {
         return Ok(None);
     };
     match truth(found) {
@@ -256,15 +255,15 @@ pub fn read_condition<'a>(
 
 /// FROM, a table, its alias and WHERE with a condition at the front of the tokens of `text`, as long
 /// as they can be, and the tokens after them. `None` where there is no FROM, or where the condition is
-/// deeper than `DEEPEST`.
+/// deeper than `DEEPEST_TREE`.
 pub fn read_from<'a>(
     alloc: Global,
     text: &str,
     tokens: &'a [Token],
 ) -> Result<Option<((RangeName, Option<Condition>), &'a [Token])>, AllocError>
-    ensures { IfOk result (λ r. with_words text.now r ≡ from DEEPEST (words text.now tokens.now)) }
+    ensures { IfOk result (λ r. with_words text.now r ≡ from DEEPEST_TREE (words text.now tokens.now)) }
 {
-    match from_range(alloc, DEEPEST, text, tokens)? {
+    match from_range(alloc, DEEPEST_TREE, text, tokens)? {
         Some(
             FromPart {
                 range,

@@ -7,10 +7,9 @@ ghost use Rattle.iv_parse_terms.specs.Seen.{expression_found, with_words};
 
 use crate::expression_part::ExpressionPart;
 use crate::front::{after, name, sign};
-use crate::limits::DEEPEST;
 use crate::make::{group_of, product_of, signed_of, sum_of};
 use iv_lex::{Token, TokenKind, unquoted_text};
-use iv_syntax::{ColumnName, Expression, Name, Sign};
+use iv_syntax::{ColumnName, DEEPEST_TREE, Expression, Name, Sign};
 use std::alloc::{AllocError, Global};
 
 /// The expression in parentheses, where it is not too deep.
@@ -215,7 +214,7 @@ pub fn primary<'a>(
     text: &str,
     tokens: &'a [Token],
 ) -> Result<Option<ExpressionPart<'a>>, AllocError>
-    requires { limit ≤ DEEPEST }
+    requires { limit ≤ DEEPEST_TREE }
     ensures { IfOk result (λ r. expression_found text.now r
         ≡ read_primary limit (words text.now tokens.now)) }
 {
@@ -239,7 +238,7 @@ pub fn factor<'a>(
     text: &str,
     tokens: &'a [Token],
 ) -> Result<Option<ExpressionPart<'a>>, AllocError>
-    requires { limit ≤ DEEPEST }
+    requires { limit ≤ DEEPEST_TREE }
     ensures { IfOk result (λ r. expression_found text.now r
         ≡ read_factor limit (words text.now tokens.now)) }
 {
@@ -261,8 +260,8 @@ pub fn factors<'a>(
     text: &str,
     left: ExpressionPart<'a>,
 ) -> Result<Option<ExpressionPart<'a>>, AllocError>
-    requires low { limit ≤ DEEPEST }
-    requires few { most ≤ DEEPEST }
+    requires low { limit ≤ DEEPEST_TREE }
+    requires few { most ≤ DEEPEST_TREE }
     ensures { IfOk result (λ r. expression_found text.now r
         ≡ more_factors limit (read_factor limit) most left.entry.tree
         (words text.now left.entry.rest.now)) }
@@ -294,7 +293,7 @@ pub fn term<'a>(
     text: &str,
     tokens: &'a [Token],
 ) -> Result<Option<ExpressionPart<'a>>, AllocError>
-    requires { limit ≤ DEEPEST }
+    requires { limit ≤ DEEPEST_TREE }
     ensures { IfOk result (λ r. expression_found text.now r
         ≡ read_term limit (words text.now tokens.now)) }
 {
@@ -313,8 +312,8 @@ pub fn terms<'a>(
     text: &str,
     left: ExpressionPart<'a>,
 ) -> Result<Option<ExpressionPart<'a>>, AllocError>
-    requires low { limit ≤ DEEPEST }
-    requires few { most ≤ DEEPEST }
+    requires low { limit ≤ DEEPEST_TREE }
+    requires few { most ≤ DEEPEST_TREE }
     ensures { IfOk result (λ r. expression_found text.now r
         ≡ more_terms limit (read_term limit) most left.entry.tree
         (words text.now left.entry.rest.now)) }
@@ -346,7 +345,7 @@ pub fn expression<'a>(
     text: &str,
     tokens: &'a [Token],
 ) -> Result<Option<ExpressionPart<'a>>, AllocError>
-    requires { limit ≤ DEEPEST }
+    requires { limit ≤ DEEPEST_TREE }
     ensures { IfOk result (λ r. expression_found text.now r
         ≡ read limit (words text.now tokens.now)) }
 {
@@ -357,15 +356,15 @@ pub fn expression<'a>(
 }
 
 /// The expression at the front of the tokens of `text`, as long as it can be, and the tokens after
-/// it. `None` where there is none, or where its tree is deeper than `DEEPEST`.
+/// it. `None` where there is none, or where its tree is deeper than `DEEPEST_TREE`.
 pub fn read_expression<'a>(
     alloc: Global,
     text: &str,
     tokens: &'a [Token],
 ) -> Result<Option<(Expression, &'a [Token])>, AllocError>
-    ensures { IfOk result (λ r. with_words text.now r ≡ read DEEPEST (words text.now tokens.now)) }
+    ensures { IfOk result (λ r. with_words text.now r ≡ read DEEPEST_TREE (words text.now tokens.now)) }
 {
-    match expression(alloc, DEEPEST, text, tokens)? {
+    match expression(alloc, DEEPEST_TREE, text, tokens)? {
         Some(
             ExpressionPart {
                 tree,

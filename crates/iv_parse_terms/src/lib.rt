@@ -11,7 +11,6 @@ mod front;
 mod item;
 mod item_part;
 mod laws;
-mod limits;
 mod make;
 mod predicate;
 
@@ -19,4 +18,3 @@ pub use condition::{read_condition, read_from};
 pub use expression::read_expression;
 pub use front::{after, name, sign};
 pub use laws::{condition_laws, expression_laws, from_laws};
-pub use limits::DEEPEST;

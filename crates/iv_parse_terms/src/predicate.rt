@@ -15,11 +15,10 @@ use crate::expression_part::ExpressionPart;
 use crate::front::{after, comparison};
 use crate::item::{Connective, Item};
 use crate::item_part::ItemPart;
-use crate::limits::DEEPEST;
 use crate::make::{connected_of, enclosed_of, negated_of};
 use iv_expr::Comparison;
 use iv_lex::{Token, TokenKind};
-use iv_syntax::Condition;
+use iv_syntax::{Condition, DEEPEST_TREE};
 use std::alloc::{AllocError, Global};
 
 /// The value that was found, as an item.
@@ -130,7 +129,7 @@ fn compare<'a>(
     text: &str,
     tokens: &'a [Token],
 ) -> Result<Option<ItemPart<'a>>, AllocError>
-    requires { limit ≤ DEEPEST }
+    requires { limit ≤ DEEPEST_TREE }
     ensures { IfOk result (λ r. item_found text.now r
         ≡ comparison_from limit by left.entry.tree (words text.now tokens.now)) }
 {
@@ -158,7 +157,7 @@ fn test_whole<'a>(
     text: &str,
     value: ExpressionPart<'a>,
 ) -> Result<Option<ItemPart<'a>>, AllocError>
-    requires { limit ≤ DEEPEST }
+    requires { limit ≤ DEEPEST_TREE }
     ensures { IfOk result (λ r. item_found text.now r
         ≡ predicate_from limit value.entry.tree (words text.now value.entry.rest.now)) }
 {
@@ -178,7 +177,7 @@ fn test_value<'a>(
     text: &str,
     value: ExpressionPart<'a>,
 ) -> Result<Option<ItemPart<'a>>, AllocError>
-    requires { limit ≤ DEEPEST }
+    requires { limit ≤ DEEPEST_TREE }
     ensures { IfOk result (λ r. item_found text.now r
         ≡ value_test limit value.entry.tree (words text.now value.entry.rest.now)) }
 {
@@ -198,7 +197,7 @@ pub fn go_on<'a>(
     text: &str,
     found: ItemPart<'a>,
 ) -> Result<Option<ItemPart<'a>>, AllocError>
-    requires { limit ≤ DEEPEST }
+    requires { limit ≤ DEEPEST_TREE }
     ensures { IfOk result (λ r. item_found text.now r
         ≡ on_value (value_test limit) found.entry.item (words text.now found.entry.rest.now)) }
 {

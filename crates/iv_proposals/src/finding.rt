@@ -9,7 +9,7 @@ ghost use Rattle.iv_machine.specs.Proposals.{holds, matching_rows};
 ghost use Rattle.iv_triggers.specs.Answering.{AnswersCause};
 ghost use Rattle.iv_proposals.specs.Steps.{added_of_numbers, added_of_row, number_taken, numbers_taken, row_counted, row_taken, rows_counted, side_taken, sides_taken};
 
-use iv_catalogue::{Cause, Refusal};
+use iv_catalogue::Cause;
 use iv_expr::{Change, Cond, Row, Rows, Scope, Side, TableId};
 use iv_store::{ChangeableRows, ReferencingRows};
 use iv_triggers::holds;
@@ -28,10 +28,8 @@ fn holds_at<R: Rows>(filter: &Cond, row: &[Value], scope: &Scope<'_, R>) -> Resu
 pub fn push<T: Drop>(items: &mut Vec<T>, item: T) -> Result<(), Cause>
     ensures { AnswersCause (λ _. items.new.items) result (Ok (items.old.items ++ item ∷ [])) }
 {
-    match items.push(item) {
-        Ok(()) => Ok(()),
-        Err(error) => Err(Refusal::from(error).cause),
-    }
+    items.push(item)?;
+    Ok(())
 }
 
 // ---- by number
@@ -119,10 +117,7 @@ fn push_row<K: ReferencingRows>(store: &K, number: u64, rows: &mut Vec<Row>) -> 
         (row_at (K.view store.now).base.rows number) rows.old.items) }
 {
     match store.row(number) {
-        Some(row) => match row.values.clone() {
-            Ok(values) => push(rows, values),
-            Err(error) => Err(Refusal::from(error).cause),
-        },
+        Some(row) => push(rows, row.values.clone()?),
         None => Ok(()),
     }
 }
@@ -179,10 +174,7 @@ fn take_row<R: Rows>(
     if !holds_at(filter, row.values(), scope)? {
         return Ok(());
     }
-    match row.clone() {
-        Ok(copy) => push(found, copy),
-        Err(error) => Err(Refusal::from(error).cause),
-    }
+    push(found, row.clone()?)
 }
 
 fn take_side<R: Rows>(

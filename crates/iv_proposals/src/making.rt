@@ -5,7 +5,7 @@ ghost use Rattle.iv_machine.specs.Proposals.{defaults_of};
 ghost use Rattle.iv_triggers.specs.Answering.{AnswersCause};
 ghost use Rattle.iv_proposals.specs.Placements.{all_placed, placed, placed_at, row_begun, row_made, target};
 
-use iv_catalogue::{Catalogue, Cause, Column, InsertColumns, Refusal};
+use iv_catalogue::{Catalogue, Cause, Column, InsertColumns};
 use iv_expr::{Expr, Row, Rows, Scope, TableId};
 use iv_triggers::{Context, stored_copy, stored_value};
 use iv_value::Value;
@@ -44,15 +44,10 @@ fn place(
         (Ok (placed listed.now row.old.items column value)) }
 {
     match listed {
-        InsertColumns::All => match row.push(value) {
-            Ok(()) => Ok(()),
-            Err(error) => Err(Refusal::from(error).cause),
-        },
-        InsertColumns::Listed(_) => {
-            set(row, column, value);
-            Ok(())
-        }
+        InsertColumns::All => row.push(value)?,
+        InsertColumns::Listed(_) => set(row, column, value),
     }
+    Ok(())
 }
 
 // Puts the value of an expression where it belongs.
@@ -166,10 +161,7 @@ fn begin(
 {
     match listed {
         InsertColumns::All => Ok(Vec::new(alloc)),
-        InsertColumns::Listed(_) => match defaults(alloc, context.catalogue(), table) {
-            Ok(row) => Ok(row),
-            Err(error) => Err(Refusal::from(error).cause),
-        },
+        InsertColumns::Listed(_) => Ok(defaults(alloc, context.catalogue(), table)?),
     }
 }
 
@@ -177,10 +169,7 @@ fn begin(
 pub fn row_of(values: Vec<Value>) -> Result<Row, Cause>
     ensures { AnswersCause (λ r. r) result (Ok values.items) }
 {
-    match Row::new(values) {
-        Ok(row) => Ok(row),
-        Err(error) => Err(Refusal::from(error).cause),
-    }
+    Ok(Row::new(values)?)
 }
 
 /// The row of the values of expressions.

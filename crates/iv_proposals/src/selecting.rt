@@ -15,7 +15,6 @@ use crate::making::row_of;
 use iv_catalogue::{Cause, Outputs, QueryPlan};
 use iv_expr::{Cond, Expr, Frame, Row, Rows, Scope, TableId, eval};
 use iv_store::ChangeableRows;
-use iv_triggers::cause_of;
 use iv_value::Value;
 use sqlite_items::Items;
 use std::alloc::Global;
@@ -28,10 +27,7 @@ fn push_output<R: Rows>(
     ensures { AnswersCause (λ _. values.new.items) result
         (added (λ e. with_cause (value scope.now e)) expression.now values.old.items) }
 {
-    match eval(expression, scope) {
-        Ok(value) => push(values, value),
-        Err(fault) => Err(cause_of(fault)),
-    }
+    push(values, eval(expression, scope)?)
 }
 
 // The values of expressions.

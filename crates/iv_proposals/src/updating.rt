@@ -11,7 +11,7 @@ ghost use Rattle.iv_proposals.specs.Placements.{setting_placed};
 
 use crate::finding::{numbers_where, push};
 use crate::making::{row_of, set};
-use iv_catalogue::{Cause, Refusal, Setting};
+use iv_catalogue::{Cause, Setting};
 use iv_expr::{Change, Cond, Row, Rows, Scope, StoredRow, TableId};
 use iv_store::{ChangeableRows, ReferencingRows};
 use iv_triggers::{Context, stored_value};
@@ -75,13 +75,9 @@ fn updated<R: Rows>(
     ensures { AnswersCause (λ r. r) result
         (in_turn (setting_placed context.now table scope.now) settings.now row.now) }
 {
-    match copied(alloc, row) {
-        Ok(mut values) => {
-            place_settings(context, table, scope, settings, &mut values)?;
-            row_of(values)
-        }
-        Err(error) => Err(Refusal::from(error).cause),
-    }
+    let mut values = copied(alloc, row)?;
+    place_settings(context, table, scope, settings, &mut values)?;
+    row_of(values)
 }
 
 // The change of a row to a new one, or to none.
@@ -93,15 +89,13 @@ fn changed(row: &StoredRow, new: Option<Row>) -> Result<Change, Cause>
       new = new;
     })) }
 {
-    match row.values.clone() {
-        Ok(old) => Ok(Change {
-            table: row.table,
-            row: row.number,
-            old: Some(old),
-            new,
-        }),
-        Err(error) => Err(Refusal::from(error).cause),
-    }
+    let old = row.values.clone()?;
+    Ok(Change {
+        table: row.table,
+        row: row.number,
+        old: Some(old),
+        new,
+    })
 }
 
 // The update of a row; the values are evaluated at the row as it is before the statement.

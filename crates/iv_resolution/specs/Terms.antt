@@ -11,7 +11,7 @@ use Rattle.iv_resolution.specs.Words.expression
 use Rattle.iv_resolution.specs.Words.condition
 use Rattle.iv_expr.specs.Trees.{plus, minus, times, not_c, and_c, or_c, exists_c}
 use Rattle.iv_syntax.specs.Trees.{group, signed, product, sum, enclosed, negated, both, either, exists_where}
-use Rattle.iv_catalogue.specs.declared.limits.TheConstants.{GREATEST_INTEGER}
+use Rattle.iv_syntax.specs.declared.limits.TheConstants.{GREATEST_INTEGER}
 use Rattle.iv_resolution.specs.declared.origin.Origin.TheVariants.{Rows, Variable}
 use Rattle.iv_resolution.specs.Scopes.{NamedRange, Found, Names, column_meant, is_source, source_range, range_of}
 

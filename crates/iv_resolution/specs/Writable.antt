@@ -15,7 +15,7 @@ use Rattle.iv_resolution.specs.Words.constraints
 use Rattle.iv_resolution.specs.Words.statement
 use Rattle.iv_resolution.specs.Words.action
 use Rattle.iv_syntax.specs.Trees.{group, signed, product, sum, enclosed, negated, both, either, exists_where, depth, condition_depth}
-use Rattle.iv_catalogue.specs.declared.limits.TheConstants.{GREATEST_INTEGER, DEEPEST_TREE, LONGEST_NAME}
+use Rattle.iv_syntax.specs.declared.limits.TheConstants.{GREATEST_INTEGER, DEEPEST_TREE, LONGEST_NAME}
 use Rattle.iv_resolution.specs.Constraints.{WrittenRule, not_null, unique, primary_key, check, foreign_key, WrittenConstraint, written_columns, written_constraints, table_constraint}
 
 -- ---- names: 1 to 128 letters in upper case, digits and `_`, and no digit first

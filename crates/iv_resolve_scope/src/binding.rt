@@ -7,10 +7,10 @@ ghost use Rattle.iv_resolve_scope.specs.Seen.{found_seen, names_seen, ranges_see
 
 use crate::names::{Names, inside, source_range};
 use crate::ranges::{Found, Ranges, column_meant};
-use iv_catalogue::{GREATEST_INTEGER, MOST_TABLES};
+use iv_catalogue::MOST_TABLES;
 use iv_expr::{Cond, Expr, Range};
 use iv_resolution::Origin;
-use iv_syntax::{Condition, Expression, Sign};
+use iv_syntax::{Condition, Expression, GREATEST_INTEGER, Sign};
 use iv_value::Value;
 use sqlite_items::Boxed;
 use std::alloc::{AllocError, Global};

@@ -3,8 +3,7 @@ ghost use Rattle.std.specs.Prelude.{◌≡◌};
 ghost use Rattle.std.specs.List.{list_all};
 ghost use Rattle.iv_resolution.specs.Writable.{are_names, is_digit, is_name, is_name_byte, is_name_list, is_name_list_or_none, is_name_or_none, is_upper_case, starts_name};
 
-use iv_catalogue::LONGEST_NAME;
-use iv_syntax::Name;
+use iv_syntax::{LONGEST_NAME, Name};
 use sqlite_items::Items;
 
 fn is_upper_case(byte: u8) -> bool

@@ -6,10 +6,9 @@ ghost use Rattle.iv_resolution.specs.Writable.{is_written_constraint, is_definit
 
 use crate::names::{is_name, is_name_list, is_name_list_or_none, is_name_or_none};
 use crate::terms::is_condition;
-use iv_catalogue::GREATEST_INTEGER;
 use iv_syntax::{
-    ColumnConstraint, ColumnDefinition, ColumnRule, Literal, Name, References, TableConstraint,
-    TableElement, TableRule,
+    ColumnConstraint, ColumnDefinition, ColumnRule, GREATEST_INTEGER, Literal, Name, References,
+    TableConstraint, TableElement, TableRule,
 };
 
 fn is_literal(literal: &Literal) -> bool

@@ -4,8 +4,7 @@ ghost use Rattle.iv_syntax.specs.Trees.{condition_depth, depth};
 ghost use Rattle.iv_resolution.specs.Writable.{has_written_parts, has_written_terms, is_column_name, is_condition, is_expression, is_filter, is_range};
 
 use crate::names::{is_name, is_name_or_none};
-use iv_catalogue::{DEEPEST_TREE, GREATEST_INTEGER};
-use iv_syntax::{ColumnName, Condition, Expression, RangeName};
+use iv_syntax::{ColumnName, Condition, DEEPEST_TREE, Expression, GREATEST_INTEGER, RangeName};
 
 fn is_column_name(column: &ColumnName) -> bool
     ensures { result ≡ is_column_name column.now }
@@ -47,7 +46,7 @@ fn depth(expression: &Expression) -> u32
 pub fn is_expression(expression: &Expression) -> bool
     ensures { result ≡ is_expression expression.now }
 {
-    depth(expression) <= DEEPEST_TREE && has_written_parts(expression)
+    depth(expression) <= u32::from(DEEPEST_TREE) && has_written_parts(expression)
 }
 
 /// Whether a FROM can be written.
@@ -101,7 +100,7 @@ fn condition_depth(condition: &Condition) -> u32
 pub fn is_condition(condition: &Condition) -> bool
     ensures { result ≡ is_condition condition.now }
 {
-    condition_depth(condition) <= DEEPEST_TREE && has_written_terms(condition)
+    condition_depth(condition) <= u32::from(DEEPEST_TREE) && has_written_terms(condition)
 }
 
 /// The same of a condition that may be left out.

@@ -1,12 +1,14 @@
 //! The syntax tree: statements as they are written, with every name folded to upper case.
 #![tactic(auto)]
 
+mod limits;
 mod name;
 mod statement;
 mod table;
 mod tree;
 mod trigger;
 
+pub use limits::{DEEPEST_TREE, GREATEST_INTEGER, LONGEST_NAME};
 pub use name::Name;
 pub use statement::{
     Assignment, ConstraintList, ConstraintMode, Delete, Insert, InsertSource, Select, SelectList,

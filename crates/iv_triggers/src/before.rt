@@ -92,10 +92,8 @@ fn set<R: Rows>(
         (change_after_set context.now (R.rows rows.now) setting.now change.entry.now) }
 {
     let value = value_of_set(context, rows, setting, &*change)?;
-    match set_new_value(alloc, change, setting.column, value) {
-        Ok(()) => Ok(()),
-        Err(error) => Err(Refusal::from(error).cause),
-    }
+    set_new_value(alloc, change, setting.column, value)?;
+    Ok(())
 }
 
 // A statement of a trigger's body at a change. A BEFORE trigger has no data statement.

@@ -9,4 +9,4 @@ mod values;
 pub use before::{before_rows, before_statement};
 pub use context::Context;
 pub use matching::{event_of_change, is_on};
-pub use values::{cause_of, holds, stored_copy, stored_value};
+pub use values::{holds, stored_copy, stored_value};

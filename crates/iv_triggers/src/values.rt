@@ -2,34 +2,19 @@
 ghost use Rattle.std.specs.Prelude.{◌≡◌, Ok};
 ghost use Rattle.std.specs.Option.{option_copied};
 ghost use Rattle.iv_expr.specs.Evaluation.{value};
-ghost use Rattle.iv_machine.specs.Proposals.{cause_of, column_at, holds, stored_value, value_for_column};
+ghost use Rattle.iv_machine.specs.Proposals.{column_at, holds, stored_value, value_for_column};
 ghost use Rattle.iv_triggers.specs.Answering.{AnswersCause};
 
 use crate::context::Context;
-use iv_catalogue::{Catalogue, Cause, Column, Refusal};
-use iv_expr::{Cond, Expr, ExprFault, Rows, Scope, TableId, eval, truth};
+use iv_catalogue::{Catalogue, Cause, Column};
+use iv_expr::{Cond, Expr, Rows, Scope, TableId, eval, truth};
 use iv_value::{Fit, Truth, Value, fit};
-
-/// Why a statement is refused for a fault of evaluation.
-pub fn cause_of(fault: ExprFault) -> Cause
-    ensures { result ≡ cause_of fault }
-{
-    match fault {
-        ExprFault::OutOfRange => Cause::NumberOutOfRange,
-        ExprFault::IllTyped => Cause::WrongShape,
-        ExprFault::NoMemory => Cause::OutOfMemory,
-    }
-}
 
 /// Whether a condition takes effect: only where it is true. It takes no memory.
 pub fn holds<R: Rows>(condition: &Cond, scope: &Scope<'_, R>) -> Result<bool, Cause>
     ensures { result ≡ holds scope.now condition.now }
 {
-    match truth(condition, scope) {
-        Ok(Truth::True) => Ok(true),
-        Ok(_) => Ok(false),
-        Err(fault) => Err(cause_of(fault)),
-    }
+    Ok(matches!(truth(condition, scope)?, Truth::True))
 }
 
 fn column_at(catalogue: &Catalogue, table: TableId, column: usize) -> Option<&Column>
@@ -65,10 +50,8 @@ pub fn stored_value<R: Rows>(
     ensures { AnswersCause (λ v. v) result
         (stored_value context.now table column (value scope.now expression.now)) }
 {
-    match eval(expression, scope) {
-        Ok(value) => value_for_column(column_at(context.catalogue(), table, column), value),
-        Err(fault) => Err(cause_of(fault)),
-    }
+    let value = eval(expression, scope)?;
+    value_for_column(column_at(context.catalogue(), table, column), value)
 }
 
 /// A copy of a value for a column of a table; it has to fit the column.
@@ -80,8 +63,6 @@ pub fn stored_copy(
 ) -> Result<Value, Cause>
     ensures { AnswersCause (λ v. v) result (stored_value context.now table column (Ok value.now)) }
 {
-    match value.clone() {
-        Ok(copy) => value_for_column(column_at(context.catalogue(), table, column), copy),
-        Err(error) => Err(Refusal::from(error).cause),
-    }
+    let copy = value.clone()?;
+    value_for_column(column_at(context.catalogue(), table, column), copy)
 }

@@ -9,7 +9,7 @@ use Rattle.iv_parse_data.specs.Words.source
 use Rattle.iv_parse_data.specs.Words.insert.{DefaultValues, Rows}
 use Rattle.iv_parse_data.specs.Words.select_list
 use Rattle.iv_parse_data.specs.Words.select
-use Rattle.iv_parse_terms.specs.declared.limits.TheConstants.{DEEPEST}
+use Rattle.iv_syntax.specs.declared.limits.TheConstants.{DEEPEST_TREE}
 use Rattle.iv_parse_terms.specs.After.{after, after_name, if_some, then_read}
 use Rattle.iv_parse_terms.specs.readers.Expressions.{read_expression}
 use Rattle.iv_parse_terms.specs.readers.Conditions.{read_condition, read_from}
@@ -27,10 +27,10 @@ abbrev pub read_name : List Word → FoundPart (List ℕ)
 read_name = after_name
 
 unfoldable pub read_shallow : List Word → FoundPart Expression
-read_shallow = read_expression DEEPEST
+read_shallow = read_expression DEEPEST_TREE
 
 unfoldable pub read_shallow_condition : List Word → FoundPart Condition
-read_shallow_condition = read_condition DEEPEST
+read_shallow_condition = read_condition DEEPEST_TREE
 
 -- ( condition )
 unfoldable pub read_check : List Word → FoundPart Condition
@@ -50,7 +50,7 @@ read_column_list ws =
     (Some (None, ws))
 
 unfoldable pub read_shallow_from : List Word → FoundPart (RangeName × Option Condition)
-read_shallow_from = read_from DEEPEST
+read_shallow_from = read_from DEEPEST_TREE
 
 unfoldable pub read_select_list : List Word → FoundPart SelectList
 read_select_list ws =
