@@ -1,5 +1,5 @@
--- Refusals outside any trigger, the refusal OutOfMemory, and the causes that faults of evaluation are.
-use Rattle.std.specs.Prelude.{Bool, true, false, None, Result, Ok, Err}
+-- Refusals outside any trigger, the refusal OutOfMemory, what calls that take memory answer, and the causes that faults of evaluation are.
+use Rattle.std.specs.Prelude.{◌≡◌, Bool, true, false, None, Result, Ok, Err, MatchBool}
 use Rattle.iv_catalogue.specs.declared.cause.Cause.{Cause}
 use Rattle.iv_expr.specs.declared.tree.ExprFault.{ExprFault}
 use Rattle.iv_expr.specs.declared.tree.ExprFault.TheVariants as fault
@@ -26,6 +26,12 @@ is_memory_cause _ = false
 abbrev pub is_memory : {A : Type 0} → Result A Refusal → Bool
 is_memory (Ok a) = false
 is_memory (Err r) = is_memory_cause r.cause
+
+-- What a call that takes memory answers: what is seen of an Ok is what the definition says, and so is an error; where memory was refused
+-- nothing is said.
+abbrev pub Answers : {A B E F : Type 0} → (E → Bool) → (E → F) → (A → B) → Result A E → Result B F → Type 0
+Answers no_memory error view (Ok a) said = said ≡ Ok (view a)
+Answers no_memory error view (Err e) said = MatchBool (no_memory e) (Unit {0}) (said ≡ Err (error e))
 
 -- why a statement is refused for a fault of evaluation; a resolved statement is well-typed, and a definition never runs out of memory
 abbrev pub cause_of : ExprFault → Cause

@@ -9,11 +9,11 @@ use crate::constraint::{Constraint, Constraints};
 use crate::limits::{
     MOST_BODY_STATEMENTS, MOST_CONSTRAINTS, MOST_TABLES, MOST_TRIGGERS, MOST_TRIGGERS_EVER,
 };
-use crate::named_list::{Named, NamedList};
+use crate::named_list::NamedList;
 use crate::number::{ConstraintId, TriggerId};
 use crate::plan::Trigger;
 use iv_expr::TableId;
-use iv_syntax::Name;
+use iv_syntax::{Name, Named};
 use iv_value::{Kind, Value};
 use sqlite_items::{Items, at};
 use std::alloc::{AllocError, Global};

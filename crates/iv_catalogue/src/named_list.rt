@@ -5,17 +5,9 @@ ghost use Rattle.std.specs.Str.{bytes_eq};
 ghost use Rattle.iv_catalogue.specs.Names.{has_repeated};
 
 use crate::name_index::NameIndex;
+use iv_syntax::Named;
 use std::alloc::{AllocError, Global};
 use std::marker::Model;
-
-/// What has a name.
-pub trait Named {
-    ghost named: { Self → List ℕ };
-
-    /// Its name.
-    fn name(&self) -> &str
-        ensures { result.now ≡ named self.now };
-}
 
 /// A list of items with distinct names. An item is found by its name in constant time. Contracts see it
 /// as the list.

@@ -3,7 +3,7 @@ use Rattle.std.specs.Prelude.{◌≡◌, ℕ, true, Result, Ok, Err, MatchBool}
 use Rattle.iv_expr.specs.Evaluation.{and_then}
 use Rattle.iv_laws_rows.specs.Words.{Database, Refusal}
 use Rattle.iv_catalogue.specs.Catalogues.{Schema}
-use Rattle.iv_catalogue.specs.Refusals.{is_memory_cause}
+use Rattle.iv_catalogue.specs.Refusals.{Answers, is_memory_cause}
 use Rattle.iv_machine.specs.Context.{Failure}
 use Rattle.iv_machine.specs.Levels.{Finished}
 use Rattle.iv_store.specs.Stores.{StoreState}
@@ -22,9 +22,8 @@ pub record StoreFits (schema : Schema) (s : StoreState) : Type 0 where
 -- What is seen of the answer is the definition's; so is a refusal, with the count of row changes in the store when it comes. Where
 -- memory was refused nothing is said.
 abbrev pub AnswersAt : {A B : Type 0} → (A → B) → ℕ → Result A Refusal → Result B Failure → Type 0
-AnswersAt view count (Ok a) said = said ≡ Ok (view a)
-AnswersAt view count (Err r) said =
-    MatchBool (is_memory_cause r.cause) (Unit {0}) (said ≡ Err (record { cause = r.cause; trigger = r.trigger; count = count }))
+AnswersAt view count r said =
+    Answers (λ x. is_memory_cause x.cause) (λ x. record { cause = x.cause; trigger = x.trigger; count = count }) view r said
 
 -- so it is, unless memory was refused
 abbrev pub UnlessMemory : {A : Type 0} → Result A Refusal → Type 0 → Type 0

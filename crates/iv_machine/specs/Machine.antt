@@ -1,11 +1,11 @@
 -- The machine: its states, and what a resolved statement answers and leaves ("SQL-transactions", "Transaction management").
-use Rattle.std.specs.Prelude.{◌≡◌, ℕ, ◌-◌, nat_lt, Bool, true, false, not, ◌&&◌, if◌then◌else◌, ◌==◌, List, [], ◌∷◌, length, map, filter, find, fold, pos, slice_get, slice_set, Option, Some, None, is_some, unwrap_or, Result, Ok, Err}
+use Rattle.std.specs.Prelude.{◌≡◌, ℕ, ◌-◌, Bool, true, false, not, ◌&&◌, if◌then◌else◌, ◌==◌, List, [], ◌∷◌, length, map, filter, find, fold, pos, slice_get, slice_set, Option, Some, None, is_some, unwrap_or, Result, Ok, Err}
 use Rattle.std.specs.List.{enumerate_from}
 use Rattle.std.specs.Str.{bytes_eq}
 use Rattle.iv_machine.specs.Words.{Value, StoredRow, Cond, ConstraintMode, Statement, Constraint, Cause, Fault, Refusal, ConstraintSet, DataStatement, Outputs, Plan, SchemaPlan, QueryPlan, TransactionPlan, Database, Answer}
 use Rattle.iv_machine.specs.Words.value.{Int}
 use Rattle.iv_machine.specs.Words.statement
-use Rattle.iv_machine.specs.Words.cause.{InTransaction, NoTransaction, ActiveTransaction, UnknownSavepoint, NotDeferrable, Violation, CommitRefused, AddRefused}
+use Rattle.iv_machine.specs.Words.cause.{InTransaction, NoTransaction, ActiveTransaction, UnknownSavepoint, NotDeferrable, Violation, CommitRefused, AddRefused, OutOfMemory}
 use Rattle.iv_machine.specs.Words.set
 use Rattle.iv_machine.specs.Words.plan
 use Rattle.iv_machine.specs.Words.schema
@@ -15,8 +15,8 @@ use Rattle.iv_machine.specs.Words.which.{All}
 use Rattle.iv_machine.specs.Words.answer.{Done, Changed, Rows}
 use Rattle.iv_expr.specs.Scopes.{Scope, scope_of, no_frame, table_rows}
 use Rattle.iv_expr.specs.Evaluation.{and_then}
-use Rattle.iv_catalogue.specs.Catalogues.{Schema, empty_schema, with_table, with_constraint, with_trigger, without_trigger}
-use Rattle.iv_catalogue.specs.Refusals.{refusal_answer, out_of_memory}
+use Rattle.iv_catalogue.specs.Catalogues.{Schema, empty_schema, with_table, with_constraint, with_trigger, without_trigger, trigger_numbered}
+use Rattle.iv_catalogue.specs.Refusals.{refusal_answer}
 use Rattle.iv_machine.specs.Bounds.{Bounds}
 use Rattle.iv_machine.specs.Databases.{no_rows, scan, is_chosen, is_deferred, initial_modes, first}
 use Rattle.iv_machine.specs.Context.{Context, Failure, each}
@@ -314,13 +314,23 @@ outcome_unless s None o = o
 
 -- ---- what a session promises
 
--- the statement may run a trigger: it changes rows, and there are triggers
-abbrev pub may_run_triggers : State → Statement → Bool
-may_run_triggers s (statement.Insert _) = nat_lt 0 (length s.schema.triggers)
-may_run_triggers s (statement.Update _) = nat_lt 0 (length s.schema.triggers)
-may_run_triggers s (statement.Delete _) = nat_lt 0 (length s.schema.triggers)
-may_run_triggers s _ = false
+-- the statement changes rows, so that it may run triggers
+abbrev pub changes_rows : Statement → Bool
+changes_rows (statement.Insert _) = true
+changes_rows (statement.Update _) = true
+changes_rows (statement.Delete _) = true
+changes_rows _ = false
 
--- Memory was refused: the state stays, and the refusal tells a trigger only where one may have run.
+-- what a refusal for want of memory may tell: no trigger, or one that the catalogue has, where the statement changes rows
+abbrev pub may_tell : Bool → Schema → Option ℕ → Bool
+may_tell changes schema None = true
+may_tell changes schema (Some id) = changes && is_some (trigger_numbered schema id)
+
+-- the answer is such a refusal
+abbrev pub IsMemoryRefusal : Bool → Schema → Result Answer Refusal → Type 0
+IsMemoryRefusal changes schema r =
+    (trigger : Option ℕ) × (may_tell changes schema trigger ≡ true) × (r ≡ Err (record { cause = OutOfMemory; trigger = trigger }))
+
+-- Memory was refused: the state stays, and a trigger is told only where one may have run.
 abbrev pub MemoryRefused : State → Statement → Result Answer Refusal → State → Type 0
-MemoryRefused old st r new = (new ≡ old) × (may_run_triggers old st ≡ false → r ≡ Err out_of_memory)
+MemoryRefused old st r new = (new ≡ old) × IsMemoryRefusal (changes_rows st) old.schema r

@@ -1,9 +1,8 @@
 -- Names that come twice, by the set of those before them.
-use Rattle.std.proofs.Common.{◌≡◌, ℕ, Bool, true, false, not, ◌||◌, List, [], ◌∷◌, ◌++◌, ◌∙◌, refl, sym, ap, if◌then◌else◌, length, ◌≤◌, drop}
+use Rattle.std.proofs.Common.{◌≡◌, ℕ, Bool, true, false, not, ◌||◌, List, [], ◌∷◌, ◌++◌, ◌∙◌, refl, sym, ap, if◌then◌else◌, map}
 use Rattle.std.specs.List.{list_any}
 use Rattle.std.specs.Str.{bytes_eq}
 use Rattle.std.proofs.lemmas.List.Folds.{list_any-append}
-use Rattle.iv_resolve_scope.proofs.Places.{none_left}
 use Rattle.iv_catalogue.specs.Names.{is_among}
 use Rattle.iv_resolution.specs.Constraints.{comes_twice}
 use Rattle.iv_resolve_scope.specs.Sets.{comes_again}
@@ -71,6 +70,6 @@ pub again_none : (set : List (List ℕ)) → comes_again set [] ≡ false
 unfolding comes_twice comes_again
 again_none set = refl
 
-pub again_end : (set names : List (List ℕ)) (i : ℕ) → length names ≤ i → comes_again set (drop i names) ≡ false
-unfolding comes_twice comes_again
-again_end set names i h = rw (none_left names i h) refl
+pub themselves : (names : List (List ℕ)) → map (λ n. n) names ≡ names
+themselves [] = refl
+themselves (n ∷ names) = ap (λ l. n ∷ l) (themselves names)

@@ -22,7 +22,7 @@ pub use kinds::{
     misshaped_expression, misshaped_filter,
 };
 pub use lists::{places_of, unknown_names};
-pub use name_set::{NameSet, comes_again, comes_twice};
+pub use name_set::{NameSet, comes_again, comes_twice, name_comes_twice};
 pub use names::{
     Created, Names, Source, inside, is_source, source_columns, source_named, source_range,
     stored_columns, table_place,

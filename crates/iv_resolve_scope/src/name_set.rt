@@ -1,12 +1,12 @@
 //! A set of names, and names that come again. Where memory for a set is refused, whoever looks compares the names in place: so no cause
 //! wants memory.
-ghost use Rattle.std.specs.Prelude.{◌≡◌, ℕ, List, [], ◌∷◌, ◌++◌, ◌||◌, IfOk, not, if◌then◌else◌};
+ghost use Rattle.std.specs.Prelude.{◌≡◌, ℕ, List, [], ◌∷◌, ◌++◌, ◌||◌, IfOk, map, not, if◌then◌else◌};
 ghost use Rattle.iv_catalogue.specs.Names.{is_among};
 ghost use Rattle.iv_resolution.specs.Constraints.{comes_twice};
 ghost use Rattle.iv_resolve_scope.specs.Sets.{comes_again};
 
 use indexmap::IndexMap;
-use iv_syntax::Name;
+use iv_syntax::{Name, Named};
 use std::alloc::{AllocError, Global};
 use std::marker::Model;
 
@@ -60,12 +60,16 @@ pub fn comes_again(alloc: Global, set: &mut NameSet, name: &str) -> Result<bool,
     Ok(!set.add(alloc, name)?)
 }
 
-#[tactic(auto, using(crate::proofs::Places::next_of, crate::proofs::Sets::again_end))]
-fn some_comes_again(alloc: Global, set: &mut NameSet, names: &[Name]) -> Result<bool, AllocError>
-    ensures { IfOk result (λ found. found ≡ comes_again set.old names.now) }
+#[tactic(auto, using(crate::proofs::Sets::again_none, crate::proofs::Places::none_left))]
+fn some_comes_again<T: Named>(
+    alloc: Global,
+    set: &mut NameSet,
+    items: &[T],
+) -> Result<bool, AllocError>
+    ensures { IfOk result (λ found. found ≡ comes_again set.old (map T.named items.now)) }
 {
-    for name in names {
-        if comes_again(alloc, set, name.as_str())? {
+    for item in items {
+        if comes_again(alloc, set, item.name())? {
             return Ok(true);
         }
     }
@@ -73,27 +77,32 @@ fn some_comes_again(alloc: Global, set: &mut NameSet, names: &[Name]) -> Result<
 }
 
 #[tactic(auto, using(crate::proofs::Sets::again_first))]
-fn repeats_name(alloc: Global, names: &[Name]) -> Result<bool, AllocError>
-    ensures { IfOk result (λ found. found ≡ comes_twice names.now) }
+fn repeats_name<T: Named>(alloc: Global, items: &[T]) -> Result<bool, AllocError>
+    ensures { IfOk result (λ found. found ≡ comes_twice (map T.named items.now)) }
 {
     let mut set = NameSet::new(alloc);
-    some_comes_again(alloc, &mut set, names)
+    some_comes_again(alloc, &mut set, items)
 }
 
-fn is_among(names: &[Name], name: &str) -> bool
-    ensures { result ≡ is_among names.now name.now }
+fn is_named<T: Named>(items: &[T], name: &str) -> bool
+    ensures { result ≡ is_among (map T.named items.now) name.now }
 {
-    names.iter().any(|other| name == other.as_str())
+    for item in items {
+        if name == item.name() {
+            return true;
+        }
+    }
+    false
 }
 
 // It takes no memory, and time in proportion to the names for each different one before the first that comes again.
 #[tactic(auto, unfolding(iv_resolution::specs::Constraints::comes_twice))]
-fn repeats_in_place(names: &[Name]) -> bool
-    ensures { result ≡ comes_twice names.now }
+fn repeats_in_place<T: Named>(items: &[T]) -> bool
+    ensures { result ≡ comes_twice (map T.named items.now) }
 {
-    let mut rest = names;
-    while let Some((name, others)) = rest.split_first() {
-        if is_among(others, name.as_str()) {
+    let mut rest = items;
+    while let Some((item, others)) = rest.split_first() {
+        if is_named(others, item.name()) {
             return true;
         }
         rest = others;
@@ -101,12 +110,20 @@ fn repeats_in_place(names: &[Name]) -> bool
     false
 }
 
-/// Whether a name comes twice. It takes time in proportion to the names; where memory is refused, in proportion to the square.
+/// Whether two items have one name. It takes time in proportion to the names; where memory is refused, in proportion to the square.
+pub fn name_comes_twice<T: Named>(alloc: Global, items: &[T]) -> bool
+    ensures { result ≡ comes_twice (map T.named items.now) }
+{
+    match repeats_name(alloc, items) {
+        Ok(found) => found,
+        Err(_) => repeats_in_place(items),
+    }
+}
+
+/// Whether a name comes twice, in the same time.
+#[tactic(auto, using(crate::proofs::Sets::themselves))]
 pub fn comes_twice(alloc: Global, names: &[Name]) -> bool
     ensures { result ≡ comes_twice names.now }
 {
-    match repeats_name(alloc, names) {
-        Ok(found) => found,
-        Err(_) => repeats_in_place(names),
-    }
+    name_comes_twice(alloc, names)
 }

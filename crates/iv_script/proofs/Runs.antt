@@ -8,8 +8,8 @@ use Rattle.iv_catalogue.specs.declared.cause.Cause.{Cause}
 use Rattle.iv_catalogue.specs.declared.cause.Cause.TheVariants as cause
 use Rattle.iv_catalogue.specs.declared.cause.Refusal.{Refusal}
 use Rattle.iv_machine.specs.declared.answer.Answer.{Answer}
-use Rattle.iv_catalogue.specs.Refusals.{is_memory, out_of_memory}
-use Rattle.iv_machine.specs.Machine.{State, Outcome, MemoryRefused, may_run_triggers}
+use Rattle.iv_catalogue.specs.Refusals.{is_memory}
+use Rattle.iv_machine.specs.Machine.{State, Outcome, IsMemoryRefusal, MemoryRefused, changes_rows, may_tell}
 use Rattle.iv_step.specs.Step.{step, takes_no_memory, Executes}
 use Rattle.iv_print.specs.Lines.{line}
 use Rattle.iv_print.specs.Sinks.{SinkState, FailsNever}
@@ -32,12 +32,19 @@ pub record Did (old new : State) (st : Statement) (r : Result Answer Refusal) : 
 did_plain : (old new : State) (st : Statement) (r : Result Answer Refusal) → is_memory r ≡ false → (r ≡ (step old st).answer) × (new ≡ (step old st).state) → Did old new st r
 did_plain old new st r m e = record { memory = granted; due = tt; counted = ap (λ b. if b then 1 else 0) m; answer_is = e.0; state_is = e.1 }
 
--- the refusal OutOfMemory, where a trigger may have run or not
-denied_is : (may : Bool) (t : Option ℕ)
-    → (may ≡ false → ◌≡◌ {A = Result Answer Refusal} (Err (record { cause = cause.OutOfMemory; trigger = t })) (Err out_of_memory))
-    → ◌≡◌ {A = Result Answer Refusal} (Err (record { cause = cause.OutOfMemory; trigger = t })) (Err (record { cause = cause.OutOfMemory; trigger = if may then t else None }))
-denied_is true t h = refl
-denied_is false t h = h refl
+abbrev told_by : Result Answer Refusal → Option ℕ
+told_by (Ok a) = None
+told_by (Err r) = r.trigger
+
+abbrev denied_in : Option ℕ → Result Answer Refusal
+denied_in t = Err (record { cause = cause.OutOfMemory; trigger = t })
+
+-- the refusal OutOfMemory tells what it may
+denied_is : (changes : Bool) (schema : Schema) (t : Option ℕ) → IsMemoryRefusal changes schema (denied_in t)
+    → denied_in t ≡ denied_in (if may_tell changes schema t then t else None)
+denied_is changes schema t h =
+    let may : may_tell changes schema t ≡ true = ap (λ x. may_tell changes schema (told_by x)) h.2 ∙ h.1 in
+    ap (λ (b : Bool). denied_in (if b then t else None)) (sym may)
 
 -- what would never be refused memory, and was, takes some
 is_due : (b : Bool) → (b ≡ true → true ≡ false) → b ≡ false
@@ -46,7 +53,7 @@ is_due false sure = refl
 
 did_denied : (old new : State) (st : Statement) (t : Option ℕ) → MemoryRefused old st (Err (record { cause = cause.OutOfMemory; trigger = t })) new
     → (takes_no_memory old st ≡ true → true ≡ false) → Did old new st (Err (record { cause = cause.OutOfMemory; trigger = t }))
-did_denied old new st t e sure = record { memory = denied t; due = is_due (takes_no_memory old st) sure; counted = refl; answer_is = denied_is (may_run_triggers old st) t e.1; state_is = e.0 }
+did_denied old new st t e sure = record { memory = denied t; due = is_due (takes_no_memory old st) sure; counted = refl; answer_is = denied_is (changes_rows st) old.schema t e.1; state_is = e.0 }
 
 did_refused : (old new : State) (st : Statement) (c : Cause) (t : Option ℕ) → Executes old st (Err (record { cause = c; trigger = t })) new
     → (takes_no_memory old st ≡ true → is_memory {A = Answer} (Err (record { cause = c; trigger = t })) ≡ false) → Did old new st (Err (record { cause = c; trigger = t }))

@@ -7,7 +7,7 @@ use Rattle.iv_catalogue.specs.declared.cause.Cause.TheVariants.{OutOfMemory}
 use Rattle.iv_catalogue.specs.declared.cause.Refusal.{Refusal}
 use Rattle.iv_machine.specs.declared.answer.Answer.{Answer}
 use Rattle.iv_machine.specs.Bounds.{Bounds}
-use Rattle.iv_machine.specs.Machine.{State, Outcome, no_work, may_run_triggers, empty_state}
+use Rattle.iv_machine.specs.Machine.{State, Outcome, no_work, changes_rows, may_tell, empty_state}
 use Rattle.iv_step.specs.Step.{step, takes_no_memory}
 use Rattle.iv_print.specs.Lines.{line}
 use Rattle.iv_print.specs.Sinks.{SinkState}
@@ -43,10 +43,10 @@ pub data Memory : Type 0 where
   granted : Memory
   denied : Option ℕ → Memory
 
--- Cause 22, which leaves the state. It names a trigger only where one may have run.
+-- Cause 22, which leaves the state. It names a trigger only where the statement changes rows and the catalogue has it.
 abbrev pub memory_refused_outcome : State → Statement → Option ℕ → Outcome
 memory_refused_outcome s st trigger = record {
-  answer = Err (record { cause = OutOfMemory; trigger = if may_run_triggers s st then trigger else None });
+  answer = Err (record { cause = OutOfMemory; trigger = if may_tell (changes_rows st) s.schema trigger then trigger else None });
   state = s;
   work = no_work;
 }

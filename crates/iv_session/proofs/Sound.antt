@@ -10,7 +10,7 @@ use Rattle.iv_machine.specs.declared.database.Which.TheVariants.{All}
 use Rattle.iv_machine.specs.Databases.{is_chosen, scan}
 use Rattle.iv_catalogue.specs.declared.plan.TransactionPlan.TheVariants as transaction
 use Rattle.iv_machine.specs.declared.database.Database.{Database}
-use Rattle.iv_machine.specs.Machine.{State, Outcome, commit_outcome, is_open, may_run_triggers, occasion_of, outcome_unless, resolution_outcome, rollback_outcome, transaction_cause}
+use Rattle.iv_machine.specs.Machine.{State, Outcome, commit_outcome, is_open, IsMemoryRefusal, changes_rows, occasion_of, outcome_unless, resolution_outcome, rollback_outcome, transaction_cause}
 use Rattle.iv_catalogue.specs.declared.cause.Cause.{Cause}
 use Rattle.iv_resolution.specs.Resolution.{resolution}
 use Rattle.iv_state.proofs.Performed.{always_runs}
@@ -22,7 +22,7 @@ use Rattle.iv_state.specs.Performing.{Did, Performs, Runs}
 -- a statement leads to such a state, or memory was refused and the state stays
 pub runs_reached : (s : State) (st : Statement) (r : Result Answer Refusal) (x : Seen) → IsReached s → Runs s st (step s st) r x → IsReached x.state
 runs_reached s st r x h runs = by (is_memory r) runs where
-  by : (b : Bool) → MatchBool b ((x.state ≡ s) × (may_run_triggers s st ≡ false → r ≡ Err out_of_memory)) (Did (step s st) r x) → IsReached x.state
+  by : (b : Bool) → MatchBool b ((x.state ≡ s) × IsMemoryRefusal (changes_rows st) s.schema r) (Did (step s st) r x) → IsReached x.state
   by true k = subst IsReached (sym k.0) h
   by false k = subst IsReached (sym k.1) (step_reached s st h)
 

@@ -1,12 +1,12 @@
 -- A data statement on a store with a mark, and in a session.
-use Rattle.std.proofs.Common.{◌≡◌, ℕ, ◌==◌, ◌-◌, Bool, true, false, Option, Some, None, Result, Ok, Err, List, [], ◌∷◌, ◌++◌, length, take, slice_get, nat_lt, arith, refl, ap, sym, ◌∙◌, MatchBool}
-use Rattle.std.proofs.lemmas.Bool.Decides.{nat_tests}
+use Rattle.std.proofs.Common.{◌≡◌, ℕ, ◌-◌, Bool, true, false, Option, Some, None, Result, Ok, Err, List, [], ◌∷◌, ◌++◌, length, take, slice_get, refl, ap, sym, ◌∙◌, MatchBool}
 use Rattle.iv_state.specs.Words.{Refusal, DataStatement, Answer, Database}
-use Rattle.iv_catalogue.specs.Refusals.{is_memory_cause, out_of_memory}
+use Rattle.iv_catalogue.specs.Refusals.{is_memory_cause}
+use Rattle.iv_catalogue.specs.declared.cause.Cause.TheVariants.{OutOfMemory}
 use Rattle.iv_expr.specs.Scopes.{no_frame}
 use Rattle.iv_machine.specs.Context.{Failure}
 use Rattle.iv_machine.specs.Levels.{Finished, level}
-use Rattle.iv_machine.specs.Machine.{State, change_outcome, level_outcome}
+use Rattle.iv_machine.specs.Machine.{State, change_outcome, level_outcome, may_tell}
 use Rattle.iv_store.specs.Stores.{StoreState, store_with_mark, store_before_mark}
 use Rattle.iv_state.specs.Changing.{Changes, outcome_said, said_of, size_said, store_said, work_said}
 use Rattle.iv_state.specs.Kept.{Parts, Seen, current, state_of}
@@ -71,19 +71,16 @@ refused_store : (begins : Bool) (s : StoreState) (said : Result (Database × ℕ
 refused_store begins s (Ok p) r h = cc
 refused_store begins s (Err f) r h = refl
 
-pub none_is : (n : ℕ) → nat_lt 0 n ≡ false → (n == 0) ≡ true
-none_is n h = grind (arith, nat_tests)
-
 -- the parts with another store
 abbrev pub stored : Parts → StoreState → Parts
 stored h t = record { schema = h.schema; limits = h.limits; store = t; initial = h.initial; changed = h.changed; active = h.active; saves = h.saves }
 
-pub change_refused : (h : Parts) (d : DataStatement) (begins untriggered : Bool) (r told_on : Refusal) (t : StoreState) (x : Seen)
+pub change_refused : (h : Parts) (d : DataStatement) (begins : Bool) (r told_on : Refusal) (t : StoreState) (x : Seen)
     → Changes begins h.store (said_of h.schema (current h.initial h.changed).modes h.limits d h.store.base) (Err r) t x.work
-    → (is_memory_cause r.cause ≡ false → told_on ≡ r) → (is_memory_cause r.cause ≡ true → is_memory_cause told_on.cause ≡ true)
-    → (untriggered ≡ true → is_memory_cause r.cause ≡ true → told_on ≡ out_of_memory) → (nat_lt 0 (length h.schema.triggers) ≡ false → untriggered ≡ true)
+    → (is_memory_cause r.cause ≡ false → told_on ≡ r) → (is_memory_cause r.cause ≡ true → told_on.cause ≡ OutOfMemory)
+    → (is_memory_cause r.cause ≡ true → may_tell true h.schema told_on.trigger ≡ true)
     → x.state ≡ state_of (stored h t) → Follows (state_of h) (change_outcome (state_of h) d) (Err told_on) x
-change_refused h d begins untriggered r told_on t x changes other memory outside none e = by (is_memory_cause r.cause) refl changes where
+change_refused h d begins r told_on t x changes other memory told e = by (is_memory_cause r.cause) refl changes where
   said : Result (Database × ℕ) Failure
   said = said_of h.schema (current h.initial h.changed).modes h.limits d h.store.base
 
@@ -91,7 +88,7 @@ change_refused h d begins untriggered r told_on t x changes other memory outside
       → Follows (state_of h) (change_outcome (state_of h) d) (Err told_on) x
   by true m c =
       let same : x.state ≡ state_of h = e ∙ ap (λ (u : StoreState). state_of (stored h u)) c in
-      rw (memory m) (same, λ n. ap refused_with (outside (none n) m))
+      rw (memory m) (same, told_on.trigger, told m, λ i. Err (record { cause = memory m i; trigger = told_on.trigger }))
   by false m c =
       let outcome : change_outcome (state_of h) d ≡ outcome_said (state_of h) said =
       level_said (state_of h) (level (h.limits.depth - 1) (record { schema = h.schema; modes = (current h.initial h.changed).modes }) d no_frame h.store.base h.limits.changes) in

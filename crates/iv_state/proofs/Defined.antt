@@ -6,9 +6,9 @@ use Rattle.iv_state.specs.Words.{Statement, Table, Fault, Refusal, Constraint, P
 use Rattle.iv_state.specs.Words.cause.{AddRefused}
 use Rattle.iv_state.specs.Words.answer.{Done}
 use Rattle.iv_catalogue.specs.Catalogues.{Schema, with_constraint, with_table}
-use Rattle.iv_catalogue.specs.Refusals.{is_memory, out_of_memory}
+use Rattle.iv_catalogue.specs.Refusals.{is_memory}
 use Rattle.iv_machine.specs.Databases.{first, initial_modes, scan}
-use Rattle.iv_machine.specs.Machine.{State, Outcome, Work, no_work, accept, refuse, refuse_first, add_constraint_outcome, with_schema, may_run_triggers, resolution_outcome, MemoryRefused}
+use Rattle.iv_machine.specs.Machine.{State, Outcome, Work, no_work, accept, refuse, refuse_first, add_constraint_outcome, with_schema, IsMemoryRefusal, changes_rows, resolution_outcome, MemoryRefused}
 use Rattle.iv_modes.specs.ModeMaps.{ModeMap, initial_map}
 use Rattle.iv_resolution.specs.Resolution.{resolution}
 use Rattle.iv_store.specs.Stores.{AnswersAdding, StoreState, first_violating_row, fits_table, store_with_constraint, store_with_table}
@@ -110,18 +110,18 @@ pub runs_of : (s : State) (st : Statement) (p : Plan) (r : Result Answer Refusal
     → Runs s st (resolution_outcome s (resolution s.schema st)) r x
 runs_of s st p r x e h =
     subst (λ (q : Result Plan Refusal). Runs s st (resolution_outcome s q) r x) e
-    (subst (λ (b : Bool). MatchBool (is_memory r) ((x.state ≡ s) × (b ≡ false → r ≡ Err out_of_memory)) (Did (resolution_outcome s (Ok p)) r x))
+    (subst (λ (b : Bool). MatchBool (is_memory r) ((x.state ≡ s) × IsMemoryRefusal b s.schema r) (Did (resolution_outcome s (Ok p)) r x))
     (sym (runs_as s p st (accepted s.schema st p (sym e)).is)) h)
 
 pub executes_of : (s : State) (st : Statement) (r : Result Answer Refusal) (x : Seen) (new : State) → new ≡ x.state → Runs s st (step s st) r x → Executes s st r new
 executes_of s st r x new e h = by (is_memory r) h where
-  by : (b : Bool) → MatchBool b ((x.state ≡ s) × (may_run_triggers s st ≡ false → r ≡ Err out_of_memory)) (Did (step s st) r x)
+  by : (b : Bool) → MatchBool b ((x.state ≡ s) × IsMemoryRefusal (changes_rows st) s.schema r) (Did (step s st) r x)
       → MatchBool b (MemoryRefused s st r new) ((r ≡ (step s st).answer) × (new ≡ (step s st).state))
   by true h = (e ∙ h.0, h.1)
   by false h = (h.0, e ∙ h.1)
 
 pub worked_of : (s : State) (st : Statement) (r : Result Answer Refusal) (x : Seen) (w : Work) → w ≡ x.work → Runs s st (step s st) r x → MatchBool (is_memory r) (Unit {0}) (w ≡ (step s st).work)
 worked_of s st r x w e h = by (is_memory r) h where
-  by : (b : Bool) → MatchBool b ((x.state ≡ s) × (may_run_triggers s st ≡ false → r ≡ Err out_of_memory)) (Did (step s st) r x) → MatchBool b (Unit {0}) (w ≡ (step s st).work)
+  by : (b : Bool) → MatchBool b ((x.state ≡ s) × IsMemoryRefusal (changes_rows st) s.schema r) (Did (step s st) r x) → MatchBool b (Unit {0}) (w ≡ (step s st).work)
   by true h = tt
   by false h = e ∙ h.2

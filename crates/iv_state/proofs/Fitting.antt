@@ -10,7 +10,7 @@ use Rattle.iv_syntax.specs.declared.trigger.TriggerDefinition.{TriggerDefinition
 use Rattle.iv_catalogue.specs.Catalogues.{Schema, has_trigger}
 use Rattle.iv_catalogue.specs.declared.limits.TheConstants.{MOST_BODY_STATEMENTS, MOST_TRIGGERS, MOST_TRIGGERS_EVER}
 use Rattle.iv_catalogue.specs.declared.plan.TransactionPlan.TheVariants as transaction
-use Rattle.iv_machine.specs.Machine.{State, is_open, occasion_of, transaction_cause, plan_occasion, may_run_triggers, outside, inside, beginning}
+use Rattle.iv_machine.specs.Machine.{State, is_open, occasion_of, transaction_cause, plan_occasion, changes_rows, outside, inside, beginning}
 use Rattle.iv_resolution.specs.Bound.{bound, bound_action, bound_addition, bound_trigger, table_id}
 use Rattle.iv_resolution.specs.Constraints.{WrittenConstraint, comes_twice, table_constraint}
 use Rattle.iv_resolution.specs.Resolution.{resolution}
@@ -22,7 +22,7 @@ use Rattle.iv_laws_fitting.proofs.Plans.{Accepted, accepted, changes_fit}
 use Rattle.iv_laws_fitting.proofs.Pointwise.{mapped_length}
 use Rattle.iv_laws_fitting.proofs.Schemas.{tables_fit, additions_fit}
 use Rattle.iv_laws_fitting.proofs.Staying.{schemas_stay}
-use Rattle.iv_state.specs.Performing.{plan_may_run}
+use Rattle.iv_state.specs.Performing.{plan_changes_rows}
 use Rattle.iv_state.specs.Fits.{AdditionFits, PlanFits, TriggerFits}
 
 -- what an ALTER TABLE means, by the table that is found
@@ -122,26 +122,26 @@ plan_fits s st p suits h r = by p r (may_run s.schema (is_open s) p st (accepted
   by (plan.Query q) r o = tt
   by (plan.Transaction t) r o = o
 
--- ---- where triggers may run
+-- ---- which statements change rows
 
-altered_quiet : (s : State) (place : ℕ) (k : WrittenConstraint) (o : Option Table) → false ≡ plan_may_run s (alteration s.schema place k o)
+altered_quiet : (s : State) (place : ℕ) (k : WrittenConstraint) (o : Option Table) → false ≡ plan_changes_rows (alteration s.schema place k o)
 altered_quiet s place k None = refl
 altered_quiet s place k (Some t) = refl
 
-pub runs_as : (s : State) (p : Plan) (st : Statement) → bound s.schema st ≡ p → may_run_triggers s st ≡ plan_may_run s p
+pub runs_as : (s : State) (p : Plan) (st : Statement) → bound s.schema st ≡ p → changes_rows st ≡ plan_changes_rows p
 runs_as s p (statement.AlterTable table k) a =
-    altered_quiet s (table_id (table_names s.schema) table) (table_constraint k) (slice_get s.schema.tables (table_id (table_names s.schema) table)) ∙ ap (plan_may_run s) a
-runs_as s p (statement.CreateTable name elements) a = ap (plan_may_run s) a
-runs_as s p (statement.CreateTrigger x) a = ap (plan_may_run s) a
-runs_as s p (statement.DropTrigger name) a = ap (plan_may_run s) a
-runs_as s p (statement.Insert i) a = ap (plan_may_run s) a
-runs_as s p (statement.Update u) a = ap (plan_may_run s) a
-runs_as s p (statement.Delete e) a = ap (plan_may_run s) a
-runs_as s p (statement.Select x) a = ap (plan_may_run s) a
-runs_as s p statement.StartTransaction a = ap (plan_may_run s) a
-runs_as s p statement.Commit a = ap (plan_may_run s) a
-runs_as s p statement.Rollback a = ap (plan_may_run s) a
-runs_as s p (statement.Savepoint name) a = ap (plan_may_run s) a
-runs_as s p (statement.Release name) a = ap (plan_may_run s) a
-runs_as s p (statement.RollbackTo name) a = ap (plan_may_run s) a
-runs_as s p (statement.SetConstraints l m) a = ap (plan_may_run s) a
+    altered_quiet s (table_id (table_names s.schema) table) (table_constraint k) (slice_get s.schema.tables (table_id (table_names s.schema) table)) ∙ ap plan_changes_rows a
+runs_as s p (statement.CreateTable name elements) a = ap plan_changes_rows a
+runs_as s p (statement.CreateTrigger x) a = ap plan_changes_rows a
+runs_as s p (statement.DropTrigger name) a = ap plan_changes_rows a
+runs_as s p (statement.Insert i) a = ap plan_changes_rows a
+runs_as s p (statement.Update u) a = ap plan_changes_rows a
+runs_as s p (statement.Delete e) a = ap plan_changes_rows a
+runs_as s p (statement.Select x) a = ap plan_changes_rows a
+runs_as s p statement.StartTransaction a = ap plan_changes_rows a
+runs_as s p statement.Commit a = ap plan_changes_rows a
+runs_as s p statement.Rollback a = ap plan_changes_rows a
+runs_as s p (statement.Savepoint name) a = ap plan_changes_rows a
+runs_as s p (statement.Release name) a = ap plan_changes_rows a
+runs_as s p (statement.RollbackTo name) a = ap plan_changes_rows a
+runs_as s p (statement.SetConstraints l m) a = ap plan_changes_rows a

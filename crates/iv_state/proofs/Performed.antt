@@ -1,11 +1,11 @@
 -- Small outcomes, as what a part of `execute` does.
 use Rattle.std.proofs.Common.{◌≡◌, Bool, true, false, Option, None, Result, Ok, Err, refl, ap, sym, subst, ◌∙◌, MatchBool}
 use Rattle.iv_catalogue.specs.declared.cause.Cause.{Cause}
-use Rattle.iv_state.specs.Words.{Statement, Refusal, Answer}
+use Rattle.iv_state.specs.Words.{Statement, Refusal, Answer, Plan}
 use Rattle.iv_catalogue.specs.Refusals.{is_memory, is_memory_cause, out_of_memory, refusal_answer}
-use Rattle.iv_machine.specs.Machine.{State, Outcome, accept, always, is_open, may_run_triggers, no_work, outcome_unless, refuse, transaction_cause}
+use Rattle.iv_machine.specs.Machine.{State, Outcome, accept, always, is_open, IsMemoryRefusal, changes_rows, no_work, outcome_unless, plan_outcome, refuse, transaction_cause}
 use Rattle.iv_state.specs.Kept.{Seen}
-use Rattle.iv_state.specs.Performing.{Did, Performs, Runs}
+use Rattle.iv_state.specs.Performing.{Did, Performs, PerformsPlan, Runs, plan_changes_rows}
 
 pub refuse_performs : (s : State) (said : Outcome) (cause : Cause) (r : Result Answer Refusal) (x : Seen) → said ≡ refuse s cause → is_memory_cause cause ≡ false
     → r ≡ refusal_answer cause → x.state ≡ s → x.work ≡ no_work → Performs s said r x
@@ -21,9 +21,17 @@ accept_performs s said t a x e f w = (sym (ap (λ (o : Outcome). o.answer) e), f
 pub runs_performed : (s : State) (st : Statement) (said : Outcome) (r : Result Answer Refusal) (x : Seen) → Performs s said r x → Runs s st said r x
 runs_performed s st said r x p = by (is_memory r) p where
   by : (b : Bool) → MatchBool b ((x.state ≡ s) × (r ≡ Err out_of_memory)) (Did said r x)
-      → MatchBool b ((x.state ≡ s) × (may_run_triggers s st ≡ false → r ≡ Err out_of_memory)) (Did said r x)
-  by true p = (p.0, λ _. p.1)
+      → MatchBool b ((x.state ≡ s) × IsMemoryRefusal (changes_rows st) s.schema r) (Did said r x)
+  by true p = (p.0, None, refl, p.1)
   by false p = p
+
+-- so of a plan
+pub plan_performed : (s : State) (p : Plan) (r : Result Answer Refusal) (x : Seen) → Performs s (plan_outcome s p) r x → PerformsPlan s p r x
+plan_performed s p r x h = by (is_memory r) h where
+  by : (b : Bool) → MatchBool b ((x.state ≡ s) × (r ≡ Err out_of_memory)) (Did (plan_outcome s p) r x)
+      → MatchBool b ((x.state ≡ s) × IsMemoryRefusal (plan_changes_rows p) s.schema r) (Did (plan_outcome s p) r x)
+  by true h = (h.0, None, refl, h.1)
+  by false h = h
 
 -- ---- what may always run
 

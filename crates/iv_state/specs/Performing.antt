@@ -1,9 +1,9 @@
 -- What the parts of `execute` do: the answer, the next state and the work of an outcome, or memory was refused and the state stays.
-use Rattle.std.specs.Prelude.{◌≡◌, Bool, false, length, nat_lt, Result, Err, MatchBool}
+use Rattle.std.specs.Prelude.{◌≡◌, Bool, true, false, Result, Err, MatchBool}
 use Rattle.iv_state.specs.Words.{Refusal, Answer, Statement, Plan}
 use Rattle.iv_state.specs.Words.plan
 use Rattle.iv_catalogue.specs.Refusals.{is_memory, out_of_memory}
-use Rattle.iv_machine.specs.Machine.{State, Outcome, may_run_triggers, plan_outcome}
+use Rattle.iv_machine.specs.Machine.{State, Outcome, IsMemoryRefusal, changes_rows, plan_outcome}
 use Rattle.iv_state.specs.Kept.{Seen}
 
 -- the answer, the next state and the work are these
@@ -14,22 +14,20 @@ Did said r new = (r ≡ said.answer) × (new.state ≡ said.state) × (new.work 
 abbrev pub Performs : State → Outcome → Result Answer Refusal → Seen → Type 0
 Performs old said r new = MatchBool (is_memory r) ((new.state ≡ old) × (r ≡ Err out_of_memory)) (Did said r new)
 
--- Memory may be refused inside a trigger, where there are any.
+-- Memory may be refused inside a trigger of the catalogue.
 abbrev pub Follows : State → Outcome → Result Answer Refusal → Seen → Type 0
-Follows old said r new =
-    MatchBool (is_memory r) ((new.state ≡ old) × (nat_lt 0 (length old.schema.triggers) ≡ false → r ≡ Err out_of_memory)) (Did said r new)
+Follows old said r new = MatchBool (is_memory r) ((new.state ≡ old) × IsMemoryRefusal true old.schema r) (Did said r new)
 
--- the plan may run a trigger
-abbrev pub plan_may_run : State → Plan → Bool
-plan_may_run s (plan.Change d) = nat_lt 0 (length s.schema.triggers)
-plan_may_run s _ = false
+-- the plan changes rows
+abbrev pub plan_changes_rows : Plan → Bool
+plan_changes_rows (plan.Change d) = true
+plan_changes_rows _ = false
 
 -- so of a plan
 abbrev pub PerformsPlan : State → Plan → Result Answer Refusal → Seen → Type 0
 PerformsPlan old p r new =
-    MatchBool (is_memory r) ((new.state ≡ old) × (plan_may_run old p ≡ false → r ≡ Err out_of_memory)) (Did (plan_outcome old p) r new)
+    MatchBool (is_memory r) ((new.state ≡ old) × IsMemoryRefusal (plan_changes_rows p) old.schema r) (Did (plan_outcome old p) r new)
 
 -- so of a statement, with this outcome
 abbrev pub Runs : State → Statement → Outcome → Result Answer Refusal → Seen → Type 0
-Runs old st said r new =
-    MatchBool (is_memory r) ((new.state ≡ old) × (may_run_triggers old st ≡ false → r ≡ Err out_of_memory)) (Did said r new)
+Runs old st said r new = MatchBool (is_memory r) ((new.state ≡ old) × IsMemoryRefusal (changes_rows st) old.schema r) (Did said r new)

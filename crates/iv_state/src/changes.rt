@@ -1,8 +1,9 @@
 //! INSERT, UPDATE and DELETE.
 ghost use Rattle.std.specs.Prelude.{◌≡◌, true, false, length, OnOk};
-ghost use Rattle.iv_catalogue.specs.Refusals.{is_memory_cause, out_of_memory};
+ghost use Rattle.iv_catalogue.specs.Refusals.{is_memory_cause};
+ghost use Rattle.iv_catalogue.specs.declared.cause.Cause.TheVariants.{OutOfMemory};
 ghost use Rattle.iv_laws_fitting.specs.PlanShapes.{data_suits, plain_shape};
-ghost use Rattle.iv_machine.specs.Machine.{change_outcome};
+ghost use Rattle.iv_machine.specs.Machine.{change_outcome, may_tell};
 ghost use Rattle.iv_state.specs.Changing.{Changes, said_of};
 ghost use Rattle.iv_state.specs.Kept.{current};
 ghost use Rattle.iv_state.specs.Performing.{Follows};
@@ -11,7 +12,7 @@ ghost use Rattle.iv_store.specs.Lookups.{LooksUp};
 ghost use Rattle.iv_laws_rows.specs.Changing.{AnswersAt, StoreFits, UnlessMemory, with_database};
 
 use crate::session_state::{SessionState, Work};
-use iv_catalogue::{Catalogue, Cause, DataStatement, Refusal};
+use iv_catalogue::{Catalogue, Cause, DataStatement, Refusal, TriggerId};
 use iv_machine::{Answer, Limits};
 use iv_modes::Modes;
 use iv_step::Outcome;
@@ -95,21 +96,28 @@ fn run_change<D: DataStatements, K: Keeper>(
     }
 }
 
-// A refusal as it is; where memory was refused, and there is no trigger, outside of every trigger.
-fn outside_triggers(refusal: Refusal, untriggered: bool) -> Refusal
+// The trigger, where the catalogue has it.
+fn known_trigger(catalogue: &Catalogue, trigger: Option<TriggerId>) -> Option<TriggerId>
+    ensures told { may_tell true catalogue.now result ≡ true }
+    ensures known { may_tell true catalogue.now trigger ≡ true → result ≡ trigger }
+{
+    let id = trigger?;
+    catalogue.trigger(id)?;
+    Some(id)
+}
+
+// A refusal as it is; one for want of memory tells a trigger only where the catalogue has it.
+fn told(catalogue: &Catalogue, refusal: Refusal) -> Refusal
     ensures other { is_memory_cause refusal.cause ≡ false → result ≡ refusal }
-    ensures memory { is_memory_cause refusal.cause ≡ true → is_memory_cause result.cause ≡ true }
-    ensures outside { untriggered ≡ true → is_memory_cause refusal.cause ≡ true
-        → result ≡ out_of_memory }
+    ensures memory { is_memory_cause refusal.cause ≡ true → result.cause ≡ OutOfMemory }
+    ensures told { is_memory_cause refusal.cause ≡ true
+        → may_tell true catalogue.now result.trigger ≡ true }
 {
     match refusal.cause {
-        Cause::OutOfMemory => {
-            if untriggered {
-                Refusal::of(refusal.cause)
-            } else {
-                refusal
-            }
-        }
+        Cause::OutOfMemory => Refusal {
+            cause: refusal.cause,
+            trigger: known_trigger(catalogue, refusal.trigger),
+        },
         _ => refusal,
     }
 }
@@ -137,10 +145,7 @@ impl<K: Keeper + Drop> SessionState<K> {
                 self.active = true;
                 Ok(Answer::Changed(size))
             }
-            Err(refusal) => {
-                let untriggered = self.catalogue.triggers().is_empty();
-                Err(outside_triggers(refusal, untriggered))
-            }
+            Err(refusal) => Err(told(&self.catalogue, refusal)),
         }
     }
 }

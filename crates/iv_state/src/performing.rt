@@ -113,6 +113,7 @@ impl<K: Keeper + Drop> SessionState<K> {
     }
 
     /// Does what a resolved statement means. Data statements run as `D` says.
+    #[tactic(auto, using(crate::proofs::Performed::plan_performed))]
     pub fn perform<D: DataStatements>(&mut self, plan: Plan) -> Outcome
         requires { PlanFits self.old.state plan }
         ensures performs { PerformsPlan self.old.state plan result self.new }

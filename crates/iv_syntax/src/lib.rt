@@ -9,7 +9,7 @@ mod tree;
 mod trigger;
 
 pub use limits::{DEEPEST_TREE, GREATEST_INTEGER, LONGEST_NAME};
-pub use name::Name;
+pub use name::{Name, Named};
 pub use statement::{
     Assignment, ConstraintList, ConstraintMode, Delete, Insert, InsertSource, Select, SelectList,
     Statement, Update, ValueOrDefault,

@@ -1,9 +1,18 @@
 //! Names of tables, columns, constraints, triggers, ranges and savepoints.
-ghost use Rattle.std.specs.Prelude.{◌≡◌};
+ghost use Rattle.std.specs.Prelude.{◌≡◌, List, ℕ};
 
 use iv_value::Text;
 use std::alloc::AllocError;
 use std::marker::Model;
+
+/// What has a name.
+pub trait Named {
+    ghost named: { Self → List ℕ };
+
+    /// Its name.
+    fn name(&self) -> &str
+        ensures { result.now ≡ named self.now };
+}
 
 /// A name, folded to upper case and shared. Contracts see it as its bytes.
 #[derive(Drop)]
@@ -32,6 +41,14 @@ impl Name {
         ensures { result.now ≡ self.now }
     {
         self.folded.as_str()
+    }
+}
+
+impl Named for Name {
+    ghost named = { λ n. n };
+
+    fn name(&self) -> &str {
+        self.as_str()
     }
 }
 

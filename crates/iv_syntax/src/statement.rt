@@ -1,5 +1,5 @@
 //! Statements.
-use crate::name::Name;
+use crate::name::{Name, Named};
 use crate::table::{TableConstraint, TableElement};
 use crate::tree::{Condition, Expression, RangeName};
 use crate::trigger::TriggerDefinition;
@@ -54,6 +54,14 @@ pub enum Insert {
 pub struct Assignment {
     pub column: Name,
     pub value: ValueOrDefault,
+}
+
+impl Named for Assignment {
+    ghost named = { λ a. a.column };
+
+    fn name(&self) -> &str {
+        self.column.as_str()
+    }
 }
 
 #[derive(Drop)]

@@ -1,5 +1,5 @@
 //! The parts of CREATE TRIGGER.
-use crate::name::Name;
+use crate::name::{Name, Named};
 use crate::statement::{Delete, Insert, Update};
 use crate::tree::{Condition, Expression};
 use iv_expr::Side;
@@ -38,6 +38,14 @@ pub struct Referencing {
     pub side: Side,
     pub what: TransitionName,
     pub name: Name,
+}
+
+impl Named for Referencing {
+    ghost named = { λ i. i.name };
+
+    fn name(&self) -> &str {
+        self.name.as_str()
+    }
 }
 
 /// A statement of a trigger's body.

@@ -1,7 +1,7 @@
-use Rattle.std.proofs.Common.{◌∙◌, ap, refl, not, Err, length, ◌==◌}
+use Rattle.std.proofs.Common.{refl, not, Err}
 use Rattle.iv_state.specs.Changing.{Changes, said_of}
 use Rattle.iv_state.specs.Kept.{Parts, parts, current, state_of}
-use Rattle.iv_state.proofs.Changed.{change_refused, stored, none_is}
+use Rattle.iv_state.proofs.Changed.{change_refused, stored}
 use Rattle.iv_state.proofs.session_state.SessionState.change.Goals as goal
 
 pub returns-in-Err-clause-follows : goal.returns-in-Err-clause-follows
@@ -11,6 +11,6 @@ returns-in-Err-clause-follows g c =
     (g.K.ReferencingRows.view c.run_change.new.store) (record { changes = c.run_change.new.work.changes; undone = c.run_change.new.work.undone }) =
     rw (← c.modes_now.ensures) c.in-Err.ensures.changes in
     rw (← c.self.view_is)
-    (change_refused h c.args.statement.now (not h.active) c.is_empty-untriggered.result c.in-Err.refusal c.outside_triggers.result (g.K.ReferencingRows.view c.run_change.new.store)
+    (change_refused h c.args.statement.now (not h.active) c.in-Err.refusal c.told.result (g.K.ReferencingRows.view c.run_change.new.store)
     (record { state = state_of (stored h (g.K.ReferencingRows.view c.run_change.new.store)); work = record { changes = c.run_change.new.work.changes; undone = c.run_change.new.work.undone }; lookups = c.run_change.new.work.lookups; looked_up = g.K.ReferencingRows.lookups c.run_change.new.store })
-    changes c.outside_triggers.ensures.other c.outside_triggers.ensures.memory c.outside_triggers.ensures.outside (λ n. c.is_empty-untriggered.ensures ∙ ap (λ l. length l == 0) c.triggers.ensures.triggers ∙ none_is (length h.schema.triggers) n) refl)
+    changes c.told.ensures.other c.told.ensures.memory c.told.ensures.told refl)
