@@ -1,5 +1,6 @@
 -- Which keys a change takes away, and the first change that takes one.
 use Rattle.std.proofs.Common.{◌≡◌, refl, ℕ, suc, ◌+◌, ◌-◌, ◌<◌, ◌≤◌, Bool, true, false, ◌&&◌, if◌then◌else◌, List, [], ◌∷◌, length, get_or, drop, slice_get, Option, Some, None, sym, ap, ◌∙◌, arith, add-one, drop-cons}
+use mathlib.Core.Bool.{and-true, and-false}
 use Rattle.std.specs.Bool.{◌==◌}
 use Rattle.std.specs.List.{find}
 use Rattle.iv_value.specs.declared.value.Value.{Value}
@@ -10,14 +11,6 @@ use Rattle.iv_key.specs.Keys.{key_of, none_null}
 use Rattle.iv_laws_levels.specs.Holders.{leaves_key, loses_key, loses_key_from}
 use Rattle.iv_actions.specs.AffectedForeignKey.{taken_from, key_taken, first_taking}
 
-and_true : (b : Bool) → (b && true) ≡ b
-and_true true = refl
-and_true false = refl
-
-and_false : (b : Bool) → (b && false) ≡ false
-and_false true = refl
-and_false false = refl
-
 -- a change takes the keys that are the same as the one that it takes
 pub loses_is : (fk : ForeignKey) (key : List Value) (c : Change)
     → loses_key fk key c ≡ (elim (key_taken fk c) [ Some taken ↦ all_same taken key | None ↦ false ])
@@ -26,8 +19,8 @@ loses_is fk key c = by (c.table == fk.referenced) c.old
     both : (old : List Value) (full leaves : Bool)
         → ((full && all_same (key_of fk.key old) key) && leaves)
         ≡ (elim (if full && leaves then Some (key_of fk.key old) else None) [ Some taken ↦ all_same taken key | None ↦ false ])
-    both old true true = and_true (all_same (key_of fk.key old) key)
-    both old true false = and_false (all_same (key_of fk.key old) key)
+    both old true true = and-true (all_same (key_of fk.key old) key)
+    both old true false = and-false (all_same (key_of fk.key old) key)
     both old false leaves = refl
 
     by : (here : Bool) (o : Option (List Value))

@@ -1,5 +1,6 @@
 -- Lists with names beside them.
 use Rattle.std.proofs.Common.{◌≡◌, ℕ, Bool, true, false, List, [], ◌∷◌, ◌++◌, ◌∙◌, Option, Some, None, IfSome, map, take, drop, remove, position, length, refl, sym, ap, cond, ◌||◌, suc, ◌<◌, ◌+◌, get_or, subst}
+use Rattle.std.proofs.lemmas.Bool.{or_parts}
 use Rattle.std.specs.List.{list_any, position_or_len}
 use Rattle.std.proofs.lemmas.List.{take-map, drop-map, map-append, length-map, append_assoc, drop_more, map_more}
 use Rattle.std.proofs.lemmas.List.Quantifiers.{position-Some}
@@ -35,14 +36,10 @@ remove_map f xs place =
     map-append f (take place xs) (drop (suc place) xs) ∙ ap (λ l. l ++ map f (drop (suc place) xs)) (sym (take-map f place xs))
     ∙ ap (λ l. take place (map f xs) ++ l) (sym (drop-map f (suc place) xs))
 
-neither : (a b : Bool) → (a || b) ≡ false → (a ≡ false) × (b ≡ false)
-neither true b h = cc
-neither false b h = (refl, h)
-
 free_by : (earlier : List (List ℕ)) (name : List ℕ) (names : List (List ℕ)) → has_repeated earlier (name ∷ names) ≡ false
     → (is_among earlier name ≡ false) × (has_repeated (earlier ++ name ∷ []) names ≡ false)
 unfolding has_repeated
-free_by earlier name names h = neither _ _ h
+free_by earlier name names h = or_parts _ _ h
 
 -- the next name is free, and those after it are free of it too
 pub next_free : {X : Type 0} (f : X → List ℕ) (earlier : List (List ℕ)) (xs : List X) (i : ℕ) (x : X) → i < length xs → x ≡ get_or xs i x

@@ -1,5 +1,6 @@
 -- Going up a table's row numbers.
 use Rattle.std.proofs.Common.{◌≡◌, ℕ, ◌^◌, ◌<◌, ◌≤◌, ◌⊎◌, inl, inr, Bool, true, false, ◌||◌, Option, Some, None, option_map, ◌==◌, Result, Ok, Err, List, [], ◌∷◌, arith, refl, ap, ◌∙◌, sym, map}
+use Rattle.std.proofs.lemmas.Bool.{cases_Bool}
 use Rattle.std.specs.Prelude.{nat_lt, if◌then◌else◌}
 use Rattle.std.proofs.lemmas.Bool.Decides.{nat_tests}
 use Rattle.iv_expr.specs.Scopes.{Rises, row_above, Scope, within, contents, table_rows, numbered}
@@ -90,13 +91,9 @@ pub above_low : (low up : ℕ) (rs : List StoredRow) → low ≤ up → Rises up
 above_low low up [] le h = tt
 above_low low up (r ∷ rs) le h = (omega (arith, le, h.0), h.1, h.2)
 
-decided : (b : Bool) → (b ≡ true) ⊎ (b ≡ false)
-decided true = inl refl
-decided false = inr refl
-
 pub table_rises : (low t : ℕ) (rs : List StoredRow) → Rises low rs → Rises low (table_rows rs t)
 table_rises low t [] h = tt
-table_rises low t (r ∷ rs) h = elim (decided (r.table == t)) [
+table_rises low t (r ∷ rs) h = elim (cases_Bool (r.table == t)) [
   | inl e ↦ rw e (h.0, h.1, table_rises r.number t rs h.2)
   | inr e ↦ rw e (table_rises low t rs (above_low low r.number rs (omega (arith, h.0)) h.2))
 ]

@@ -1,12 +1,11 @@
 -- The constraints of each table, with one more.
 use Rattle.std.proofs.Common.{◌≡◌, refl, ℕ, zero, suc, ◌+◌, ◌<◌, ◌≤◌, Bool, true, false, ◌&&◌, ◌||◌, not, List, [], ◌∷◌, ◌++◌, length, slice_get, get_or, take, Some, None, sym, ap, subst, ◌∙◌, arith, append_assoc, length-append}
+use mathlib.Core.Bool.{and-true, and-false, or-false}
 use Rattle.std.specs.Bool.{◌==◌}
 use Rattle.std.proofs.lemmas.Bool.{eqb-true, eq-eqb, ne_eqb, true≢false}
 use Rattle.std.proofs.lemmas.List.Folds.{list_any-append}
 use Rattle.std.proofs.lemmas.Option.{slice_get_past}
 use Rattle.std.proofs.lemmas.List.{length-take-le, take_all, take_more}
-use Rattle.iv_laws_levels.proofs.Locality.{or_false}
-use Rattle.iv_laws_kept.proofs.Rows.{and_false}
 use Rattle.iv_laws_kept.specs.Numbers.{has}
 use Rattle.iv_marks.specs.Marking.{NoRepeats}
 use Rattle.iv_faults.specs.Words.{Constraint, Rule}
@@ -22,10 +21,6 @@ use Rattle.iv_faults.specs.Watch.{AreTabled, numbers_at, with_constraint, with_k
 abbrev at : (Constraint → Bool) → List Constraint → ℕ → Bool
 at p constraints k = elim (slice_get constraints k) [ Some c ↦ p c | None ↦ false ]
 
-and_true : (b : Bool) → (b && true) ≡ b
-and_true true = refl
-and_true false = refl
-
 zero_suc : (k : ℕ) → (0 == suc k) ≡ false
 zero_suc k = ne_eqb 0 (suc k) (λ h. omega (arith, h))
 
@@ -40,9 +35,9 @@ suc_suc n k = by (n == k) refl
     by false e = ne_eqb (suc n) (suc k) (λ h. true≢false (sym (eq-eqb n k (omega (arith, h))) ∙ e)) ∙ sym e
 
 at_more : (p : Constraint → Bool) (olds : List Constraint) (c : Constraint) (k : ℕ) → at p (olds ++ c ∷ []) k ≡ (at p olds k || (p c && (length olds == k)))
-at_more p [] c zero = sym (and_true (p c))
-at_more p [] c (suc k) = sym (ap (λ b. p c && b) (zero_suc k) ∙ and_false (p c))
-at_more p (d ∷ olds) c zero = sym (ap (λ b. p d || (p c && b)) (suc_zero (length olds)) ∙ ap (λ b. p d || b) (and_false (p c)) ∙ or_false (p d))
+at_more p [] c zero = sym (and-true (p c))
+at_more p [] c (suc k) = sym (ap (λ b. p c && b) (zero_suc k) ∙ and-false (p c))
+at_more p (d ∷ olds) c zero = sym (ap (λ b. p d || (p c && b)) (suc_zero (length olds)) ∙ ap (λ b. p d || b) (and-false (p c)) ∙ or-false (p d))
 at_more p (d ∷ olds) c (suc k) = at_more p olds c k ∙ ap (λ b. at p olds k || (p c && b)) (sym (suc_suc (length olds) k))
 
 -- with a number more where this says so
@@ -51,14 +46,14 @@ noted true id numbers = numbers ++ id ∷ []
 noted false id numbers = numbers
 
 has_more : (numbers : List ℕ) (id k : ℕ) → has k (numbers ++ id ∷ []) ≡ (has k numbers || (id == k))
-has_more numbers id k = list_any-append (λ m. m == k) numbers (id ∷ []) ∙ ap (λ b. has k numbers || b) (or_false (id == k))
+has_more numbers id k = list_any-append (λ m. m == k) numbers (id ∷ []) ∙ ap (λ b. has k numbers || b) (or-false (id == k))
 
 are_more : (b : Bool) (p : Constraint → Bool) (olds : List Constraint) (c : Constraint) (numbers : List ℕ) → ((k : ℕ) → has k numbers ≡ at p olds k) → p c ≡ b
     → (k : ℕ) → has k (noted b (length olds) numbers) ≡ at p (olds ++ c ∷ []) k
 are_more true p olds c numbers h e k =
     has_more numbers (length olds) k ∙ ap (λ a. a || (length olds == k)) (h k) ∙ ap (λ a. at p olds k || (a && (length olds == k))) (sym e) ∙ sym (at_more p olds c k)
 are_more false p olds c numbers h e k =
-    h k ∙ sym (or_false (at p olds k)) ∙ ap (λ a. at p olds k || (a && (length olds == k))) (sym e) ∙ sym (at_more p olds c k)
+    h k ∙ sym (or-false (at p olds k)) ∙ ap (λ a. at p olds k || (a && (length olds == k))) (sym e) ∙ sym (at_more p olds c k)
 
 -- no number of the list is that of the next constraint
 absent : (p : Constraint → Bool) (olds : List Constraint) (numbers : List ℕ) → ((k : ℕ) → has k numbers ≡ at p olds k) → has (length olds) numbers ≡ false
@@ -124,7 +119,7 @@ module _ (olds : List Constraint) (c : Constraint) (t : ℕ) where
   no_reference : (x : TableConstraints) → is_reference c.rule ≡ false → meets c.rule c.table t ≡ false → AreMet olds t x.keys x.foreign_keys → Meet (with_key (t == c.table) (length olds) x)
   no_reference x e f m =
       of_key (t == c.table) x
-      (met (t == c.table) false x.keys x.foreign_keys (and_false (t == c.table)) (ap (λ b. (t == c.table) && not b) e ∙ and_true (t == c.table)) f m)
+      (met (t == c.table) false x.keys x.foreign_keys (and-false (t == c.table)) (ap (λ b. (t == c.table) && not b) e ∙ and-true (t == c.table)) f m)
 
   met_more : (r : Rule) → c.rule ≡ r → (x : TableConstraints) → AreMet olds t x.keys x.foreign_keys → Meet (with_constraint r c.table (length olds) t x)
   met_more (rule.NotNull column) e x m = no_reference x (ap is_reference e) (ap (λ r. meets r c.table t) e) m
@@ -134,7 +129,7 @@ module _ (olds : List Constraint) (c : Constraint) (t : ℕ) where
   met_more (rule.ForeignKey fk) e x m =
       of_reference ((t == c.table) || (t == fk.referenced)) x
       (met false ((t == c.table) || (t == fk.referenced)) x.keys x.foreign_keys refl
-      (ap (λ r. (t == c.table) && not (is_reference r)) e ∙ and_false (t == c.table)) (ap (λ r. meets r c.table t) e) m)
+      (ap (λ r. (t == c.table) && not (is_reference r)) e ∙ and-false (t == c.table)) (ap (λ r. meets r c.table t) e) m)
 
 pub tabled_more : (olds : List Constraint) (c : Constraint) (tables new : List TableConstraints) → AreTabled olds tables
     → ((t : ℕ) → numbers_at new t ≡ with_constraint c.rule c.table (length olds) t (numbers_at tables t)) → AreTabled (olds ++ c ∷ []) new

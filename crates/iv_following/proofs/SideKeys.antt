@@ -1,12 +1,12 @@
 -- The key of a side of a change.
 use Rattle.std.proofs.Common.{◌≡◌, refl, ℕ, Bool, true, false, ◌&&◌, ◌||◌, not, if◌then◌else◌, List, Option, Some, None, sym, ap, ◌∙◌}
+use mathlib.Core.Bool.{and-false}
 use Rattle.std.specs.Bool.{◌==◌}
 use Rattle.std.proofs.lemmas.Bool.{eqb-true}
 use Rattle.iv_following.specs.Words.{Value, Change, Constraint, ForeignKey}
 use Rattle.iv_key.specs.Keys.{key_of, none_null}
 use Rattle.iv_laws_levels.proofs.Keys.{false_true, and_first, and_second, all_same_is, all_same_swap, same_test}
 use Rattle.iv_laws_levels.proofs.RowNumbers.{some_none, some_same}
-use Rattle.iv_laws_kept.proofs.Rows.{and_false}
 use Rattle.iv_laws_kept.specs.Marks.{referenced_side}
 use Rattle.iv_value.specs.Values.{all_same}
 use Rattle.iv_laws_kept.specs.Kept.{kept_key}
@@ -44,7 +44,7 @@ pub other_referenced : (fk : ForeignKey) (change : Change) (side : Option (List 
 other_referenced fk change None key other e f = refl
 other_referenced fk change (Some values) key other e f =
     elim ((change.table == fk.referenced) && none_null (key_of fk.key values)) as (λ b. (if b then Some (key_of fk.key values) else None) ≡ Some key → referenced_side fk other change (Some values) ≡ false) [
-      | true ↦ λ h. ap (λ b. (change.table == fk.referenced) && b) (all_same_swap (key_of fk.key values) other ∙ ap (all_same other) (some_same (key_of fk.key values) key h) ∙ f) ∙ and_false (change.table == fk.referenced)
+      | true ↦ λ h. ap (λ b. (change.table == fk.referenced) && b) (all_same_swap (key_of fk.key values) other ∙ ap (all_same other) (some_same (key_of fk.key values) key h) ∙ f) ∙ and-false (change.table == fk.referenced)
       | false ↦ λ h. absurd (some_none key (sym h))
     ] e
 

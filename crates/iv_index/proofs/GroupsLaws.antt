@@ -1,7 +1,7 @@
 -- The laws of groups.
 use Rattle.std.specs.Prelude.{Option, Some, None, option_map, ◌==◌, ◌&&◌}
 use Rattle.std.proofs.Common.{◌≡◌, ◌≢◌, ℕ, ◌+◌, ◌-◌, ◌<◌, ◌≤◌, List, [], ◌∷◌, length, get_or, Bool, true, false, cond, arith, refl, ap, sym, ◌∙◌, subst, ◌⊎◌, ⊎_elim, inl, inr}
-use Rattle.std.proofs.lemmas.Bool.{cases_eq, eq-eqb, false≢true}
+use Rattle.std.proofs.lemmas.Bool.{cases_eq, eq-eqb, false≢true, cases_Bool}
 use Rattle.std.proofs.lemmas.Bool.Decides.{Decides-eqb}
 use Rattle.std.proofs.lemmas.List.{get_or-set_other, get_or-set_same, get_or_append_left, length-set}
 use Rattle.iv_value.specs.declared.value.Value.{Value}
@@ -17,10 +17,6 @@ use Rattle.iv_index.proofs.RowsLemmas.{eq_false}
 pub same_is_equal : SameIsEqual
 same_is_equal = all_same-Decides
 
-test_cases : (b : Bool) → (b ≡ true) ⊎ (b ≡ false)
-test_cases true = inl refl
-test_cases false = inr refl
-
 pub held_after : HeldAfter
 held_after [] key other held = refl
 held_after (g ∷ gs) key other held = ⊎_elim
@@ -33,7 +29,7 @@ held_after (g ∷ gs) key other held = ⊎_elim
     ap (λ (xs : List GroupOf). held_at xs other) (with_later g gs key held n)
     ∙ ap (λ (h : Rows). cond (all_same g.key other) g.held h) (held_after gs key other held)
     ∙ apart (all_same g.key other) (all_same key other) refl refl n)
-    (test_cases (all_same g.key key))
+    (cases_Bool (all_same g.key key))
   where
     by_other : (b : Bool) → all_same key other ≡ b → all_same g.key other ≡ all_same key other
         → cond b held (held_at gs other) ≡ cond b held (cond (all_same g.key other) g.held (held_at gs other))
@@ -54,7 +50,7 @@ place_stays (g ∷ gs) key other held place e = ⊎_elim
     (λ (n : all_same g.key key ≡ false).
     ap (λ (xs : List GroupOf). place_in xs other) (with_later g gs key held n)
     ∙ later (all_same g.key other) (place_in gs other) refl (λ p q. place_stays gs key other held p q) e)
-    (test_cases (all_same g.key key))
+    (cases_Bool (all_same g.key key))
   where
     later : (b : Bool) (o : Option ℕ) → place_in gs other ≡ o → ((p : ℕ) → place_in gs other ≡ Some p → place_in (with_held gs key held) other ≡ Some p)
         → cond b (Some 0) (option_map (λ p. p + 1) o) ≡ Some place
@@ -95,7 +91,7 @@ with_twice (g ∷ gs) key h h' = ⊎_elim
     ∙ with_later g (with_held gs key h) key h' n
     ∙ ap (λ (rest : List GroupOf). g ∷ rest) (with_twice gs key h h')
     ∙ sym (with_later g gs key h' n))
-    (test_cases (all_same g.key key))
+    (cases_Bool (all_same g.key key))
 
 -- a key that has rows has a group, and its own rows change nothing
 with_own : (gs : List GroupOf) (key : List Value) (row : ℕ) → has_row row (rows_of gs key) ≡ true → with_held gs key (held_at gs key) ≡ gs
@@ -106,7 +102,7 @@ with_own (g ∷ gs) key row h = ⊎_elim
     (λ (n : all_same g.key key ≡ false).
     ap (with_held (g ∷ gs) key) (held_later g gs key n) ∙ with_later g gs key (held_at gs key) n
     ∙ ap (λ (rest : List GroupOf). g ∷ rest) (with_own gs key row (sym (ap (λ (x : Rows). has_row row x.rows) (held_later g gs key n)) ∙ h)))
-    (test_cases (all_same g.key key))
+    (cases_Bool (all_same g.key key))
 
 pub put_is_added : PutIsAdded
 put_is_added groups key row absent = ap (λ b. with_held groups key (cond b (held_at groups key) (added row (held_at groups key)))) absent

@@ -1,7 +1,7 @@
 -- Groups beside the hashes of their keys: where a key has its group, and what a change at its place leaves.
 use Rattle.std.specs.Prelude.{Option, Some, None, option_map}
 use Rattle.std.proofs.Common.{◌≡◌, ◌≢◌, ℕ, zero, suc, ◌+◌, ◌<◌, ◌≤◌, List, [], ◌∷◌, ◌++◌, length, get_or, set, Bool, true, false, cond, arith, refl, ap, sym, ◌∙◌, subst, ⊎_elim, length-append}
-use Rattle.std.proofs.lemmas.Bool.{cases_lt, cases_eq}
+use Rattle.std.proofs.lemmas.Bool.{cases_lt, cases_eq, false_from_ne_true}
 use Rattle.std.proofs.lemmas.List.{length-set, get_or-set_same, get_or-set_other, get_or_push, get_or_append_left}
 use Rattle.iv_value.specs.declared.value.Value.{Value}
 use Rattle.iv_value.specs.Values.{all_same}
@@ -9,7 +9,7 @@ use Rattle.iv_key.specs.Hashes.{hash_of}
 use Rattle.iv_index.specs.Rows.{Rows, IsRising, no_rows}
 use Rattle.iv_index.specs.Groups.{EachIsApart, EachIsFound, EachRises, GroupOf, IsIndexed, IsSound, changed, held_at, place_in, with_held}
 use Rattle.iv_index.proofs.RowsKept.{rising_none}
-use Rattle.iv_index.proofs.KeysLemmas.{all_same_sound, all_same_refl, not_true}
+use Rattle.iv_index.proofs.KeysLemmas.{all_same_sound, all_same_refl}
 
 -- ---- one step of a look: the key is that of the first group, or it isn't
 
@@ -121,7 +121,7 @@ missing (g ∷ gs) key e = by_test (all_same g.key key) (place_in gs key) refl r
 
 pub not_here : (hashes : List ℕ) (gs : List GroupOf) (key : List Value) (k : ℕ) (d : GroupOf) → IsIndexed hashes gs → k < length gs → get_or hashes k 0 ≢ hash_of key
     → all_same (get_or gs k d).key key ≡ false
-not_here hashes gs key k d ix lt ne = not_true (all_same (get_or gs k d).key key) (λ h. ne (ix.hash_is k d lt ∙ ap hash_of (all_same_sound (get_or gs k d).key key h)))
+not_here hashes gs key k d ix lt ne = false_from_ne_true (all_same (get_or gs k d).key key) (λ h. ne (ix.hash_is k d lt ∙ ap hash_of (all_same_sound (get_or gs k d).key key h)))
 
 -- another group of the same key at a place
 pub indexed_set : (hashes : List ℕ) (gs : List GroupOf) (k : ℕ) (g : GroupOf) → IsIndexed hashes gs → ((d : GroupOf) → g.key ≡ (get_or gs k d).key) → IsRising g.held.rows → IsIndexed hashes (set gs k g)

@@ -1,13 +1,13 @@
 -- Numbers still rise with one more and with one less.
 use Rattle.std.specs.Prelude.{◌==◌}
 use Rattle.std.proofs.Common.{◌≡◌, ◌≢◌, ℕ, zero, suc, ◌+◌, ◌-◌, ◌<◌, ◌≤◌, List, [], ◌∷◌, ◌++◌, length, insert, remove, get_or, take, drop, Bool, true, false, cond, arith, refl, ap, sym, ◌∙◌, ⊎_elim, subst}
-use Rattle.std.proofs.lemmas.Bool.{cases_lt, cases_eq, false≢true, eq-eqb}
+use Rattle.std.proofs.lemmas.Bool.{cases_lt, cases_eq, false≢true, eq-eqb, or_parts}
 use Rattle.std.proofs.lemmas.List.{take_at}
 use Rattle.iv_index.specs.declared.stretch.Stretch.{Stretch}
 use Rattle.iv_index.specs.Rows.{Rows, IsRising, added, has_row, put, roomy, with_row, without_row}
 use Rattle.iv_index.specs.Kept.{IsKept}
 use Rattle.iv_index.specs.Stretches.{held}
-use Rattle.iv_index.proofs.RowsLemmas.{or_false, rising_rest, lt_true, lt_false, eq_false}
+use Rattle.iv_index.proofs.RowsLemmas.{rising_rest, lt_true, lt_false, eq_false}
 
 -- a number is below all of these
 abbrev Below : ℕ → List ℕ → Type 0
@@ -48,7 +48,7 @@ rising_none i j lt l = absurd (omega arith)
 
 pub rising_with : (r : ℕ) (xs : List ℕ) → has_row r xs ≡ false → IsRising xs → IsRising (with_row r xs)
 rising_with r [] n h = rising_more r [] (λ k l. absurd (omega arith)) h
-rising_with r (y ∷ xs) n h = let parts = or_false (y == r) (has_row r xs) n in ⊎_elim
+rising_with r (y ∷ xs) n h = let parts = or_parts (y == r) (has_row r xs) n in ⊎_elim
     (λ (l : r < y). let below : Below r (y ∷ xs) = below_more r y xs l (λ k g. (let q : y < get_or xs k 0 = below_first y xs h k g in omega arith)) in
     subst IsRising (sym (ap (λ t. cond t (r ∷ y ∷ xs) (y ∷ with_row r xs)) (lt_true r y l))) (rising_more r (y ∷ xs) below h))
     (λ (g : y ≤ r). let ne : y ≢ r = λ (e : y ≡ r). absurd (false≢true (sym parts.0 ∙ eq-eqb y r e)) in

@@ -1,9 +1,9 @@
 -- A number that was removed and added, or added and removed, leaves the numbers as they were.
 use Rattle.std.specs.Prelude.{◌==◌, ◌||◌}
 use Rattle.std.proofs.Common.{◌≡◌, ◌≢◌, ℕ, zero, suc, ◌<◌, ◌≤◌, List, [], ◌∷◌, length, get_or, true, false, cond, arith, refl, ap, sym, ◌∙◌, ⊎_elim}
-use Rattle.std.proofs.lemmas.Bool.{cases_lt, cases_eq, false≢true, eq-eqb}
+use Rattle.std.proofs.lemmas.Bool.{cases_lt, cases_eq, false≢true, eq-eqb, or_parts}
 use Rattle.iv_index.specs.Rows.{IsRising, has_row, with_row, without_row}
-use Rattle.iv_index.proofs.RowsLemmas.{or_false, rising_rest, lt_true, lt_false, eq_false}
+use Rattle.iv_index.proofs.RowsLemmas.{rising_rest, lt_true, lt_false, eq_false}
 
 with_first : (r : ℕ) (xs : List ℕ) → ((k : ℕ) → k < length xs → r < get_or xs k 0) → with_row r xs ≡ r ∷ xs
 with_first r [] b = refl
@@ -35,7 +35,7 @@ with_without r (x ∷ xs) rising h = ⊎_elim
 -- a number that was added and removed
 pub without_with : (r : ℕ) (xs : List ℕ) → has_row r xs ≡ false → without_row r (with_row r xs) ≡ xs
 without_with r [] h = ap (λ t. cond t [] (r ∷ [])) (eq-eqb r r refl)
-without_with r (x ∷ xs) h = let parts = or_false (x == r) (has_row r xs) h in ⊎_elim
+without_with r (x ∷ xs) h = let parts = or_parts (x == r) (has_row r xs) h in ⊎_elim
     (λ (l : r < x). ap (without_row r) (ap (λ t. cond t (r ∷ x ∷ xs) (x ∷ with_row r xs)) (lt_true r x l)) ∙ ap (λ t. cond t (x ∷ xs) (r ∷ without_row r (x ∷ xs))) (eq-eqb r r refl))
     (λ (g : x ≤ r). ap (without_row r) (ap (λ t. cond t (r ∷ x ∷ xs) (x ∷ with_row r xs)) (lt_false r x g))
     ∙ ap (λ t. cond t (with_row r xs) (x ∷ without_row r (with_row r xs))) parts.0 ∙ ap (λ (ys : List ℕ). x ∷ ys) (without_with r xs parts.1))

@@ -1,5 +1,6 @@
 -- The first foreign key that disagrees with an earlier one on a row.
 use Rattle.std.proofs.Common.{◌≡◌, refl, ℕ, ◌+◌, ◌≤◌, ◌<◌, Bool, true, false, ◌&&◌, ◌||◌, not, if◌then◌else◌, List, [], ◌∷◌, ◌++◌, Some, None, sym, ap, ◌∙◌, arith, append_assoc}
+use mathlib.Core.Bool.{or-false}
 use Rattle.std.specs.Bool.{◌==◌, nat_lt}
 use Rattle.std.specs.List.{list_any, find, flat_map}
 use Rattle.std.specs.Option.{option_map}
@@ -12,10 +13,6 @@ use Rattle.iv_laws_actions.proofs.FirstPairs.{RisingReferences}
 any_append : {A : Type 0} (p : A → Bool) (xs ys : List A) → list_any p (xs ++ ys) ≡ (list_any p xs || list_any p ys)
 any_append p [] ys = refl
 any_append p (x ∷ xs) ys = elim (p x) as (λ b. (b || list_any p (xs ++ ys)) ≡ ((b || list_any p xs) || list_any p ys)) [ true ↦ refl | false ↦ any_append p xs ys ]
-
-or_false : (b : Bool) → (b || false) ≡ b
-or_false true = refl
-or_false false = refl
 
 -- effects of the foreign key of this number
 abbrev pub AllOf : ℕ → List (ℕ × Effect) → Type 0
@@ -95,7 +92,7 @@ module _ (C : ℕ × Effect → Bool) where
             ∙ ap (λ b. b || list_any (of k.id) (g k ++ flat_map g ks)) (none_below k.id before (below_more low k.id before rise.0 h))
             ∙ any_append (of k.id) (g k) (flat_map g ks)
             ∙ ap (λ b. list_any (of k.id) (g k) || b) (none_later k.id (k.id + 1) ks (omega arith) rise.1)
-            ∙ or_false (list_any (of k.id) (g k))
+            ∙ or-false (list_any (of k.id) (g k))
             ∙ here k.id (g k) (own k)
 
         where_any : (b : Bool) → list_any C (g k) ≡ b

@@ -1,5 +1,7 @@
 -- INSERT, UPDATE, DELETE and SELECT: their plans suit the tables.
 use Rattle.std.proofs.Common.{◌≡◌, ℕ, zero, suc, ◌≤◌, nat_le, Bool, true, false, not, ◌&&◌, ◌||◌, ◌==◌, List, [], ◌∷◌, ◌∙◌, Option, Some, None, refl, sym, ap, length, map, zip, slice_get, arith}
+use Rattle.std.proofs.lemmas.Bool.{and_from, and_parts, not-false, or_parts}
+use Rattle.std.proofs.lemmas.Option.{same_Some}
 use Rattle.std.specs.List.{list_any, list_all, enumerate_from}
 use Rattle.std.proofs.lemmas.Bool.Decides.{nat_tests}
 use Rattle.iv_laws_fitting.specs.Words.{Kind, Expr, Range, Column}
@@ -20,12 +22,11 @@ use Rattle.iv_resolution.specs.Terms.{unknown_expression, unknown_filter, missha
 use Rattle.iv_resolution.specs.Changes.{unknown_listed, unknown_value, unknown_list, unknown_source, clashes_with, value_clashes, misshaped_value, target_types, tuple_clashes, misshaped_tuple, kinds_clash, values_clash, columns_clash, list_clashes, misshaped_list, misshaped_source}
 use Rattle.iv_resolution.specs.Bound.{bound_value, target_place, bound_tuple, bound_list, bound_source, bound_columns}
 use Rattle.iv_resolution.specs.Writable.{is_filter, has_written_terms, is_list, is_range, is_insert_source}
-use Rattle.iv_laws_naming.proofs.Firsts.{neither}
 use Rattle.iv_laws_fitting.specs.PlanShapes.{is_range_there, value_suits, values_suit, kind_suits, kinds_suit, default_suits, table_suits, target_kinds, outputs_suit, rows_suit}
-use Rattle.iv_laws_fitting.proofs.ColumnKinds.{greatest, ColumnsMatch, Matches, some_is}
+use Rattle.iv_laws_fitting.proofs.ColumnKinds.{greatest, ColumnsMatch, Matches}
 use Rattle.iv_laws_fitting.proofs.Conditions.{SourcesMatch, sources_within, range_within, source_is, range_of_source, condition_suits}
 use Rattle.iv_laws_fitting.proofs.Expressions.{sorted}
-use Rattle.iv_laws_fitting.proofs.Pointwise.{two, parts_of, not_false, any_at, zip_at, made_of, placed_at, enumerated_length, mapped_length, values_by, kinds_by, all_by}
+use Rattle.iv_laws_fitting.proofs.Pointwise.{any_at, zip_at, made_of, placed_at, enumerated_length, mapped_length, values_by, kinds_by, all_by}
 use Rattle.iv_laws_fitting.proofs.Targets.{target_at, targets_length, expression_suits, value_of_column}
 
 -- names, ranges and a shape that belong together
@@ -43,14 +44,14 @@ pub filter_suits : (names : Names) (ranges : List NamedRange) (shape : Shape) �
     → suits shape (bound_filter names ranges f) ≡ true
 filter_suits names ranges shape m l n None w u h = refl
 filter_suits names ranges shape m l n (Some c) w u h =
-    let deep = (parts_of (nat_le (condition_depth c) DEEPEST_TREE) (has_written_terms c) w).0 in
+    let deep = (and_parts (nat_le (condition_depth c) DEEPEST_TREE) (has_written_terms c) w).0 in
     let low : condition_depth c ≤ DEEPEST_TREE = grind (arith, nat_tests) in
     condition_suits names ranges shape m n c (omega arith) u h
 
 -- ---- VALUES
 
 equal_of : (m n : ℕ) → not (m == n) ≡ false → m ≡ n
-equal_of m n h = let e = not_false (m == n) h in grind (arith, nat_tests)
+equal_of m n h = let e = not-false (m == n) h in grind (arith, nat_tests)
 
 tuple_suits : (ranges : List NamedRange) (shape : Shape) → Matches ranges shape → length ranges ≤ greatest → (columns : List Column) → length columns ≤ greatest
     → list_all default_suits columns ≡ true → (listed : Option (List (List ℕ))) → unknown_listed (named_columns columns) listed ≡ false → (tuple : List ValueOrDefault)
@@ -69,12 +70,12 @@ tuple_suits ranges shape m l columns few d listed known tuple u w = values_by sh
     value_at p = bound_value columns ranges (target_place (named_columns columns) listed p.0) p.1
 
     counted : length tuple ≡ length types
-    counted = equal_of (length tuple) (length types) (neither (not (length tuple == length types)) (tuple_clashes types ranges tuple || list_any (misshaped_value ranges) tuple) w).0
+    counted = equal_of (length tuple) (length types) (or_parts (not (length tuple == length types)) (tuple_clashes types ranges tuple || list_any (misshaped_value ranges) tuple) w).0
 
     of_kinds : (tuple_clashes types ranges tuple ≡ false) × (list_any (misshaped_value ranges) tuple ≡ false)
     of_kinds =
-        neither (tuple_clashes types ranges tuple) (list_any (misshaped_value ranges) tuple)
-        (neither (not (length tuple == length types)) (tuple_clashes types ranges tuple || list_any (misshaped_value ranges) tuple) w).1
+        or_parts (tuple_clashes types ranges tuple) (list_any (misshaped_value ranges) tuple)
+        (or_parts (not (length tuple == length types)) (tuple_clashes types ranges tuple || list_any (misshaped_value ranges) tuple) w).1
 
     same : length (map value_at (enumerate_from 0 tuple)) ≡ length targets
     same = mapped_length value_at (enumerate_from 0 tuple) ∙ enumerated_length 0 tuple ∙ counted ∙ targets_length columns listed
@@ -100,7 +101,7 @@ pub column_of_kind : (columns : List NamedColumn) (kinds : List Kind) → map (�
 column_of_kind [] [] e j k h = cc
 column_of_kind [] (x ∷ xs) e j k h = cc
 column_of_kind (c ∷ cs) [] e j k h = cc
-column_of_kind (c ∷ cs) (x ∷ xs) e zero k h = let here : c.kind ≡ type_of x = cc in (c, refl, here ∙ ap type_of (some_is x k h))
+column_of_kind (c ∷ cs) (x ∷ xs) e zero k h = let here : c.kind ≡ type_of x = cc in (c, refl, here ∙ ap type_of (same_Some x k h))
 column_of_kind (c ∷ cs) (x ∷ xs) e (suc n) k h = let rest : map (λ (y : NamedColumn). y.kind) cs ≡ map type_of xs = cc in column_of_kind cs xs rest n k h
 
 apart : (a b : Kind) → kinds_clash (Some (type_of a)) (type_of b) ≡ false → kind_suits (Some a) b ≡ true
@@ -124,7 +125,7 @@ star_suits columns few listed known others own m ranges w = kinds_by targets own
     types = target_types (named_columns columns) listed
 
     parts : (not (length others == length types) ≡ false) × (list_any (λ (p : Option ColumnType × NamedColumn). kinds_clash p.0 p.1.kind) (zip types others) ≡ false)
-    parts = neither (not (length others == length types)) (list_any (λ (p : Option ColumnType × NamedColumn). kinds_clash p.0 p.1.kind) (zip types others)) w
+    parts = or_parts (not (length others == length types)) (list_any (λ (p : Option ColumnType × NamedColumn). kinds_clash p.0 p.1.kind) (zip types others)) w
 
     same : length own ≡ length targets
     same =
@@ -157,7 +158,7 @@ list_suits columns few listed known others own m ranges shape n deep (list.Value
     types = target_types (named_columns columns) listed
 
     parts : (not (length es == length types) ≡ false) × (list_any (λ (p : Option ColumnType × Expression). clashes_with p.0 ranges p.1) (zip types es) ≡ false)
-    parts = neither (not (length es == length types)) (list_any (λ (p : Option ColumnType × Expression). clashes_with p.0 ranges p.1) (zip types es)) c
+    parts = or_parts (not (length es == length types)) (list_any (λ (p : Option ColumnType × Expression). clashes_with p.0 ranges p.1) (zip types es)) c
 
     same : length (map (bound_expression ranges) es) ≡ length targets
     same = mapped_length (bound_expression ranges) es ∙ equal_of (length es) (length types) parts.0 ∙ targets_length columns listed
@@ -196,19 +197,19 @@ source_suits names ranges shape a columns few d listed known (source.Select l r 
     inner = range_of names r ∷ ranges
 
     of_source : (not (is_source names r.table) ≡ false) × ((unknown_list inner l || unknown_filter names inner filter) ≡ false)
-    of_source = neither (not (is_source names r.table)) (unknown_list inner l || unknown_filter names inner filter) u
+    of_source = or_parts (not (is_source names r.table)) (unknown_list inner l || unknown_filter names inner filter) u
 
     known_parts : (unknown_list inner l ≡ false) × (unknown_filter names inner filter ≡ false)
-    known_parts = neither (unknown_list inner l) (unknown_filter names inner filter) of_source.1
+    known_parts = or_parts (unknown_list inner l) (unknown_filter names inner filter) of_source.1
 
     kinds_parts : (list_clashes (target_types (named_columns columns) listed) (source_columns names r.table) inner l ≡ false) × ((misshaped_list inner l || misshaped_filter names inner filter) ≡ false)
-    kinds_parts = neither (list_clashes (target_types (named_columns columns) listed) (source_columns names r.table) inner l) (misshaped_list inner l || misshaped_filter names inner filter) w
+    kinds_parts = or_parts (list_clashes (target_types (named_columns columns) listed) (source_columns names r.table) inner l) (misshaped_list inner l || misshaped_filter names inner filter) w
 
     shaped : (misshaped_list inner l ≡ false) × (misshaped_filter names inner filter ≡ false)
-    shaped = neither (misshaped_list inner l) (misshaped_filter names inner filter) kinds_parts.1
+    shaped = or_parts (misshaped_list inner l) (misshaped_filter names inner filter) kinds_parts.1
 
     writable : is_filter filter ≡ true
-    writable = (parts_of (is_range r) (is_filter filter) (parts_of (is_list l) (is_range r && is_filter filter) i).1).1
+    writable = (and_parts (is_range r) (is_filter filter) (and_parts (is_list l) (is_range r && is_filter filter) i).1).1
 
     targets : List (Option Kind)
     targets = target_kinds (map (λ c. c.kind) columns) (bound_columns (named_columns columns) listed)
@@ -224,8 +225,8 @@ source_suits names ranges shape a columns few d listed known (source.Select l r 
         let m = range_within names ranges shape r s a.matches a.sources e in
         let deep = a.few in
         ap whole (range_of_source names r.table s e)
-        ∙ two _ _ (a.there r.table s e)
-        (two _ _
+        ∙ and_from _ _ (a.there r.table s e)
+        (and_from _ _
         (list_suits columns few listed known s.columns (range_kinds shape s.range) (a.sources r.table s e) inner (shape_within shape (range_kinds shape s.range)) m (omega arith) l
         known_parts.0 shaped.0
         (ap (λ (cs : List NamedColumn). list_clashes (target_types (named_columns columns) listed) cs inner l) (sym (columns_of_source names r.table s e)) ∙ kinds_parts.0))

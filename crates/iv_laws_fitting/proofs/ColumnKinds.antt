@@ -1,5 +1,6 @@
 -- The kinds of the columns that names see are those of a shape.
 use Rattle.std.proofs.Common.{◌≡◌, ℕ, zero, suc, ◌<◌, ◌≤◌, Bool, List, [], ◌∷◌, ◌++◌, ◌∙◌, Option, Some, None, refl, sym, ap, length, map, slice_get, option_map, subst, arith}
+use Rattle.std.proofs.lemmas.Option.{same_Some}
 use Rattle.iv_laws_fitting.specs.Words.{Kind, Column, Table}
 use Rattle.iv_laws_fitting.specs.Words.kind
 use Rattle.iv_expr.specs.declared.tree.Side.{Side}
@@ -20,9 +21,6 @@ use Rattle.iv_laws_fitting.specs.PlanShapes.{kinds_of}
 -- the greatest number of 32 bits
 abbrev pub greatest : ℕ
 greatest = 4294967295
-
-pub some_is : {X : Type 0} (x y : X) → Some x ≡ Some y → x ≡ y
-some_is x y h = cc
 
 -- ---- kinds of columns, in their order
 
@@ -49,7 +47,7 @@ pub kind_at : (columns : List NamedColumn) (kinds : List Kind) → map (λ (c : 
     → (k : Kind) × (slice_get kinds place ≡ Some k) × (column.kind ≡ type_of k)
 kind_at [] kinds e place column h = cc
 kind_at (c ∷ cs) [] e place column h = cc
-kind_at (c ∷ cs) (k ∷ ks) e zero column h = (k, refl, ap (λ (x : NamedColumn). x.kind) (sym (some_is c column h)) ∙ cc)
+kind_at (c ∷ cs) (k ∷ ks) e zero column h = (k, refl, ap (λ (x : NamedColumn). x.kind) (sym (same_Some c column h)) ∙ cc)
 kind_at (c ∷ cs) (k ∷ ks) e (suc n) column h = let rest : map (λ (x : NamedColumn). x.kind) cs ≡ map type_of ks = cc in kind_at cs ks rest n column h
 
 -- the sort of a column of this type
@@ -102,7 +100,7 @@ pub data AtRange (old new : Option (List Kind)) (kinds : List (List Kind)) (i : 
 at_variable : (old new : Option (List Kind)) (variables : List NamedRange) → VariablesMatch old new variables → (i : ℕ) (r : NamedRange) → slice_get variables i ≡ Some r
     → VariableMatches old new r
 at_variable old new [] m i r h = cc
-at_variable old new (v ∷ vs) m zero r h = subst (VariableMatches old new) (some_is v r h) m.0
+at_variable old new (v ∷ vs) m zero r h = subst (VariableMatches old new) (same_Some v r h) m.0
 at_variable old new (v ∷ vs) m (suc n) r h = at_variable old new vs m.1 n r h
 
 one_further : (old new : Option (List Kind)) (k : List Kind) (kinds : List (List Kind)) (i : ℕ) (r : NamedRange) → AtRange old new kinds i r → AtRange old new (k ∷ kinds) (suc i) r
@@ -115,7 +113,7 @@ at_range old new [] vs [] m v i r h = of_variable (at_variable old new vs v i r 
 at_range old new [] vs (k ∷ ks) m v i r h = absurd m
 at_range old new (x ∷ xs) vs [] m v i r h = absurd m
 at_range old new (x ∷ xs) vs (k ∷ ks) m v zero r h =
-    let e : x ≡ r = some_is x r h in
+    let e : x ≡ r = same_Some x r h in
     of_rows k (ap (λ (y : NamedRange). y.origin) (sym e) ∙ m.0) refl (subst (λ (y : NamedRange). ColumnsMatch y.columns k) e m.1)
 at_range old new (x ∷ xs) vs (k ∷ ks) m v (suc n) r h = one_further old new k ks n r (at_range old new xs vs ks m.2 v n r h)
 

@@ -1,5 +1,6 @@
 -- A condition that has no name that names nothing, and no operand of the wrong kind, suits the shape of its names.
 use Rattle.std.proofs.Common.{◌≡◌, ℕ, ◌+◌, ◌≤◌, Bool, true, false, not, ◌&&◌, ◌||◌, List, [], ◌∷◌, ◌∙◌, Option, Some, None, is_some, refl, sym, ap, length, subst, arith}
+use Rattle.std.proofs.lemmas.Bool.{and_from, or_parts}
 use Rattle.iv_laws_fitting.specs.Words.{Kind, Range}
 use Rattle.iv_laws_fitting.specs.Words.range
 use Rattle.iv_expr.specs.Suiting.{Sort, nulls, numbers, texts, Shape, shape_within, range_kinds, sort_of, comparable, suits}
@@ -10,7 +11,6 @@ use Rattle.iv_syntax.specs.declared.tree.RangeName.{RangeName}
 use Rattle.iv_syntax.specs.Trees.{exists_where, enclosed, negated, both, either, condition_depth}
 use Rattle.iv_resolution.specs.Scopes.{NamedColumn, NamedRange, Names, Source, source_named, is_source, source_columns, source_range, range_of}
 use Rattle.iv_resolution.specs.Terms.{unknown_expression, unknown_condition, misshaped_expression, misshaped_condition, is_integer, is_text, clash, bound_expression, bound_condition}
-use Rattle.iv_laws_naming.proofs.Firsts.{neither}
 use Rattle.iv_laws_fitting.proofs.ColumnKinds.{greatest, ColumnsMatch, Matches}
 use Rattle.iv_laws_fitting.proofs.Expressions.{Agrees, Sorted, sorted}
 
@@ -61,10 +61,10 @@ compared ranges a b numbers numbers x y h = refl
 compared ranges a b texts nulls x y h = refl
 compared ranges a b texts texts x y h = refl
 compared ranges a b numbers texts x y h =
-    let parts = neither (is_integer ranges a && is_text ranges b) (is_text ranges a && is_integer ranges b) h in
+    let parts = or_parts (is_integer ranges a && is_text ranges b) (is_text ranges a && is_integer ranges b) h in
     let e : true ≡ false = sym (ap (λ p. p && is_text ranges b) x ∙ y) ∙ parts.0 in cc
 compared ranges a b texts numbers x y h =
-    let parts = neither (is_integer ranges a && is_text ranges b) (is_text ranges a && is_integer ranges b) h in
+    let parts = or_parts (is_integer ranges a && is_text ranges b) (is_text ranges a && is_integer ranges b) h in
     let e : true ≡ false = sym (ap (λ p. p && is_integer ranges b) x ∙ y) ∙ parts.1 in cc
 
 pub compares : (ranges : List NamedRange) (shape : Shape) (a b : Expression) → Sorted ranges shape a → Sorted ranges shape b → clash ranges a b ≡ false
@@ -78,23 +78,20 @@ has_sort_of ranges shape e x = ap (λ (o : Option Sort). is_some o) x.is
 
 -- ---- conditions
 
-two : (a b : Bool) → a ≡ true → b ≡ true → (a && b) ≡ true
-two a b x y = ap (λ p. p && b) x ∙ y
-
 pub condition_suits : (names : Names) (ranges : List NamedRange) (shape : Shape) → Matches ranges shape → SourcesMatch names shape
     → (c : Condition) → length ranges + condition_depth c ≤ greatest → unknown_condition names ranges c ≡ false → misshaped_condition names ranges c ≡ false
     → suits shape (bound_condition names ranges c) ≡ true
 unfolding unknown_condition misshaped_condition bound_condition
 condition_suits names ranges shape m n (condition.Compare op a b) l u w =
-    let known = neither (unknown_expression ranges a) (unknown_expression ranges b) u in
-    let parts = neither (clash ranges a b) (misshaped_expression ranges a || misshaped_expression ranges b) w in
-    let each = neither (misshaped_expression ranges a) (misshaped_expression ranges b) parts.1 in
+    let known = or_parts (unknown_expression ranges a) (unknown_expression ranges b) u in
+    let parts = or_parts (clash ranges a b) (misshaped_expression ranges a || misshaped_expression ranges b) w in
+    let each = or_parts (misshaped_expression ranges a) (misshaped_expression ranges b) parts.1 in
     compares ranges shape a b (sorted ranges shape m (omega arith) a known.0 each.0) (sorted ranges shape m (omega arith) b known.1 each.1) parts.0
 condition_suits names ranges shape m n (condition.IsNull a) l u w = has_sort_of ranges shape a (sorted ranges shape m (omega arith) a u w)
 condition_suits names ranges shape m n (condition.IsNotNull a) l u w = has_sort_of ranges shape a (sorted ranges shape m (omega arith) a u w)
 condition_suits names ranges shape m n (condition.Exists r) l u w = refl
 condition_suits names ranges shape m n (exists_where r a) l u w =
-    let known = neither (not (is_source names r.table)) (unknown_condition names (range_of names r ∷ ranges) a) u in
+    let known = or_parts (not (is_source names r.table)) (unknown_condition names (range_of names r ∷ ranges) a) u in
     let source = source_is names r.table known.0 in
     let inner = range_within names ranges shape r source.0 m n source.1 in
     ap (λ (x : Range). suits (shape_within shape (range_kinds shape x)) (bound_condition names (range_of names r ∷ ranges) a)) (range_of_source names r.table source.0 source.1)
@@ -103,10 +100,10 @@ condition_suits names ranges shape m n (exists_where r a) l u w =
 condition_suits names ranges shape m n (enclosed a) l u w = condition_suits names ranges shape m n a (omega arith) u w
 condition_suits names ranges shape m n (negated a) l u w = condition_suits names ranges shape m n a (omega arith) u w
 condition_suits names ranges shape m n (both a b) l u w =
-    let known = neither (unknown_condition names ranges a) (unknown_condition names ranges b) u in
-    let each = neither (misshaped_condition names ranges a) (misshaped_condition names ranges b) w in
-    two _ _ (condition_suits names ranges shape m n a (omega arith) known.0 each.0) (condition_suits names ranges shape m n b (omega arith) known.1 each.1)
+    let known = or_parts (unknown_condition names ranges a) (unknown_condition names ranges b) u in
+    let each = or_parts (misshaped_condition names ranges a) (misshaped_condition names ranges b) w in
+    and_from _ _ (condition_suits names ranges shape m n a (omega arith) known.0 each.0) (condition_suits names ranges shape m n b (omega arith) known.1 each.1)
 condition_suits names ranges shape m n (either a b) l u w =
-    let known = neither (unknown_condition names ranges a) (unknown_condition names ranges b) u in
-    let each = neither (misshaped_condition names ranges a) (misshaped_condition names ranges b) w in
-    two _ _ (condition_suits names ranges shape m n a (omega arith) known.0 each.0) (condition_suits names ranges shape m n b (omega arith) known.1 each.1)
+    let known = or_parts (unknown_condition names ranges a) (unknown_condition names ranges b) u in
+    let each = or_parts (misshaped_condition names ranges a) (misshaped_condition names ranges b) w in
+    and_from _ _ (condition_suits names ranges shape m n a (omega arith) known.0 each.0) (condition_suits names ranges shape m n b (omega arith) known.1 each.1)

@@ -1,5 +1,6 @@
 -- An expression that has no name that names nothing, and no arithmetic on a text, has a sort: that of its tree as it is written.
 use Rattle.std.proofs.Common.{◌≡◌, ◌≤◌, true, false, ◌||◌, List, ◌∙◌, Option, Some, None, is_none, refl, sym, ap, length}
+use Rattle.std.proofs.lemmas.Bool.{or_parts}
 use Rattle.iv_laws_fitting.specs.Words.{Expr}
 use Rattle.iv_expr.specs.Suiting.{Sort, nulls, numbers, texts, Shape, sort_of, arithmetic_sort}
 use Rattle.iv_syntax.specs.declared.table.ColumnType.{ColumnType}
@@ -12,7 +13,6 @@ use Rattle.iv_syntax.specs.declared.tree.Expression.TheVariants as expression
 use Rattle.iv_syntax.specs.Trees.{group, signed, product, sum}
 use Rattle.iv_resolution.specs.Scopes.{NamedRange, Found, column_meant}
 use Rattle.iv_resolution.specs.Terms.{unknown_expression, misshaped_expression, is_integer, is_text, is_integer_type, is_text_type, is_integer_column, is_text_column, some_text, bound_column, bound_sum, bound_expression}
-use Rattle.iv_laws_naming.proofs.Firsts.{neither}
 use Rattle.iv_laws_fitting.proofs.ColumnKinds.{greatest, Matches, sort_of_type, column_sorted}
 
 -- what a sort says of the tree as it is written
@@ -64,7 +64,7 @@ arithmetic_sorted : (ranges : List NamedRange) (shape : Shape) (a b : Expression
     → arithmetic_sort (sort_of shape (bound_expression ranges a)) (sort_of shape (bound_expression ranges b)) ≡ Some numbers
 unfolding some_text
 arithmetic_sorted ranges shape a b x y h =
-    let parts = neither (is_text ranges a) (is_text ranges b) h in
+    let parts = or_parts (is_text ranges a) (is_text ranges b) h in
     ap (λ (s : Option Sort). arithmetic_sort s (sort_of shape (bound_expression ranges b))) x.is
     ∙ ap (arithmetic_sort (Some x.sort)) y.is
     ∙ arithmetic_of x.sort y.sort (no_text ranges a x.sort x.agrees parts.0) (no_text ranges b y.sort y.agrees parts.1)
@@ -100,21 +100,21 @@ sorted ranges shape m l (group a) u w = let x = sorted ranges shape m l a u w in
     by numbers g = g
     by texts g = g
 sorted ranges shape m l (signed s a) u w =
-    let parts = neither (is_text ranges a) (misshaped_expression ranges a) w in
+    let parts = or_parts (is_text ranges a) (misshaped_expression ranges a) w in
     signed_sorted ranges shape s a (sorted ranges shape m l a u parts.1) parts.0
 sorted ranges shape m l (product a b) u w =
-    let known = neither (unknown_expression ranges a) (unknown_expression ranges b) u in
-    let parts = neither (some_text ranges a b) (misshaped_expression ranges a || misshaped_expression ranges b) w in
-    let each = neither (misshaped_expression ranges a) (misshaped_expression ranges b) parts.1 in
+    let known = or_parts (unknown_expression ranges a) (unknown_expression ranges b) u in
+    let parts = or_parts (some_text ranges a b) (misshaped_expression ranges a || misshaped_expression ranges b) w in
+    let each = or_parts (misshaped_expression ranges a) (misshaped_expression ranges b) parts.1 in
     record {
       sort = numbers;
       is = arithmetic_sorted ranges shape a b (sorted ranges shape m l a known.0 each.0) (sorted ranges shape m l b known.1 each.1) parts.0;
       agrees = refl;
     }
 sorted ranges shape m l (sum s a b) u w =
-    let known = neither (unknown_expression ranges a) (unknown_expression ranges b) u in
-    let parts = neither (some_text ranges a b) (misshaped_expression ranges a || misshaped_expression ranges b) w in
-    let each = neither (misshaped_expression ranges a) (misshaped_expression ranges b) parts.1 in
+    let known = or_parts (unknown_expression ranges a) (unknown_expression ranges b) u in
+    let parts = or_parts (some_text ranges a b) (misshaped_expression ranges a || misshaped_expression ranges b) w in
+    let each = or_parts (misshaped_expression ranges a) (misshaped_expression ranges b) parts.1 in
     record {
       sort = numbers;
       is = summed shape s (bound_expression ranges a) (bound_expression ranges b)

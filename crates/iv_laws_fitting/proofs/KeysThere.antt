@@ -1,5 +1,8 @@
 -- The key that a foreign key names is among the constraints, as the set of its columns.
 use Rattle.std.proofs.Common.{◌≡◌, ℕ, zero, suc, ◌+◌, Bool, true, false, not, ◌||◌, ◌==◌, List, [], ◌∷◌, ◌++◌, ◌∙◌, Option, Some, None, refl, sym, ap, length, map, slice_get, option_map, unwrap_or, subst, arith}
+use Rattle.std.proofs.lemmas.Bool.{and_from, and_parts, not-false, not-true, or_parts}
+use Rattle.std.proofs.lemmas.Map.Keys.{any_passes_from_place}
+use Rattle.std.proofs.lemmas.Option.{same_Some}
 use Rattle.std.specs.List.{list_any, list_all, enumerate_from}
 use Rattle.std.specs.Str.{bytes_eq}
 use Rattle.std.proofs.lemmas.Bool.Decides.{nat_tests}
@@ -18,15 +21,15 @@ use Rattle.iv_resolution.specs.Tables.{creating, unknown_reference, unknown_rule
 use Rattle.iv_resolution.specs.Bound.{bound_rule, bound_place, bound_reference, key_places}
 use Rattle.iv_store.specs.Stores.{all_among, are_same_columns, unique_columns, is_named_key, has_key}
 use Rattle.iv_laws_naming.specs.Naming.{IsFirst, column_is_called, table_is_called}
-use Rattle.iv_laws_naming.proofs.Firsts.{Search, nothing, something, search, neither, at_front, later, first_position, first_found, first_there, none_position, none_found}
+use Rattle.iv_laws_naming.proofs.Firsts.{Search, nothing, something, search, at_front, later, first_position, first_found, first_there, none_position, none_found}
 use Rattle.iv_laws_fitting.specs.ConstraintShapes.{is_place, rule_suits, constraint_suits}
 use Rattle.iv_laws_fitting.specs.PlanShapes.{kinds_of, table_kinds, is_there, table_suits}
-use Rattle.iv_laws_fitting.proofs.ColumnKinds.{some_is, stored_match, there_below}
+use Rattle.iv_laws_fitting.proofs.ColumnKinds.{stored_match, there_below}
 use Rattle.iv_laws_fitting.proofs.Changes.{column_of_kind}
 use Rattle.iv_laws_fitting.proofs.NewTables.{same_either_way}
-use Rattle.iv_laws_fitting.proofs.References.{same_self, names_kept, is_false, at_place, made_by, kept_by}
+use Rattle.iv_laws_fitting.proofs.References.{same_self, names_kept, at_place, made_by, kept_by}
 use Rattle.iv_laws_fitting.proofs.Targets.{few_columns, distinct_columns}
-use Rattle.iv_laws_fitting.proofs.Pointwise.{some_pair, two, parts_of, not_false, any_at, all_at, made_of, map_at, all_by}
+use Rattle.iv_laws_fitting.proofs.Pointwise.{some_pair, any_at, all_at, made_of, map_at, all_by}
 
 -- ---- one of a list
 
@@ -40,12 +43,6 @@ found_at {X = X} p (x ∷ xs) h = by (p x) refl h (λ g. found_at p xs g)
     by true e g later = (zero, x, refl, e)
     by false e g later = let r = later g in (suc r.0, r.1, r.2, r.3)
 
--- an element that passes is some
-pub some_passes : {X : Type 0} (p : X → Bool) (xs : List X) (i : ℕ) (x : X) → slice_get xs i ≡ Some x → p x ≡ true → list_any p xs ≡ true
-some_passes p [] i x h g = cc
-some_passes p (y ∷ ys) zero x h g = ap (λ b. b || list_any p ys) (ap p (some_is y x h) ∙ g)
-some_passes p (y ∷ ys) (suc i) x h g = elim (p y) as (λ b. (b || list_any p ys) ≡ true) [ true ↦ refl | false ↦ some_passes p ys i x h g ]
-
 -- ---- names that are one
 
 one_name : (a b : List ℕ) → bytes_eq a b ≡ true → a ≡ b
@@ -53,7 +50,7 @@ one_name [] [] h = refl
 one_name [] (y ∷ ys) h = cc
 one_name (x ∷ xs) [] h = cc
 one_name (x ∷ xs) (y ∷ ys) h =
-    let p = parts_of (x == y) (bytes_eq xs ys) h in
+    let p = and_parts (x == y) (bytes_eq xs ys) h in
     let e : x ≡ y = let q = p.0 in grind (arith, nat_tests) in
     ap (λ z. z ∷ xs) e ∙ ap (λ l. y ∷ l) (one_name xs ys p.1)
 
@@ -68,19 +65,19 @@ among_places columns some others h =
     let made = made_of (place_of columns) some j place g in
     let found = found_at (bytes_eq made.0) others (all_at (is_among others) some h j made.0 made.1) in
     let same = one_name made.0 found.1 found.3 in
-    some_passes (λ d. place == d) (places_of columns others) found.0 (place_of columns found.1) (map_at (place_of columns) others found.0 ∙ ap (option_map (place_of columns)) found.2)
+    any_passes_from_place (λ d. place == d) (places_of columns others) found.0 (place_of columns found.1) (map_at (place_of columns) others found.0 ∙ ap (option_map (place_of columns)) found.2)
     (ap (λ n. n == place_of columns found.1) (made.2 ∙ ap (place_of columns) same) ∙ same_number (place_of columns found.1)))
 
 pub same_places : (columns : List NamedColumn) (names others : List (List ℕ)) → same_set names others ≡ true → are_same_columns (places_of columns others) (places_of columns names) ≡ true
 same_places columns names others h =
-    let p = parts_of (list_all (is_among others) names) (list_all (is_among names) others) h in
-    two _ _ (among_places columns others names p.1) (among_places columns names others p.0)
+    let p = and_parts (list_all (is_among others) names) (list_all (is_among names) others) h in
+    and_from _ _ (among_places columns others names p.1) (among_places columns names others p.0)
 
 among_itself : (places : List ℕ) → all_among places places ≡ true
-among_itself places = all_by (λ c. list_any (λ d. c == d) places) places (λ j place g. some_passes (λ d. place == d) places j place g (same_number place))
+among_itself places = all_by (λ c. list_any (λ d. c == d) places) places (λ j place g. any_passes_from_place (λ d. place == d) places j place g (same_number place))
 
 pub same_itself : (places : List ℕ) → are_same_columns places places ≡ true
-same_itself places = two _ _ (among_itself places) (among_itself places)
+same_itself places = and_from _ _ (among_itself places) (among_itself places)
 
 -- ---- keys by name and by place
 
@@ -90,10 +87,10 @@ distinct_is_first : (columns : List NamedColumn) → comes_twice (map (λ c. c.n
 unfolding comes_twice
 distinct_is_first [] d p c h = cc
 distinct_is_first (x ∷ xs) d zero c h =
-    let e = some_is x c h in
+    let e = same_Some x c h in
     subst (λ (y : NamedColumn). IsFirst (column_is_called y.name) (x ∷ xs) zero y) e (at_front (column_is_called x.name) x xs (same_self x.name))
 distinct_is_first (x ∷ xs) d (suc p) c h =
-    let parts = neither (is_among (map (λ (y : NamedColumn). y.name) xs) x.name) (comes_twice (map (λ (y : NamedColumn). y.name) xs)) d in
+    let parts = or_parts (is_among (map (λ (y : NamedColumn). y.name) xs) x.name) (comes_twice (map (λ (y : NamedColumn). y.name) xs)) d in
     let other = any_at (bytes_eq x.name) (map (λ (y : NamedColumn). y.name) xs) parts.0 p c.name (map_at (λ (y : NamedColumn). y.name) xs p ∙ ap (option_map (λ (y : NamedColumn). y.name)) h) in
     later (column_is_called c.name) x xs p c (same_either_way c.name x.name ∙ other) (distinct_is_first xs parts.1 p c h)
 
@@ -103,7 +100,7 @@ place_of_name t s place h =
     let match = stored_match t (few_columns t s) in
     let kind = at_place (kinds_of t) place h in
     let column = column_of_kind columns (kinds_of t) match.types place kind.0 kind.1 in
-    let first = distinct_is_first columns (ap comes_twice (names_kept t.columns) ∙ is_false (comes_twice (map (λ (c : Column). c.name) t.columns)) (distinct_columns t s)) place column.0 column.1 in
+    let first = distinct_is_first columns (ap comes_twice (names_kept t.columns) ∙ not-true (comes_twice (map (λ (c : Column). c.name) t.columns)) (distinct_columns t s)) place column.0 column.1 in
     let few = match.few in
     let less = there_below columns place column.0 column.1 in
     let small : number place ≡ place = omega arith in
@@ -114,7 +111,7 @@ places_of_names : (t : Table) → table_suits t ≡ true → (places : List ℕ)
     → places ≡ places_of (named_columns t.columns) (map (name_at (named_columns t.columns)) places)
 places_of_names t s [] h = refl
 places_of_names t s (p ∷ ps) h =
-    let parts = parts_of (is_place (kinds_of t) p) (list_all (is_place (kinds_of t)) ps) h in
+    let parts = and_parts (is_place (kinds_of t) p) (list_all (is_place (kinds_of t)) ps) h in
     ap (λ n. n ∷ ps) (sym (place_of_name t s p parts.0)) ∙ ap (λ l. place_of (named_columns t.columns) (name_at (named_columns t.columns) p) ∷ l) (places_of_names t s ps parts.1)
 
 -- a key of these columns is a constraint among these, of this table
@@ -137,15 +134,15 @@ earlier_there (z ∷ zs) ys (suc i) x h = earlier_there zs ys i x h
 -- the places of a rule that is a key
 rule_places : (columns : List NamedColumn) (deferrable : Bool) (r : Rule) (k : Key) → key_of_rule columns deferrable r ≡ Some k
     → (unique_columns r ≡ Some k.places) × (k.columns ≡ map (name_at columns) k.places)
-rule_places columns d (rule.Unique places) k h = let e = some_is _ k h in (ap (λ (x : Key). Some x.places) e, sym (ap (λ (x : Key). x.columns) e) ∙ ap (λ (x : Key). map (name_at columns) x.places) e)
-rule_places columns d (rule.PrimaryKey places) k h = let e = some_is _ k h in (ap (λ (x : Key). Some x.places) e, sym (ap (λ (x : Key). x.columns) e) ∙ ap (λ (x : Key). map (name_at columns) x.places) e)
+rule_places columns d (rule.Unique places) k h = let e = same_Some _ k h in (ap (λ (x : Key). Some x.places) e, sym (ap (λ (x : Key). x.columns) e) ∙ ap (λ (x : Key). map (name_at columns) x.places) e)
+rule_places columns d (rule.PrimaryKey places) k h = let e = same_Some _ k h in (ap (λ (x : Key). Some x.places) e, sym (ap (λ (x : Key). x.columns) e) ∙ ap (λ (x : Key). map (name_at columns) x.places) e)
 rule_places columns d (rule.NotNull c) k h = cc
 rule_places columns d (rule.Check c) k h = cc
 rule_places columns d (rule.ForeignKey fk) k h = cc
 
 in_range : (tables : List Table) (kinds : List Kind) (r : Rule) (places : List ℕ) → unique_columns r ≡ Some places → rule_suits tables kinds r ≡ true → list_all (is_place kinds) places ≡ true
-in_range tables kinds (rule.Unique ps) places h g = ap (list_all (is_place kinds)) (sym (some_is ps places h)) ∙ g
-in_range tables kinds (rule.PrimaryKey ps) places h g = ap (list_all (is_place kinds)) (sym (some_is ps places h)) ∙ g
+in_range tables kinds (rule.Unique ps) places h g = ap (list_all (is_place kinds)) (sym (same_Some ps places h)) ∙ g
+in_range tables kinds (rule.PrimaryKey ps) places h g = ap (list_all (is_place kinds)) (sym (same_Some ps places h)) ∙ g
 in_range tables kinds (rule.NotNull c) places h g = cc
 in_range tables kinds (rule.Check c) places h g = cc
 in_range tables kinds (rule.ForeignKey fk) places h g = cc
@@ -158,7 +155,7 @@ stored_keys_named schema d c more place t h j k g =
     let made = made_by (λ (x : Constraint). key_of_rule (named_columns t.columns) x.deferrable x.rule) (constraints_of schema place) j k g in
     let kept = kept_by (λ (x : Constraint). x.table == place) schema.constraints made.0 made.1 made.2 in
     let suits = all_at (constraint_suits schema.tables) schema.constraints c kept.0 made.1 kept.1 in
-    let ruled = (parts_of (is_there schema.tables made.1.table) (rule_suits schema.tables (table_kinds schema.tables made.1.table) made.1.rule) suits).1 in
+    let ruled = (and_parts (is_there schema.tables made.1.table) (rule_suits schema.tables (table_kinds schema.tables made.1.table) made.1.rule) suits).1 in
     let same : made.1.table ≡ place = let x = kept.2 in grind (arith, nat_tests) in
     let kinds : table_kinds schema.tables made.1.table ≡ kinds_of t =
     ap (table_kinds schema.tables) same ∙ ap (λ (o : Option Table). elim o as (λ x. List Kind) [ Some x ↦ kinds_of x | None ↦ [] ]) h in
@@ -184,7 +181,7 @@ later_there (x ∷ xs) ys i y h =
 numbered_at : {X : Type 0} (from : ℕ) (xs : List X) (i : ℕ) (x : X) → slice_get xs i ≡ Some x → slice_get (enumerate_from from xs) i ≡ Some (from + i, x)
 numbered_at from [] i x h = cc
 numbered_at {X = X} from (y ∷ ys) zero x h =
-    let here : from ≡ from + 0 = omega arith in ap (λ (z : X). some_pair from z) (some_is y x h) ∙ ap (λ n. some_pair n x) here
+    let here : from ≡ from + 0 = omega arith in ap (λ (z : X). some_pair from z) (same_Some y x h) ∙ ap (λ n. some_pair n x) here
 numbered_at from (y ∷ ys) (suc i) x h =
     let further : from + 1 + i ≡ from + suc i = omega arith in
     numbered_at (from + 1) ys i x h ∙ ap (λ n. some_pair n x) further
@@ -192,9 +189,9 @@ numbered_at from (y ∷ ys) (suc i) x h =
 written_places : (schema : Schema) (names : Names) (own : Altered) (time : ConstraintTime) (r : WrittenRule) (k : Key) → key_of_written own.columns time r ≡ Some k
     → (unique_columns (bound_rule schema names own r) ≡ Some k.places) × (k.places ≡ places_of own.columns k.columns)
 written_places schema names own time (unique columns) k h =
-    let e = some_is _ k h in (ap (λ (x : Key). Some x.places) e, sym (ap (λ (x : Key). x.places) e) ∙ ap (λ (x : Key). places_of own.columns x.columns) e)
+    let e = same_Some _ k h in (ap (λ (x : Key). Some x.places) e, sym (ap (λ (x : Key). x.places) e) ∙ ap (λ (x : Key). places_of own.columns x.columns) e)
 written_places schema names own time (primary_key columns) k h =
-    let e = some_is _ k h in (ap (λ (x : Key). Some x.places) e, sym (ap (λ (x : Key). x.places) e) ∙ ap (λ (x : Key). places_of own.columns x.columns) e)
+    let e = same_Some _ k h in (ap (λ (x : Key). Some x.places) e, sym (ap (λ (x : Key). x.places) e) ∙ ap (λ (x : Key). places_of own.columns x.columns) e)
 written_places schema names own time (not_null c) k h = cc
 written_places schema names own time (check c) k h = cc
 written_places schema names own time (written.foreign_key columns r) k h = cc
@@ -233,7 +230,7 @@ others_named schema d c more name t h = by (search (table_is_called name) schema
     by (something i s f) =
         let there = first_there (table_is_called name) schema.tables i s f in
         let refer : Table → Referenced = λ x. record { table = i; columns = named_columns x.columns; keys = stored_keys (named_columns x.columns) (constraints_of schema i) } in
-        let is : refer s ≡ t = some_is _ _ (sym (ap referred (first_position (table_is_called name) schema.tables i s f) ∙ ap (option_map refer) there) ∙ h) in
+        let is : refer s ≡ t = same_Some _ _ (sym (ap referred (first_position (table_is_called name) schema.tables i s f) ∙ ap (option_map refer) there) ∙ h) in
         subst (λ (x : Referenced). KeysNamed (schema.constraints ++ more) x.table x.columns x.keys) is (stored_keys_named schema d c more i s there)
 
 keys_of_reference : (schema : Schema) (own : Altered) (all : List Constraint) → AllNamed schema own all → (name : List ℕ) (t : Referenced) → referenced schema own name ≡ Some t
@@ -246,15 +243,15 @@ keys_of_reference schema own all n name t h = by (bytes_eq name own.name) refl
     by : (b : Bool) → bytes_eq name own.name ≡ b → KeysNamed all t.table t.columns t.keys
     by false e = n.others name t (sym (ap (λ b. elim b as (λ x. Option Referenced) [ true ↦ Some itself | false ↦ stored_reference schema name ]) e) ∙ h)
     by true e =
-        let is : itself ≡ t = some_is _ _ (sym (ap (λ b. elim b as (λ x. Option Referenced) [ true ↦ Some itself | false ↦ stored_reference schema name ]) e) ∙ h) in
+        let is : itself ≡ t = same_Some _ _ (sym (ap (λ b. elim b as (λ x. Option Referenced) [ true ↦ Some itself | false ↦ stored_reference schema name ]) e) ∙ h) in
         subst (λ (x : Referenced). KeysNamed all x.table x.columns x.keys) is n.own_keys
 
 -- the constraint of a key that is meant is the one that the foreign key names
 is_the_key : (all : List Constraint) (table : ℕ) (columns : List NamedColumn) (k : Key) → KeyNamed all table columns k → (fk : ForeignKey) → fk.referenced ≡ table
     → are_same_columns k.places fk.key ≡ true → has_key all (Some fk) ≡ true
 is_the_key all table columns k n fk r h =
-    some_passes (is_named_key fk) all n.index n.constraint n.there
-    (two _ _ (let a = n.on in grind (arith, nat_tests))
+    any_passes_from_place (is_named_key fk) all n.index n.constraint n.there
+    (and_from _ _ (let a = n.on in grind (arith, nat_tests))
     (ap (λ (o : Option (List ℕ)). elim o as (λ x. Bool) [ Some cs ↦ are_same_columns cs fk.key | None ↦ false ]) n.unique ∙ h))
 
 reference_key : (own : Altered) (all : List Constraint) (t : Referenced) → KeysNamed all t.table t.columns t.keys → (columns : List (List ℕ)) (r : References)
@@ -267,10 +264,10 @@ reference_key own all t n columns r w = by r.columns refl
     by : (o : Option (List (List ℕ))) → r.columns ≡ o → has_key all (Some (bound_reference own columns r (Some t))) ≡ true
     by (Some names) e =
         let fault = ap (λ (o : Option (List (List ℕ))). faulty_reference own.columns columns t o) (sym e) ∙ w in
-        let parts = neither (pairs_differ own.columns columns t.columns names) (not (list_any (is_reliable names) t.keys)) fault in
-        let found = found_at (is_reliable names) t.keys (not_false (list_any (is_reliable names) t.keys) parts.1) in
+        let parts = or_parts (pairs_differ own.columns columns t.columns names) (not (list_any (is_reliable names) t.keys)) fault in
+        let found = found_at (is_reliable names) t.keys (not-false (list_any (is_reliable names) t.keys) parts.1) in
         let named = n found.0 found.1 found.2 in
-        let reliable = parts_of (not found.1.deferrable) (same_set names found.1.columns) found.3 in
+        let reliable = and_parts (not found.1.deferrable) (same_set names found.1.columns) found.3 in
         is_the_key all t.table t.columns found.1 named (bound_reference own columns r (Some t)) refl
         (ap (λ (p : List ℕ). are_same_columns p (key_places t r.columns)) named.places
         ∙ ap (λ (o : Option (List (List ℕ))). are_same_columns (places_of t.columns found.1.columns) (key_places t o)) e
@@ -307,5 +304,5 @@ key_of_rule_there schema names own all n (unique columns) u f = refl
 key_of_rule_there schema names own all n (primary_key columns) u f = refl
 key_of_rule_there schema names own all n (check c) u f = refl
 key_of_rule_there schema names own all n (written.foreign_key columns r) u f =
-    let known = neither (unknown_names own.columns columns) (unknown_reference (referenced schema own r.table) r.columns) u in
+    let known = or_parts (unknown_names own.columns columns) (unknown_reference (referenced schema own r.table) r.columns) u in
     referred_key schema own all n columns r (referenced schema own r.table) refl known.1 f

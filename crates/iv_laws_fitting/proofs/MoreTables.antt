@@ -1,5 +1,6 @@
 -- What suits the tables suits them with one more.
 use Rattle.std.proofs.Common.{◌≡◌, ℕ, zero, suc, ◌+◌, nat_lt, true, false, ◌&&◌, List, [], ◌∷◌, ◌++◌, ◌∙◌, Option, Some, None, is_some, refl, sym, ap, length, slice_get, option_map, arith}
+use Rattle.std.proofs.lemmas.Bool.{and_from, and_parts}
 use Rattle.std.specs.List.{list_all}
 use Rattle.std.proofs.lemmas.Bool.Decides.{nat_tests}
 use Rattle.iv_laws_fitting.specs.Words.{Kind, Granularity, TriggerEvent, Range, Expr, Table, Constraint, Rule, BodyStatement, DataStatement, InsertRows, Outputs, Setting, Trigger}
@@ -19,7 +20,7 @@ use Rattle.iv_expr.specs.Trees.{plus, minus, times, not_c, and_c, or_c, exists_c
 use Rattle.iv_expr.specs.Suiting.{Sort, nulls, numbers, texts, Shape, shape_within, range_kinds, variable_kinds, sort_of_kind, column_sort, arithmetic_sort, sort_of, comparable, suits}
 use Rattle.iv_laws_fitting.specs.ConstraintShapes.{pairs_suit, rule_suits, constraint_suits}
 use Rattle.iv_laws_fitting.specs.PlanShapes.{kinds_of, table_kinds, is_there, is_range_there, sort_suits, value_suits, values_suit, target_kinds, outputs_suit, rows_suit, setting_suits, data_suits, trigger_shape, action_suits, trigger_suits}
-use Rattle.iv_laws_fitting.proofs.Pointwise.{two, parts_of, all_at, all_by}
+use Rattle.iv_laws_fitting.proofs.Pointwise.{all_at, all_by}
 
 -- ---- a table that is there keeps its place
 
@@ -146,8 +147,8 @@ suits_wider few many w (cond.Compare op a b) h =
     ap (λ (o : Option Sort). comparable o (sort_of many b)) (same_sort few many w a parts.0) ∙ ap (comparable (sort_of few a)) (same_sort few many w b parts.1) ∙ h
 suits_wider few many w (cond.IsNull a) h = ap (λ (o : Option Sort). is_some o) (same_sort few many w a h) ∙ h
 suits_wider few many w (not_c a) h = suits_wider few many w a h
-suits_wider few many w (and_c a b) h = let p = parts_of (suits few a) (suits few b) h in two _ _ (suits_wider few many w a p.0) (suits_wider few many w b p.1)
-suits_wider few many w (or_c a b) h = let p = parts_of (suits few a) (suits few b) h in two _ _ (suits_wider few many w a p.0) (suits_wider few many w b p.1)
+suits_wider few many w (and_c a b) h = let p = and_parts (suits few a) (suits few b) h in and_from _ _ (suits_wider few many w a p.0) (suits_wider few many w b p.1)
+suits_wider few many w (or_c a b) h = let p = and_parts (suits few a) (suits few b) h in and_from _ _ (suits_wider few many w a p.0) (suits_wider few many w b p.1)
 suits_wider few many w (exists_c r a) h =
     suits_wider (shape_within few (range_kinds few r)) (shape_within many (range_kinds many r)) (inner_wider few many w (range_kinds few r) (range_kinds many r) (range_wider few many w r)) a h
 
@@ -170,8 +171,8 @@ values_wider few many w [] [] h = refl
 values_wider few many w [] (e ∷ es) h = cc
 values_wider few many w (o ∷ os) [] h = cc
 values_wider few many w (o ∷ os) (e ∷ es) h =
-    let p = parts_of (value_suits few o e) (values_suit few os es) h in
-    two _ _ (value_wider few many w o e p.0) (values_wider few many w os es p.1)
+    let p = and_parts (value_suits few o e) (values_suit few os es) h in
+    and_from _ _ (value_wider few many w o e p.0) (values_wider few many w os es p.1)
 
 outputs_wider : (few many : Shape) → Wider few many → (own : List Kind) (os : List (Option Kind)) (l : Outputs) → outputs_suit few own os l ≡ true → outputs_suit many own os l ≡ true
 outputs_wider few many w own os outputs.Star h = h
@@ -197,12 +198,12 @@ rows_wider tables new few many o os (rows.Values tuples) h =
     all_by (values_suit many os) tuples (λ j es g. values_wider few many o.wider os es (all_at (values_suit few os) tuples h j es g))
 rows_wider tables new few many o os (rows.Query listed source filter) h =
     let kinds = range_kinds few source in
-    let p = parts_of (is_range_there tables source) (outputs_suit (shape_within few kinds) kinds os listed && suits (shape_within few kinds) filter) h in
-    let q = parts_of (outputs_suit (shape_within few kinds) kinds os listed) (suits (shape_within few kinds) filter) p.1 in
+    let p = and_parts (is_range_there tables source) (outputs_suit (shape_within few kinds) kinds os listed && suits (shape_within few kinds) filter) h in
+    let q = and_parts (outputs_suit (shape_within few kinds) kinds os listed) (suits (shape_within few kinds) filter) p.1 in
     let inner = inner_wider few many o.wider kinds kinds (same refl) in
-    two _ _ (range_still tables new source p.0)
+    and_from _ _ (range_still tables new source p.0)
     (ap (λ (k : List Kind). outputs_suit (shape_within many k) k os listed && suits (shape_within many k) filter) (range_same tables new few many o source p.0)
-    ∙ two _ _ (outputs_wider (shape_within few kinds) (shape_within many kinds) inner kinds os listed q.0)
+    ∙ and_from _ _ (outputs_wider (shape_within few kinds) (shape_within many kinds) inner kinds os listed q.0)
     (suits_wider (shape_within few kinds) (shape_within many kinds) inner filter q.1))
 
 pub setting_wider : (few many : Shape) → Wider few many → (kinds : List Kind) (s : Setting) → setting_suits few kinds s ≡ true → setting_suits many kinds s ≡ true
@@ -211,26 +212,26 @@ setting_wider few many w kinds s h = value_wider few many w (slice_get kinds s.c
 pub data_wider : (tables : List Table) (new : Table) (few many : Shape) → OneMore tables new few many → (d : DataStatement)
     → data_suits tables few d ≡ true → data_suits (tables ++ new ∷ []) many d ≡ true
 data_wider tables new few many o (Insert t listed given) h =
-    let p = parts_of (is_there tables t) (rows_suit tables few (target_kinds (table_kinds tables t) listed) given) h in
-    two _ _ (there_still tables new t p.0)
+    let p = and_parts (is_there tables t) (rows_suit tables few (target_kinds (table_kinds tables t) listed) given) h in
+    and_from _ _ (there_still tables new t p.0)
     (ap (λ (k : List Kind). rows_suit (tables ++ new ∷ []) many (target_kinds k listed) given) (same_kinds tables new t p.0)
     ∙ rows_wider tables new few many o (target_kinds (table_kinds tables t) listed) given p.1)
 data_wider tables new few many o (Update t settings filter) h =
     let kinds = table_kinds tables t in
-    let p = parts_of (is_there tables t) (list_all (setting_suits (shape_within few kinds) kinds) settings && suits (shape_within few kinds) filter) h in
-    let q = parts_of (list_all (setting_suits (shape_within few kinds) kinds) settings) (suits (shape_within few kinds) filter) p.1 in
+    let p = and_parts (is_there tables t) (list_all (setting_suits (shape_within few kinds) kinds) settings && suits (shape_within few kinds) filter) h in
+    let q = and_parts (list_all (setting_suits (shape_within few kinds) kinds) settings) (suits (shape_within few kinds) filter) p.1 in
     let inner = inner_wider few many o.wider kinds kinds (same refl) in
-    two _ _ (there_still tables new t p.0)
+    and_from _ _ (there_still tables new t p.0)
     (ap (λ (k : List Kind). list_all (setting_suits (shape_within many k) k) settings && suits (shape_within many k) filter) (same_kinds tables new t p.0)
-    ∙ two _ _
+    ∙ and_from _ _
     (all_by (setting_suits (shape_within many kinds) kinds) settings
     (λ j s g. setting_wider (shape_within few kinds) (shape_within many kinds) inner kinds s (all_at (setting_suits (shape_within few kinds) kinds) settings q.0 j s g)))
     (suits_wider (shape_within few kinds) (shape_within many kinds) inner filter q.1))
 data_wider tables new few many o (Delete t filter) h =
     let kinds = table_kinds tables t in
-    let p = parts_of (is_there tables t) (suits (shape_within few kinds) filter) h in
+    let p = and_parts (is_there tables t) (suits (shape_within few kinds) filter) h in
     let inner = inner_wider few many o.wider kinds kinds (same refl) in
-    two _ _ (there_still tables new t p.0)
+    and_from _ _ (there_still tables new t p.0)
     (ap (λ (k : List Kind). suits (shape_within many k) filter) (same_kinds tables new t p.0)
     ∙ suits_wider (shape_within few kinds) (shape_within many kinds) inner filter p.1)
 
@@ -266,13 +267,13 @@ trigger_still tables new t h =
     let kinds = table_kinds tables t.table in
     let few = trigger_shape tables t.granularity t.event kinds in
     let many = trigger_shape (tables ++ new ∷ []) t.granularity t.event kinds in
-    let p = parts_of (is_there tables t.table) (suits few t.when && list_all (action_suits tables few kinds) t.body) h in
-    let q = parts_of (suits few t.when) (list_all (action_suits tables few kinds) t.body) p.1 in
+    let p = and_parts (is_there tables t.table) (suits few t.when && list_all (action_suits tables few kinds) t.body) h in
+    let q = and_parts (suits few t.when) (list_all (action_suits tables few kinds) t.body) p.1 in
     let o = trigger_one_more tables new t.granularity t.event kinds in
-    two _ _ (there_still tables new t.table p.0)
+    and_from _ _ (there_still tables new t.table p.0)
     (ap (λ (k : List Kind). suits (trigger_shape (tables ++ new ∷ []) t.granularity t.event k) t.when
     && list_all (action_suits (tables ++ new ∷ []) (trigger_shape (tables ++ new ∷ []) t.granularity t.event k) k) t.body) (same_kinds tables new t.table p.0)
-    ∙ two _ _ (suits_wider few many o.wider t.when q.0)
+    ∙ and_from _ _ (suits_wider few many o.wider t.when q.0)
     (all_by (action_suits (tables ++ new ∷ []) many kinds) t.body
     (λ j b g. action_wider tables new few many o kinds b (all_at (action_suits tables few kinds) t.body q.1 j b g))))
 
@@ -284,11 +285,11 @@ rule_still tables new kinds (rule.Unique cs) h = h
 rule_still tables new kinds (rule.PrimaryKey cs) h = h
 rule_still tables new kinds (rule.Check c) h = h
 rule_still tables new kinds (rule.ForeignKey fk) h =
-    let p = parts_of (is_there tables fk.referenced) (pairs_suit kinds (table_kinds tables fk.referenced) fk) h in
-    two _ _ (there_still tables new fk.referenced p.0) (ap (λ (k : List Kind). pairs_suit kinds k fk) (same_kinds tables new fk.referenced p.0) ∙ p.1)
+    let p = and_parts (is_there tables fk.referenced) (pairs_suit kinds (table_kinds tables fk.referenced) fk) h in
+    and_from _ _ (there_still tables new fk.referenced p.0) (ap (λ (k : List Kind). pairs_suit kinds k fk) (same_kinds tables new fk.referenced p.0) ∙ p.1)
 
 pub constraint_still : (tables : List Table) (new : Table) (k : Constraint) → constraint_suits tables k ≡ true → constraint_suits (tables ++ new ∷ []) k ≡ true
 constraint_still tables new k h =
-    let p = parts_of (is_there tables k.table) (rule_suits tables (table_kinds tables k.table) k.rule) h in
-    two _ _ (there_still tables new k.table p.0)
+    let p = and_parts (is_there tables k.table) (rule_suits tables (table_kinds tables k.table) k.rule) h in
+    and_from _ _ (there_still tables new k.table p.0)
     (ap (λ (x : List Kind). rule_suits (tables ++ new ∷ []) x k.rule) (same_kinds tables new k.table p.0) ∙ rule_still tables new (table_kinds tables k.table) k.rule p.1)

@@ -1,6 +1,8 @@
 -- What a constraint that deserves no cause means suits the tables: the columns that it names are there, its condition suits them, and a
 -- foreign key pairs columns of one type.
 use Rattle.std.proofs.Common.{◌≡◌, ℕ, zero, suc, ◌≤◌, Bool, true, false, not, ◌&&◌, ◌||◌, ◌==◌, List, [], ◌∷◌, ◌∙◌, Option, Some, is_some, refl, sym, ap, length, zip, slice_get, option_map, unwrap_or, arith}
+use Rattle.std.proofs.lemmas.Bool.{and_from, not-false, or_parts}
+use Rattle.std.proofs.lemmas.Option.{same_Some}
 use Rattle.std.specs.List.{list_any, list_all}
 use Rattle.std.proofs.lemmas.Bool.Decides.{nat_tests}
 use Rattle.iv_laws_fitting.specs.Words.{Kind}
@@ -15,12 +17,12 @@ use Rattle.iv_resolution.specs.Terms.{unknown_expression, unknown_condition, mis
 use Rattle.iv_resolution.specs.Constraints.{Key, places_of, types_differ, pairs_differ}
 use Rattle.iv_resolution.specs.Changes.{unknown_names}
 use Rattle.iv_laws_naming.specs.Naming.{column_is_called}
-use Rattle.iv_laws_naming.proofs.Firsts.{Search, nothing, something, search, neither, first_position, first_found, first_there, none_position}
+use Rattle.iv_laws_naming.proofs.Firsts.{Search, nothing, something, search, first_position, first_found, first_there, none_position}
 use Rattle.iv_laws_fitting.specs.ConstraintShapes.{is_place, check_shape, same_kind, pair_suits}
-use Rattle.iv_laws_fitting.proofs.ColumnKinds.{greatest, ColumnsMatch, Matches, some_is, kind_at}
+use Rattle.iv_laws_fitting.proofs.ColumnKinds.{greatest, ColumnsMatch, Matches, kind_at}
 use Rattle.iv_laws_fitting.proofs.Conditions.{compares, has_sort_of}
 use Rattle.iv_laws_fitting.proofs.Expressions.{sorted}
-use Rattle.iv_laws_fitting.proofs.Pointwise.{two, not_false, any_at, zip_at, made_of, mapped_length, all_by}
+use Rattle.iv_laws_fitting.proofs.Pointwise.{any_at, zip_at, made_of, mapped_length, all_by}
 
 -- ---- conditions without EXISTS
 
@@ -29,9 +31,9 @@ pub plain_condition_suits : (names : Names) (ranges : List NamedRange) (shape : 
     → suits shape (bound_condition names ranges c) ≡ true
 unfolding unknown_condition misshaped_condition bound_condition
 plain_condition_suits names ranges shape m l (condition.Compare op a b) e u w =
-    let known = neither (unknown_expression ranges a) (unknown_expression ranges b) u in
-    let parts = neither (clash ranges a b) (misshaped_expression ranges a || misshaped_expression ranges b) w in
-    let each = neither (misshaped_expression ranges a) (misshaped_expression ranges b) parts.1 in
+    let known = or_parts (unknown_expression ranges a) (unknown_expression ranges b) u in
+    let parts = or_parts (clash ranges a b) (misshaped_expression ranges a || misshaped_expression ranges b) w in
+    let each = or_parts (misshaped_expression ranges a) (misshaped_expression ranges b) parts.1 in
     compares ranges shape a b (sorted ranges shape m l a known.0 each.0) (sorted ranges shape m l b known.1 each.1) parts.0
 plain_condition_suits names ranges shape m l (condition.IsNull a) e u w = has_sort_of ranges shape a (sorted ranges shape m l a u w)
 plain_condition_suits names ranges shape m l (condition.IsNotNull a) e u w = has_sort_of ranges shape a (sorted ranges shape m l a u w)
@@ -40,15 +42,15 @@ plain_condition_suits names ranges shape m l (exists_where r a) e u w = cc
 plain_condition_suits names ranges shape m l (enclosed a) e u w = plain_condition_suits names ranges shape m l a e u w
 plain_condition_suits names ranges shape m l (negated a) e u w = plain_condition_suits names ranges shape m l a e u w
 plain_condition_suits names ranges shape m l (both a b) e u w =
-    let none = neither (has_exists a) (has_exists b) e in
-    let known = neither (unknown_condition names ranges a) (unknown_condition names ranges b) u in
-    let each = neither (misshaped_condition names ranges a) (misshaped_condition names ranges b) w in
-    two _ _ (plain_condition_suits names ranges shape m l a none.0 known.0 each.0) (plain_condition_suits names ranges shape m l b none.1 known.1 each.1)
+    let none = or_parts (has_exists a) (has_exists b) e in
+    let known = or_parts (unknown_condition names ranges a) (unknown_condition names ranges b) u in
+    let each = or_parts (misshaped_condition names ranges a) (misshaped_condition names ranges b) w in
+    and_from _ _ (plain_condition_suits names ranges shape m l a none.0 known.0 each.0) (plain_condition_suits names ranges shape m l b none.1 known.1 each.1)
 plain_condition_suits names ranges shape m l (either a b) e u w =
-    let none = neither (has_exists a) (has_exists b) e in
-    let known = neither (unknown_condition names ranges a) (unknown_condition names ranges b) u in
-    let each = neither (misshaped_condition names ranges a) (misshaped_condition names ranges b) w in
-    two _ _ (plain_condition_suits names ranges shape m l a none.0 known.0 each.0) (plain_condition_suits names ranges shape m l b none.1 known.1 each.1)
+    let none = or_parts (has_exists a) (has_exists b) e in
+    let known = or_parts (unknown_condition names ranges a) (unknown_condition names ranges b) u in
+    let each = or_parts (misshaped_condition names ranges a) (misshaped_condition names ranges b) w in
+    and_from _ _ (plain_condition_suits names ranges shape m l a none.0 known.0 each.0) (plain_condition_suits names ranges shape m l b none.1 known.1 each.1)
 
 -- the one range of a CHECK
 pub check_matches : (name : List ℕ) (columns : List NamedColumn) (kinds : List Kind) → ColumnsMatch columns kinds → Matches (own_range name columns ∷ []) (check_shape kinds)
@@ -115,7 +117,7 @@ key_of_names columns kinds m names u primary deferrable = record {
   same = sym (mapped_length (place_of columns) names);
   each = λ j name place h g.
       let made = made_of (place_of columns) names j place g in
-      let same : made.0 ≡ name = some_is made.0 name (sym made.1 ∙ h) in
+      let same : made.0 ≡ name = same_Some made.0 name (sym made.1 ∙ h) in
       let k = named_kind columns kinds m name (any_at (λ n. not (has_column columns n)) names u j name h) in
       (k.kind, ap (slice_get kinds) (made.2 ∙ ap (place_of columns) same) ∙ k.at, k.type);
 }
@@ -124,13 +126,13 @@ pub zipped : {X Y : Type 0} (xs : List X) (ys : List Y) (j : ℕ) (p : X × Y) �
 zipped [] ys j p h = cc
 zipped (x ∷ xs) [] j p h = cc
 zipped {X = X} {Y = Y} (x ∷ xs) (y ∷ ys) zero p h =
-    let e : (x, y) ≡ p = some_is (x, y) p h in
+    let e : (x, y) ≡ p = same_Some (x, y) p h in
     (ap (λ (q : X × Y). Some q.0) e, ap (λ (q : X × Y). Some q.1) e)
 zipped (x ∷ xs) (y ∷ ys) (suc j) p h = zipped xs ys j p h
 
 one_type : (a b : Kind) → types_differ (Some (type_of a)) (Some (type_of b)) ≡ false → same_kind (Some a) (Some b) ≡ true
 one_type kind.Integer kind.Integer h = refl
-one_type (kind.Varchar m) (kind.Varchar n) h = not_false (m == n) h
+one_type (kind.Varchar m) (kind.Varchar n) h = not-false (m == n) h
 one_type kind.Integer (kind.Varchar n) h = cc
 one_type (kind.Varchar m) kind.Integer h = cc
 
@@ -139,11 +141,11 @@ pub pairs_of_key : (columns : List NamedColumn) (kinds : List Kind) → ColumnsM
     → (others : List NamedColumn) (other_kinds : List Kind) (k : Key) → KeyMatches others other_kinds k → pairs_differ columns referencing others k.columns ≡ false
     → ((length (places_of columns referencing) == length k.places) && list_all (pair_suits kinds other_kinds) (zip (places_of columns referencing) k.places)) ≡ true
 pairs_of_key columns kinds m referencing u others other_kinds k km h =
-    let parts = neither (not (length referencing == length k.columns)) (list_any (λ (p : List ℕ × List ℕ). types_differ (type_named columns p.0) (type_named others p.1)) (zip referencing k.columns)) h in
-    let one = not_false (length referencing == length k.columns) parts.0 in
+    let parts = or_parts (not (length referencing == length k.columns)) (list_any (λ (p : List ℕ × List ℕ). types_differ (type_named columns p.0) (type_named others p.1)) (zip referencing k.columns)) h in
+    let one = not-false (length referencing == length k.columns) parts.0 in
     let made = mapped_length (place_of columns) referencing in
     let same = km.same in
-    two _ _ (grind (arith, nat_tests))
+    and_from _ _ (grind (arith, nat_tests))
     (all_by (pair_suits kinds other_kinds) (zip (places_of columns referencing) k.places)
     (λ j p g.
     let apart = zipped (places_of columns referencing) k.places j p g in

@@ -1,5 +1,6 @@
 -- The plan of a CREATE TABLE that deserves no cause.
 use Rattle.std.proofs.Common.{◌≡◌, ℕ, ◌≤◌, min, nat_lt, nat_le, Bool, true, false, not, ◌&&◌, ◌||◌, ◌==◌, if◌then◌else◌, List, [], ◌∷◌, ◌++◌, ◌∙◌, Option, Some, None, refl, sym, ap, chars, length, map, arith}
+use Rattle.std.proofs.lemmas.Bool.{and_from, not-false, or_parts}
 use Rattle.std.specs.List.{list_any, enumerate_from}
 use Rattle.std.specs.Str.{bytes_eq}
 use Rattle.std.proofs.lemmas.Bool.Decides.{nat_tests}
@@ -22,16 +23,15 @@ use Rattle.iv_resolution.specs.Constraints.{WrittenConstraint, written_columns, 
 use Rattle.iv_resolution.specs.Tables.{type_beyond_limits}
 use Rattle.iv_resolution.specs.Bound.{bound_literal, bound_kind, bound_default, bound_column_definition, bound_place}
 use Rattle.iv_store.specs.Stores.{is_fit}
-use Rattle.iv_laws_naming.proofs.Firsts.{neither}
 use Rattle.iv_laws_fitting.specs.PlanShapes.{default_suits, table_suits}
-use Rattle.iv_laws_fitting.proofs.Pointwise.{two, not_false, any_at, made_of, mapped_length, all_by}
+use Rattle.iv_laws_fitting.proofs.Pointwise.{any_at, made_of, mapped_length, all_by}
 
 -- ---- defaults
 
 -- the length of a type within limits is kept
 kept_length : (n : ℕ) → type_beyond_limits (type.Varchar n) ≡ false → min n 65535 ≡ n
 kept_length n h =
-    let parts = neither (n == 0) (nat_lt MOST_CHARACTERS n) h in
+    let parts = or_parts (n == 0) (nat_lt MOST_CHARACTERS n) h in
     let low : n ≤ MOST_CHARACTERS = let x = parts.1 in grind (arith, nat_tests) in
     omega arith
 
@@ -60,19 +60,19 @@ pub columns_suit : (elements : List TableElement) → nat_lt MOST_COLUMNS (lengt
     → (name : List ℕ) → table_suits (record { name = name; columns = map bound_column_definition (written_columns elements) }) ≡ true
 columns_suit elements few fits once types name =
     let length_is = mapped_length bound_column_definition (written_columns elements) in
-    two _ _ (grind (arith, nat_tests))
-    (two _ _
+    and_from _ _ (grind (arith, nat_tests))
+    (and_from _ _
     (all_by default_suits (map bound_column_definition (written_columns elements))
     (λ j c h.
     let made = made_of bound_column_definition (written_columns elements) j c h in
     ap default_suits made.2
     ∙ default_fit made.0.kind made.0.default (any_at (λ (x : ColumnDefinition). type_beyond_limits x.kind) (written_columns elements) types j made.0 made.1)
-    (not_false (default_fits made.0) (any_at (λ (x : ColumnDefinition). not (default_fits x)) (written_columns elements) fits j made.0 made.1))))
+    (not-false (default_fits made.0) (any_at (λ (x : ColumnDefinition). not (default_fits x)) (written_columns elements) fits j made.0 made.1))))
     (ap (λ (names : List (List ℕ)). not (comes_twice names)) (names_of_columns (written_columns elements)) ∙ ap (λ b. not b) once))
 
 -- ---- names
 
--- two names are one, whichever comes first
+-- and_from names are one, whichever comes first
 pub same_either_way : (a b : List ℕ) → bytes_eq a b ≡ bytes_eq b a
 same_either_way [] [] = refl
 same_either_way [] (y ∷ ys) = refl
@@ -87,8 +87,8 @@ none_of_more : (earlier : List (List ℕ)) (name : List ℕ) (names : List (List
     → list_any (is_among (earlier ++ name ∷ [])) names ≡ false
 none_of_more earlier name [] h n = refl
 none_of_more earlier name (m ∷ ms) h n =
-    let old = neither (is_among earlier m) (list_any (is_among earlier) ms) h in
-    let new = neither (bytes_eq name m) (is_among ms name) n in
+    let old = or_parts (is_among earlier m) (list_any (is_among earlier) ms) h in
+    let new = or_parts (bytes_eq name m) (is_among ms name) n in
     ap (λ b. b || list_any (is_among (earlier ++ name ∷ [])) ms)
     (list_any-append (bytes_eq m) earlier (name ∷ []) ∙ ap (λ b. b || (bytes_eq m name || false)) old.0 ∙ or_false (bytes_eq m name) ∙ same_either_way m name ∙ new.0)
     ∙ none_of_more earlier name ms old.1 new.1
@@ -98,8 +98,8 @@ pub names_are_new : (earlier names : List (List ℕ)) → list_any (is_among ear
 unfolding has_repeated comes_twice
 names_are_new earlier [] h t = refl
 names_are_new earlier (name ∷ names) h t =
-    let old = neither (is_among earlier name) (list_any (is_among earlier) names) h in
-    let own = neither (is_among names name) (comes_twice names) t in
+    let old = or_parts (is_among earlier name) (list_any (is_among earlier) names) h in
+    let own = or_parts (is_among names name) (comes_twice names) t in
     ap (λ b. b || has_repeated (earlier ++ name ∷ []) names) old.0 ∙ names_are_new (earlier ++ name ∷ []) names (none_of_more earlier name names old.1 own.0) own.1
 
 -- names that no constraint of the schema has
@@ -107,7 +107,7 @@ pub unused_names : (ks : List Constraint) (names : List (List ℕ)) → list_any
     → list_any (is_among (map (λ (k : Constraint). k.name) ks)) names ≡ false
 unused_names ks [] h = refl
 unused_names ks (name ∷ names) h =
-    let parts = neither (list_any (λ k. bytes_eq name k.name) ks) (list_any (λ n. list_any (λ k. bytes_eq n k.name) ks) names) h in
+    let parts = or_parts (list_any (λ k. bytes_eq name k.name) ks) (list_any (λ n. list_any (λ k. bytes_eq n k.name) ks) names) h in
     ap (λ b. b || list_any (is_among (map (λ (k : Constraint). k.name) ks)) names) (sym (any_map (bytes_eq name) (λ (k : Constraint). k.name) ks) ∙ parts.0)
     ∙ unused_names ks names parts.1
 

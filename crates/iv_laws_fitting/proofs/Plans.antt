@@ -1,5 +1,6 @@
 -- The plans of INSERT, UPDATE, DELETE and SELECT statements that deserve no cause.
 use Rattle.std.proofs.Common.{◌≡◌, ℕ, ◌≤◌, Bool, true, false, not, ◌&&◌, ◌||◌, List, [], ◌∷◌, ◌∙◌, Option, Some, None, Ok, refl, sym, ap, cond, length, map, slice_get, subst, unwrap_or, arith}
+use Rattle.std.proofs.lemmas.Bool.{and_from, and_parts, not-false, or_parts}
 use Rattle.std.specs.List.{list_all}
 use Rattle.iv_laws_fitting.specs.Words.{Kind, Statement, Table, Cause, DataStatement, QueryPlan}
 use Rattle.iv_laws_fitting.specs.Words.range
@@ -26,14 +27,14 @@ use Rattle.iv_resolution.specs.Bound.{table_id, bound_list, bound_select, bound,
 use Rattle.iv_resolution.specs.Resolution.{is_unknown, is_duplicate, is_faulty, is_misshaped, is_too_large, is_beyond_limits, least, refused_or_planned, resolution}
 use Rattle.iv_resolution.specs.Writable.{is_writable, is_select, is_list, is_range, is_filter}
 use Rattle.iv_laws_naming.specs.Naming.{NamesSource, transition, created, stored}
-use Rattle.iv_laws_naming.proofs.Firsts.{neither, first_there, first_position}
+use Rattle.iv_laws_naming.proofs.Firsts.{first_there, first_position}
 use Rattle.iv_laws_naming.proofs.NamesFound.{sources}
 use Rattle.iv_laws_fitting.specs.Laws.{ChangesFit, QueriesFit}
 use Rattle.iv_laws_fitting.specs.PlanShapes.{kinds_of, table_kinds, plain_shape, is_there, is_range_there, table_suits, data_suits, has_sort, listed_suit, query_suits}
 use Rattle.iv_laws_fitting.proofs.ColumnKinds.{ColumnsMatch, Matches, stored_match, greatest}
 use Rattle.iv_laws_fitting.proofs.Conditions.{sources_within, range_within, source_is, has_sort_of}
 use Rattle.iv_laws_fitting.proofs.Expressions.{sorted}
-use Rattle.iv_laws_fitting.proofs.Pointwise.{two, parts_of, not_false, any_at, all_at, made_of, all_by}
+use Rattle.iv_laws_fitting.proofs.Pointwise.{any_at, all_at, made_of, all_by}
 use Rattle.iv_laws_fitting.proofs.Targets.{place_is_there, few_columns}
 use Rattle.iv_laws_fitting.proofs.Changes.{Around, filter_suits}
 use Rattle.iv_laws_fitting.proofs.Statements.{insert_suits, update_suits, delete_suits}
@@ -68,14 +69,14 @@ pub accepted : (schema : Schema) (s : Statement) (p : Plan) → resolution schem
 accepted schema s p h =
     let parts = planned_is (least schema s) (bound schema s) p h in
     let none = none_deserved (is_unknown schema s) (is_duplicate schema s) (is_faulty schema s) (is_misshaped schema s) (is_beyond_limits schema s) parts.0 in
-    let limits = neither (is_too_large schema s) (not (is_writable s)) none.4 in
+    let limits = or_parts (is_too_large schema s) (not (is_writable s)) none.4 in
     record {
       known = none.0;
       single = none.1;
       allowed = none.2;
       shaped = none.3;
       small = limits.0;
-      writable = not_false (is_writable s) limits.1;
+      writable = not-false (is_writable s) limits.1;
       is = parts.1;
     }
 
@@ -148,13 +149,13 @@ from_suits schema d l r filter i u w = by (source_is names r.table of_source.0)
     inner = range_of (table_names schema) r ∷ []
 
     of_source : (not (is_source (table_names schema) r.table) ≡ false) × ((unknown_list (range_of (table_names schema) r ∷ []) l || unknown_filter (table_names schema) (range_of (table_names schema) r ∷ []) filter) ≡ false)
-    of_source = neither _ _ u
+    of_source = or_parts _ _ u
 
     known : (unknown_list (range_of (table_names schema) r ∷ []) l ≡ false) × (unknown_filter (table_names schema) (range_of (table_names schema) r ∷ []) filter ≡ false)
-    known = neither _ _ of_source.1
+    known = or_parts _ _ of_source.1
 
     shaped : (misshaped_list (range_of (table_names schema) r ∷ []) l ≡ false) × (misshaped_filter (table_names schema) (range_of (table_names schema) r ∷ []) filter ≡ false)
-    shaped = neither _ _ w
+    shaped = or_parts _ _ w
 
     whole : ℕ → Bool
     whole id =
@@ -171,8 +172,8 @@ from_suits schema d l r filter i u w = by (source_is names r.table of_source.0)
         e ∙ ap (λ (x : Source). Some x) at.2 in
         let m = range_within (table_names schema) [] (plain_shape schema.tables) r (record { range = range.Table place; columns = named_columns at.1.columns }) a.matches a.sources here in
         ap (λ (o : Option ℕ). whole (unwrap_or o 0)) at.3
-        ∙ two _ _ (place_is_there schema.tables place at.1 at.4)
-        (two _ _
+        ∙ and_from _ _ (place_is_there schema.tables place at.1 at.4)
+        (and_from _ _
         (given_suit (range_of (table_names schema) r ∷ []) (shape_within (plain_shape schema.tables) (table_kinds schema.tables place)) m (omega arith) l known.0 shaped.0)
         (filter_suits (table_names schema) (range_of (table_names schema) r ∷ []) (shape_within (plain_shape schema.tables) (table_kinds schema.tables place)) m (omega arith)
         (sources_within (table_names schema) (plain_shape schema.tables) (table_kinds schema.tables place) a.sources) filter i known.1 shaped.1))
@@ -181,8 +182,8 @@ select_suits : (schema : Schema) → list_all table_suits schema.tables ≡ true
     → unknown_select (table_names schema) [] s ≡ false → misshaped_select (table_names schema) [] s ≡ false → query_suits schema.tables (bound_select (table_names schema) s) ≡ true
 unfolding bound_list
 select_suits schema d (select.Rows l r filter) i u w =
-    from_suits schema d l r filter (parts_of (is_range r) (is_filter filter) (parts_of (is_list l) (is_range r && is_filter filter) i).1).1 u w
-select_suits schema d (select.Count r filter) i u w = from_suits schema d list.Star r filter (parts_of (is_range r) (is_filter filter) i).1 u w
+    from_suits schema d l r filter (and_parts (is_range r) (is_filter filter) (and_parts (is_list l) (is_range r && is_filter filter) i).1).1 u w
+select_suits schema d (select.Count r filter) i u w = from_suits schema d list.Star r filter (and_parts (is_range r) (is_filter filter) i).1 u w
 
 -- ---- the laws
 

@@ -1,5 +1,7 @@
 -- What a foreign key refers to: the columns of its keys are there, each of the kind of its type.
 use Rattle.std.proofs.Common.{◌≡◌, ℕ, zero, suc, nat_lt, Bool, true, false, not, ◌&&◌, ◌==◌, List, [], ◌∷◌, ◌∙◌, Option, Some, None, refl, sym, ap, cond, length, map, filter, filter_map, find, slice_get, option_map, subst, arith}
+use Rattle.std.proofs.lemmas.Bool.{and_parts, not-true, or_parts}
+use Rattle.std.proofs.lemmas.Option.{same_Some}
 use Rattle.std.specs.List.{list_all, cons_option}
 use Rattle.std.specs.Str.{bytes_eq}
 use Rattle.std.proofs.lemmas.Bool.Decides.{nat_tests}
@@ -11,14 +13,13 @@ use Rattle.iv_catalogue.specs.Names.{is_among}
 use Rattle.iv_resolution.specs.Scopes.{NamedColumn, named_columns, type_named}
 use Rattle.iv_resolution.specs.Constraints.{Key, name_at, key_of_rule, stored_keys, comes_twice, constraints_of}
 use Rattle.iv_laws_naming.specs.Naming.{column_is_called}
-use Rattle.iv_laws_naming.proofs.Firsts.{neither}
 use Rattle.iv_laws_fitting.specs.PlanShapes.{kinds_of, table_kinds, is_there, table_suits}
 use Rattle.iv_laws_fitting.specs.ConstraintShapes.{is_place, rule_suits, constraint_suits}
-use Rattle.iv_laws_fitting.proofs.ColumnKinds.{some_is, stored_match}
+use Rattle.iv_laws_fitting.proofs.ColumnKinds.{stored_match}
 use Rattle.iv_laws_fitting.proofs.Changes.{column_of_kind}
 use Rattle.iv_laws_fitting.proofs.NewConstraints.{KeyMatches}
 use Rattle.iv_laws_fitting.proofs.NewTables.{same_either_way}
-use Rattle.iv_laws_fitting.proofs.Pointwise.{parts_of, any_at, all_at, map_at, made_of, mapped_length}
+use Rattle.iv_laws_fitting.proofs.Pointwise.{any_at, all_at, map_at, made_of, mapped_length}
 use Rattle.iv_laws_fitting.proofs.Targets.{few_columns, distinct_columns}
 
 -- ---- columns of one name each
@@ -32,21 +33,17 @@ distinct_first : (columns : List NamedColumn) → comes_twice (map (λ c. c.name
 unfolding comes_twice
 distinct_first [] d p c h = cc
 distinct_first (x ∷ xs) d zero c h =
-    let e = some_is x c h in
+    let e = same_Some x c h in
     ap (λ (y : NamedColumn). cond (bytes_eq c.name y.name) (Some y) (find (column_is_called c.name) xs)) e
     ∙ ap (λ b. cond b (Some c) (find (column_is_called c.name) xs)) (same_self c.name)
 distinct_first (x ∷ xs) d (suc p) c h =
-    let parts = neither (is_among (map (λ (y : NamedColumn). y.name) xs) x.name) (comes_twice (map (λ (y : NamedColumn). y.name) xs)) d in
+    let parts = or_parts (is_among (map (λ (y : NamedColumn). y.name) xs) x.name) (comes_twice (map (λ (y : NamedColumn). y.name) xs)) d in
     let other = any_at (bytes_eq x.name) (map (λ (y : NamedColumn). y.name) xs) parts.0 p c.name (map_at (λ (y : NamedColumn). y.name) xs p ∙ ap (option_map (λ (y : NamedColumn). y.name)) h) in
     ap (λ b. cond b (Some x) (find (column_is_called c.name) xs)) (same_either_way c.name x.name ∙ other) ∙ distinct_first xs parts.1 p c h
 
 pub names_kept : (columns : List Column) → map (λ (c : NamedColumn). c.name) (named_columns columns) ≡ map (λ (c : Column). c.name) columns
 names_kept [] = refl
 names_kept (c ∷ cs) = ap (λ l. c.name ∷ l) (names_kept cs)
-
-pub is_false : (b : Bool) → not b ≡ true → b ≡ false
-is_false true h = cc
-is_false false h = refl
 
 pub at_place : (kinds : List Kind) (place : ℕ) → nat_lt place (length kinds) ≡ true → (k : Kind) × (slice_get kinds place ≡ Some k)
 at_place [] place h = let n : nat_lt place 0 ≡ false = grind (arith, nat_tests) in let e : true ≡ false = sym h ∙ n in cc
@@ -62,13 +59,13 @@ key_of_places t s places h primary deferrable = record {
   same = mapped_length (name_at (named_columns t.columns)) places;
   each = λ j name place g p.
       let made = made_of (name_at (named_columns t.columns)) places j name g in
-      let same : made.0 ≡ place = some_is made.0 place (sym made.1 ∙ p) in
+      let same : made.0 ≡ place = same_Some made.0 place (sym made.1 ∙ p) in
       let kind = at_place (kinds_of t) place (all_at (is_place (kinds_of t)) places h j place p) in
       let column = column_of_kind (named_columns t.columns) (kinds_of t) (stored_match t (few_columns t s)).types place kind.0 kind.1 in
       let named : name ≡ column.0.name =
       made.2 ∙ ap (name_at (named_columns t.columns)) same ∙ ap (λ (o : Option NamedColumn). elim o as (λ x. List ℕ) [ Some c ↦ c.name | None ↦ [] ]) column.1 in
       let first = distinct_first (named_columns t.columns)
-      (ap comes_twice (names_kept t.columns) ∙ is_false (comes_twice (map (λ (c : Column). c.name) t.columns)) (distinct_columns t s)) place column.0 column.1 in (
+      (ap comes_twice (names_kept t.columns) ∙ not-true (comes_twice (map (λ (c : Column). c.name) t.columns)) (distinct_columns t s)) place column.0 column.1 in (
         kind.0,
         kind.1,
         ap (type_named (named_columns t.columns)) named ∙ ap (option_map (λ (c : NamedColumn). c.kind)) first ∙ ap (λ (x : ColumnType). Some x) column.2,
@@ -96,7 +93,7 @@ kept_by {X = X} p (y ∷ ys) j x h = by (p y) refl j h (λ k g. kept_by p ys k x
         → ((m : ℕ) → slice_get (filter p ys) m ≡ Some x → (i : ℕ) × (slice_get ys i ≡ Some x) × (p x ≡ true))
         → (i : ℕ) × (slice_get (y ∷ ys) i ≡ Some x) × (p x ≡ true)
     by false e k g later = let r = later k g in (suc r.0, r.1, r.2)
-    by true e zero g later = (zero, g, ap p (sym (some_is y x g)) ∙ e)
+    by true e zero g later = (zero, g, ap p (sym (same_Some y x g)) ∙ e)
     by true e (suc k) g later = let r = later k g in (suc r.0, r.1, r.2)
 
 -- each key of the list is of these columns
@@ -105,8 +102,8 @@ KeysMatch columns kinds keys = (j : ℕ) (k : Key) → slice_get keys j ≡ Some
 
 of_rule : (tables : List Table) (t : Table) → table_suits t ≡ true → (deferrable : Bool) (r : Rule) (k : Key) → key_of_rule (named_columns t.columns) deferrable r ≡ Some k
     → rule_suits tables (kinds_of t) r ≡ true → KeyMatches (named_columns t.columns) (kinds_of t) k
-of_rule tables t s d (rule.Unique places) k h g = subst (KeyMatches (named_columns t.columns) (kinds_of t)) (some_is _ k h) (key_of_places t s places g false d)
-of_rule tables t s d (rule.PrimaryKey places) k h g = subst (KeyMatches (named_columns t.columns) (kinds_of t)) (some_is _ k h) (key_of_places t s places g true d)
+of_rule tables t s d (rule.Unique places) k h g = subst (KeyMatches (named_columns t.columns) (kinds_of t)) (same_Some _ k h) (key_of_places t s places g false d)
+of_rule tables t s d (rule.PrimaryKey places) k h g = subst (KeyMatches (named_columns t.columns) (kinds_of t)) (same_Some _ k h) (key_of_places t s places g true d)
 of_rule tables t s d (rule.NotNull c) k h g = cc
 of_rule tables t s d (rule.Check c) k h g = cc
 of_rule tables t s d (rule.ForeignKey fk) k h g = cc
@@ -120,7 +117,7 @@ stored_keys_match schema d c place t h j k g =
     let made = made_by (λ (x : Constraint). key_of_rule (named_columns t.columns) x.deferrable x.rule) (constraints_of schema place) j k g in
     let kept = kept_by (λ (x : Constraint). x.table == place) schema.constraints made.0 made.1 made.2 in
     let suits = all_at (constraint_suits schema.tables) schema.constraints c kept.0 made.1 kept.1 in
-    let ruled = (parts_of (is_there schema.tables made.1.table) (rule_suits schema.tables (table_kinds schema.tables made.1.table) made.1.rule) suits).1 in
+    let ruled = (and_parts (is_there schema.tables made.1.table) (rule_suits schema.tables (table_kinds schema.tables made.1.table) made.1.rule) suits).1 in
     let same : made.1.table ≡ place = let x = kept.2 in grind (arith, nat_tests) in
     let kinds : table_kinds schema.tables made.1.table ≡ kinds_of t =
     ap (table_kinds schema.tables) same ∙ ap (λ (o : Option Table). elim o as (λ x. List Kind) [ Some x ↦ kinds_of x | None ↦ [] ]) h in

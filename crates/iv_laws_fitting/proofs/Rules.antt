@@ -1,5 +1,7 @@
 -- The rule of a constraint that deserves no cause suits the tables.
 use Rattle.std.proofs.Common.{◌≡◌, ℕ, Bool, true, false, not, ◌&&◌, ◌||◌, ◌==◌, List, [], ◌∙◌, Option, Some, None, refl, sym, ap, length, zip, slice_get, option_map, subst, arith}
+use Rattle.std.proofs.lemmas.Bool.{and_from, or_parts}
+use Rattle.std.proofs.lemmas.Option.{same_Some}
 use Rattle.std.specs.List.{list_any, list_all}
 use Rattle.std.specs.Str.{bytes_eq}
 use Rattle.iv_laws_fitting.specs.Words.{Kind, Table}
@@ -11,12 +13,12 @@ use Rattle.iv_resolution.specs.Changes.{unknown_names}
 use Rattle.iv_resolution.specs.Tables.{check_ranges, unknown_reference, unknown_rule, faulty_rule, misshaped_rule}
 use Rattle.iv_resolution.specs.Bound.{key_places, bound_reference, bound_rule}
 use Rattle.iv_laws_naming.specs.Naming.{table_is_called}
-use Rattle.iv_laws_naming.proofs.Firsts.{Search, nothing, something, search, neither, first_position, first_found, first_there, none_position, none_found}
+use Rattle.iv_laws_naming.proofs.Firsts.{Search, nothing, something, search, first_position, first_found, first_there, none_position, none_found}
 use Rattle.iv_laws_fitting.specs.PlanShapes.{kinds_of, table_kinds, is_there, table_suits}
 use Rattle.iv_laws_fitting.specs.ConstraintShapes.{check_shape, pair_suits, pairs_suit, rule_suits, constraint_suits}
-use Rattle.iv_laws_fitting.proofs.ColumnKinds.{ColumnsMatch, some_is, stored_match}
+use Rattle.iv_laws_fitting.proofs.ColumnKinds.{ColumnsMatch, stored_match}
 use Rattle.iv_laws_fitting.proofs.NewConstraints.{plain_condition_suits, check_matches, named_place, named_places, key_of_names, pairs_of_key}
-use Rattle.iv_laws_fitting.proofs.Pointwise.{two, all_at}
+use Rattle.iv_laws_fitting.proofs.Pointwise.{all_at}
 use Rattle.iv_laws_fitting.proofs.References.{KeysMatch, stored_keys_match}
 use Rattle.iv_laws_fitting.proofs.Targets.{few_columns, place_is_there}
 
@@ -55,7 +57,7 @@ stored_fits schema d c tables more name t h = by (search (table_is_called name) 
     by (something i s f) =
         let there = first_there (table_is_called name) schema.tables i s f in
         let is : the_reference schema i s ≡ t =
-        some_is _ _
+        same_Some _ _
         (sym (ap (λ (o : Option ℕ). elim o as (λ x. Option Referenced) [ Some place ↦ option_map (the_reference schema place) (slice_get schema.tables place) | None ↦ None ])
         (first_position (table_is_called name) schema.tables i s f)
         ∙ ap (option_map (the_reference schema i)) there)
@@ -79,7 +81,7 @@ referenced_fits schema own tables kinds o name t h = by (bytes_eq name own.name)
     by : (b : Bool) → bytes_eq name own.name ≡ b → ReferenceFits tables t
     by false e = o.others name t (sym (ap (λ b. elim b as (λ x. Option Referenced) [ true ↦ Some itself | false ↦ stored_reference schema name ]) e) ∙ h)
     by true e =
-        let is : itself ≡ t = some_is _ _ (sym (ap (λ b. elim b as (λ x. Option Referenced) [ true ↦ Some itself | false ↦ stored_reference schema name ]) e) ∙ h) in
+        let is : itself ≡ t = same_Some _ _ (sym (ap (λ b. elim b as (λ x. Option Referenced) [ true ↦ Some itself | false ↦ stored_reference schema name ]) e) ∙ h) in
         subst (ReferenceFits tables) is
         (record {
           there = o.there;
@@ -95,7 +97,7 @@ pairs_of_reference : (own : Altered) (kinds : List Kind) → ColumnsMatch own.co
     → faulty_reference own.columns columns t names ≡ false
     → ((length (places_of own.columns columns) == length (key_places t names)) && list_all (pair_suits kinds (table_kinds tables t.table)) (zip (places_of own.columns columns) (key_places t names))) ≡ true
 pairs_of_reference own kinds m columns u tables t f (Some names) n w =
-    let parts = neither (pairs_differ own.columns columns t.columns names) (not (list_any (is_reliable names) t.keys)) w in
+    let parts = or_parts (pairs_differ own.columns columns t.columns names) (not (list_any (is_reliable names) t.keys)) w in
     pairs_of_key own.columns kinds m columns u t.columns (table_kinds tables t.table) (record { columns = names; places = places_of t.columns names; is_primary = false; deferrable = false })
     (key_of_names t.columns (table_kinds tables t.table) f.columns names n false false) parts.0
 pairs_of_reference own kinds m columns u tables t f None n w = by (search (λ (k : Key). k.is_primary) t.keys)
@@ -111,7 +113,7 @@ pairs_of_reference own kinds m columns u tables t f None n w = by (search (λ (k
     by (nothing none) = let e : true ≡ false = sym (ap fault (none_found (λ (k : Key). k.is_primary) t.keys none)) ∙ w in cc
     by (something i k first) =
         let found = first_found (λ (x : Key). x.is_primary) t.keys i k first in
-        let fine = neither k.deferrable (pairs_differ own.columns columns t.columns k.columns) (sym (ap fault found) ∙ w) in
+        let fine = or_parts k.deferrable (pairs_differ own.columns columns t.columns k.columns) (sym (ap fault found) ∙ w) in
         ap (λ (o : Option Key). (length (places_of own.columns columns) == length (places o)) && list_all (pair_suits kinds (table_kinds tables t.table)) (zip (places_of own.columns columns) (places o))) found
         ∙ pairs_of_key own.columns kinds m columns u t.columns (table_kinds tables t.table) k (f.keys i k (first_there (λ (x : Key). x.is_primary) t.keys i k first)) fine.1
 
@@ -122,7 +124,7 @@ reference_suits : (schema : Schema) (own : Altered) (tables : List Table) (kinds
 reference_suits schema own tables kinds f columns u r None e n w = cc
 reference_suits schema own tables kinds f columns u r (Some t) e n w =
     let fits = referenced_fits schema own tables kinds f r.table t e in
-    two _ _ fits.there (pairs_of_reference own kinds f.columns columns u tables t fits r.columns n w)
+    and_from _ _ fits.there (pairs_of_reference own kinds f.columns columns u tables t fits r.columns n w)
 
 -- ---- rules
 
@@ -135,5 +137,5 @@ rule_of_written_suits schema names own tables kinds o (primary_key columns) u f 
 rule_of_written_suits schema names own tables kinds o (check c) u f w =
     plain_condition_suits names (check_ranges own) (check_shape kinds) (check_matches own.name own.columns kinds o.columns) (omega arith) c f u w
 rule_of_written_suits schema names own tables kinds o (foreign_key columns r) u f w =
-    let known = neither (unknown_names own.columns columns) (unknown_reference (referenced schema own r.table) r.columns) u in
+    let known = or_parts (unknown_names own.columns columns) (unknown_reference (referenced schema own r.table) r.columns) u in
     reference_suits schema own tables kinds o columns known.0 r (referenced schema own r.table) refl known.1 f

@@ -1,5 +1,7 @@
 -- A data statement that suits meets no value of the wrong kind while its changes are proposed.
 use Rattle.std.proofs.Common.{◌≡◌, ℕ, zero, suc, ◌+◌, nat_le, Bool, true, false, ◌&&◌, if◌then◌else◌, ◌==◌, List, [], ◌∷◌, ◌∙◌, Option, Some, None, Result, Ok, Err, refl, sym, ap, map, filter_map, slice_get, option_map, subst, length, chars, arith}
+use Rattle.std.proofs.lemmas.Bool.{and_parts}
+use Rattle.std.proofs.lemmas.Option.{same_Some}
 use Rattle.std.specs.List.{list_all}
 use Rattle.iv_value.specs.declared.value.Value.{Value}
 use Rattle.iv_value.specs.declared.value.Value.TheVariants.{Null, Int, Text}
@@ -28,11 +30,10 @@ use Rattle.iv_catalogue.specs.Refusals.{cause_of}
 use Rattle.iv_machine.specs.Proposals.{holds, column_at, value_for_column, stored_value, stored_values, element_where_true, where_true, matching_rows, outputs_of, values_by_column, row_of_values, insertion, insertion_of, proposed_insertions, update_of, deletion, with_columns, proposed_changes}
 use Rattle.iv_laws_fitting.specs.PlanShapes.{kinds_of, table_kinds, sort_suits, value_suits, values_suit, kind_suits, kinds_suit, target_kinds, outputs_suit, rows_suit, setting_suits, data_suits, is_there, is_range_there}
 use Rattle.iv_laws_fitting.specs.Running.{is_of_values, ProposalsAreWellTyped}
-use Rattle.iv_laws_fitting.proofs.ColumnKinds.{some_is}
 use Rattle.iv_laws_fitting.proofs.MoreTables.{sort_suits_some}
 use Rattle.iv_laws_fitting.proofs.NewConstraints.{zipped}
 use Rattle.iv_laws_fitting.proofs.References.{made_by, kept_by}
-use Rattle.iv_laws_fitting.proofs.Pointwise.{parts_of, map_at, made_of, placed_at, all_at}
+use Rattle.iv_laws_fitting.proofs.Pointwise.{map_at, made_of, placed_at, all_at}
 
 -- an answer, or a refusal for a value
 abbrev pub Plain : {A : Type 0} → Result A Cause → Type 0
@@ -157,7 +158,7 @@ each_made {A = A} {B = B} f (x ∷ xs) ys h j y g = by (f x) refl (each f xs) re
     by (Ok b) e (Err c) q k t later = let n = sym (ap (λ r. both_of r (each f xs)) e ∙ ap (both_of (Ok b)) q) ∙ h in cc
     by (Ok b) e (Ok bs) q zero t later =
         let all : b ∷ bs ≡ ys = (let n = sym (ap (λ r. both_of r (each f xs)) e ∙ ap (both_of (Ok b)) q) ∙ h in cc) in
-        let same : b ≡ y = some_is b y (ap (λ (l : List B). slice_get l zero) all ∙ t) in
+        let same : b ≡ y = same_Some b y (ap (λ (l : List B). slice_get l zero) all ∙ t) in
         (zero, x, refl, e ∙ ap (λ (z : B). Ok z) same)
     by (Ok b) e (Ok bs) q (suc k) t later =
         let all : b ∷ bs ≡ ys = (let n = sym (ap (λ r. both_of r (each f xs)) e ∙ ap (both_of (Ok b)) q) ∙ h in cc) in
@@ -168,7 +169,7 @@ chosen : {A : Type 0} (p : A × Bool) (y : A) → element_where_true p ≡ Some 
 chosen p y h = by p.1 refl
   where
     by : (b : Bool) → p.1 ≡ b → p.0 ≡ y
-    by true e = some_is p.0 y (sym (ap (λ b. if b then Some p.0 else None) e) ∙ h)
+    by true e = same_Some p.0 y (sym (ap (λ b. if b then Some p.0 else None) e) ∙ h)
     by false e = let n = sym (ap (λ b. if b then Some p.0 else None) e) ∙ h in cc
 
 paired : {A : Type 0} (x : A) (r : Result Bool Cause) (p : A × Bool) → and_then r (λ b. Ok (x, b)) ≡ Ok p → x ≡ p.0
@@ -229,7 +230,7 @@ insertion_plain context table listed values h =
         let apart = zipped places values j p g in
         let at = q j p.1 apart.1 in
         let made = made_of (slice_get (table_kinds context.schema.tables table)) places j (Some at.kind) at.there in
-        let same : made.0 ≡ p.0 = some_is made.0 p.0 (sym made.1 ∙ apart.0) in
+        let same : made.0 ≡ p.0 = same_Some made.0 p.0 (sym made.1 ∙ apart.0) in
         stored_plain context table p.0 at.kind at.sort p.1 (ap (slice_get (table_kinds context.schema.tables table)) (sym same) ∙ sym made.2) at.suits at.sorted
 
 -- an expression that suits its column, evaluated
@@ -239,10 +240,10 @@ evaluated_suits shape s h [] [] v j r g = cc
 evaluated_suits shape s h [] (e ∷ es) v j r g = cc
 evaluated_suits shape s h (o ∷ os) [] v j r g = cc
 evaluated_suits shape s h (o ∷ os) (e ∷ es) v (suc j) r g =
-    let rest = evaluated_suits shape s h os es (parts_of (value_suits shape o e) (values_suit shape os es) v).1 j r g in
+    let rest = evaluated_suits shape s h os es (and_parts (value_suits shape o e) (values_suit shape os es) v).1 j r g in
     record { kind = rest.kind; sort = rest.sort; there = rest.there; suits = rest.suits; sorted = rest.sorted }
 evaluated_suits shape s h (o ∷ os) (e ∷ es) v zero r g =
-    by o (sort_of shape e) refl (value_sorted shape s e h) (parts_of (value_suits shape o e) (values_suit shape os es) v).0
+    by o (sort_of shape e) refl (value_sorted shape s e h) (and_parts (value_suits shape o e) (values_suit shape os es) v).0
   where
     by : (x : Option Kind) (q : Option Sort) → sort_of shape e ≡ q → Sorted (sort_of shape e) (value s e) → value_suits shape x e ≡ true → SuitsAt (x ∷ os) zero r
     by None q t d w = cc
@@ -252,7 +253,7 @@ evaluated_suits shape s h (o ∷ os) (e ∷ es) v zero r g =
       sort = sort;
       there = refl;
       suits = ap (sort_suits k) (sym t) ∙ w;
-      sorted = subst (Sorted (Some sort)) (some_is (value s e) r g) (subst (λ (x : Option Sort). Sorted x (value s e)) t d);
+      sorted = subst (Sorted (Some sort)) (same_Some (value s e) r g) (subst (λ (x : Option Sort). Sorted x (value s e)) t d);
     }
 
 one_kind : (k q : Kind) → kind_suits (Some k) q ≡ true → sort_suits k (Some (sort_of_kind q)) ≡ true
@@ -270,9 +271,9 @@ row_suits_at [] (k ∷ ks) row h g j r t = cc
 row_suits_at (o ∷ os) [] row h g j r t = cc
 row_suits_at (o ∷ os) (k ∷ ks) [] h g j r t = cc
 row_suits_at (o ∷ os) (k ∷ ks) (v ∷ vs) h g (suc j) r t =
-    let rest = row_suits_at os ks vs (parts_of (kind_suits o k) (kinds_suit os ks) h).1 (parts_of (of_sort (sort_of_kind k) v) (row_suits ks vs) g).1 j r t in
+    let rest = row_suits_at os ks vs (and_parts (kind_suits o k) (kinds_suit os ks) h).1 (and_parts (of_sort (sort_of_kind k) v) (row_suits ks vs) g).1 j r t in
     record { kind = rest.kind; sort = rest.sort; there = rest.there; suits = rest.suits; sorted = rest.sorted }
-row_suits_at (o ∷ os) (k ∷ ks) (v ∷ vs) h g zero r t = by o (parts_of (kind_suits o k) (kinds_suit os ks) h).0
+row_suits_at (o ∷ os) (k ∷ ks) (v ∷ vs) h g zero r t = by o (and_parts (kind_suits o k) (kinds_suit os ks) h).0
   where
     by : (x : Option Kind) → kind_suits x k ≡ true → SuitsAt (x ∷ os) zero r
     by None w = cc
@@ -281,14 +282,14 @@ row_suits_at (o ∷ os) (k ∷ ks) (v ∷ vs) h g zero r t = by o (parts_of (kin
       sort = sort_of_kind k;
       there = refl;
       suits = one_kind q k w;
-      sorted = subst (Sorted (Some (sort_of_kind k))) (some_is (well v) r t) (parts_of (of_sort (sort_of_kind k) v) (row_suits ks vs) g).0;
+      sorted = subst (Sorted (Some (sort_of_kind k))) (same_Some (well v) r t) (and_parts (of_sort (sort_of_kind k) v) (row_suits ks vs) g).0;
     }
 
 -- ---- rows of ranges
 
 all_suit_at : (kinds : List Kind) (rows : List (List Value)) → AllSuit kinds rows → (j : ℕ) (row : List Value) → slice_get rows j ≡ Some row → row_suits kinds row ≡ true
 all_suit_at kinds [] h j row g = cc
-all_suit_at kinds (r ∷ rs) h zero row g = ap (row_suits kinds) (sym (some_is r row g)) ∙ h.0
+all_suit_at kinds (r ∷ rs) h zero row g = ap (row_suits kinds) (sym (same_Some r row g)) ∙ h.0
 all_suit_at kinds (r ∷ rs) h (suc j) row g = all_suit_at kinds rs h.1 j row g
 
 pub range_suits_at : (s : Scope) (shape : Shape) → HasShape s shape → (r : Range) (j : ℕ) (row : List Value) → slice_get (range_rows s r) j ≡ Some row → row_suits (range_kinds shape r) row ≡ true
@@ -317,9 +318,9 @@ insertions_plain context table listed shape s h (rows.Values tuples) w =
     (all_at (values_suit shape (target_kinds (table_kinds context.schema.tables table) listed)) tuples w j tuple g) k r t))
 insertions_plain context table listed shape s h (rows.Query l source filter) w =
     let own = range_kinds shape source in
-    let p = parts_of (is_range_there context.schema.tables source)
+    let p = and_parts (is_range_there context.schema.tables source)
     (outputs_suit (shape_within shape own) own (target_kinds (table_kinds context.schema.tables table) listed) l && suits (shape_within shape own) filter) w in
-    let q = parts_of (outputs_suit (shape_within shape own) own (target_kinds (table_kinds context.schema.tables table) listed) l) (suits (shape_within shape own) filter) p.1 in
+    let q = and_parts (outputs_suit (shape_within shape own) own (target_kinds (table_kinds context.schema.tables table) listed) l) (suits (shape_within shape own) filter) p.1 in
     then_plain (where_true (λ row. row) s filter (range_rows s source)) (each (λ row. insertion_of context table listed (outputs_of s l row)))
     (where_plain (λ row. row) s shape own filter (range_rows s source) h (λ j row g. range_suits_at s shape h source j row g) q.1)
     (λ found e.
@@ -360,13 +361,13 @@ matching_plain s shape h t filter w =
 proposals_plain : (context : Context) (db : Database) (frame : Frame) (shape : Shape) (d : DataStatement) → HasShape (scope_of frame db.rows) shape
     → ((t : ℕ) → shape.tables t ≡ table_kinds context.schema.tables t) → data_suits context.schema.tables shape d ≡ true → Plain (proposed_changes context db frame d)
 proposals_plain context db frame shape (Insert t listed given) h k w =
-    let p = parts_of (is_there context.schema.tables t) (rows_suit context.schema.tables shape (target_kinds (table_kinds context.schema.tables t) listed) given) w in
+    let p = and_parts (is_there context.schema.tables t) (rows_suit context.schema.tables shape (target_kinds (table_kinds context.schema.tables t) listed) given) w in
     insertions_plain context t listed shape (scope_of frame db.rows) h given p.1
 proposals_plain context db frame shape (Update t settings filter) h k w =
     let s = scope_of frame db.rows in
     let kinds = table_kinds context.schema.tables t in
-    let p = parts_of (is_there context.schema.tables t) (list_all (setting_suits (shape_within shape kinds) kinds) settings && suits (shape_within shape kinds) filter) w in
-    let q = parts_of (list_all (setting_suits (shape_within shape kinds) kinds) settings) (suits (shape_within shape kinds) filter) p.1 in
+    let p = and_parts (is_there context.schema.tables t) (list_all (setting_suits (shape_within shape kinds) kinds) settings && suits (shape_within shape kinds) filter) w in
+    let q = and_parts (list_all (setting_suits (shape_within shape kinds) kinds) settings) (suits (shape_within shape kinds) filter) p.1 in
     let suited = ap (λ (l : List Kind). suits (shape_within shape l) filter) (k t) ∙ q.1 in
     then_plain (matching_rows s filter (table_rows db.rows t)) (each (update_of context s settings)) (matching_plain s shape h t filter suited)
     (λ found e.
@@ -378,7 +379,7 @@ proposals_plain context db frame shape (Update t settings filter) h k w =
 proposals_plain context db frame shape (Delete t filter) h k w =
     let s = scope_of frame db.rows in
     let kinds = table_kinds context.schema.tables t in
-    let p = parts_of (is_there context.schema.tables t) (suits (shape_within shape kinds) filter) w in
+    let p = and_parts (is_there context.schema.tables t) (suits (shape_within shape kinds) filter) w in
     let suited = ap (λ (l : List Kind). suits (shape_within shape l) filter) (k t) ∙ p.1 in
     then_plain (matching_rows s filter (table_rows db.rows t)) (λ found. Ok (map deletion found)) (matching_plain s shape h t filter suited) (λ found e. tt)
 

@@ -1,5 +1,7 @@
 -- The plans of CREATE TABLE and ALTER TABLE that deserve no cause.
 use Rattle.std.proofs.Common.{◌≡◌, ℕ, zero, suc, ◌+◌, ◌≤◌, min, nat_lt, nat_le, Bool, true, false, not, ◌&&◌, ◌==◌, if◌then◌else◌, List, [], ◌∷◌, ◌++◌, ◌∙◌, Option, Some, None, is_some, refl, sym, ap, cond, length, map, filter, slice_get, subst, unwrap_or, arith}
+use Rattle.std.proofs.lemmas.Bool.{and_from, or_parts}
+use Rattle.std.proofs.lemmas.Option.{same_Some}
 use Rattle.std.specs.List.{list_any, list_all, enumerate_from}
 use Rattle.std.proofs.lemmas.Bool.Decides.{nat_tests}
 use Rattle.iv_laws_fitting.specs.Words.{Kind, Statement, Column, Table, Constraint}
@@ -22,16 +24,16 @@ use Rattle.iv_resolution.specs.Tables.{created_table, altered_at, creating, tabl
 use Rattle.iv_resolution.specs.Bound.{table_id, bound_kind, bound_column_definition, bound_place, bound_rule, bound_constraint, bound_table, bound_addition}
 use Rattle.iv_resolution.specs.Resolution.{of_altered, is_there}
 use Rattle.iv_laws_naming.specs.Naming.{table_is_called}
-use Rattle.iv_laws_naming.proofs.Firsts.{Search, nothing, something, search, neither, first_position, first_there, none_position}
+use Rattle.iv_laws_naming.proofs.Firsts.{Search, nothing, something, search, first_position, first_there, none_position}
 use Rattle.iv_laws_fitting.specs.ConstraintShapes.{has_named_key, rule_suits, constraint_suits, TableFits, ConstraintFits}
 use Rattle.iv_laws_fitting.specs.Laws.{TablesFit, AdditionsFit}
 use Rattle.iv_laws_fitting.specs.PlanShapes.{kinds_of, table_kinds, table_suits}
-use Rattle.iv_laws_fitting.proofs.ColumnKinds.{ColumnsMatch, some_is, stored_match}
+use Rattle.iv_laws_fitting.proofs.ColumnKinds.{ColumnsMatch, stored_match}
 use Rattle.iv_laws_fitting.proofs.KeysThere.{AllNamed, written_keys_named, stored_keys_named, others_named, key_of_rule_there}
 use Rattle.iv_laws_fitting.proofs.NewConstraints.{KeyMatches, key_of_names}
 use Rattle.iv_laws_fitting.proofs.NewTables.{columns_suit, new_names, all_on}
 use Rattle.iv_laws_fitting.proofs.Plans.{Accepted, accepted}
-use Rattle.iv_laws_fitting.proofs.Pointwise.{two, any_at, all_at, made_of, placed_at, mapped_length, enumerated_length, all_by}
+use Rattle.iv_laws_fitting.proofs.Pointwise.{any_at, all_at, made_of, placed_at, mapped_length, enumerated_length, all_by}
 use Rattle.iv_laws_fitting.proofs.References.{made_by, stored_keys_match}
 use Rattle.iv_laws_fitting.proofs.Rules.{OwnFits, stored_fits, rule_of_written_suits}
 use Rattle.iv_laws_fitting.proofs.Targets.{few_columns, place_is_there}
@@ -41,7 +43,7 @@ use Rattle.iv_laws_fitting.proofs.Targets.{few_columns, place_is_there}
 kept_type : (t : ColumnType) → type_beyond_limits t ≡ false → type_of (bound_kind t) ≡ t
 kept_type type.Integer h = refl
 kept_type (type.Varchar n) h =
-    let parts = neither (n == 0) (nat_lt MOST_CHARACTERS n) h in
+    let parts = or_parts (n == 0) (nat_lt MOST_CHARACTERS n) h in
     let low : n ≤ MOST_CHARACTERS = let x = parts.1 in grind (arith, nat_tests) in
     let same : min n 65535 ≡ n = omega arith in
     ap (λ m. type.Varchar m) same
@@ -50,7 +52,7 @@ defined_types : (cs : List ColumnDefinition) → list_any (λ c. type_beyond_lim
     → map (λ (c : NamedColumn). c.kind) (map defined_column cs) ≡ map type_of (map (λ (c : Column). c.kind) (map bound_column_definition cs))
 defined_types [] h = refl
 defined_types (c ∷ cs) h =
-    let parts = neither (type_beyond_limits c.kind) (list_any (λ x. type_beyond_limits x.kind) cs) h in
+    let parts = or_parts (type_beyond_limits c.kind) (list_any (λ x. type_beyond_limits x.kind) cs) h in
     ap (λ t. t ∷ map (λ (x : NamedColumn). x.kind) (map defined_column cs)) (sym (kept_type c.kind parts.0)) ∙ ap (λ l. type_of (bound_kind c.kind) ∷ l) (defined_types cs parts.1)
 
 new_columns_match : (elements : List TableElement) → nat_lt MOST_COLUMNS (length (written_columns elements)) ≡ false → list_any (λ c. type_beyond_limits c.kind) (written_columns elements) ≡ false
@@ -78,8 +80,8 @@ kinds_at tables place t h = ap (λ (o : Option Table). elim o as (λ x. List Kin
 
 key_written : (schema : Schema) (own : Altered) (kinds : List Kind) → ColumnsMatch own.columns kinds → (time : ConstraintTime) (r : WrittenRule)
     → unknown_rule schema (creating schema own) own r ≡ false → (k : Key) → key_of_written own.columns time r ≡ Some k → KeyMatches own.columns kinds k
-key_written schema own kinds m time (unique names) u k h = subst (KeyMatches own.columns kinds) (some_is _ k h) (key_of_names own.columns kinds m names u false _)
-key_written schema own kinds m time (primary_key names) u k h = subst (KeyMatches own.columns kinds) (some_is _ k h) (key_of_names own.columns kinds m names u true _)
+key_written schema own kinds m time (unique names) u k h = subst (KeyMatches own.columns kinds) (same_Some _ k h) (key_of_names own.columns kinds m names u false _)
+key_written schema own kinds m time (primary_key names) u k h = subst (KeyMatches own.columns kinds) (same_Some _ k h) (key_of_names own.columns kinds m names u true _)
 key_written schema own kinds m time (not_null column) u k h = cc
 key_written schema own kinds m time (check c) u k h = cc
 key_written schema own kinds m time (foreign_key columns r) u k h = cc
@@ -96,10 +98,10 @@ written_suit schema own tables kinds o ks u f w =
     let made = made_of (bound_place schema own) (enumerate_from 1 ks) j k h in
     let placed = placed_at 1 ks j made.0 made.1 in
     let known = any_at (λ (x : WrittenConstraint). unknown_rule schema (creating schema own) own x.rule) ks u j made.0.1 placed.0 in
-    let fine = neither (is_contradictory made.0.1.time) (faulty_rule schema own made.0.1.rule) (any_at (faulty_constraint schema own) ks f j made.0.1 placed.0) in
+    let fine = or_parts (is_contradictory made.0.1.time) (faulty_rule schema own made.0.1.rule) (any_at (faulty_constraint schema own) ks f j made.0.1 placed.0) in
     let shaped = any_at (λ (x : WrittenConstraint). misshaped_rule (creating schema own) own x.rule) ks w j made.0.1 placed.0 in
     ap (constraint_suits tables) made.2
-    ∙ two _ _ o.there
+    ∙ and_from _ _ o.there
     (ap (λ (l : List Kind). rule_suits tables l (bound_place schema own made.0).rule) o.of_kinds
     ∙ rule_of_written_suits schema (creating schema own) own tables kinds o made.0.1.rule known fine.1 shaped))
 
@@ -113,7 +115,7 @@ written_keys_there schema own ks n u f =
     let made = made_of (bound_place schema own) (enumerate_from 1 ks) j k h in
     let placed = placed_at 1 ks j made.0 made.1 in
     let known = any_at (λ (x : WrittenConstraint). unknown_rule schema (creating schema own) own x.rule) ks u j made.0.1 placed.0 in
-    let fine = neither (is_contradictory made.0.1.time) (faulty_rule schema own made.0.1.rule) (any_at (faulty_constraint schema own) ks f j made.0.1 placed.0) in
+    let fine = or_parts (is_contradictory made.0.1.time) (faulty_rule schema own made.0.1.rule) (any_at (faulty_constraint schema own) ks f j made.0.1 placed.0) in
     ap (has_named_key (schema.constraints ++ map (bound_place schema own) (enumerate_from 1 ks))) made.2
     ∙ key_of_rule_there schema (creating schema own) own (schema.constraints ++ map (bound_place schema own) (enumerate_from 1 ks)) n made.0.1.rule known fine.1)
 
@@ -126,17 +128,17 @@ pub table_fits : (schema : Schema) → list_all table_suits schema.tables ≡ tr
 table_fits schema d c name elements a =
     let own = created_table schema name elements in
     let ks = written_constraints elements in
-    let free = neither (has_table schema name) _ a.single in
-    let once = neither (comes_twice (map (λ (x : ColumnDefinition). x.name) (written_columns elements))) _ free.1 in
-    let unused = neither (list_any (has_constraint schema) (constraint_names name 1 ks)) _ once.1 in
-    let distinct = neither (comes_twice (constraint_names name 1 ks)) _ unused.1 in
-    let some = neither (length (written_columns elements) == 0) _ a.allowed in
-    let defaults = neither (list_any (λ (x : ColumnDefinition). not (default_fits x)) (written_columns elements)) _ some.1 in
-    let faults = neither (two_primary_keys ks) (list_any (faulty_constraint schema own) ks) defaults.1 in
-    let room = neither (nat_le MOST_TABLES (length schema.tables)) _ a.small in
-    let columns = neither (nat_lt MOST_COLUMNS (length (written_columns elements))) _ room.1 in
-    let constraints = neither (nat_lt MOST_CONSTRAINTS (length ks)) _ columns.1 in
-    let types = neither (list_any (λ (x : ColumnDefinition). type_beyond_limits x.kind) (written_columns elements)) (list_any (λ (k : WrittenConstraint). long_key k.rule) ks) constraints.1 in
+    let free = or_parts (has_table schema name) _ a.single in
+    let once = or_parts (comes_twice (map (λ (x : ColumnDefinition). x.name) (written_columns elements))) _ free.1 in
+    let unused = or_parts (list_any (has_constraint schema) (constraint_names name 1 ks)) _ once.1 in
+    let distinct = or_parts (comes_twice (constraint_names name 1 ks)) _ unused.1 in
+    let some = or_parts (length (written_columns elements) == 0) _ a.allowed in
+    let defaults = or_parts (list_any (λ (x : ColumnDefinition). not (default_fits x)) (written_columns elements)) _ some.1 in
+    let faults = or_parts (two_primary_keys ks) (list_any (faulty_constraint schema own) ks) defaults.1 in
+    let room = or_parts (nat_le MOST_TABLES (length schema.tables)) _ a.small in
+    let columns = or_parts (nat_lt MOST_COLUMNS (length (written_columns elements))) _ room.1 in
+    let constraints = or_parts (nat_lt MOST_CONSTRAINTS (length ks)) _ columns.1 in
+    let types = or_parts (list_any (λ (x : ColumnDefinition). type_beyond_limits x.kind) (written_columns elements)) (list_any (λ (k : WrittenConstraint). long_key k.rule) ks) constraints.1 in
     let match = new_columns_match elements columns.0 types.0 in
     let table : Table = record { name = name; columns = map bound_column_definition (written_columns elements) } in
     let kinds = kinds_of table in
@@ -234,7 +236,7 @@ addition_fits schema d c place t h k u n f w l =
     let own = altered_at schema place t in
     let there = place_is_there schema.tables place t h in
     let kinds = kinds_at schema.tables place t h in
-    let fine = neither (is_contradictory k.time) (faulty_rule schema own k.rule) f in
+    let fine = or_parts (is_contradictory k.time) (faulty_rule schema own k.rule) f in
     let many = as_many_places place 0 schema.constraints in
     let fits : OwnFits schema own schema.tables (kinds_of t) = record {
       there = there;
@@ -247,7 +249,7 @@ addition_fits schema d c place t h k u n f w l =
       there = grind (arith, nat_tests);
       few = grind (arith, nat_tests);
       free = n;
-      suits = two _ _ there
+      suits = and_from _ _ there
           (ap (λ (ks : List Kind). rule_suits schema.tables ks (bound_rule schema (table_names schema) own k.rule)) kinds
           ∙ rule_of_written_suits schema (table_names schema) own schema.tables (kinds_of t) fits k.rule u fine.1 w);
       key = key_of_rule_there schema (table_names schema) own
@@ -264,7 +266,7 @@ unfolding table_id
 the_addition schema d c name k kk a = by (search (table_is_called name) schema.tables)
   where
     parts : (not (is_there schema name) ≡ false) × (of_altered schema name (λ own. unknown_rule schema (table_names schema) own (table_constraint k).rule) ≡ false)
-    parts = neither (not (is_there schema name)) _ a.known
+    parts = or_parts (not (is_there schema name)) _ a.known
 
     alteration : ℕ → Option Table → Plan
     alteration place o = elim o as (λ x. Plan) [ Some t ↦ bound_addition schema (altered_at schema place t) (table_constraint k) | None ↦ plan.Transaction transaction.Commit ]
@@ -277,13 +279,13 @@ the_addition schema d c name k kk a = by (search (table_is_called name) schema.t
         let own = altered_at schema place t in
         let w = table_constraint k in
         let known = sym (asked_of schema name place t at there (λ o. unknown_rule schema (table_names schema) o w.rule)) ∙ parts.1 in
-        let single = neither (of_altered schema name (λ o. has_constraint schema (added_name schema o w))) _ a.single in
+        let single = or_parts (of_altered schema name (λ o. has_constraint schema (added_name schema o w))) _ a.single in
         let unused = sym (asked_of schema name place t at there (λ o. has_constraint schema (added_name schema o w))) ∙ single.0 in
         let allowed = sym (asked_of schema name place t at there (λ o. faulty_addition schema o w)) ∙ a.allowed in
-        let fine = neither (is_primary_rule w.rule && elim (primary_key_of own.keys) as (λ x. Bool) [ Some p ↦ true | None ↦ false ]) (faulty_constraint schema own w) allowed in
+        let fine = or_parts (is_primary_rule w.rule && elim (primary_key_of own.keys) as (λ x. Bool) [ Some p ↦ true | None ↦ false ]) (faulty_constraint schema own w) allowed in
         let shaped = sym (asked_of schema name place t at there (λ o. misshaped_rule (table_names schema) o w.rule)) ∙ a.shaped in
         let small = sym (asked_of schema name place t at there (λ o. addition_beyond_limits schema o w)) ∙ a.small in
-        let few = neither (nat_le MOST_CONSTRAINTS (length (constraints_of schema place))) (long_key w.rule) small in
+        let few = or_parts (nat_le MOST_CONSTRAINTS (length (constraints_of schema place))) (long_key w.rule) small in
         let fits = addition_fits schema d c place t there w known unused fine.1 shaped few.0 in
         let plan_is : alteration place (Some t) ≡ plan.Schema (AddConstraint kk) =
         sym (ap (alteration place) there) ∙ sym (ap (λ (o : Option ℕ). alteration (unwrap_or o 0) (slice_get schema.tables (unwrap_or o 0))) at) ∙ a.is in

@@ -1,5 +1,6 @@
 -- Whole INSERT, UPDATE and DELETE statements.
 use Rattle.std.proofs.Common.{◌≡◌, ℕ, ◌≤◌, Bool, true, false, not, ◌&&◌, ◌||◌, ◌==◌, List, ◌∷◌, ◌∙◌, Option, refl, sym, ap, length, map, option_map, subst, arith}
+use Rattle.std.proofs.lemmas.Bool.{and_from, and_parts, or_parts}
 use Rattle.std.specs.List.{list_any, list_all}
 use Rattle.iv_laws_fitting.specs.Words.{Kind, Column}
 use Rattle.iv_expr.specs.Suiting.{Shape, shape_within, suits}
@@ -14,11 +15,10 @@ use Rattle.iv_resolution.specs.Terms.{unknown_filter, misshaped_filter, bound_fi
 use Rattle.iv_resolution.specs.Changes.{is_table, stored_columns, target_columns, unknown_listed, unknown_value, unknown_source, unknown_insert, unknown_assignment, unknown_update, unknown_delete, value_clashes, misshaped_value, target_types, misshaped_source, misshaped_insert, misshaped_assignment, misshaped_update, misshaped_delete}
 use Rattle.iv_resolution.specs.Bound.{table_id, bound_value, bound_source, bound_columns, bound_insert, bound_assignment, bound_update, bound_delete}
 use Rattle.iv_resolution.specs.Writable.{is_filter, is_insert_source, is_insert, is_update, is_delete, is_name, is_name_list_or_none, is_assignment}
-use Rattle.iv_laws_naming.proofs.Firsts.{neither}
 use Rattle.iv_laws_fitting.specs.PlanShapes.{kinds_of, table_kinds, is_there, value_suits, default_suits, table_suits, target_kinds, rows_suit, setting_suits, data_suits}
 use Rattle.iv_laws_fitting.proofs.ColumnKinds.{greatest, Matches, stored_match}
 use Rattle.iv_laws_fitting.proofs.Conditions.{sources_within}
-use Rattle.iv_laws_fitting.proofs.Pointwise.{two, parts_of, any_at, all_at, map_at, made_of, all_by}
+use Rattle.iv_laws_fitting.proofs.Pointwise.{any_at, all_at, map_at, made_of, all_by}
 use Rattle.iv_laws_fitting.proofs.Targets.{Target, target_of, target_id, target_stored, target_kinds_of, place_is_there, few_columns, defaults_suit, column_target, value_of_column}
 use Rattle.iv_laws_fitting.proofs.Changes.{Around, filter_suits, source_suits}
 
@@ -32,17 +32,17 @@ pub insert_suits : (names : Names) (ranges : List NamedRange) (shape : Shape) �
     → data_suits names.tables shape (bound_insert names ranges i) ≡ true
 insert_suits names ranges shape a (insert.DefaultValues table) i u w =
     let t = target_of names table u in
-    two _ _ (ap (is_there names.tables) (target_id names table t) ∙ place_is_there names.tables t.place t.table t.there) refl
+    and_from _ _ (ap (is_there names.tables) (target_id names table t) ∙ place_is_there names.tables t.place t.table t.there) refl
 insert_suits names ranges shape a (insert.Rows table listed s) i u w = by (target_of names table parts.0)
   where
     parts : (not (is_table names table) ≡ false) × ((unknown_listed (target_columns names table) listed || unknown_source names ranges s) ≡ false)
-    parts = neither (not (is_table names table)) (unknown_listed (target_columns names table) listed || unknown_source names ranges s) u
+    parts = or_parts (not (is_table names table)) (unknown_listed (target_columns names table) listed || unknown_source names ranges s) u
 
     known : (unknown_listed (target_columns names table) listed ≡ false) × (unknown_source names ranges s ≡ false)
-    known = neither (unknown_listed (target_columns names table) listed) (unknown_source names ranges s) parts.1
+    known = or_parts (unknown_listed (target_columns names table) listed) (unknown_source names ranges s) parts.1
 
     writable : is_insert_source s ≡ true
-    writable = (parts_of (is_name_list_or_none listed) (is_insert_source s) (parts_of (is_name table) (is_name_list_or_none listed && is_insert_source s) i).1).1
+    writable = (and_parts (is_name_list_or_none listed) (is_insert_source s) (and_parts (is_name table) (is_name_list_or_none listed && is_insert_source s) i).1).1
 
     whole : ℕ → List Column → Bool
     whole id columns =
@@ -55,7 +55,7 @@ insert_suits names ranges shape a (insert.Rows table listed s) i u w = by (targe
         let stored = target_stored names.tables table t in
         ap (λ id. whole id (stored_columns names.tables table)) (target_id names table t)
         ∙ ap (whole t.place) stored
-        ∙ two _ _ (place_is_there names.tables t.place t.table t.there)
+        ∙ and_from _ _ (place_is_there names.tables t.place t.table t.there)
         (ap (λ (kinds : List Kind). rows_suit names.tables shape (target_kinds kinds (bound_columns (named_columns t.table.columns) listed)) (bound_source names ranges t.table.columns listed s))
         (target_kinds_of names.tables table t)
         ∙ source_suits names ranges shape a t.table.columns (few_columns t.table sound) (defaults_suit t.table sound) listed
@@ -80,8 +80,8 @@ assignment_suits : (ranges : List NamedRange) (shape : Shape) → Matches ranges
     → setting_suits shape (map (λ c. c.kind) columns) (bound_assignment columns ranges a) ≡ true
 unfolding bound_assignment misshaped_assignment
 assignment_suits ranges shape m deep columns few d a u w =
-    let known = neither (not (has_column (named_columns columns) a.column)) (unknown_value ranges a.value) u in
-    let kinds = neither (value_clashes (type_named (named_columns columns) a.column) ranges a.value) (misshaped_value ranges a.value) w in
+    let known = or_parts (not (has_column (named_columns columns) a.column)) (unknown_value ranges a.value) u in
+    let kinds = or_parts (value_clashes (type_named (named_columns columns) a.column) ranges a.value) (misshaped_value ranges a.value) w in
     let target = column_target columns a.column few known.0 in
     let at = map_at (λ (c : Column). c.kind) columns (place_of (named_columns columns) a.column) in
     ap (λ (o : Option Kind). value_suits shape o (bound_value columns ranges (place_of (named_columns columns) a.column) a.value))
@@ -105,13 +105,13 @@ update_suits names ranges shape a u i n w = by (target_of names u.table parts.0)
         || misshaped_filter names (own_range u.table (named_columns columns) ∷ ranges) u.filter
 
     parts : (not (is_table names u.table) ≡ false) × (unknown (stored_columns names.tables u.table) ≡ false)
-    parts = neither (not (is_table names u.table)) (unknown (stored_columns names.tables u.table)) n
+    parts = or_parts (not (is_table names u.table)) (unknown (stored_columns names.tables u.table)) n
 
     writable : is_filter u.filter ≡ true
     writable =
-        (parts_of (list_all is_assignment u.assignments) (is_filter u.filter)
-        (parts_of (not (length u.assignments == 0)) (list_all is_assignment u.assignments && is_filter u.filter)
-        (parts_of (is_name u.table) (not (length u.assignments == 0) && (list_all is_assignment u.assignments && is_filter u.filter)) i).1).1).1
+        (and_parts (list_all is_assignment u.assignments) (is_filter u.filter)
+        (and_parts (not (length u.assignments == 0)) (list_all is_assignment u.assignments && is_filter u.filter)
+        (and_parts (is_name u.table) (not (length u.assignments == 0) && (list_all is_assignment u.assignments && is_filter u.filter)) i).1).1).1
 
     whole : ℕ → List Column → Bool
     whole id columns =
@@ -134,15 +134,15 @@ update_suits names ranges shape a u i n w = by (target_of names u.table parts.0)
         let columns = t.table.columns in
         let inner = own_range u.table (named_columns columns) ∷ ranges in
         let kinds = kinds_of t.table in
-        let known = neither (list_any (unknown_assignment (named_columns columns) inner) u.assignments) (unknown_filter names inner u.filter)
+        let known = or_parts (list_any (unknown_assignment (named_columns columns) inner) u.assignments) (unknown_filter names inner u.filter)
         (subst (λ (cs : List Column). unknown cs ≡ false) stored parts.1) in
-        let shaped = neither (list_any (misshaped_assignment (named_columns columns) inner) u.assignments) (misshaped_filter names inner u.filter)
+        let shaped = or_parts (list_any (misshaped_assignment (named_columns columns) inner) u.assignments) (misshaped_filter names inner u.filter)
         (subst (λ (cs : List Column). misshaped cs ≡ false) stored w) in
         ap (λ id. whole id (stored_columns names.tables u.table)) (target_id names u.table t)
         ∙ ap (whole t.place) stored
-        ∙ two _ _ (place_is_there names.tables t.place t.table t.there)
+        ∙ and_from _ _ (place_is_there names.tables t.place t.table t.there)
         (ap (of_kinds columns) (target_kinds_of names.tables u.table t)
-        ∙ two _ _
+        ∙ and_from _ _
         (all_by (setting_suits (shape_within shape kinds) kinds) (map (bound_assignment columns inner) u.assignments)
         (λ j s h.
         let made = made_of (bound_assignment columns inner) u.assignments j s h in
@@ -164,10 +164,10 @@ delete_suits names ranges shape a d i n w = by (target_of names d.table parts.0)
     misshaped columns = misshaped_filter names (own_range d.table (named_columns columns) ∷ ranges) d.filter
 
     parts : (not (is_table names d.table) ≡ false) × (unknown (stored_columns names.tables d.table) ≡ false)
-    parts = neither (not (is_table names d.table)) (unknown (stored_columns names.tables d.table)) n
+    parts = or_parts (not (is_table names d.table)) (unknown (stored_columns names.tables d.table)) n
 
     writable : is_filter d.filter ≡ true
-    writable = (parts_of (is_name d.table) (is_filter d.filter) i).1
+    writable = (and_parts (is_name d.table) (is_filter d.filter) i).1
 
     whole : ℕ → List Column → Bool
     whole id columns = is_there names.tables id && suits (shape_within shape (table_kinds names.tables id)) (bound_filter names (own_range d.table (named_columns columns) ∷ ranges) d.filter)
@@ -179,7 +179,7 @@ delete_suits names ranges shape a d i n w = by (target_of names d.table parts.0)
         let inner = own_range d.table (named_columns t.table.columns) ∷ ranges in
         ap (λ id. whole id (stored_columns names.tables d.table)) (target_id names d.table t)
         ∙ ap (whole t.place) stored
-        ∙ two _ _ (place_is_there names.tables t.place t.table t.there)
+        ∙ and_from _ _ (place_is_there names.tables t.place t.table t.there)
         (ap (λ (kinds : List Kind). suits (shape_within shape kinds) (bound_filter names inner d.filter)) (target_kinds_of names.tables d.table t)
         ∙ filter_suits names inner (shape_within shape (kinds_of t.table)) (own_matches names ranges shape a d.table t) (omega arith)
         (sources_within names shape (kinds_of t.table) a.sources) d.filter writable

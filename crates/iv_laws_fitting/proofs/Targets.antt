@@ -1,5 +1,6 @@
 -- The columns that values are for, and that each value suits its own.
 use Rattle.std.proofs.Common.{◌≡◌, ℕ, zero, suc, ◌≤◌, nat_le, true, false, not, ◌&&◌, List, [], ◌∷◌, ◌∙◌, Option, Some, None, is_some, refl, sym, ap, length, map, slice_get, option_map, unwrap_or, arith}
+use Rattle.std.proofs.lemmas.Bool.{and_parts, or_parts}
 use Rattle.std.specs.List.{list_all}
 use Rattle.std.proofs.lemmas.Bool.Decides.{nat_tests}
 use Rattle.iv_value.specs.declared.value.Value.{Value}
@@ -20,11 +21,11 @@ use Rattle.iv_resolution.specs.Changes.{is_table, stored_columns, unknown_listed
 use Rattle.iv_resolution.specs.Bound.{table_id, default_at, bound_value, target_place, bound_columns}
 use Rattle.iv_store.specs.Stores.{is_fit}
 use Rattle.iv_laws_naming.specs.Naming.{column_is_called, table_is_called}
-use Rattle.iv_laws_naming.proofs.Firsts.{Search, nothing, something, search, neither, first_position, first_found, first_there, none_position}
+use Rattle.iv_laws_naming.proofs.Firsts.{Search, nothing, something, search, first_position, first_found, first_there, none_position}
 use Rattle.iv_laws_fitting.specs.PlanShapes.{kinds_of, table_kinds, is_there, sort_suits, value_suits, default_suits, table_suits, target_kinds}
 use Rattle.iv_laws_fitting.proofs.ColumnKinds.{greatest, Matches}
 use Rattle.iv_laws_fitting.proofs.Expressions.{Agrees, Sorted, sorted}
-use Rattle.iv_laws_fitting.proofs.Pointwise.{parts_of, any_at, all_at, map_at, made_of, mapped_length}
+use Rattle.iv_laws_fitting.proofs.Pointwise.{any_at, all_at, map_at, made_of, mapped_length}
 
 -- ---- the table that a statement changes
 
@@ -66,18 +67,18 @@ place_is_there (x ∷ xs) (suc n) t h = let r = place_is_there xs n t h in grind
 -- what a table that suits says of its columns
 pub few_columns : (t : Table) → table_suits t ≡ true → length t.columns ≤ greatest
 few_columns t h =
-    let p = (parts_of (nat_le (length t.columns) MOST_COLUMNS) (list_all default_suits t.columns && not (comes_twice (map (λ (c : Column). c.name) t.columns))) h).0 in
+    let p = (and_parts (nat_le (length t.columns) MOST_COLUMNS) (list_all default_suits t.columns && not (comes_twice (map (λ (c : Column). c.name) t.columns))) h).0 in
     grind (arith, nat_tests)
 
 pub defaults_suit : (t : Table) → table_suits t ≡ true → list_all default_suits t.columns ≡ true
 defaults_suit t h =
-    (parts_of (list_all default_suits t.columns) (not (comes_twice (map (λ (c : Column). c.name) t.columns)))
-    (parts_of (nat_le (length t.columns) MOST_COLUMNS) (list_all default_suits t.columns && not (comes_twice (map (λ (c : Column). c.name) t.columns))) h).1).0
+    (and_parts (list_all default_suits t.columns) (not (comes_twice (map (λ (c : Column). c.name) t.columns)))
+    (and_parts (nat_le (length t.columns) MOST_COLUMNS) (list_all default_suits t.columns && not (comes_twice (map (λ (c : Column). c.name) t.columns))) h).1).0
 
 pub distinct_columns : (t : Table) → table_suits t ≡ true → not (comes_twice (map (λ (c : Column). c.name) t.columns)) ≡ true
 distinct_columns t h =
-    (parts_of (list_all default_suits t.columns) (not (comes_twice (map (λ (c : Column). c.name) t.columns)))
-    (parts_of (nat_le (length t.columns) MOST_COLUMNS) (list_all default_suits t.columns && not (comes_twice (map (λ (c : Column). c.name) t.columns))) h).1).1
+    (and_parts (list_all default_suits t.columns) (not (comes_twice (map (λ (c : Column). c.name) t.columns)))
+    (and_parts (nat_le (length t.columns) MOST_COLUMNS) (list_all default_suits t.columns && not (comes_twice (map (λ (c : Column). c.name) t.columns))) h).1).1
 
 -- ---- a column of a table by its name
 
@@ -165,7 +166,7 @@ unfolding clashes_with
 suited ranges e k nulls a h = refl
 suited ranges e kind.Integer numbers a h = refl
 suited ranges e (kind.Varchar n) texts a h = refl
-suited ranges e kind.Integer texts a h = let q : true ≡ false = sym a ∙ (neither (is_text ranges e) false h).0 in cc
+suited ranges e kind.Integer texts a h = let q : true ≡ false = sym a ∙ (or_parts (is_text ranges e) false h).0 in cc
 suited ranges e (kind.Varchar n) numbers a h = let q : true ≡ false = sym a ∙ h in cc
 
 pub expression_suits : (ranges : List NamedRange) (shape : Shape) (e : Expression) (k : Kind) → Sorted ranges shape e → clashes_with (Some (type_of k)) ranges e ≡ false

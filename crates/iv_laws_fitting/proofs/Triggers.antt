@@ -1,5 +1,6 @@
 -- The plan of a CREATE TRIGGER that deserves no cause.
 use Rattle.std.proofs.Common.{◌≡◌, ℕ, ◌+◌, ◌≤◌, Bool, true, false, not, ◌&&◌, ◌||◌, ◌==◌, List, [], ◌∷◌, ◌∙◌, Option, Some, None, is_none, refl, sym, ap, cond, length, map, filter, slice_get, option_map, subst, suc, arith}
+use Rattle.std.proofs.lemmas.Bool.{and_from, and_parts, not-false, or_parts}
 use Rattle.std.specs.List.{list_any, list_all}
 use Rattle.std.proofs.lemmas.Bool.Decides.{nat_tests}
 use Rattle.iv_laws_fitting.specs.Words.{Kind, Statement, Granularity, TriggerEvent, Column, Table, Trigger}
@@ -31,13 +32,13 @@ use Rattle.iv_resolution.specs.Triggers.{names_row, row_variables, transition_ta
 use Rattle.iv_resolution.specs.Bound.{table_id, bound_action, bound_trigger, bound_addition}
 use Rattle.iv_resolution.specs.Writable.{is_name, is_filter, is_action}
 use Rattle.iv_laws_naming.specs.Naming.{NamesSource, transition, created, stored}
-use Rattle.iv_laws_naming.proofs.Firsts.{neither, first_there}
+use Rattle.iv_laws_naming.proofs.Firsts.{first_there}
 use Rattle.iv_laws_naming.proofs.NamesFound.{sources}
 use Rattle.iv_laws_fitting.specs.Laws.{TriggersFit}
 use Rattle.iv_laws_fitting.specs.PlanShapes.{kinds_of, table_kinds, is_there, is_range_there, value_suits, table_suits, old_kinds, new_kinds, trigger_shape, action_suits, trigger_suits}
 use Rattle.iv_laws_fitting.proofs.ColumnKinds.{ColumnsMatch, VariablesMatch, side_kinds, stored_match, greatest}
 use Rattle.iv_laws_fitting.proofs.Expressions.{sorted}
-use Rattle.iv_laws_fitting.proofs.Pointwise.{two, parts_of, not_false, any_at, all_at, map_at, made_of, mapped_length, all_by}
+use Rattle.iv_laws_fitting.proofs.Pointwise.{any_at, all_at, map_at, made_of, mapped_length, all_by}
 use Rattle.iv_laws_fitting.proofs.Targets.{Target, target_of, target_id, target_stored, target_kinds_of, place_is_there, few_columns, column_target, expression_suits}
 use Rattle.iv_laws_fitting.proofs.Changes.{Around, filter_suits}
 use Rattle.iv_laws_fitting.proofs.Statements.{insert_suits, update_suits, delete_suits}
@@ -65,8 +66,8 @@ allowed t i n h = by i.what refl
   where
     by : (w : TransitionName) → i.what ≡ w → (has_side t.event i.side ≡ true) × (for_each_row t ≡ true)
     by what.Row e =
-        let both = parts_of (has_side t.event i.side) (elim i.what as (λ x. Bool) [ what.Row ↦ for_each_row t | what.Table ↦ not (is_before t) ])
-        (not_false (has_side t.event i.side && elim i.what as (λ x. Bool) [ what.Row ↦ for_each_row t | what.Table ↦ not (is_before t) ]) h) in
+        let both = and_parts (has_side t.event i.side) (elim i.what as (λ x. Bool) [ what.Row ↦ for_each_row t | what.Table ↦ not (is_before t) ])
+        (not-false (has_side t.event i.side && elim i.what as (λ x. Bool) [ what.Row ↦ for_each_row t | what.Table ↦ not (is_before t) ]) h) in
         (both.0, sym (ap (λ (w : TransitionName). elim w as (λ x. Bool) [ what.Row ↦ for_each_row t | what.Table ↦ not (is_before t) ]) e) ∙ both.1)
     by what.Table e = let x : true ≡ false = sym n ∙ ap (λ (w : TransitionName). elim w as (λ x. Bool) [ what.Row ↦ true | what.Table ↦ false ]) e in cc
 
@@ -85,10 +86,10 @@ variables_match : (t : TriggerDefinition) (subject : List NamedColumn) (kinds : 
     → VariablesMatch (old_kinds t.granularity t.event kinds) (new_kinds t.granularity t.event kinds) (row_variables subject items)
 variables_match t subject kinds m [] h = tt
 variables_match t subject kinds m (i ∷ is) h =
-    let parts = neither (not (is_allowed_item t i)) (list_any (λ x. not (is_allowed_item t x)) is) h in
+    let parts = or_parts (not (is_allowed_item t i)) (list_any (λ x. not (is_allowed_item t x)) is) h in
     one_more_variable t subject kinds m i is parts.0 (variables_match t subject kinds m is parts.1) (names_row i) refl
 
--- ---- at most two of them
+-- ---- at most and_from of them
 
 abbrev rows_of : Side → List Referencing → List Referencing
 rows_of s items = items_of s true items
@@ -115,8 +116,8 @@ rows_counted (i ∷ is) =
 
 few_variables : (subject : List NamedColumn) (items : List Referencing) → some_item_twice items ≡ false → length (row_variables subject items) ≤ 1000
 few_variables subject items h =
-    let rows = neither (item_twice items side.Old true || item_twice items side.New true) (item_twice items side.Old false || item_twice items side.New false) h in
-    let sides = neither (item_twice items side.Old true) (item_twice items side.New true) rows.0 in
+    let rows = or_parts (item_twice items side.Old true || item_twice items side.New true) (item_twice items side.Old false || item_twice items side.New false) h in
+    let sides = or_parts (item_twice items side.Old true) (item_twice items side.New true) rows.0 in
     let made = mapped_length (variable_of subject) (filter names_row items) in
     let all = rows_counted items in
     let one : length (rows_of side.Old items) ≤ 1 = let x = sides.0 in grind (arith, nat_tests) in
@@ -177,9 +178,9 @@ action_suits_columns names variables shape a columns s few (action.Update i) w u
 action_suits_columns names variables shape a columns s few (action.Delete i) w u m = delete_suits names variables shape a i w u m
 action_suits_columns names variables shape a columns s few (action.Signal t) w u m = refl
 action_suits_columns names variables shape a columns s few (action.Set v column e) w u m =
-    let known = neither (is_none (variable_named variables v) || not (has_column names.subject column)) (unknown_expression variables e) u in
-    let set = neither (is_none (variable_named variables v)) (not (has_column names.subject column)) known.0 in
-    let shaped = neither (clashes_with (type_named names.subject column) variables e) (misshaped_expression variables e) m in
+    let known = or_parts (is_none (variable_named variables v) || not (has_column names.subject column)) (unknown_expression variables e) u in
+    let set = or_parts (is_none (variable_named variables v)) (not (has_column names.subject column)) known.0 in
+    let shaped = or_parts (clashes_with (type_named names.subject column) variables e) (misshaped_expression variables e) m in
     let target = column_target columns column few (ap (λ (cs : List NamedColumn). not (has_column cs column)) (sym s) ∙ set.1) in
     let deep = a.few in
     ap (λ (cs : List NamedColumn). value_suits shape (slice_get (map (λ (c : Column). c.kind) columns) (place_of cs column)) (bound_expression variables e)) s
@@ -210,20 +211,20 @@ trigger_fits schema d t a = by (target_of (table_names schema) t.table parts.0)
         || list_any (misshaped_action (names_of schema t.referencing s) (row_variables s t.referencing)) t.body
 
     parts : (not (is_table (table_names schema) t.table) ≡ false) × (unknown (target_columns (table_names schema) t.table) ≡ false)
-    parts = neither _ _ a.known
+    parts = or_parts _ _ a.known
 
     faults : (some_item_twice t.referencing ≡ false) × (list_any (λ i. not (is_allowed_item t i)) t.referencing ≡ false)
     faults =
-        let first = neither (some_item_twice t.referencing) _ a.allowed in
-        (first.0, (neither (list_any (λ i. not (is_allowed_item t i)) t.referencing) _ first.1).0)
+        let first = or_parts (some_item_twice t.referencing) _ a.allowed in
+        (first.0, (or_parts (list_any (λ i. not (is_allowed_item t i)) t.referencing) _ first.1).0)
 
     writable : (is_filter t.when ≡ true) × (list_all is_action t.body ≡ true)
     writable =
-        let named = parts_of (is_name t.name) _ a.writable in
-        let tabled = parts_of (is_name t.table) _ named.1 in
-        let listed = parts_of (list_all (λ i. is_name i.name) t.referencing) _ tabled.1 in
-        let filtered = parts_of (is_filter t.when) _ listed.1 in
-        (filtered.0, (parts_of (not (length t.body == 0)) (list_all is_action t.body) filtered.1).1)
+        let named = and_parts (is_name t.name) _ a.writable in
+        let tabled = and_parts (is_name t.table) _ named.1 in
+        let listed = and_parts (list_all (λ i. is_name i.name) t.referencing) _ tabled.1 in
+        let filtered = and_parts (is_filter t.when) _ listed.1 in
+        (filtered.0, (and_parts (not (length t.body == 0)) (list_all is_action t.body) filtered.1).1)
 
     whole : ℕ → List NamedColumn → Bool
     whole id s =
@@ -250,15 +251,15 @@ trigger_fits schema d t a = by (target_of (table_names schema) t.table parts.0)
         let shape = trigger_shape schema.tables t.granularity t.event kinds in
         let around = around_trigger schema t columns d (stored_match target.table few) faults.1 faults.0 in
         let deep = around.few in
-        let known = neither (unknown_filter names variables t.when) (list_any (unknown_action names variables) t.body)
+        let known = or_parts (unknown_filter names variables t.when) (list_any (unknown_action names variables) t.body)
         (subst (λ (s : List NamedColumn). unknown s ≡ false) stored parts.1) in
-        let shaped = neither (misshaped_filter names variables t.when) (list_any (misshaped_action names variables) t.body)
+        let shaped = or_parts (misshaped_filter names variables t.when) (list_any (misshaped_action names variables) t.body)
         (subst (λ (s : List NamedColumn). misshaped s ≡ false) stored a.shaped) in
         ap (λ id. whole id (target_columns (table_names schema) t.table)) (target_id (table_names schema) t.table target)
         ∙ ap (whole target.place) stored
-        ∙ two _ _ (place_is_there schema.tables target.place target.table target.there)
+        ∙ and_from _ _ (place_is_there schema.tables target.place target.table target.there)
         (ap (of_kinds (named_columns columns)) (target_kinds_of schema.tables t.table target)
-        ∙ two _ _
+        ∙ and_from _ _
         (filter_suits names variables shape around.matches (omega arith) around.sources t.when writable.0 known.0 shaped.0)
         (all_by (action_suits schema.tables shape kinds) (map (bound_action names variables) t.body)
         (λ j b h.

@@ -1,5 +1,6 @@
 -- Which rows the violating groups of a constraint have.
 use Rattle.std.proofs.Common.{◌≡◌, refl, ℕ, Bool, true, false, ◌&&◌, ◌||◌, if◌then◌else◌, List, [], ◌∷◌, filter, flat_map, find, slice_get, Option, Some, None, sym, ap, ◌∙◌}
+use mathlib.Core.Bool.{and-true, and-false}
 use Rattle.std.specs.Bool.{◌==◌}
 use Rattle.std.specs.List.{list_any}
 use Rattle.std.proofs.lemmas.Bool.{or_parts}
@@ -11,7 +12,6 @@ use Rattle.iv_laws_kept.specs.Numbers.{has}
 use Rattle.iv_laws_kept.specs.Kept.{Group, Groups, rows_in, groups_of, rows_under, OneEach, KeysOnce, Show, kept_key, is_kept_under, violate, is_violating, kept_rows}
 use Rattle.iv_laws_kept.proofs.RisingNumbers.{has_in_rising_order}
 use Rattle.iv_laws_levels.proofs.Keys.{all_same_itself, all_same_is, all_same_swap}
-use Rattle.iv_laws_kept.proofs.Rows.{and_false, and_true}
 use Rattle.iv_laws_kept.proofs.Rows.{passes, has_filtered}
 use Rattle.iv_laws_kept.proofs.Groups.{has_chosen, any_under}
 
@@ -98,19 +98,19 @@ has_kept rows constraints groups id c n h one show at =
     by_key : (o : Option (List Value)) → key_at rows c n ≡ o → list_any (λ g. v g.key g.rows && has n g.rows) own ≡ violate_at constraints groups id c o
     by_key None e =
         any_agree (λ g. v g.key g.rows && has n g.rows) (λ _. false) own own (all_under own (one id))
-        (λ g u. ap (λ b. v g.key g.rows && b) (inside g u ∙ ap (λ o. is_key o g.key) e) ∙ and_false (v g.key g.rows))
+        (λ g u. ap (λ b. v g.key g.rows && b) (inside g u ∙ ap (λ o. is_key o g.key) e) ∙ and-false (v g.key g.rows))
         ∙ none_passes own
     by_key (Some k) e =
         any_agree (λ g. v g.key g.rows && has n g.rows) (λ g. all_same g.key k && (v k g.rows && has n g.rows)) own own (all_under own (one id))
         (λ g u. by_same g (has n g.rows) (inside g u ∙ ap (λ o. is_key o g.key) e))
-        ∙ any_under (λ numbers. v k numbers && has n numbers) k own (one id) (and_false (v k []))
+        ∙ any_under (λ numbers. v k numbers && has n numbers) k own (one id) (and-false (v k []))
         ∙ ap (λ b. v k (rows_under groups id k) && b) (under k ∙ ap (λ o. is_key o k) e ∙ all_same_itself k)
-        ∙ and_true (v k (rows_under groups id k))
+        ∙ and-true (v k (rows_under groups id k))
       where
         by_same : (g : Group) (b : Bool) → b ≡ all_same k g.key → (v g.key g.rows && b) ≡ (all_same g.key k && (v k g.rows && b))
         by_same g b f = elim (all_same k g.key) as (λ t. all_same k g.key ≡ t → (v g.key g.rows && b) ≡ (all_same g.key k && (v k g.rows && b))) [
           | true ↦ λ i. let is = all_same_is k g.key i in
               ap (λ x. v x g.rows && b) (sym is) ∙ ap (λ t. t && (v k g.rows && b)) (sym (ap (λ x. all_same x k) (sym is) ∙ all_same_itself k))
-          | false ↦ λ i. ap (λ t. v g.key g.rows && t) (f ∙ i) ∙ and_false (v g.key g.rows)
-              ∙ sym (ap (λ t. all_same g.key k && (v k g.rows && t)) (f ∙ i) ∙ ap (λ t. all_same g.key k && t) (and_false (v k g.rows)) ∙ and_false (all_same g.key k))
+          | false ↦ λ i. ap (λ t. v g.key g.rows && t) (f ∙ i) ∙ and-false (v g.key g.rows)
+              ∙ sym (ap (λ t. all_same g.key k && (v k g.rows && t)) (f ∙ i) ∙ ap (λ t. all_same g.key k && t) (and-false (v k g.rows)) ∙ and-false (all_same g.key k))
         ] refl

@@ -1,5 +1,6 @@
 -- Groups that follow a change of a row.
 use Rattle.std.proofs.Common.{◌≡◌, refl, ℕ, Bool, true, false, ◌&&◌, ◌||◌, not, if◌then◌else◌, List, [], ◌∷◌, filter, Option, Some, None, sym, ap, subst, ◌∙◌}
+use mathlib.Core.Bool.{or-false}
 use Rattle.std.specs.Bool.{◌==◌}
 use Rattle.std.proofs.lemmas.Bool.{eqb-true, eq-eqb}
 use Rattle.iv_laws_kept.specs.Words.{Value, StoredRow, Change, Constraint}
@@ -14,15 +15,11 @@ use Rattle.iv_laws_levels.proofs.RowNumbers.{same_rows}
 use Rattle.iv_laws_levels.proofs.AppliedRows.{row_of, side_here, news, row_at_rows_after, rows_after_in_order}
 use Rattle.iv_laws_kept.proofs.KeptIsScan.{kept_is_the_scan}
 
-or_false : (b : Bool) → (b || false) ≡ b
-or_false true = refl
-or_false false = refl
-
 -- the row at a number after a change
 pub row_after : (rows : List StoredRow) (c : Change) (n : ℕ) → row_at (rows_after rows (c ∷ [])) n ≡ (if c.row == n then row_of c c.new else row_at rows n)
 row_after rows c n =
     row_at_rows_after rows (c ∷ []) n
-    ∙ ap (λ b. if b then row_at (news (c ∷ [])) n else row_at rows n) (or_false (c.row == n))
+    ∙ ap (λ b. if b then row_at (news (c ∷ [])) n else row_at rows n) (or-false (c.row == n))
     ∙ elim (c.row == n) as (λ b. (c.row == n) ≡ b → (if b then row_at (news (c ∷ [])) n else row_at rows n) ≡ (if b then row_of c c.new else row_at rows n)) [
       | true ↦ λ e. side_here c c.new [] n e refl
       | false ↦ λ e. refl

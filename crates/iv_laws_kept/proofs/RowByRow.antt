@@ -1,5 +1,6 @@
 -- A row violates a constraint where the rows that are kept with it do.
 use Rattle.std.proofs.Common.{◌≡◌, refl, ℕ, ◌<◌, Bool, true, false, ◌&&◌, ◌||◌, not, if◌then◌else◌, List, [], ◌∷◌, length, filter, slice_get, Option, Some, None, sym, ap, subst, ◌∙◌, arith}
+use mathlib.Core.Bool.{and-false}
 use Rattle.std.specs.Bool.{◌==◌, nat_lt}
 use Rattle.std.specs.List.{list_any}
 use Rattle.std.proofs.lemmas.Bool.{eqb-true}
@@ -17,7 +18,6 @@ use Rattle.iv_laws_levels.specs.RisingRows.{InOrder}
 use Rattle.iv_laws_kept.specs.Numbers.{has, Rise}
 use Rattle.iv_laws_kept.specs.Kept.{Groups, rows_under, Show, null_key, null_key_where, key_or, is_free, kept_key, is_kept_under, in_order_of, can_be_key, value_in, is_empty, is_referenced, break_rule, violate, AllNamed}
 use Rattle.iv_laws_levels.proofs.Keys.{false_true, and_first, and_second, all_same_itself, all_same_is, same_test}
-use Rattle.iv_laws_kept.proofs.Rows.{and_false}
 use Rattle.iv_laws_kept.proofs.Rows.{passes, has_filtered, filtered_rise}
 use Rattle.iv_laws_levels.proofs.RowNumbers.{some_none, some_same, number_of_row_at}
 use Rattle.iv_laws_kept.proofs.Columns.{in_order_map, none_null_among, all_among_itself}
@@ -138,7 +138,7 @@ not_shared : (rows : List StoredRow) (t : ℕ) (columns : List ℕ) (r : StoredR
     → list_any (shares_key columns r) (table_rows rows t) ≡ false
 not_shared rows t columns r e =
     any_same (shares_key columns r) (λ _. false) (table_rows rows t) (λ x.
-    ap (λ b. not (x.number == r.number) && b) (null_not_held columns (key_of columns r.values) x.values e) ∙ and_false (not (x.number == r.number)))
+    ap (λ b. not (x.number == r.number) && b) (null_not_held columns (key_of columns r.values) x.values e) ∙ and-false (not (x.number == r.number)))
     ∙ none (table_rows rows t)
   where
     none : (xs : List StoredRow) → list_any (λ _. false) xs ≡ false

@@ -39,11 +39,3 @@ has_filtered p rows n h = has_number (filter p rows) n ∙ ap is_some (row_at_fi
 
 pub filtered_rise : (p : StoredRow → Bool) (rows : List StoredRow) → InOrder rows → Rise (numbers_of (filter p rows))
 filtered_rise p rows h = numbers_rise (filter p rows) (in_order_filter p rows h)
-
-pub and_true : (b : Bool) → (b && true) ≡ b
-and_true true = refl
-and_true false = refl
-
-pub and_false : (b : Bool) → (b && false) ≡ false
-and_false true = refl
-and_false false = refl

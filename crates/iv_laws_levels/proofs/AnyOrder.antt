@@ -1,5 +1,6 @@
 -- The changes of a wave, one by one and in any order, are the wave.
 use Rattle.std.proofs.Common.{◌≡◌, refl, ℕ, suc, ◌+◌, max, Bool, true, false, ◌||◌, if◌then◌else◌, List, [], ◌∷◌, length, Option, Some, None, sym, ap, ◌∙◌, arith}
+use mathlib.Core.Bool.{or-false}
 use Rattle.std.specs.Bool.{◌==◌}
 use Rattle.std.specs.List.{cons_option}
 use Rattle.std.proofs.lemmas.Bool.{eqb-true, or_parts}
@@ -13,12 +14,8 @@ use Rattle.iv_laws_levels.proofs.AppliedRows.{row_of, side_here, side_elsewhere,
 
 -- ---- one by one, in the order of the wave
 
-or_false : (b : Bool) → (b || false) ≡ b
-or_false true = refl
-or_false false = refl
-
 row_at_one : (db : Database) (c : Change) (n : ℕ) → row_at (after_changes db (c ∷ [])).rows n ≡ (if c.row == n then row_at (news (c ∷ [])) n else row_at db.rows n)
-row_at_one db c n = row_at_rows_after db.rows (c ∷ []) n ∙ ap (λ b. if b then row_at (news (c ∷ [])) n else row_at db.rows n) (or_false (c.row == n))
+row_at_one db c n = row_at_rows_after db.rows (c ∷ []) n ∙ ap (λ b. if b then row_at (news (c ∷ [])) n else row_at db.rows n) (or-false (c.row == n))
 
 row_at_one_by_one : (db : Database) (wave : List Change) (n : ℕ) → Distinct wave
     → row_at (one_by_one db wave).rows n ≡ (if has_change wave n then row_at (news wave) n else row_at db.rows n)

@@ -1,7 +1,8 @@
 -- Elsewhere than at a changed row and those that the change concerns, the same rows violate a constraint.
 use Rattle.std.proofs.Common.{◌≡◌, refl, ℕ, Bool, true, false, ◌&&◌, not, if◌then◌else◌, List, [], ◌∷◌, filter, Option, Some, None, sym, ap, ◌∙◌}
+use mathlib.Core.Bool.{or-false}
 use Rattle.std.specs.Bool.{◌==◌}
-use Rattle.std.proofs.lemmas.Bool.{eqb-true, eq-eqb}
+use Rattle.std.proofs.lemmas.Bool.{eqb-true, eq-eqb, not-true}
 use Rattle.iv_laws_levels.specs.Words.{StoredRow, Change, Constraint, Database}
 use Rattle.iv_machine.specs.Databases.{row_at, violates}
 use Rattle.iv_laws_levels.specs.Reorderings.{after_changes}
@@ -11,7 +12,7 @@ use Rattle.iv_laws_levels.specs.Locality.{concerns, is_elsewhere}
 use Rattle.iv_laws_levels.proofs.RowNumbers.{number_of_row_at, in_order_filter, same_rows, passing, row_at_filter_in_order}
 use Rattle.iv_laws_levels.proofs.AppliedRows.{news, row_at_rows_after, rows_after_in_order}
 use Rattle.iv_laws_levels.proofs.Keys.{false_true, and_second}
-use Rattle.iv_laws_levels.proofs.Locality.{or_false, change_is_local}
+use Rattle.iv_laws_levels.proofs.Locality.{change_is_local}
 
 -- ---- two tests, one after another
 
@@ -44,10 +45,6 @@ row_at_two p q rows n h =
 not_elsewhere : (c : Change) (k : Constraint) (n : ℕ) (r : StoredRow) → c.row ≡ n → r.number ≡ n → is_elsewhere c k r ≡ false
 not_elsewhere c k n r e f = ap (λ b. not b && not (concerns c k r)) (eq-eqb c.row r.number (e ∙ sym f))
 
-not_true : (b : Bool) → not b ≡ true → b ≡ false
-not_true true e = absurd (false_true e)
-not_true false e = refl
-
 pub violations_elsewhere : (db : Database) (c : Change) (k : Constraint) → InOrder db.rows → row_at db.rows c.row ≡ old_row c
     → filter (is_elsewhere c k) (filter (violates (after_changes db (c ∷ [])).rows k) (after_changes db (c ∷ [])).rows) ≡ filter (is_elsewhere c k) (filter (violates db.rows k) db.rows)
 violations_elsewhere db c k h current =
@@ -55,7 +52,7 @@ violations_elsewhere db c k h current =
     (in_order_filter away (filter after later) (in_order_filter after later rising)) (in_order_filter away (filter before db.rows) (in_order_filter before db.rows h)) (λ n.
     row_at_two away after later n rising
     ∙ ap (λ o. passing away (passing after o)) (row_at_rows_after db.rows (c ∷ []) n)
-    ∙ ap (λ b. passing away (passing after (if b then row_at (news (c ∷ [])) n else row_at db.rows n))) (or_false (c.row == n))
+    ∙ ap (λ b. passing away (passing after (if b then row_at (news (c ∷ [])) n else row_at db.rows n))) (or-false (c.row == n))
     ∙ by_number n (c.row == n) refl
     ∙ sym (row_at_two away before db.rows n h))
   where
@@ -75,7 +72,7 @@ violations_elsewhere db c k h current =
     before = violates db.rows k
 
     agree : (r : StoredRow) → away r ≡ true → after r ≡ before r
-    agree r e = ap (λ b. (r.table == k.table) && not b) (change_is_local db c k r h current (not_true (concerns c k r) (and_second (not (c.row == r.number)) (not (concerns c k r)) e)))
+    agree r e = ap (λ b. (r.table == k.table) && not b) (change_is_local db c k r h current (not-true (concerns c k r) (and_second (not (c.row == r.number)) (not (concerns c k r)) e)))
 
     here : (rows : List StoredRow) (n : ℕ) (q : StoredRow → Bool) → (c.row == n) ≡ true → passing away (passing q (row_at rows n)) ≡ None
     here rows n q e = none_passes away q (row_at rows n) (λ r f. not_elsewhere c k n r (eqb-true c.row n e) (number_of_row_at rows n r f))

@@ -1,5 +1,6 @@
 -- A change of one row alters few pairs of a constraint and a row.
 use Rattle.std.proofs.Common.{◌≡◌, refl, ℕ, Bool, true, false, ◌&&◌, ◌||◌, not, if◌then◌else◌, List, [], ◌∷◌, filter, Option, Some, None, sym, ap, ◌∙◌}
+use mathlib.Core.Bool.{or-false, and-false}
 use Rattle.std.specs.Bool.{◌==◌}
 use Rattle.std.specs.List.{list_any}
 use Rattle.std.proofs.lemmas.Bool.{eqb-true, or_parts}
@@ -20,10 +21,6 @@ use Rattle.iv_laws_levels.proofs.AppliedRows.{row_of, side_here, news, row_at_ro
 use Rattle.iv_laws_levels.proofs.Keys.{and_second, all_same_is, all_same_swap, same_test}
 use Rattle.iv_laws_levels.proofs.Filters.{any_of_filter, any_filter}
 
-pub or_false : (b : Bool) → (b || false) ≡ b
-or_false true = refl
-or_false false = refl
-
 -- a test that neither side of a change passes finds the same rows before and after
 unmoved : (db : Database) (c : Change) (p : StoredRow → Bool) → InOrder db.rows → row_at db.rows c.row ≡ old_row c
     → passing p (row_of c c.old) ≡ None → passing p (row_of c c.new) ≡ None → filter p (after_changes db (c ∷ [])).rows ≡ filter p db.rows
@@ -31,7 +28,7 @@ unmoved db c p h current old new =
     same_rows (filter p (after_changes db (c ∷ [])).rows) (filter p db.rows) (in_order_filter p (after_changes db (c ∷ [])).rows (rows_after_in_order db.rows (c ∷ []))) (in_order_filter p db.rows h) (λ n.
     row_at_filter_in_order p (after_changes db (c ∷ [])).rows n (rows_after_in_order db.rows (c ∷ []))
     ∙ ap (passing p) (row_at_rows_after db.rows (c ∷ []) n)
-    ∙ ap (λ b. passing p (if b then row_at (news (c ∷ [])) n else row_at db.rows n)) (or_false (c.row == n))
+    ∙ ap (λ b. passing p (if b then row_at (news (c ∷ [])) n else row_at db.rows n)) (or-false (c.row == n))
     ∙ elim (c.row == n) as (λ b. (c.row == n) ≡ b → passing p (if b then row_at (news (c ∷ [])) n else row_at db.rows n) ≡ passing p (row_at db.rows n)) [
       | true ↦ λ e.
           let is = eqb-true c.row n e in
@@ -85,10 +82,6 @@ parts_fail : (b x y : Bool) → (b && (x || y)) ≡ false → ((b && x) ≡ fals
 parts_fail true x y e = or_parts x y e
 parts_fail false x y e = (refl, refl)
 
-and_false : (b : Bool) → (b && false) ≡ false
-and_false true = refl
-and_false false = refl
-
 -- ---- the rules
 
 same_unique : (db : Database) (c : Change) (t : ℕ) (columns : List ℕ) (r : StoredRow) → InOrder db.rows → row_at db.rows c.row ≡ old_row c
@@ -106,7 +99,7 @@ same_unique db c t columns r h current e =
     fails : (values : List Value) → holds_key columns (key_of columns values) r.values ≡ false → other (row_with c values) ≡ false
     fails values f =
         ap (λ b. not (c.row == r.number) && b) (held_swap (key_of columns values) (key_of columns r.values) ∙ f)
-        ∙ and_false (not (c.row == r.number))
+        ∙ and-false (not (c.row == r.number))
 
 same_referenced : (db : Database) (c : Change) (fk : ForeignKey) (r : StoredRow) → InOrder db.rows → row_at db.rows c.row ≡ old_row c
     → ((c.table == fk.referenced) && holds_old_or_new fk.columns fk.key r c) ≡ false → none_null (key_of fk.columns r.values) ≡ true

@@ -1,5 +1,6 @@
 -- The first of a list is what find and position give.
 use Rattle.std.proofs.Common.{◌≡◌, ℕ, Bool, true, false, not, ◌||◌, List, [], ◌∷◌, ◌++◌, ◌∙◌, Some, None, refl, sym, ap, cond, length, ◌+◌, suc, ◌<◌, nat_lt, find, position, slice_get, arith}
+use Rattle.std.proofs.lemmas.Bool.{or_parts}
 use Rattle.std.proofs.lemmas.Bool.Decides.{nat_tests}
 use Rattle.std.specs.List.{list_any, position_or_len}
 use Rattle.iv_laws_naming.specs.Naming.{IsFirst, NonePasses}
@@ -32,15 +33,11 @@ pub search : {X : Type 0} (p : X → Bool) (xs : List X) → Search p xs
 search p [] = nothing refl
 search p (y ∷ ys) = search_more p y ys (p y) refl (search p ys)
 
-pub neither : (a b : Bool) → (a || b) ≡ false → (a ≡ false) × (b ≡ false)
-neither true b h = cc
-neither false b h = (refl, h)
-
 place_split : {X : Type 0} (p : X → Bool) (before : List X) (x : X) (after : List X) → p x ≡ true → list_any p before ≡ false
     → position_or_len p (before ++ x ∷ after) ≡ length before
 place_split p [] x after h n = ap (λ b. cond (not b) (1 + position_or_len p after) 0) h
 place_split p (y ∷ ys) x after h n =
-    let both = neither (p y) (list_any p ys) n in
+    let both = or_parts (p y) (list_any p ys) n in
     let one : 1 + length ys ≡ suc (length ys) = omega arith in
     ap (λ b. cond (not b) (1 + position_or_len p (ys ++ x ∷ after)) 0) both.0 ∙ ap (λ n. 1 + n) (place_split p ys x after h both.1) ∙ one
 
@@ -61,7 +58,7 @@ find_split : {X : Type 0} (p : X → Bool) (before : List X) (x : X) (after : Li
     → find p (before ++ x ∷ after) ≡ Some x
 find_split p [] x after h n = ap (λ b. cond b (Some x) (find p after)) h
 find_split p (y ∷ ys) x after h n =
-    let both = neither (p y) (list_any p ys) n in
+    let both = or_parts (p y) (list_any p ys) n in
     ap (λ b. cond b (Some y) (find p (ys ++ x ∷ after))) both.0 ∙ find_split p ys x after h both.1
 
 get_split : {X : Type 0} (before : List X) (x : X) (after : List X) → slice_get (before ++ x ∷ after) (length before) ≡ Some x
@@ -81,7 +78,7 @@ first_there p xs i x f = ap (λ l. slice_get l i) f.split ∙ ap (λ n. slice_ge
 no_place : {X : Type 0} (p : X → Bool) (xs : List X) → list_any p xs ≡ false → position_or_len p xs ≡ length xs
 no_place p [] n = refl
 no_place p (y ∷ ys) n =
-    let both = neither (p y) (list_any p ys) n in
+    let both = or_parts (p y) (list_any p ys) n in
     let one : 1 + length ys ≡ suc (length ys) = omega arith in
     ap (λ b. cond (not b) (1 + position_or_len p ys) 0) both.0 ∙ ap (λ n. 1 + n) (no_place p ys both.1) ∙ one
 
@@ -96,7 +93,7 @@ none_position p xs n =
 pub none_found : {X : Type 0} (p : X → Bool) (xs : List X) → list_any p xs ≡ false → find p xs ≡ None
 none_found p [] n = refl
 none_found p (y ∷ ys) n =
-    let both = neither (p y) (list_any p ys) n in
+    let both = or_parts (p y) (list_any p ys) n in
     ap (λ b. cond b (Some y) (find p ys)) both.0 ∙ none_found p ys both.1
 
 -- where one passes, some does

@@ -1,5 +1,7 @@
 -- What the look-ups of resolution find is what names name.
 use Rattle.std.proofs.Common.{◌≡◌, ℕ, Bool, true, false, ◌&&◌, List, [], ◌∷◌, ◌++◌, ◌∙◌, Option, Some, None, refl, sym, ap, if◌then◌else◌, length, ◌+◌, suc, find, slice_get, subst, option_map, unwrap_or, arith}
+use Rattle.std.proofs.lemmas.Option.{same_Some}
+use Rattle.std.proofs.lemmas.Bool.{or_parts, and_parts}
 use Rattle.std.specs.List.{list_any}
 use Rattle.std.specs.Option.{option_or}
 use Rattle.std.specs.Str.{bytes_eq}
@@ -12,11 +14,7 @@ use Rattle.iv_resolution.specs.Scopes.{NamedColumn, NamedRange, NamedTable, Name
 use Rattle.iv_resolution.specs.Triggers.{variable_named}
 use Rattle.iv_laws_naming.specs.Naming.{IsFirst, NonePasses, column_is_called, offers, NamesAlone, range_is_called, NamesQualified, table_is_called, transition_is_called, created_is_called, NamesSource, transition, created, stored, NamesTarget, NamesVariable}
 use Rattle.iv_laws_naming.specs.Laws.{Finds, ColumnsAreFound, SourcesAreFound, TargetsAreFound, VariablesAreFound}
-use Rattle.iv_laws_naming.proofs.Firsts.{Search, nothing, something, search, neither, first_position, first_found, first_there, none_position, none_found}
-
--- what is found is one thing
-some_is : {X : Type 0} (x y : X) → Some x ≡ Some y → x ≡ y
-some_is {X = X} x y h = ap (λ (o : Option X). unwrap_or o x) h
+use Rattle.iv_laws_naming.proofs.Firsts.{Search, nothing, something, search, first_position, first_found, first_there, none_position, none_found}
 
 no_some : {X : Type 0} (x : X) (P : Type 0) → None ≡ Some x → P
 no_some x P h = cc
@@ -32,7 +30,7 @@ targets tables name = record {
     sound_by : (i : ℕ) → table_place tables name ≡ Some i → Search (table_is_called name) tables → NamesTarget tables name i
     sound_by i h (nothing n) = no_some i (NamesTarget tables name i) (sym (none_position (table_is_called name) tables n) ∙ h)
     sound_by i h (something j t f) =
-        (t, subst (λ k. IsFirst (table_is_called name) tables k t) (some_is j i (sym (first_position (table_is_called name) tables j t f) ∙ h)) f)
+        (t, subst (λ k. IsFirst (table_is_called name) tables k t) (same_Some j i (sym (first_position (table_is_called name) tables j t f) ∙ h)) f)
 
 -- ---- row variables
 
@@ -49,7 +47,7 @@ variables_found variables name = record {
       place = j;
       variable = r;
       first = f;
-      is = some_is o r.origin (sym h ∙ ap (option_map (λ (r : NamedRange). r.origin)) (first_found (range_is_called name) variables j r f));
+      is = same_Some o r.origin (sym h ∙ ap (option_map (λ (r : NamedRange). r.origin)) (first_found (range_is_called name) variables j r f));
     }
 
 -- ---- columns
@@ -75,10 +73,6 @@ found_none r outward name n =
 
 -- ---- a name alone
 
-both : (a b : Bool) → (a && b) ≡ true → (a ≡ true) × (b ≡ true)
-both true b h = (refl, h)
-both false b h = cc
-
 offers_nothing : (y : NamedRange) (outward : ℕ) (name : List ℕ) → offers name y ≡ false → (if is_rows y then found_in y outward name else None) ≡ None
 offers_nothing y outward name h = by (is_rows y) refl
   where
@@ -94,7 +88,7 @@ skip_alone [] r after name k x h e n =
     ap (λ b. option_or (if b then found_in r (number k) name else None) (unqualified name (number (number k + 1)) after)) e
     ∙ ap (λ (o : Option Found). option_or o (unqualified name (number (number k + 1)) after)) (ap (λ m. found_in r (number m) name) (sym here) ∙ h)
 skip_alone (y ∷ ys) r after name k x h e n =
-    let parts = neither (offers name y) (list_any (offers name) ys) n in
+    let parts = or_parts (offers name y) (list_any (offers name) ys) n in
     let further : suc k + length ys ≡ k + suc (length ys) = omega arith in
     ap (λ (o : Option Found). option_or o (unqualified name (number (number k + 1)) (ys ++ r ∷ after))) (offers_nothing y (number k) name parts.0)
     ∙ ap (λ m. unqualified name m (ys ++ r ∷ after)) (next_number k)
@@ -103,7 +97,7 @@ skip_alone (y ∷ ys) r after name k x h e n =
 none_alone : (ranges : List NamedRange) (name : List ℕ) (outward : ℕ) → list_any (offers name) ranges ≡ false → unqualified name outward ranges ≡ None
 none_alone [] name outward n = refl
 none_alone (y ∷ ys) name outward n =
-    let parts = neither (offers name y) (list_any (offers name) ys) n in
+    let parts = or_parts (offers name y) (list_any (offers name) ys) n in
     ap (λ (o : Option Found). option_or o (unqualified name (number (outward + 1)) ys)) (offers_nothing y outward name parts.0)
     ∙ none_alone ys name (number (outward + 1)) parts.1
 
@@ -112,7 +106,7 @@ found_alone : (ranges : List NamedRange) (name : List ℕ) (i : ℕ) (r : NamedR
 found_alone ranges name i r x f h =
     let none : 0 + length f.before ≡ i = omega arith ∙ sym f.counted in
     ap (unqualified name 0) f.split
-    ∙ skip_alone f.before r f.after name 0 x (ap (λ m. found_in r (number m) name) none ∙ h) (both (is_rows r) (list_any (column_is_called name) r.columns) f.passed).0 f.none_before
+    ∙ skip_alone f.before r f.after name 0 x (ap (λ m. found_in r (number m) name) none ∙ h) (and_parts (is_rows r) (list_any (column_is_called name) r.columns) f.passed).0 f.none_before
 
 alone_complete : (ranges : List NamedRange) (name : List ℕ) (x : Found) → NamesAlone ranges name x → unqualified name 0 ranges ≡ Some x
 alone_complete ranges name x n =
@@ -133,14 +127,14 @@ alone_sound ranges name x h = by (search (offers name) ranges)
         place = place;
         column = column;
         first = g;
-        is = some_is x _ (sym h ∙ found_alone ranges name i r _ f (found_here r i name place column g));
+        is = same_Some x _ (sym h ∙ found_alone ranges name i r _ f (found_here r i name place column g));
       };
     }
 
     by : Search (offers name) ranges → NamesAlone ranges name x
     by (nothing n) = no_some x (NamesAlone ranges name x) (sym (none_alone ranges name 0 n) ∙ h)
     by (something i r f) =
-        of_column i r f (both (is_rows r) (list_any (column_is_called name) r.columns) f.passed).1 (search (column_is_called name) r.columns)
+        of_column i r f (and_parts (is_rows r) (list_any (column_is_called name) r.columns) f.passed).1 (search (column_is_called name) r.columns)
 
 -- ---- a qualified name
 
@@ -151,7 +145,7 @@ skip_qualified [] r after q name k e n =
     let here : k + 0 ≡ k = omega arith in
     ap (λ b. if b then found_in r (number k) name else qualified q name (number (number k + 1)) after) e ∙ ap (λ m. found_in r (number m) name) (sym here)
 skip_qualified (y ∷ ys) r after q name k e n =
-    let parts = neither (range_is_called q y) (list_any (range_is_called q) ys) n in
+    let parts = or_parts (range_is_called q y) (list_any (range_is_called q) ys) n in
     let further : suc k + length ys ≡ k + suc (length ys) = omega arith in
     ap (λ b. if b then found_in y (number k) name else qualified q name (number (number k + 1)) (ys ++ r ∷ after)) parts.0
     ∙ ap (λ m. qualified q name m (ys ++ r ∷ after)) (next_number k)
@@ -161,7 +155,7 @@ skip_qualified (y ∷ ys) r after q name k e n =
 none_qualified : (ranges : List NamedRange) (q name : List ℕ) (outward : ℕ) → list_any (range_is_called q) ranges ≡ false → qualified q name outward ranges ≡ None
 none_qualified [] q name outward n = refl
 none_qualified (y ∷ ys) q name outward n =
-    let parts = neither (range_is_called q y) (list_any (range_is_called q) ys) n in
+    let parts = or_parts (range_is_called q y) (list_any (range_is_called q) ys) n in
     ap (λ b. if b then found_in y outward name else qualified q name (number (outward + 1)) ys) parts.0 ∙ none_qualified ys q name (number (outward + 1)) parts.1
 
 in_range : (ranges : List NamedRange) (q name : List ℕ) (i : ℕ) (r : NamedRange) → IsFirst (range_is_called q) ranges i r
@@ -189,7 +183,7 @@ qualified_sound ranges q name x h = by (search (range_is_called q) ranges)
         place = place;
         column = column;
         first = g;
-        is = some_is x _ (sym h ∙ in_range ranges q name i r f ∙ found_here r i name place column g);
+        is = same_Some x _ (sym h ∙ in_range ranges q name i r f ∙ found_here r i name place column g);
       };
     }
 
@@ -269,14 +263,14 @@ source_sound names name x h = by (search (transition_is_called name) names.trans
     of_stored : NonePasses (transition_is_called name) names.transitions → created_is_called name names.created ≡ false
         → stored_source names.tables name ≡ Some x → Search (table_is_called name) names.tables → NamesSource names name x
     of_stored n c g (nothing m) = no_some x (NamesSource names name x) (sym (stored_none names.tables name m) ∙ g)
-    of_stored n c g (something i t f) = stored i t n c f (some_is x _ (sym g ∙ stored_is names.tables name i t f))
+    of_stored n c g (something i t f) = stored i t n c f (same_Some x _ (sym g ∙ stored_is names.tables name i t f))
 
     of_created : NonePasses (transition_is_called name) names.transitions → (o : Option NamedTable) → names.created ≡ o → (b : Bool) → created_is_called name o ≡ b
         → option_or (created_source names name) (stored_source names.tables name) ≡ Some x → NamesSource names name x
     of_created n None e true c g = cc
     of_created n (Some t) e true c g =
         created t n e c
-        (some_is x _
+        (same_Some x _
         (sym g ∙ ap (λ (o : Option NamedTable). option_or (created_by names name o) (stored_source names.tables name)) e
         ∙ ap (λ b. option_or (if b then Some (the_created names t) else None) (stored_source names.tables name)) c))
     of_created n o e false c g =
@@ -290,7 +284,7 @@ source_sound names name x h = by (search (transition_is_called name) names.trans
         (sym (ap (λ (o : Option Source). option_or o (option_or (created_source names name) (stored_source names.tables name))) (transition_none names name n)) ∙ h)
     by (something i t f) =
         transition i t f
-        (some_is x _
+        (same_Some x _
         (sym h ∙ ap (λ (o : Option Source). option_or o (option_or (created_source names name) (stored_source names.tables name))) (transition_is names name i t f)))
 
 pub sources : SourcesAreFound

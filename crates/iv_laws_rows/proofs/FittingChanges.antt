@@ -1,5 +1,7 @@
 -- A wave that fits does as it is applied, and so do the rows after it.
 use Rattle.std.proofs.Common.{◌≡◌, ℕ, ◌+◌, Bool, true, false, ◌&&◌, ◌||◌, if◌then◌else◌, List, [], ◌∷◌, ◌∙◌, Option, Some, None, is_none, is_some, Ok, refl, sym, ap, filter, slice_get, slice_set}
+use mathlib.Core.Bool.{or-true}
+use Rattle.std.proofs.lemmas.Bool.{and_from, and_parts}
 use Rattle.std.specs.List.{cons_option}
 use Rattle.iv_laws_rows.specs.Words.{Value, StoredRow, Change, Table, Cause, Refusal, BodyStatement, Trigger}
 use Rattle.iv_laws_rows.specs.Words.body
@@ -15,7 +17,6 @@ use Rattle.iv_laws_levels.proofs.Chains.{not_ok, ok_same, step_of, ok_running}
 use Rattle.iv_laws_levels.proofs.Settling.{applied_is}
 use Rattle.iv_laws_levels.proofs.AppliedRows.{row_of, news}
 use Rattle.iv_laws_levels.proofs.NumberedRows.{every_after}
-use Rattle.iv_laws_fitting.proofs.Pointwise.{two, parts_of}
 use Rattle.iv_laws_rows.specs.RowFits.{side_fits, has_side, change_fits, changes_fit, row_fits, rows_fit}
 use Rattle.iv_laws_rows.specs.Laws.{NumberedChangesFit, TriggeredChangesFit, AppliedWavesFit, RowsAfterFit}
 use Rattle.iv_laws_fitting.specs.PlanShapes.{is_there}
@@ -32,24 +33,20 @@ pub record Fitting (tables : List Table) (c : Change) : Type 0 where
 
 pub fitting : (tables : List Table) (c : Change) → change_fits tables c ≡ true → Fitting tables c
 fitting tables c h =
-    let p = parts_of (is_there tables c.table) (has_side c && (side_fits tables c.table c.old && side_fits tables c.table c.new)) h in
-    let q = parts_of (has_side c) (side_fits tables c.table c.old && side_fits tables c.table c.new) p.1 in
-    let r = parts_of (side_fits tables c.table c.old) (side_fits tables c.table c.new) q.1 in
+    let p = and_parts (is_there tables c.table) (has_side c && (side_fits tables c.table c.old && side_fits tables c.table c.new)) h in
+    let q = and_parts (has_side c) (side_fits tables c.table c.old && side_fits tables c.table c.new) p.1 in
+    let r = and_parts (side_fits tables c.table c.old) (side_fits tables c.table c.new) q.1 in
     record { there = p.0; side = q.0; old = r.0; new = r.1 }
-
-either_true : (a : Bool) → (a || true) ≡ true
-either_true true = refl
-either_true false = refl
 
 -- ---- numbers
 
 pub numbered_changes_fit : NumberedChangesFit
 numbered_changes_fit tables next [] h = refl
 numbered_changes_fit tables next (c ∷ changes) h =
-    let parts = parts_of (change_fits tables c) (changes_fit tables changes) h in
+    let parts = and_parts (change_fits tables c) (changes_fit tables changes) h in
     elim (is_none c.old) as (λ b. changes_fit tables (if b then record c { row = next } ∷ with_numbers (next + 1) changes else c ∷ with_numbers next changes) ≡ true) [
-      | true ↦ two _ _ parts.0 (numbered_changes_fit tables (next + 1) changes parts.1)
-      | false ↦ two _ _ parts.0 (numbered_changes_fit tables next changes parts.1)
+      | true ↦ and_from _ _ parts.0 (numbered_changes_fit tables (next + 1) changes parts.1)
+      | false ↦ and_from _ _ parts.0 (numbered_changes_fit tables next changes parts.1)
     ]
 
 -- ---- BEFORE triggers
@@ -63,7 +60,7 @@ new_value_fits tables c column v h g = by_new c.new refl
     by_new None e = h
     by_new (Some row) e =
         let f = fitting tables c h in
-        two _ _ f.there (two _ _ (either_true (is_some c.old)) (two _ _ f.old (set_fits (slice_get tables c.table) row (column, v) (ap (side_fits tables c.table) (sym e) ∙ f.new) g)))
+        and_from _ _ f.there (and_from _ _ (or-true (is_some c.old)) (and_from _ _ f.old (set_fits (slice_get tables c.table) row (column, v) (ap (side_fits tables c.table) (sym e) ∙ f.new) g)))
 
 pub statement_fits : (w : Context) (rows : List StoredRow) (t : Trigger) (place : ℕ) (statement : BodyStatement) (c d : Change)
     → change_after_statement w rows t place statement c ≡ Ok d → change_fits w.schema.tables c ≡ true → change_fits w.schema.tables d ≡ true
@@ -100,11 +97,11 @@ pub each_trigger_fits : (w : Context) (rows : List StoredRow) (t : Trigger) (cha
     → changes_fit w.schema.tables changes ≡ true → changes_fit w.schema.tables out ≡ true
 each_trigger_fits w rows t [] out e h = ap (changes_fit w.schema.tables) (sym (ok_same {E = Refusal} [] out e))
 each_trigger_fits w rows t (c ∷ changes) out e h =
-    let parts = parts_of (change_fits w.schema.tables c) (changes_fit w.schema.tables changes) h in
+    let parts = and_parts (change_fits w.schema.tables c) (changes_fit w.schema.tables changes) h in
     let one = step_of (change_after_trigger w rows t c) _ out e in
     let more = step_of (each (change_after_trigger w rows t) changes) _ out one.2 in
     ap (changes_fit w.schema.tables) (sym (ok_same {E = Refusal} (one.0 ∷ more.0) out more.2))
-    ∙ two _ _ (trigger_fits w rows t c one.0 one.1 parts.0) (each_trigger_fits w rows t changes more.0 more.1 parts.1)
+    ∙ and_from _ _ (trigger_fits w rows t c one.0 one.1 parts.0) (each_trigger_fits w rows t changes more.0 more.1 parts.1)
 
 pub triggered_changes_fit : TriggeredChangesFit
 triggered_changes_fit w rows [] changes out h e = ap (changes_fit w.schema.tables) (sym (ok_same {E = Refusal} changes out e)) ∙ h
@@ -121,16 +118,16 @@ applied_waves_fit w db budget wave out h e =
 
 pub every_fits : (tables : List Table) (rows : List StoredRow) → rows_fit tables rows ≡ true → Every (λ r. row_fits tables r ≡ true) rows
 every_fits tables [] h = tt
-every_fits tables (r ∷ rows) h = let parts = parts_of (row_fits tables r) (rows_fit tables rows) h in (parts.0, every_fits tables rows parts.1)
+every_fits tables (r ∷ rows) h = let parts = and_parts (row_fits tables r) (rows_fit tables rows) h in (parts.0, every_fits tables rows parts.1)
 
 pub from_every : (tables : List Table) (rows : List StoredRow) → Every (λ r. row_fits tables r ≡ true) rows → rows_fit tables rows ≡ true
 from_every tables [] h = refl
-from_every tables (r ∷ rows) h = two _ _ h.0 (from_every tables rows h.1)
+from_every tables (r ∷ rows) h = and_from _ _ h.0 (from_every tables rows h.1)
 
 news_fit : (tables : List Table) (changes : List Change) → changes_fit tables changes ≡ true → Every (λ r. row_fits tables r ≡ true) (news changes)
 news_fit tables [] h = tt
 news_fit tables (c ∷ changes) h =
-    let parts = parts_of (change_fits tables c) (changes_fit tables changes) h in
+    let parts = and_parts (change_fits tables c) (changes_fit tables changes) h in
     by c.new (fitting tables c parts.0).new (news_fit tables changes parts.1)
   where
     by : (new : Option (List Value)) → side_fits tables c.table new ≡ true → Every (λ r. row_fits tables r ≡ true) (news changes)

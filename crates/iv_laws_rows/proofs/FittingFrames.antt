@@ -1,7 +1,7 @@
 -- What the bodies of triggers see has the kinds of their shapes, so their statements fit.
 use Rattle.std.proofs.Common.{◌≡◌, ℕ, nat_lt, Bool, true, false, not, ◌&&◌, ◌||◌, ◌==◌, if◌then◌else◌, List, [], ◌∷◌, ◌∙◌, Option, Some, None, is_none, is_some, refl, sym, ap, subst, length, map, filter, slice_get, inl, inr}
 use Rattle.std.specs.List.{list_all, cons_option}
-use Rattle.std.proofs.lemmas.Bool.{eqb-true}
+use Rattle.std.proofs.lemmas.Bool.{eqb-true, and_from, and_parts}
 use Rattle.iv_laws_rows.specs.Words.{Value, StoredRow, Change, TriggerEvent, Table, DataStatement, Trigger}
 use Rattle.iv_laws_rows.specs.Words.body
 use Rattle.iv_value.specs.declared.value.Value.TheVariants.{Null, Int, Text}
@@ -23,7 +23,7 @@ use Rattle.iv_machine.specs.BeforeTriggers.{is_before, for_each_row, same_event,
 use Rattle.iv_machine.specs.Levels.{Firing, row_firing, statement_firing, firings_of, transitions_of, firings}
 use Rattle.iv_store.specs.Stores.{is_fit, fits_columns, fits_table}
 use Rattle.iv_laws_fitting.specs.PlanShapes.{table_kinds, plain_shape, is_there, old_kinds, new_kinds, trigger_shape, action_suits, trigger_suits}
-use Rattle.iv_laws_fitting.proofs.Pointwise.{two, parts_of, all_at}
+use Rattle.iv_laws_fitting.proofs.Pointwise.{all_at}
 use Rattle.iv_laws_levels.proofs.Members.{In, of_filter, of_map, of_flat_map, all_in}
 use Rattle.iv_laws_rows.specs.RowFits.{side_fits, change_fits, changes_fit, wave_fits, row_fits, rows_fit, BodyFits}
 use Rattle.iv_laws_rows.specs.Laws.{PlainStatementsFit, RowFiringsFit, StatementFiringsFit, FiringsFit}
@@ -46,7 +46,7 @@ columns_suit [] [] h = refl
 columns_suit [] (v ∷ vs) h = cc
 columns_suit (c ∷ cs) [] h = cc
 columns_suit (c ∷ cs) (v ∷ vs) h =
-    let parts = parts_of (is_fit (fit_of v c.kind)) (fits_columns cs vs) h in two _ _ (sorted c.kind v parts.0) (columns_suit cs vs parts.1)
+    let parts = and_parts (is_fit (fit_of v c.kind)) (fits_columns cs vs) h in and_from _ _ (sorted c.kind v parts.0) (columns_suit cs vs parts.1)
 
 values_suit_kinds : (o : Option Table) (values : List Value) → table_fits o values ≡ true → row_suits (kinds_in o) values ≡ true
 values_suit_kinds None values h = cc
@@ -58,7 +58,7 @@ values_have_kinds tables table values h = values_suit_kinds (slice_get tables ta
 pub table_rows_suit : (tables : List Table) (t : ℕ) (rows : List StoredRow) → rows_fit tables rows ≡ true → AllSuit (table_kinds tables t) (contents (table_rows rows t))
 table_rows_suit tables t [] h = tt
 table_rows_suit tables t (r ∷ rows) h =
-    let parts = parts_of (row_fits tables r) (rows_fit tables rows) h in by (r.table == t) refl parts.0 (table_rows_suit tables t rows parts.1)
+    let parts = and_parts (row_fits tables r) (rows_fit tables rows) h in by (r.table == t) refl parts.0 (table_rows_suit tables t rows parts.1)
   where
     by : (b : Bool) → (r.table == t) ≡ b → row_fits tables r ≡ true → AllSuit (table_kinds tables t) (contents (table_rows rows t))
         → AllSuit (table_kinds tables t) (contents (if b then r ∷ table_rows rows t else table_rows rows t))
@@ -71,7 +71,7 @@ abbrev pub all_on : Trigger → List Change → Bool
 all_on t changes = list_all (λ x. is_on x.table (event_of_change x) t) changes
 
 pub on_parts : (t : Trigger) (c : Change) → is_on c.table (event_of_change c) t ≡ true → (t.table ≡ c.table) × (same_event t.event (event_of_change c) ≡ true)
-on_parts t c h = let p = parts_of (t.table == c.table) (same_event t.event (event_of_change c)) h in (eqb-true t.table c.table p.0, p.1)
+on_parts t c h = let p = and_parts (t.table == c.table) (same_event t.event (event_of_change c)) h in (eqb-true t.table c.table p.0, p.1)
 
 side_suits : (tables : List Table) (t : Trigger) (c : Change) (side : Side) → change_fits tables c ≡ true → t.table ≡ c.table → side_fits tables t.table (side_of side c) ≡ true
 side_suits tables t c Old h e = ap (λ n. side_fits tables n c.old) e ∙ (fitting tables c h).old
@@ -81,8 +81,8 @@ pub transitions_suit : (tables : List Table) (t : Trigger) (side : Side) (change
     → AllSuit (table_kinds tables t.table) (transition_rows side changes)
 transitions_suit tables t side [] h g = tt
 transitions_suit tables t side (c ∷ changes) h g =
-    let fit = parts_of (change_fits tables c) (changes_fit tables changes) h in
-    let on = parts_of (is_on c.table (event_of_change c) t) (all_on t changes) g in
+    let fit = and_parts (change_fits tables c) (changes_fit tables changes) h in
+    let on = and_parts (is_on c.table (event_of_change c) t) (all_on t changes) g in
     by (side_of side c) (side_suits tables t c side fit.0 (on_parts t c on.0).0) (transitions_suit tables t side changes fit.1 on.1)
   where
     by : (o : Option (List Value)) → side_fits tables t.table o ≡ true → AllSuit (table_kinds tables t.table) (transition_rows side changes)
@@ -145,8 +145,8 @@ Sees tables t frame = (rows : List StoredRow) → rows_fit tables rows ≡ true 
 pub body_fits : (tables : List Table) (t : Trigger) (frame : Frame) → trigger_suits tables t ≡ true → Sees tables t frame → BodyFits tables frame t.body
 body_fits tables t frame s sees place d h =
     let kinds = table_kinds tables t.table in
-    let p = parts_of (is_there tables t.table) (suits (shape_of tables t) t.when && list_all (action_suits tables (shape_of tables t) kinds) t.body) s in
-    let q = parts_of (suits (shape_of tables t) t.when) (list_all (action_suits tables (shape_of tables t) kinds) t.body) p.1 in
+    let p = and_parts (is_there tables t.table) (suits (shape_of tables t) t.when && list_all (action_suits tables (shape_of tables t) kinds) t.body) s in
+    let q = and_parts (suits (shape_of tables t) t.when) (list_all (action_suits tables (shape_of tables t) kinds) t.body) p.1 in
     record {
       shape = shape_of tables t;
       outside = refl;

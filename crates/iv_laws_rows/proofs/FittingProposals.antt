@@ -1,5 +1,6 @@
 -- What a statement that fits proposes fits.
 use Rattle.std.proofs.Common.{◌≡◌, ℕ, zero, suc, Bool, true, ◌&&◌, ◌==◌, List, [], ◌∷◌, ◌∙◌, Option, Some, None, Result, Ok, refl, sym, ap, map, length, slice_get}
+use Rattle.std.proofs.lemmas.Bool.{and_from, and_parts}
 use Rattle.std.specs.List.{list_all}
 use Rattle.iv_value.specs.declared.value.Kind.{Kind}
 use Rattle.iv_laws_rows.specs.Words.{Value, StoredRow, Change, Table, Cause, DataStatement, Database}
@@ -21,7 +22,7 @@ use Rattle.iv_machine.specs.Context.{Context, each}
 use Rattle.iv_machine.specs.Proposals.{where_true, matching_rows, outputs_of, stored_values, values_by_column, row_of_values, insertion, insertion_of, proposed_insertions, update_of, deletion, with_columns, defaults_of, proposed_changes}
 use Rattle.iv_store.specs.Stores.{fits_table}
 use Rattle.iv_laws_fitting.specs.PlanShapes.{kinds_of, table_kinds, is_there, is_range_there, table_suits, value_suits, values_suit, kind_suits, kinds_suit, target_kinds, outputs_suit, rows_suit, data_suits}
-use Rattle.iv_laws_fitting.proofs.Pointwise.{two, parts_of, all_at, all_by, made_of, mapped_length}
+use Rattle.iv_laws_fitting.proofs.Pointwise.{all_at, all_by, made_of, mapped_length}
 use Rattle.iv_laws_fitting.proofs.References.{kept_by}
 use Rattle.iv_laws_fitting.proofs.Running.{where_kept, range_suits_at}
 use Rattle.iv_laws_levels.proofs.Chains.{ok_same, step_of}
@@ -39,7 +40,7 @@ each_fits p f (x ∷ xs) changes h e =
     let one = step_of (f x) _ changes e in
     let more = step_of (each f xs) _ changes one.2 in
     ap (list_all p) (sym (ok_same {E = Cause} (one.0 ∷ more.0) changes more.2))
-    ∙ two _ _ (h zero x one.0 refl one.1) (each_fits p f xs more.0 (λ j. h (suc j)) more.1)
+    ∙ and_from _ _ (h zero x one.0 refl one.1) (each_fits p f xs more.0 (λ j. h (suc j)) more.1)
 
 -- ---- as many values as columns
 
@@ -47,19 +48,19 @@ same_lengths : (shape : Shape) (os : List (Option Kind)) (es : List Expr) → va
 same_lengths shape [] [] h = refl
 same_lengths shape [] (e ∷ es) h = cc
 same_lengths shape (o ∷ os) [] h = cc
-same_lengths shape (o ∷ os) (e ∷ es) h = ap suc (same_lengths shape os es (parts_of (value_suits shape o e) (values_suit shape os es) h).1)
+same_lengths shape (o ∷ os) (e ∷ es) h = ap suc (same_lengths shape os es (and_parts (value_suits shape o e) (values_suit shape os es) h).1)
 
 same_kinds_length : (os : List (Option Kind)) (own : List Kind) → kinds_suit os own ≡ true → length own ≡ length os
 same_kinds_length [] [] h = refl
 same_kinds_length [] (k ∷ ks) h = cc
 same_kinds_length (o ∷ os) [] h = cc
-same_kinds_length (o ∷ os) (k ∷ ks) h = ap suc (same_kinds_length os ks (parts_of (kind_suits o k) (kinds_suit os ks) h).1)
+same_kinds_length (o ∷ os) (k ∷ ks) h = ap suc (same_kinds_length os ks (and_parts (kind_suits o k) (kinds_suit os ks) h).1)
 
 row_length : (own : List Kind) (row : List Value) → row_suits own row ≡ true → length row ≡ length own
 row_length [] [] h = refl
 row_length [] (v ∷ vs) h = cc
 row_length (k ∷ ks) [] h = cc
-row_length (k ∷ ks) (v ∷ vs) h = ap suc (row_length ks vs (parts_of (of_sort (sort_of_kind k) v) (row_suits ks vs) h).1)
+row_length (k ∷ ks) (v ∷ vs) h = ap suc (row_length ks vs (and_parts (of_sort (sort_of_kind k) v) (row_suits ks vs) h).1)
 
 all_targets : (tables : List Table) (table : ℕ) (t : Table) → slice_get tables table ≡ Some t → length (target_kinds (table_kinds tables table) columns.All) ≡ length t.columns
 all_targets tables table t h =
@@ -76,7 +77,7 @@ inserted_fits : (context : Context) (table : ℕ) (listed : InsertColumns) (valu
 inserted_fits context table listed values c suit there l e =
     let pairs = step_of (stored_values context table (values_by_column listed values)) _ c e in
     ap (change_fits context.schema.tables) (sym (ok_same {E = Cause} (insertion table (row_of_values context.schema table listed pairs.0)) c pairs.2))
-    ∙ two _ _ there (by listed l pairs.0 pairs.1)
+    ∙ and_from _ _ there (by listed l pairs.0 pairs.1)
   where
     by : (cs : InsertColumns) → length values ≡ length (target_kinds (table_kinds context.schema.tables table) cs) → (out : List (ℕ × Value))
         → stored_values context table (values_by_column cs values) ≡ Ok out → fits_table context.schema.tables table (row_of_values context.schema table cs out) ≡ true
@@ -108,8 +109,8 @@ insertions_fit context s shape table listed (rows.Values tuples) changes suit h 
 insertions_fit context s shape table listed (rows.Query l source filter) changes suit h there w e =
     let os = target_kinds (table_kinds context.schema.tables table) listed in
     let own = range_kinds shape source in
-    let p = parts_of (is_range_there context.schema.tables source) (outputs_suit (shape_within shape own) own os l && suits (shape_within shape own) filter) w in
-    let q = parts_of (outputs_suit (shape_within shape own) own os l) (suits (shape_within shape own) filter) p.1 in
+    let p = and_parts (is_range_there context.schema.tables source) (outputs_suit (shape_within shape own) own os l && suits (shape_within shape own) filter) w in
+    let q = and_parts (outputs_suit (shape_within shape own) own os l) (suits (shape_within shape own) filter) p.1 in
     let found = step_of (where_true (λ row. row) s filter (range_rows s source)) _ changes e in
     each_fits (change_fits context.schema.tables) (λ row. insertion_of context table listed (outputs_of s l row)) found.0 changes
     (λ j row c g f.
@@ -134,12 +135,12 @@ updated_fits context s settings r c h e =
     let pairs = step_of (stored_values context r.table (map setting_of settings)) _ c e in
     ap (change_fits context.schema.tables)
     (sym (ok_same {E = Cause} (record { table = r.table; row = r.number; old = Some r.values; new = Some (with_columns r.values pairs.0) }) c pairs.2))
-    ∙ two _ _ (fits_there context.schema.tables r.table r.values h)
-    (two _ _ h
+    ∙ and_from _ _ (fits_there context.schema.tables r.table r.values h)
+    (and_from _ _ h
     (with_fits (slice_get context.schema.tables r.table) r.values pairs.0 h (all_stored context r.table (map setting_of settings) pairs.0 pairs.1)))
 
 deleted_fits : (tables : List Table) (r : StoredRow) → row_fits tables r ≡ true → change_fits tables (deletion r) ≡ true
-deleted_fits tables r h = two _ _ (fits_there tables r.table r.values h) (two _ _ h refl)
+deleted_fits tables r h = and_from _ _ (fits_there tables r.table r.values h) (and_from _ _ h refl)
 
 -- ---- the statement
 
@@ -148,7 +149,7 @@ changes_proposed_fit : (context : Context) (db : Database) (frame : Frame) (shap
     → HasShape (scope_of frame db.rows) shape → data_suits context.schema.tables shape d ≡ true
     → proposed_changes context db frame d ≡ Ok changes → changes_fit context.schema.tables changes ≡ true
 changes_proposed_fit context db frame shape (Insert t listed given) changes suit h has w e =
-    let p = parts_of (is_there context.schema.tables t) (rows_suit context.schema.tables shape (target_kinds (table_kinds context.schema.tables t) listed) given) w in
+    let p = and_parts (is_there context.schema.tables t) (rows_suit context.schema.tables shape (target_kinds (table_kinds context.schema.tables t) listed) given) w in
     insertions_fit context (scope_of frame db.rows) shape t listed given changes suit has p.0 p.1 e
 changes_proposed_fit context db frame shape (Update t settings filter) changes suit h has w e =
     let s = scope_of frame db.rows in

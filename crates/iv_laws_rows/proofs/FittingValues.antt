@@ -1,5 +1,6 @@
 -- Values that fit their columns: one that is stored, some that are set, and the defaults of a table.
 use Rattle.std.proofs.Common.{◌≡◌, ℕ, zero, suc, ◌+◌, nat_lt, nat_le, Bool, true, false, not, ◌&&◌, List, [], ◌∷◌, ◌∙◌, Option, Some, None, is_some, Result, Ok, Err, refl, sym, ap, map, length, slice_get, slice_set, arith}
+use Rattle.std.proofs.lemmas.Bool.{and_from, and_parts}
 use Rattle.std.specs.List.{list_all, enumerate_from}
 use Rattle.std.proofs.lemmas.Bool.Decides.{nat_tests}
 use Rattle.iv_laws_rows.specs.Words.{Value, Table, Cause}
@@ -18,7 +19,7 @@ use Rattle.iv_machine.specs.Context.{Context}
 use Rattle.iv_machine.specs.Proposals.{with_cause, column_at, value_for_column, stored_value, stored_values, with_columns, defaults_of}
 use Rattle.iv_store.specs.Stores.{is_fit, fits_columns, fits_table}
 use Rattle.iv_laws_fitting.specs.PlanShapes.{is_there, default_suits, table_suits}
-use Rattle.iv_laws_fitting.proofs.Pointwise.{two, parts_of, all_at}
+use Rattle.iv_laws_fitting.proofs.Pointwise.{all_at}
 use Rattle.iv_laws_fitting.proofs.Targets.{place_is_there}
 use Rattle.iv_laws_levels.proofs.Chains.{not_ok, ok_same, step_of}
 
@@ -77,9 +78,9 @@ stored_fits context table column evaluated v e =
 columns_set : (cs : List Column) (vs : List Value) (j : ℕ) (v : Value) → fits_columns cs vs ≡ true → column_fits (slice_get cs j) v ≡ true → fits_columns cs (slice_set vs j v) ≡ true
 columns_set [] vs j v h g = cc
 columns_set (c ∷ cs) [] j v h g = cc
-columns_set (c ∷ cs) (x ∷ vs) zero v h g = two _ _ g (parts_of (is_fit (fit_of x c.kind)) (fits_columns cs vs) h).1
+columns_set (c ∷ cs) (x ∷ vs) zero v h g = and_from _ _ g (and_parts (is_fit (fit_of x c.kind)) (fits_columns cs vs) h).1
 columns_set (c ∷ cs) (x ∷ vs) (suc j) v h g =
-    let parts = parts_of (is_fit (fit_of x c.kind)) (fits_columns cs vs) h in two _ _ parts.0 (columns_set cs vs j v parts.1 g)
+    let parts = and_parts (is_fit (fit_of x c.kind)) (fits_columns cs vs) h in and_from _ _ parts.0 (columns_set cs vs j v parts.1 g)
 
 pub set_fits : (o : Option Table) (values : List Value) (p : ℕ × Value) → table_fits o values ≡ true → pair_fits o p ≡ true → table_fits o (slice_set values p.0 p.1) ≡ true
 set_fits None values p h g = cc
@@ -88,7 +89,7 @@ set_fits (Some t) values p h g = columns_set t.columns values p.0 p.1 h g
 pub with_fits : (o : Option Table) (values : List Value) (pairs : List (ℕ × Value)) → table_fits o values ≡ true → list_all (pair_fits o) pairs ≡ true → table_fits o (with_columns values pairs) ≡ true
 with_fits o values [] h g = h
 with_fits o values (p ∷ pairs) h g =
-    let parts = parts_of (pair_fits o p) (list_all (pair_fits o) pairs) g in
+    let parts = and_parts (pair_fits o p) (list_all (pair_fits o) pairs) g in
     with_fits o (slice_set values p.0 p.1) pairs (set_fits o values p h parts.0) parts.1
 
 abbrev pub store_pair : Context → ℕ → ℕ × Result Value ExprFault → Result (ℕ × Value) Cause
@@ -108,7 +109,7 @@ all_stored context table (p ∷ pairs) out e =
     let one = step_of (store_pair context table p) _ out e in
     let more = step_of (stored_values context table pairs) _ out one.2 in
     ap (list_all (pair_fits (slice_get context.schema.tables table))) (sym (ok_same {E = Cause} (one.0 ∷ more.0) out more.2))
-    ∙ two _ _ (pair_stored context table p one.0 one.1).1 (all_stored context table pairs more.0 more.1)
+    ∙ and_from _ _ (pair_stored context table p one.0 one.1).1 (all_stored context table pairs more.0 more.1)
 
 -- values for all columns from this place on
 values_in_order : (context : Context) (table n : ℕ) (values : List (Result Value ExprFault)) (out : List (ℕ × Value)) (cs : List Column)
@@ -126,7 +127,7 @@ values_in_order context table n (r ∷ rs) out (c ∷ cs) e at l =
     let column : column_at context.schema table one.0.0 ≡ Some c = ap (column_at context.schema table) (sym first) ∙ at zero c refl in
     let shorter : length rs ≡ length cs = omega (arith, l) in
     ap (λ (x : List (ℕ × Value)). fits_columns (c ∷ cs) (map (λ p. p.1) x)) (sym (ok_same {E = Cause} (one.0 ∷ more.0) out more.2))
-    ∙ two _ _ (ap (λ (o : Option Column). column_fits o one.0.1) (sym column) ∙ stored.1)
+    ∙ and_from _ _ (ap (λ (o : Option Column). column_fits o one.0.1) (sym column) ∙ stored.1)
     (values_in_order context table (n + 1) rs more.0 cs more.1
     (λ j d h. let further : n + 1 + j ≡ n + suc j = omega arith in ap (column_at context.schema table) further ∙ at (suc j) d h) shorter)
 
@@ -144,16 +145,16 @@ all_values_fit context table t values out there l e =
 
 defaults_in_order : (cs : List Column) → list_all default_suits cs ≡ true → fits_columns cs (map (λ c. c.default) cs) ≡ true
 defaults_in_order [] h = refl
-defaults_in_order (c ∷ cs) h = let parts = parts_of (default_suits c) (list_all default_suits cs) h in two _ _ parts.0 (defaults_in_order cs parts.1)
+defaults_in_order (c ∷ cs) h = let parts = and_parts (default_suits c) (list_all default_suits cs) h in and_from _ _ parts.0 (defaults_in_order cs parts.1)
 
 -- the defaults of a table that is there fit it
 pub defaults_fit : (schema : Schema) (table : ℕ) → list_all table_suits schema.tables ≡ true → is_there schema.tables table ≡ true → fits_table schema.tables table (defaults_of schema table) ≡ true
 defaults_fit schema table suit h =
     let there = there_at schema.tables table h in
     let t = there.0 in
-    let parts = parts_of (nat_le (length t.columns) MOST_COLUMNS) (list_all default_suits t.columns && not (comes_twice (map (λ (c : Column). c.name) t.columns)))
+    let parts = and_parts (nat_le (length t.columns) MOST_COLUMNS) (list_all default_suits t.columns && not (comes_twice (map (λ (c : Column). c.name) t.columns)))
     (all_at table_suits schema.tables suit table t there.1) in
-    let defaults = (parts_of (list_all default_suits t.columns) (not (comes_twice (map (λ (c : Column). c.name) t.columns))) parts.1).0 in
+    let defaults = (and_parts (list_all default_suits t.columns) (not (comes_twice (map (λ (c : Column). c.name) t.columns))) parts.1).0 in
     ap (λ (o : Option Table). table_fits o (elim o as (λ x. List Value) [ Some x ↦ map (λ c. c.default) x.columns | None ↦ [] ])) there.1
     ∙ defaults_in_order t.columns defaults
 
@@ -162,8 +163,8 @@ defaults_fit schema table suit h =
 columns_at : (cs : List Column) (vs : List Value) (j : ℕ) → fits_columns cs vs ≡ true → is_some (slice_get cs j) ≡ true → column_fits (slice_get cs j) (value_at vs j) ≡ true
 columns_at [] vs j h g = cc
 columns_at (c ∷ cs) [] j h g = cc
-columns_at (c ∷ cs) (v ∷ vs) zero h g = (parts_of (is_fit (fit_of v c.kind)) (fits_columns cs vs) h).0
-columns_at (c ∷ cs) (v ∷ vs) (suc j) h g = columns_at cs vs j (parts_of (is_fit (fit_of v c.kind)) (fits_columns cs vs) h).1 g
+columns_at (c ∷ cs) (v ∷ vs) zero h g = (and_parts (is_fit (fit_of v c.kind)) (fits_columns cs vs) h).0
+columns_at (c ∷ cs) (v ∷ vs) (suc j) h g = columns_at cs vs j (and_parts (is_fit (fit_of v c.kind)) (fits_columns cs vs) h).1 g
 
 -- a value of a row that fits fits its column
 pub value_at_fits : (o : Option Table) (values : List Value) (place : ℕ) → table_fits o values ≡ true → is_some (column_in o place) ≡ true → pair_fits o (place, value_at values place) ≡ true

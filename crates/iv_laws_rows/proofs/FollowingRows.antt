@@ -1,7 +1,7 @@
 -- What follows a wave fits: CASCADE copies a key between columns of one kind, NULL fits each, and so do defaults.
 use Rattle.std.proofs.Common.{◌≡◌, ℕ, Bool, true, false, ◌&&◌, if◌then◌else◌, ◌==◌, List, [], ◌∷◌, ◌∙◌, inl, inr, Option, Some, None, is_some, Ok, refl, sym, ap, subst, map, length, filter, filter_map, flat_map, zip, slice_get, option_map, arith}
 use Rattle.std.specs.List.{list_any, list_all, enumerate_from}
-use Rattle.std.proofs.lemmas.Bool.{eqb-true}
+use Rattle.std.proofs.lemmas.Bool.{eqb-true, and_from, and_parts}
 use Rattle.std.proofs.lemmas.List.Folds.{list_all-append}
 use Rattle.iv_laws_rows.specs.Words.{Value, StoredRow, Change, Table, Database}
 use Rattle.iv_value.specs.declared.value.Value.TheVariants.{Null}
@@ -27,11 +27,11 @@ use Rattle.iv_machine.specs.ReferentialActions.{foreign_key, Reference, referenc
 use Rattle.iv_store.specs.Stores.{is_fit, fits_table}
 use Rattle.iv_laws_fitting.specs.PlanShapes.{kinds_of, table_kinds, is_there}
 use Rattle.iv_laws_fitting.specs.ConstraintShapes.{same_kind, pair_suits, pairs_suit, rule_suits, constraint_suits, SchemaSuits}
-use Rattle.iv_laws_fitting.proofs.Pointwise.{two, parts_of, map_at}
+use Rattle.iv_laws_fitting.proofs.Pointwise.{map_at}
 use Rattle.iv_laws_levels.specs.RisingRows.{InOrder}
 use Rattle.iv_laws_levels.proofs.RowNumbers.{some_none, some_same}
 use Rattle.iv_laws_levels.proofs.AppliedRows.{rows_after_in_order}
-use Rattle.iv_laws_levels.proofs.NumberedRows.{parts_of as numbers_of}
+use Rattle.iv_laws_levels.proofs.NumberedRows.{and_parts as numbers_of}
 use Rattle.iv_laws_levels.proofs.Readying.{followed_is}
 use Rattle.iv_laws_levels.proofs.Members.{In, of_filter, of_filter_map, of_flat_map, of_map, of_first, all_in, in_rows, rows_in}
 use Rattle.iv_laws_rows.specs.RowFits.{side_fits, change_fits, changes_fit, wave_fits, row_fits, rows_fit}
@@ -57,7 +57,7 @@ one_kind (kind.Varchar m) (kind.Varchar n) h = ap (λ k. kind.Varchar k) (eqb-tr
 one_kind kind.Integer (kind.Varchar n) h = cc
 one_kind (kind.Varchar m) kind.Integer h = cc
 
--- two columns that are there, of one kind
+-- and_from columns that are there, of one kind
 pub record Paired (o other : Option Table) (place place' : ℕ) : Type 0 where
   pub mine : Column
   pub theirs : Column
@@ -100,7 +100,7 @@ keys_pair : (o other : Option Table) (columns key : List ℕ) → length columns
 keys_pair o other [] key l h = tt
 keys_pair o other (c ∷ columns) [] l h = cc
 keys_pair o other (c ∷ columns) (d ∷ key) l h =
-    let parts = parts_of (pair_suits (kinds_in o) (kinds_in other) (c, d)) (list_all (pair_suits (kinds_in o) (kinds_in other)) (zip columns key)) h in
+    let parts = and_parts (pair_suits (kinds_in o) (kinds_in other) (c, d)) (list_all (pair_suits (kinds_in o) (kinds_in other)) (zip columns key)) h in
     let shorter : length columns ≡ length key = omega (arith, l) in
     (paired o other c d parts.0, keys_pair o other columns key shorter parts.1)
 
@@ -115,7 +115,7 @@ copied_fits o other values (c ∷ columns) [] h p = absurd p
 copied_fits o other values (c ∷ columns) (d ∷ key) h p =
     let pair = p.0 in
     let own = value_at_fits other values d h (some_there other d pair.theirs pair.theirs_there) in
-    two _ _
+    and_from _ _
     (ap (λ (z : Option Column). column_fits z (value_at values d)) pair.mine_there
     ∙ ap (λ (k : Kind). is_fit (fit_of (value_at values d) k)) pair.same
     ∙ ap (λ (z : Option Column). column_fits z (value_at values d)) (sym pair.theirs_there) ∙ own)
@@ -127,7 +127,7 @@ set_all_fits : (o other : Option Table) (f : ℕ → Value) (columns key : List 
 set_all_fits o other f [] key h p = refl
 set_all_fits o other f (c ∷ columns) [] h p = absurd p
 set_all_fits o other f (c ∷ columns) (d ∷ key) h p =
-    two _ _ (h c (some_there o c p.0.mine p.0.mine_there)) (set_all_fits o other f columns key h p.1)
+    and_from _ _ (h c (some_there o c p.0.mine p.0.mine_there)) (set_all_fits o other f columns key h p.1)
 
 -- ---- foreign keys of a schema that suits
 
@@ -140,7 +140,7 @@ key_fits schema k s i =
     let found = of_filter_map reference k (enumerate_from 0 schema.constraints) i in
     let c = found.element.1 in
     let suits = all_in (constraint_suits schema.tables) c schema.constraints s.constraints (enumerated_in 0 schema.constraints found.element found.is_in) in
-    let parts = parts_of (is_there schema.tables c.table) (rule_suits schema.tables (table_kinds schema.tables c.table) c.rule) suits in
+    let parts = and_parts (is_there schema.tables c.table) (rule_suits schema.tables (table_kinds schema.tables c.table) c.rule) suits in
     by c c.rule refl found.element.0 (found.holds) parts.0 parts.1
   where
     by : (c : Constraint) (r : Rule) → c.rule ≡ r → (id : ℕ)
@@ -155,8 +155,8 @@ key_fits schema k s i =
             → (is_there schema.tables fk.referenced && pairs_suit (table_kinds schema.tables c.table) (table_kinds schema.tables fk.referenced) fk) ≡ true
             → KeyFits schema k
         of_key fk is suit =
-            let p = parts_of (is_there schema.tables fk.referenced) (pairs_suit (table_kinds schema.tables c.table) (table_kinds schema.tables fk.referenced) fk) suit in
-            let q = parts_of (length fk.columns == length fk.key) (list_all (pair_suits (table_kinds schema.tables c.table) (table_kinds schema.tables fk.referenced)) (zip fk.columns fk.key)) p.1 in
+            let p = and_parts (is_there schema.tables fk.referenced) (pairs_suit (table_kinds schema.tables c.table) (table_kinds schema.tables fk.referenced) fk) suit in
+            let q = and_parts (length fk.columns == length fk.key) (list_all (pair_suits (table_kinds schema.tables c.table) (table_kinds schema.tables fk.referenced)) (zip fk.columns fk.key)) p.1 in
             subst (KeyFits schema) is
             (record {
               there = there;
@@ -270,7 +270,7 @@ all_columns_set : (o : Option Table) (es : List (ℕ × Effect)) → ((e : ℕ �
 all_columns_set o [] h = refl
 all_columns_set o (e ∷ es) h =
     list_all-append (pair_fits o) (columns_set e.1) (flat_map (λ x. columns_set x.1) es)
-    ∙ two _ _ (h e (inl refl)) (all_columns_set o es (λ x i. h x (inr i)))
+    ∙ and_from _ _ (h e (inl refl)) (all_columns_set o es (λ x i. h x (inr i)))
 
 -- what foreign keys do to a row
 effects_fit : (schema : Schema) (db later : List StoredRow) (before after : StoredRow)
@@ -281,7 +281,7 @@ effects_fit schema db later before after s order stay rows same e i =
     let found = of_flat_map by_key e (filter (keeps_reference before after) (references schema.constraints)) i in
     let k = found.element in
     let kept = of_filter (keeps_reference before after) k (references schema.constraints) found.is_in in
-    let own = parts_of (k.table == before.table) (all_same (key_of k.key.columns before.values) (key_of k.key.columns after.values)) kept.1 in
+    let own = and_parts (k.table == before.table) (all_same (key_of k.key.columns before.values) (key_of k.key.columns after.values)) kept.1 in
     let placed = eqb-true k.table before.table own.0 ∙ same in
     let made = of_map (λ (x : Effect). (k.id, x)) e (effects_of_loss schema k (lost_reference (lost_keys db later) k.key before)) found.holds in
     let all = effects_of_loss_fit schema db later k before s (key_fits schema k s kept.0) order stay rows (lost_reference (lost_keys db later) k.key before) refl in
@@ -304,7 +304,7 @@ change_by_fits : (tables : List Table) (r : StoredRow) (es : List (ℕ × Effect
 change_by_fits tables r [] c h g e = absurd (some_none c (sym e))
 change_by_fits tables r (x ∷ es) c h g e =
     ap (change_fits tables) (sym (some_same _ c e))
-    ∙ two _ _ (fits_there tables r.table r.values h) (two _ _ h (values_after_fit tables r (x ∷ es) h g))
+    ∙ and_from _ _ (fits_there tables r.table r.values h) (and_from _ _ h (values_after_fit tables r (x ∷ es) h g))
 
 next_changes_fit : (schema : Schema) (db later : List StoredRow) → SchemaSuits schema → InOrder db → InOrder later → TablesStay db later → rows_fit schema.tables later ≡ true
     → (some : List StoredRow) → ((r : StoredRow) → In r some → In r later)
@@ -331,7 +331,7 @@ next_changes_fit schema db later s order sorted stay rows (r ∷ some) i =
         → changes_fit schema.tables (Rattle.std.specs.List.cons_option o (filter_map (λ after. change_by after (effects_on schema (lost_keys db later) (row_at db after.number) after)) some)) ≡ true
     by None f more = more
     by (Some c) f more =
-        two _ _
+        and_from _ _
         (change_by_fits schema.tables r (effects_on schema (lost_keys db later) (row_at db r.number) r) c fit (by_before (row_at db r.number) refl) f) more
 
 -- the wave that follows from one database to a later one, where rows stay of their tables

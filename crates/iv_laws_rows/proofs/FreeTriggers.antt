@@ -1,5 +1,6 @@
 -- BEFORE triggers that suit are well-typed on changes that fit.
 use Rattle.std.proofs.Common.{◌≡◌, ℕ, Bool, true, false, not, ◌&&◌, ◌==◌, if◌then◌else◌, List, [], ◌∙◌, Option, Some, None, is_none, Result, Ok, Err, refl, sym, ap, find, filter, slice_get, slice_set}
+use Rattle.std.proofs.lemmas.Bool.{and_parts, not-true}
 use Rattle.std.specs.List.{list_all}
 use Rattle.iv_laws_rows.specs.Words.{Value, StoredRow, Change, TriggerEvent, Table, Cause, Refusal, BodyStatement, Trigger}
 use Rattle.iv_laws_rows.specs.Words.cause.{Signal}
@@ -12,8 +13,6 @@ use Rattle.iv_machine.specs.Context.{Context, while_running, each, in_turn}
 use Rattle.iv_machine.specs.Proposals.{holds, stored_value}
 use Rattle.iv_machine.specs.BeforeTriggers.{is_before, for_each_row, is_before_statement, same_event, is_on, event_of_change, placed_statements, is_signal, unless_signal, before_statement_run, before_statement, change_frame, with_new_value, change_after_statement, before_row_run, change_after_trigger, changes_after_triggers}
 use Rattle.iv_laws_fitting.specs.PlanShapes.{table_kinds, is_there, action_suits, trigger_suits}
-use Rattle.iv_laws_fitting.proofs.Pointwise.{parts_of}
-use Rattle.iv_laws_fitting.proofs.References.{is_false}
 use Rattle.iv_laws_fitting.proofs.Running.{expression_plain, holds_plain}
 use Rattle.iv_laws_levels.proofs.Chains.{not_ok, ok_same, step_of}
 use Rattle.iv_laws_levels.proofs.Members.{all_in, of_filter}
@@ -33,8 +32,8 @@ pub record Parts (tables : List Table) (t : Trigger) : Type 0 where
 pub trigger_parts : (tables : List Table) (t : Trigger) → trigger_suits tables t ≡ true → Parts tables t
 trigger_parts tables t s =
     let all = list_all (action_suits tables (shape_of tables t) (table_kinds tables t.table)) t.body in
-    let p = parts_of (is_there tables t.table) (suits (shape_of tables t) t.when && all) s in
-    let q = parts_of (suits (shape_of tables t) t.when) all p.1 in
+    let p = and_parts (is_there tables t.table) (suits (shape_of tables t) t.when && all) s in
+    let q = and_parts (suits (shape_of tables t) t.when) all p.1 in
     record { when = q.0; actions = q.1 }
 
 -- WHEN is well-typed under a frame that has the kinds of the trigger's shape
@@ -160,7 +159,7 @@ signal_free t = by (find (λ s. is_signal s.1) (placed_statements t))
 statement_trigger_free : (w : Context) (rows : List StoredRow) (t : Trigger) → trigger_suits w.schema.tables t ≡ true → is_before_statement t ≡ true
     → rows_fit w.schema.tables rows ≡ true → FreeCause (before_statement_run rows t)
 statement_trigger_free w rows t s b h =
-    let once = is_false (for_each_row t) (parts_of (is_before t) (not (for_each_row t)) b).1 in
+    let once = not-true (for_each_row t) (and_parts (is_before t) (not (for_each_row t)) b).1 in
     then_free (λ x. x) (holds (scope_of no_frame rows) t.when) (λ fires. if fires then unless_signal t else Ok tt)
     (when_free w.schema.tables t no_frame rows s (statement_sees w.schema.tables t [] once refl refl) h) (λ fires e. by fires)
   where
@@ -177,7 +176,7 @@ statement_triggers_free w rows table e s h =
     let own = of_filter meant t w.schema.triggers i in
     running_free t.id (before_statement_run rows t)
     (statement_trigger_free w rows t (all_in (trigger_suits w.schema.tables) t w.schema.triggers s own.0)
-    (parts_of (is_before_statement t) (is_on table e t) own.1).0 h))
+    (and_parts (is_before_statement t) (is_on table e t) own.1).0 h))
     (λ t i b after p f. tt)
     tt tt
 

@@ -1,6 +1,6 @@
 -- The changes of a wave as it is applied may be made one after another.
 use Rattle.std.proofs.Common.{◌≡◌, ℕ, ◌+◌, ◌≤◌, nat_lt, Bool, true, false, ◌||◌, if◌then◌else◌, List, [], ◌∷◌, ◌∙◌, Option, Some, None, IfSome, Ok, refl, sym, ap, subst, length, arith}
-use Rattle.std.proofs.lemmas.Bool.{ne_eqb}
+use Rattle.std.proofs.lemmas.Bool.{ne_eqb, and_parts, or_parts}
 use Rattle.std.proofs.lemmas.Bool.Decides.{nat_tests}
 use Rattle.iv_laws_rows.specs.Words.{Value, StoredRow, Change, Table, Database}
 use Rattle.iv_laws_rows.specs.Words.cause.{TooManyChanges, TransactionTooLarge, Limit}
@@ -11,8 +11,6 @@ use Rattle.iv_machine.specs.Context.{Context, fails, with_count}
 use Rattle.iv_machine.specs.BeforeTriggers.{wave_after_triggers}
 use Rattle.iv_machine.specs.Waves.{values_at, with_numbers, numbered_wave, is_beyond_last_row, wave_as_applied}
 use Rattle.iv_store.specs.Stores.{fits_table}
-use Rattle.iv_laws_naming.proofs.Firsts.{neither}
-use Rattle.iv_laws_fitting.proofs.Pointwise.{parts_of}
 use Rattle.iv_laws_levels.specs.FittingWaves.{Current}
 use Rattle.iv_laws_levels.specs.Reorderings.{after_changes}
 use Rattle.iv_laws_levels.proofs.Chains.{not_ok}
@@ -53,9 +51,9 @@ all_made : (tables : List Table) (db : Database) (low : ℕ) (changes : List Cha
     → is_beyond_last_row changes ≡ false → db.count + length changes ≤ most_changes_in_a_transaction → AllMayBeMade tables db changes
 all_made tables db low [] h current fits beyond room = tt
 all_made tables db low (c ∷ changes) h current fits beyond room =
-    let parts = parts_of (change_fits tables c) (changes_fit tables changes) fits in
+    let parts = and_parts (change_fits tables c) (changes_fit tables changes) fits in
     let f = fitting tables c parts.0 in
-    let last = neither (nat_lt last_row_number c.row) (is_beyond_last_row changes) beyond in
+    let last = or_parts (nat_lt last_row_number c.row) (is_beyond_last_row changes) beyond in
     let there = f.there in
     let low_row = last.0 in (
       record {

@@ -1,13 +1,13 @@
 -- The elements of lists, by place and by what each is.
 use Rattle.std.proofs.Common.{◌≡◌, ℕ, zero, suc, ◌+◌, Bool, true, List, [], ◌∷◌, Some, refl, sym, ap, inl, inr, slice_get}
+use Rattle.std.proofs.lemmas.Bool.{and_from}
+use Rattle.std.proofs.lemmas.Option.{same_Some}
 use Rattle.std.specs.List.{list_all, enumerate_from}
-use Rattle.iv_laws_fitting.proofs.ColumnKinds.{some_is}
-use Rattle.iv_laws_fitting.proofs.Pointwise.{two}
 use Rattle.iv_laws_levels.proofs.Members.{In}
 
 pub at_in : {A : Type 0} (xs : List A) (j : ℕ) (x : A) → slice_get xs j ≡ Some x → In x xs
 at_in [] j x h = cc
-at_in (y ∷ ys) zero x h = inl (sym (some_is y x h))
+at_in (y ∷ ys) zero x h = inl (sym (same_Some y x h))
 at_in (y ∷ ys) (suc j) x h = inr (at_in ys j x h)
 
 pub in_at : {A : Type 0} (xs : List A) (x : A) → In x xs → (j : ℕ) × (slice_get xs j ≡ Some x)
@@ -17,7 +17,7 @@ in_at (y ∷ ys) x (inr i) = let rest = in_at ys x i in (suc rest.0, rest.1)
 
 pub all_by_in : {A : Type 0} (p : A → Bool) (xs : List A) → ((x : A) → In x xs → p x ≡ true) → list_all p xs ≡ true
 all_by_in p [] h = refl
-all_by_in p (x ∷ xs) h = two _ _ (h x (inl refl)) (all_by_in p xs (λ y i. h y (inr i)))
+all_by_in p (x ∷ xs) h = and_from _ _ (h x (inl refl)) (all_by_in p xs (λ y i. h y (inr i)))
 
 -- what has its place is an element
 pub enumerated_in : {A : Type 0} (from : ℕ) (xs : List A) (p : ℕ × A) → In p (enumerate_from from xs) → In p.1 xs

@@ -1,8 +1,8 @@
 -- Rows still fit where there are more tables.
 use Rattle.std.proofs.Common.{◌≡◌, ℕ, zero, suc, true, List, [], ◌∷◌, ◌++◌, ◌∙◌, Option, Some, None, refl, ap, slice_get}
+use Rattle.std.proofs.lemmas.Bool.{and_from, and_parts}
 use Rattle.iv_laws_rows.specs.Words.{Value, Table}
 use Rattle.iv_store.specs.Stores.{fits_table}
-use Rattle.iv_laws_fitting.proofs.Pointwise.{two, parts_of}
 use Rattle.iv_laws_rows.specs.RowFits.{row_fits, rows_fit}
 use Rattle.iv_laws_rows.specs.Laws.{RowsFitMoreTables}
 use Rattle.iv_laws_rows.proofs.FittingValues.{table_fits}
@@ -22,5 +22,5 @@ values_still_fit tables more table values h = by (slice_get tables table) refl h
 pub rows_fit_more_tables : RowsFitMoreTables
 rows_fit_more_tables tables more [] h = refl
 rows_fit_more_tables tables more (r ∷ rows) h =
-    let parts = parts_of (row_fits tables r) (rows_fit tables rows) h in
-    two _ _ (values_still_fit tables more r.table r.values parts.0) (rows_fit_more_tables tables more rows parts.1)
+    let parts = and_parts (row_fits tables r) (rows_fit tables rows) h in
+    and_from _ _ (values_still_fit tables more r.table r.values parts.0) (rows_fit_more_tables tables more rows parts.1)

@@ -1,5 +1,6 @@
 -- The net changes of a chain of waves fit.
 use Rattle.std.proofs.Common.{◌≡◌, Bool, true, ◌&&◌, List, [], ◌∷◌, ◌∙◌, Option, Some, None, is_none, inl, inr, refl, sym, ap, map, filter}
+use Rattle.std.proofs.lemmas.Bool.{and_from}
 use Rattle.std.proofs.lemmas.List.Folds.{list_all-append}
 use Rattle.iv_laws_rows.specs.Words.{Value, StoredRow, Change, Table, Database}
 use Rattle.iv_expr.specs.Changes.{Wave}
@@ -10,7 +11,6 @@ use Rattle.iv_laws_levels.specs.RisingRows.{InOrder}
 use Rattle.iv_laws_levels.specs.FittingWaves.{Numbered, Chain}
 use Rattle.iv_laws_levels.proofs.NumberedRows.{parts_of as numbers_of}
 use Rattle.iv_laws_levels.proofs.Members.{In, all_in, in_rows, rows_in, of_filter}
-use Rattle.iv_laws_fitting.proofs.Pointwise.{two}
 use Rattle.iv_laws_rows.specs.RowFits.{side_fits, change_fits, changes_fit, wave_fits, row_fits, rows_fit}
 use Rattle.iv_laws_rows.specs.Laws.{NetChangesFit}
 use Rattle.iv_laws_rows.proofs.FittingValues.{fits_there}
@@ -20,7 +20,7 @@ net_change_fits : (tables : List Table) (rows later : List StoredRow) (r : Store
     → rows_fit tables rows ≡ true → rows_fit tables later ≡ true → In r rows → change_fits tables (net_change later r) ≡ true
 net_change_fits tables rows later r order stay h g i =
     let fit = all_in (row_fits tables) r rows h i in
-    two _ _ (fits_there tables r.table r.values fit) (two _ _ fit (by (row_at later r.number) refl))
+    and_from _ _ (fits_there tables r.table r.values fit) (and_from _ _ fit (by (row_at later r.number) refl))
   where
     by : (o : Option StoredRow) → row_at later r.number ≡ o
         → side_fits tables r.table (elim o as (λ x. Option (List Value)) [ Some s ↦ Some s.values | None ↦ None ]) ≡ true
@@ -30,12 +30,12 @@ net_change_fits tables rows later r order stay h g i =
         ∙ all_in (row_fits tables) s later g (in_rows later r.number s e)
 
 net_insertion_fits : (tables : List Table) (r : StoredRow) → row_fits tables r ≡ true → change_fits tables (net_insertion r) ≡ true
-net_insertion_fits tables r h = two _ _ (fits_there tables r.table r.values h) h
+net_insertion_fits tables r h = and_from _ _ (fits_there tables r.table r.values h) h
 
 -- what is made of each fits
 all_made : {A : Type 0} (tables : List Table) (f : A → Change) (xs : List A) → ((x : A) → In x xs → change_fits tables (f x) ≡ true) → changes_fit tables (map f xs) ≡ true
 all_made tables f [] h = refl
-all_made tables f (x ∷ xs) h = two _ _ (h x (inl refl)) (all_made tables f xs (λ y i. h y (inr i)))
+all_made tables f (x ∷ xs) h = and_from _ _ (h x (inl refl)) (all_made tables f xs (λ y i. h y (inr i)))
 
 pub net_fits : (tables : List Table) (rows later : List StoredRow) (waves : List Wave) → InOrder rows → TablesStay rows later
     → rows_fit tables rows ≡ true → rows_fit tables later ≡ true → wave_fits tables (net_wave rows later waves) ≡ true
@@ -43,7 +43,7 @@ net_fits tables rows later waves order stay h g =
     let here : StoredRow → Bool = λ r. in_waves waves r.number in
     let new : StoredRow → Bool = λ r. in_waves waves r.number && is_none (row_at rows r.number) in
     list_all-append (change_fits tables) (map (net_change later) (filter here rows)) (map net_insertion (filter new later))
-    ∙ two _ _
+    ∙ and_from _ _
     (all_made tables (net_change later) (filter here rows) (λ r i. net_change_fits tables rows later r order stay h g (of_filter here r rows i).0))
     (all_made tables net_insertion (filter new later)
     (λ r i. net_insertion_fits tables r (all_in (row_fits tables) r later g (of_filter new r later i).0)))

@@ -1,12 +1,12 @@
 -- All waves of a statement fit, and so do the rows after the last.
 use Rattle.std.proofs.Common.{◌≡◌, true, refl}
+use Rattle.std.proofs.lemmas.Bool.{and_from}
 use Rattle.std.specs.List.{list_all}
 use Rattle.iv_expr.specs.Changes.{Wave}
 use Rattle.iv_laws_rows.specs.Words.{Database}
 use Rattle.iv_machine.specs.Databases.{database_after}
 use Rattle.iv_machine.specs.Context.{Context}
 use Rattle.iv_machine.specs.Waves.{SettledWaves}
-use Rattle.iv_laws_fitting.proofs.Pointwise.{two}
 use Rattle.iv_laws_levels.specs.FittingWaves.{Numbered, Chain}
 use Rattle.iv_laws_levels.proofs.Settling.{every_settled}
 use Rattle.iv_laws_levels.proofs.NumberedRows.{numbered_applied}
@@ -54,7 +54,7 @@ started_waves_fit context db budget wave s suits start e =
     let rest = more (next_waves_start context db' budget' wave' one.wave one.next suits begin is_applied is_followed) in (
       (begin.numbered, begin.applied budget' one.wave is_applied, rest.0),
       rest.1,
-      two _ _ (applied_waves_fit context db' budget' wave' one.wave begin.changes is_applied) rest.2,
+      and_from _ _ (applied_waves_fit context db' budget' wave' one.wave begin.changes is_applied) rest.2,
     ))
     db budget wave s e start
 

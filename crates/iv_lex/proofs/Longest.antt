@@ -1,5 +1,6 @@
 -- Tokens are the longest runs.
 use Rattle.std.proofs.Common.{◌≡◌, ℕ, suc, ◌+◌, ◌≤◌, Bool, true, false, not, ◌&&◌, ◌||◌, Option, Some, None, option_map, unwrap_or, List, [], ◌∷◌, ◌++◌, length, drop, take, refl, sym, ◌∙◌, ap, subst, arith, nat_le, nat_eq, append_assoc, length-append}
+use Rattle.std.proofs.lemmas.Bool.{and_parts, not-true}
 use Rattle.std.specs.Prelude.{slice_index, if◌then◌else◌}
 use Rattle.std.specs.List.{list_all, prefix_len}
 use Rattle.std.proofs.lemmas.Grind.{common_steps}
@@ -42,16 +43,12 @@ front_more : (p : ℕ → Bool) (b : ℕ) (bs : List ℕ) → p b ≡ true → f
 unfolding front
 front_more p b bs h = ap (λ x. if x then suc (front p bs) else 0) h
 
-both_true : (x y : Bool) → (x && y) ≡ true → (x ≡ true) × (y ≡ true)
-both_true true y h = (refl, h)
-both_true false y h = absurd (cc)
-
 -- bytes that pass are no more than those at the front
 all_front : (p : ℕ → Bool) (bs more : List ℕ) → list_all p bs ≡ true → length bs ≤ front p (bs ++ more)
 unfolding front
 all_front p [] more h = omega arith
 all_front p (b ∷ bs) more h =
-    let e = both_true (p b) (list_all p bs) h in
+    let e = and_parts (p b) (list_all p bs) h in
     subst (λ n. suc (length bs) ≤ n) (sym (front_more p b (bs ++ more) e.0)) (omega (arith, all_front p bs more e.1))
 
 front_step : (p : ℕ → Bool) (b : ℕ) (bs : List ℕ) (x : Bool) → p b ≡ x → list_all p (take (front p bs) bs) ≡ true
@@ -255,10 +252,6 @@ inside_pair b c more e f =
     ap (λ x. if x then (if nat_eq c 39 then option_map (λ k. 2 + k) (closing more) else Some 1) else option_map (λ k. 1 + k) (closing (c ∷ more))) e
     ∙ ap (λ x. if x then option_map (λ k. 2 + k) (closing more) else Some 1) f
 
-not_true : (x : Bool) → not x ≡ true → x ≡ false
-not_true true h = absurd (cc)
-not_true false h = refl
-
 sum_map : (a b c : ℕ) (o p : Option ℕ) → a + b ≡ c → o ≡ option_map (λ n. b + n) p → option_map (λ n. a + n) o ≡ option_map (λ n. c + n) p
 sum_map a b c o p e h = ap (option_map (λ n. a + n)) h ∙ map_twice a b p ∙ ap (λ k. option_map (λ n. k + n) p) e
 
@@ -267,7 +260,7 @@ inside_by : (b c : ℕ) (bs more : List ℕ) (x : Bool) → nat_eq b 39 ≡ x �
     → (quotes_doubled (c ∷ bs) ≡ true → closing (c ∷ (bs ++ more)) ≡ option_map (λ n. suc (length bs) + n) (closing more))
     → closing (b ∷ c ∷ (bs ++ more)) ≡ option_map (λ n. suc (suc (length bs)) + n) (closing more)
 inside_by b c bs more true e h f g =
-    let d = both_true (nat_eq c 39) (quotes_doubled bs) h in
+    let d = and_parts (nat_eq c 39) (quotes_doubled bs) h in
     inside_pair b c (bs ++ more) e d.0 ∙ sum_map 2 (length bs) (suc (suc (length bs))) (closing (bs ++ more)) (closing more) (omega arith) (f d.1)
 inside_by b c bs more false e h f g =
     inside_single b (c ∷ (bs ++ more)) e ∙ sum_map 1 (suc (length bs)) (suc (suc (length bs))) (closing (c ∷ (bs ++ more))) (closing more) (omega arith) (g h)
@@ -275,7 +268,7 @@ inside_by b c bs more false e h f g =
 -- what a text holds doesn't end it
 closing_inside : (inside more : List ℕ) → quotes_doubled inside ≡ true → closing (inside ++ more) ≡ option_map (λ n. length inside + n) (closing more)
 closing_inside [] more h = map_none (closing more)
-closing_inside (b ∷ []) more h = inside_single b more (not_true (nat_eq b 39) h)
+closing_inside (b ∷ []) more h = inside_single b more (not-true (nat_eq b 39) h)
 closing_inside (b ∷ c ∷ bs) more h = inside_by b c bs more (nat_eq b 39) refl h (closing_inside bs more) (closing_inside (c ∷ bs) more)
 
 positive : (bs : List ℕ) (n : ℕ) → closing bs ≡ Some n → 1 ≤ n
@@ -520,14 +513,14 @@ doubled_by : (b c : ℕ) (bs : List ℕ) (x : Bool) → nat_eq b 39 ≡ x → (i
     → (quotes_doubled bs ≡ true → quotes_doubled (bs ++ 39 ∷ 39 ∷ []) ≡ true) → (quotes_doubled (c ∷ bs) ≡ true → quotes_doubled (c ∷ (bs ++ 39 ∷ 39 ∷ [])) ≡ true)
     → quotes_doubled (b ∷ c ∷ (bs ++ 39 ∷ 39 ∷ [])) ≡ true
 doubled_by b c bs true e h f g =
-    let d = both_true (nat_eq c 39) (quotes_doubled bs) h in
+    let d = and_parts (nat_eq c 39) (quotes_doubled bs) h in
     doubled_pair b c (bs ++ 39 ∷ 39 ∷ []) e d.0 (f d.1)
 doubled_by b c bs false e h f g = doubled_more b (c ∷ (bs ++ 39 ∷ 39 ∷ [])) e (g h)
 
 -- two quotes more
 doubled_twice : (inside : List ℕ) → quotes_doubled inside ≡ true → quotes_doubled (inside ++ 39 ∷ 39 ∷ []) ≡ true
 doubled_twice [] h = refl
-doubled_twice (b ∷ []) h = doubled_more b (39 ∷ 39 ∷ []) (not_true (nat_eq b 39) h) refl
+doubled_twice (b ∷ []) h = doubled_more b (39 ∷ 39 ∷ []) (not-true (nat_eq b 39) h) refl
 doubled_twice (b ∷ c ∷ bs) h = doubled_by b c bs (nat_eq b 39) refl h (doubled_twice bs) (doubled_twice (c ∷ bs))
 
 -- a quote that ends no text is before another one

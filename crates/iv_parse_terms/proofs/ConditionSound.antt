@@ -2,7 +2,7 @@
 use Rattle.std.specs.Prelude.{◌≡◌, ℕ, ◌≤◌, zero, suc, nat_le, Bool, true, false, if◌then◌else◌, Option, Some, None, List, [], ◌∷◌, ◌++◌, refl}
 use Rattle.std.proofs.Common.{inl, inr, sym, ◌∙◌, ap, arith, append_assoc}
 use Rattle.std.proofs.lemmas.Bool.{leb-true}
-use Rattle.std.proofs.lemmas.Option.{none-some}
+use Rattle.std.proofs.lemmas.Option.{none-some, same_Some}
 use Rattle.iv_parse_terms.specs.Words.{Comparison, RangeName, Expression, Condition}
 use Rattle.iv_parse_terms.specs.Words.comparison
 use Rattle.iv_parse_terms.specs.Words.condition.{Compare, IsNull, IsNotNull, Exists}
@@ -19,7 +19,7 @@ use Rattle.iv_parse_terms.specs.Expressions.{Rule, expression, term, factor, pri
 use Rattle.iv_parse_terms.specs.readers.Expressions.{FoundExpression, fits, after_sign, simple, more_factors, more_terms, read_factor, read_term, read_expression}
 use Rattle.iv_parse_terms.specs.Conditions.{comparison_kind, AliasSpelled, exists_spelling, Spelled, ConditionRule, condition, conjunction, negation, test, ConditionFormed, IsFrom}
 use Rattle.iv_parse_terms.specs.readers.Conditions.{FoundItem, as_item, condition_fits, on_value, enclose, close_item, after_comparison, null_test, comparison_from, predicate_from, alias_from, range_from, with_condition, where_from, from_by, exists_over, after_select, close_exists, exists_by, lead_by, lead_factor_by, lead_term_by, lead_expression_by, test_by, negate, negation_by, connective_kind, connection, connection_from, more_by, chain_by, item_over, read_lead, lead_factor, read_test, read_negation, read_conjunction, read_item}
-use Rattle.iv_parse_terms.proofs.Parts.{some_same, if_some_has, after_is, after_name_is}
+use Rattle.iv_parse_terms.proofs.Parts.{if_some_has, after_is, after_name_is}
 use Rattle.iv_parse_terms.proofs.Sound.{Read, Good, fits_good, factor_primary, term_factor, expression_term, simple_good, more_factors_good, more_terms_good, factor_sound, term_sound, expression_sound}
 
 -- the front of the words is a condition that is formed by the rule
@@ -132,12 +132,12 @@ lead_expression_sound d L h ws = item_then_good term expression test test d d ws
     (more_terms_good d (read_term d) (term_sound d) d ws e rest (record { formed = expression_term e r.formed; shallow = r.shallow; front = r.front }))))
 
 pub after_comparison_is : (ws : List Word) (p : Comparison × List Word) → after_comparison ws ≡ Some p → ws ≡ plain (comparison_kind p.0) ∷ p.1
-after_comparison_is (plain kind.Equals ∷ ws) p h = ap (λ (q : Comparison × List Word). plain (comparison_kind q.0) ∷ q.1) (some_same (comparison.Equal, ws) p h)
-after_comparison_is (plain kind.NotEquals ∷ ws) p h = ap (λ (q : Comparison × List Word). plain (comparison_kind q.0) ∷ q.1) (some_same (comparison.NotEqual, ws) p h)
-after_comparison_is (plain kind.Less ∷ ws) p h = ap (λ (q : Comparison × List Word). plain (comparison_kind q.0) ∷ q.1) (some_same (comparison.Less, ws) p h)
-after_comparison_is (plain kind.LessEquals ∷ ws) p h = ap (λ (q : Comparison × List Word). plain (comparison_kind q.0) ∷ q.1) (some_same (comparison.LessEqual, ws) p h)
-after_comparison_is (plain kind.Greater ∷ ws) p h = ap (λ (q : Comparison × List Word). plain (comparison_kind q.0) ∷ q.1) (some_same (comparison.Greater, ws) p h)
-after_comparison_is (plain kind.GreaterEquals ∷ ws) p h = ap (λ (q : Comparison × List Word). plain (comparison_kind q.0) ∷ q.1) (some_same (comparison.GreaterEqual, ws) p h)
+after_comparison_is (plain kind.Equals ∷ ws) p h = ap (λ (q : Comparison × List Word). plain (comparison_kind q.0) ∷ q.1) (same_Some (comparison.Equal, ws) p h)
+after_comparison_is (plain kind.NotEquals ∷ ws) p h = ap (λ (q : Comparison × List Word). plain (comparison_kind q.0) ∷ q.1) (same_Some (comparison.NotEqual, ws) p h)
+after_comparison_is (plain kind.Less ∷ ws) p h = ap (λ (q : Comparison × List Word). plain (comparison_kind q.0) ∷ q.1) (same_Some (comparison.Less, ws) p h)
+after_comparison_is (plain kind.LessEquals ∷ ws) p h = ap (λ (q : Comparison × List Word). plain (comparison_kind q.0) ∷ q.1) (same_Some (comparison.LessEqual, ws) p h)
+after_comparison_is (plain kind.Greater ∷ ws) p h = ap (λ (q : Comparison × List Word). plain (comparison_kind q.0) ∷ q.1) (same_Some (comparison.Greater, ws) p h)
+after_comparison_is (plain kind.GreaterEquals ∷ ws) p h = ap (λ (q : Comparison × List Word). plain (comparison_kind q.0) ∷ q.1) (same_Some (comparison.GreaterEqual, ws) p h)
 after_comparison_is [] p h = absurd (none-some p h)
 after_comparison_is _ p h = absurd (none-some p h)
 

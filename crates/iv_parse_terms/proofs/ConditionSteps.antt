@@ -1,7 +1,7 @@
 -- One step of each reader of conditions, as the code takes it.
 use Rattle.std.proofs.Common.{◌≡◌, ◌≢◌, ℕ, ◌-◌, ◌+◌, List, Option, Some, None, refl, sym, ◌∙◌, ap, arith}
 use Rattle.std.specs.Prelude.{zero, suc, max}
-use Rattle.std.proofs.lemmas.Option.{none-some}
+use Rattle.std.proofs.lemmas.Option.{none-some, same_Some}
 use Rattle.iv_lex.specs.declared.kind.TokenKind.TheVariants as kind
 use Rattle.iv_lex.specs.Words.{Word}
 use Rattle.iv_parse_terms.specs.Words.{Sign, Expression, Condition, RangeName}
@@ -11,7 +11,6 @@ use Rattle.iv_parse_terms.specs.declared.item.Connective.{Connective}
 use Rattle.iv_parse_terms.specs.declared.item.Connective.TheVariants.{And, Or}
 use Rattle.iv_parse_terms.specs.ItemDepth.{where_depth}
 use Rattle.iv_syntax.specs.Trees.{condition_depth}
-use Rattle.iv_parse_terms.proofs.Parts.{some_same}
 use Rattle.iv_parse_terms.specs.After.{after, if_some, then_read}
 use Rattle.iv_parse_terms.specs.readers.Expressions.{after_sign, simple, more_factors, more_terms, read_factor, read_term}
 use Rattle.iv_parse_terms.specs.readers.Conditions.{FoundItem, as_item, on_value, close_item, predicate_from, exists_by, exists_over, item_over, negate, after_truth, connection_from, condition_fits, connection, truth_alone, more_by, value_test, lead_factor, read_lead, read_test, read_negation, read_conjunction, read_item}
@@ -42,7 +41,7 @@ connected_depth Or a b = refl
 -- what is beside a condition
 pub joined_truth : (k : Connective) (d : ℕ) (a b : Condition) (j : Item) (ws rest : List Word) → Some (b, rest) ≡ truth_alone j ws
     → condition_fits d (connection k a b) rest ≡ connection_from k d (Truth a) j ws
-joined_truth k d a b (Truth c) ws rest h = ap (λ (p : Condition × List Word). condition_fits d (connection k a p.0) p.1) (some_same (b, rest) (c, ws) h)
+joined_truth k d a b (Truth c) ws rest h = ap (λ (p : Condition × List Word). condition_fits d (connection k a p.0) p.1) (same_Some (b, rest) (c, ws) h)
 joined_truth k d a b (Value e) ws rest h = absurd (none-some (b, rest) (sym h))
 
 pub joined_value : (k : Connective) (d : ℕ) (a : Condition) (j : Item) (ws : List Word) → None ≡ truth_alone j ws → None ≡ connection_from k d (Truth a) j ws
@@ -50,7 +49,7 @@ joined_value k d a (Truth c) ws h = absurd (none-some (c, ws) h)
 joined_value k d a (Value e) ws h = refl
 
 pub truth_is : (i : Item) (a : Condition) (ws rest : List Word) → Some (a, rest) ≡ truth_alone i ws → Truth a ≡ i
-truth_is (Truth c) a ws rest h = ap (λ (p : Condition × List Word). Truth p.0) (some_same (a, rest) (c, ws) h)
+truth_is (Truth c) a ws rest h = ap (λ (p : Condition × List Word). Truth p.0) (same_Some (a, rest) (c, ws) h)
 truth_is (Value e) a ws rest h = absurd (none-some (a, rest) (sym h))
 
 pub value_joined : (k : Connective) (d : ℕ) (i j : Item) (ws more : List Word) → None ≡ truth_alone i ws → None ≡ connection_from k d i j more

@@ -2,7 +2,7 @@
 use Rattle.std.specs.Prelude.{◌≡◌, ℕ, Bool, true, false, if◌then◌else◌, Option, Some, None, List, [], ◌∷◌, refl}
 use Rattle.std.proofs.Common.{◌∙◌, ap}
 use Rattle.std.proofs.lemmas.Bool.{false≢true}
-use Rattle.std.proofs.lemmas.Option.{none-some}
+use Rattle.std.proofs.lemmas.Option.{none-some, same_Some}
 use Rattle.iv_lex.specs.declared.kind.TokenKind.{TokenKind}
 use Rattle.iv_lex.specs.declared.kind.TokenKind.TheVariants as kind
 use Rattle.iv_lex.specs.Words.{Word, name, number, quoted, plain}
@@ -13,9 +13,6 @@ use Rattle.iv_parse_terms.specs.Expressions.{sign_kind}
 use Rattle.iv_parse_terms.specs.readers.Expressions.{after_sign}
 use Rattle.iv_parse_terms.proofs.Exact.{exact}
 
-pub some_same : {A : Type 0} (x y : A) → Some x ≡ Some y → x ≡ y
-some_same {A = A} x y h = ap (λ (o : Option A). elim o [ Some v ↦ v | None ↦ x ]) h
-
 -- a property of both outcomes
 pub if_some_has : {A B : Type 0} (P : B → Type 0) (o : Option A) (f : A → B) (x : B) → ((a : A) → o ≡ Some a → P (f a)) → (o ≡ None → P x) → P (if_some o f x)
 if_some_has P None f x g h = h refl
@@ -25,7 +22,7 @@ pub front_by : (k : TokenKind) (w : Word) (ws rest : List Word) (b : Bool) → i
 front_by k (name n) ws rest true e h = absurd (false≢true e)
 front_by k (number n) ws rest true e h = absurd (false≢true e)
 front_by k (quoted t) ws rest true e h = absurd (false≢true e)
-front_by k (plain j) ws rest true e h = ap (λ i. plain i ∷ ws) (exact j k e) ∙ ap (λ l. plain k ∷ l) (some_same ws rest h)
+front_by k (plain j) ws rest true e h = ap (λ i. plain i ∷ ws) (exact j k e) ∙ ap (λ l. plain k ∷ l) (same_Some ws rest h)
 front_by k w ws rest false e h = absurd (none-some rest h)
 
 -- the symbol is at the front
@@ -34,7 +31,7 @@ after_is k [] rest h = absurd (none-some rest h)
 after_is k (w ∷ ws) rest h = front_by k w ws rest (is_word k w) refl h
 
 pub after_name_is : (ws : List Word) (p : List ℕ × List Word) → after_name ws ≡ Some p → ws ≡ name p.0 ∷ p.1
-after_name_is (name n ∷ ws) p h = ap (λ (q : List ℕ × List Word). name q.0 ∷ q.1) (some_same (n, ws) p h)
+after_name_is (name n ∷ ws) p h = ap (λ (q : List ℕ × List Word). name q.0 ∷ q.1) (same_Some (n, ws) p h)
 after_name_is [] p h = absurd (none-some p h)
 after_name_is (number n ∷ ws) p h = absurd (none-some p h)
 after_name_is (quoted t ∷ ws) p h = absurd (none-some p h)
@@ -47,7 +44,7 @@ sign_found sign.Minus ws = refl
 pub after_sign_is : (ws : List Word) (p : Sign × List Word) → after_sign ws ≡ Some p → ws ≡ plain (sign_kind p.0) ∷ p.1
 after_sign_is ws p =
     if_some_has (λ o. o ≡ Some p → ws ≡ plain (sign_kind p.0) ∷ p.1) (after kind.Plus ws) (λ rest. Some (sign.Plus, rest)) _
-    (λ rest e h. after_is kind.Plus ws rest e ∙ ap (λ (q : Sign × List Word). plain (sign_kind q.0) ∷ q.1) (some_same (sign.Plus, rest) p h))
+    (λ rest e h. after_is kind.Plus ws rest e ∙ ap (λ (q : Sign × List Word). plain (sign_kind q.0) ∷ q.1) (same_Some (sign.Plus, rest) p h))
     (λ _. if_some_has (λ o. o ≡ Some p → ws ≡ plain (sign_kind p.0) ∷ p.1) (after kind.Minus ws) (λ rest. Some (sign.Minus, rest)) None
-    (λ rest e h. after_is kind.Minus ws rest e ∙ ap (λ (q : Sign × List Word). plain (sign_kind q.0) ∷ q.1) (some_same (sign.Minus, rest) p h))
+    (λ rest e h. after_is kind.Minus ws rest e ∙ ap (λ (q : Sign × List Word). plain (sign_kind q.0) ∷ q.1) (same_Some (sign.Minus, rest) p h))
     (λ _ h. absurd (none-some p h)))

@@ -1,7 +1,7 @@
 -- The theorems of the readers, in the form that statements use.
 use Rattle.std.specs.Prelude.{◌≡◌, ◌≤◌, max, Option, Some, None, List, [], ◌++◌, refl}
 use Rattle.std.proofs.Common.{sym, ◌∙◌, ap, subst, arith}
-use Rattle.std.proofs.lemmas.Option.{none-some}
+use Rattle.std.proofs.lemmas.Option.{none-some, same_Some}
 use Rattle.iv_lex.specs.Words.{Word}
 use Rattle.iv_parse_terms.specs.Words.{Expression, RangeName, Condition}
 use Rattle.iv_syntax.specs.declared.limits.TheConstants.{DEEPEST_TREE}
@@ -13,7 +13,6 @@ use Rattle.iv_syntax.specs.Trees.{depth, condition_depth}
 use Rattle.iv_parse_terms.specs.readers.Expressions.{FoundExpression, read_expression}
 use Rattle.iv_parse_terms.specs.Conditions.{IsCondition, IsFrom, EndsCondition, EndsFrom, condition}
 use Rattle.iv_parse_terms.specs.readers.Conditions.{FoundItem, truth_alone, read_item, read_condition, read_from}
-use Rattle.iv_parse_terms.proofs.Parts.{some_same}
 use Rattle.iv_parse_terms.proofs.Sound.{Good, expression_sound}
 use Rattle.iv_parse_terms.proofs.Complete.{expression_whole}
 use Rattle.iv_parse_terms.proofs.ConditionSound.{ReadCondition, GoodItem, item_sound, ReadFrom, GoodFrom, from_sound}
@@ -44,7 +43,7 @@ pub truth_front : (words rest : List Word) (c : Condition) (o : FoundItem) → G
 truth_front words rest c None g h = absurd (none-some (c, rest) h)
 truth_front words rest c (Some (Value e, left)) g h = absurd (none-some (c, rest) h)
 truth_front words rest c (Some (Truth b, left)) g h =
-    let r : ReadCondition condition DEEPEST_TREE words c rest = subst (λ (p : Condition × List Word). ReadCondition condition DEEPEST_TREE words p.0 p.1) (some_same (b, left) (c, rest) h) g in
+    let r : ReadCondition condition DEEPEST_TREE words c rest = subst (λ (p : Condition × List Word). ReadCondition condition DEEPEST_TREE words p.0 p.1) (same_Some (b, left) (c, rest) h) g in
     (r.front, record { formed = r.formed; spelled = r.spelled }, r.shallow, r.whole)
 
 -- what is read is at the front, is a condition of the grammar, and is no deeper than DEEPEST_TREE
@@ -73,7 +72,7 @@ one_expression words a b i j =
     let d = max (depth a) (depth b) in
     let left : read_expression d (words ++ []) ≡ Some (a, []) = ap (λ l. read_expression d (l ++ [])) i.spelled ∙ expression_whole a i.formed d (omega arith) [] ((refl, refl), refl, refl) in
     let right : read_expression d (words ++ []) ≡ Some (b, []) = ap (λ l. read_expression d (l ++ [])) j.spelled ∙ expression_whole b j.formed d (omega arith) [] ((refl, refl), refl, refl) in
-    ap (λ (p : Expression × List Word). p.0) (some_same (a, []) (b, []) (sym left ∙ right))
+    ap (λ (p : Expression × List Word). p.0) (same_Some (a, []) (b, []) (sym left ∙ right))
 
 -- words are at most one condition
 pub one_condition : (words : List Word) (a b : Condition) → IsCondition words a → IsCondition words b → a ≡ b
@@ -81,4 +80,4 @@ one_condition words a b i j =
     let d = max (condition_depth a) (condition_depth b) in
     let left = condition_whole a i.formed words i.spelled d (omega arith) [] ((((refl, refl), refl, refl), refl), refl) in
     let right = condition_whole b j.formed words j.spelled d (omega arith) [] ((((refl, refl), refl, refl), refl), refl) in
-    ap (λ (p : Condition × List Word). p.0) (some_same (a, []) (b, []) (ap (λ o. then_read o truth_alone) (sym left ∙ right)))
+    ap (λ (p : Condition × List Word). p.0) (same_Some (a, []) (b, []) (ap (λ o. then_read o truth_alone) (sym left ∙ right)))

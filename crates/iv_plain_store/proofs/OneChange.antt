@@ -1,5 +1,5 @@
 -- A change of one row, in a list of rows in rising number.
-use Rattle.std.proofs.Common.{◌≡◌, ℕ, ◌+◌, ◌^◌, ◌<◌, ◌≤◌, ◌⊎◌, inl, inr, max, Bool, true, false, not, ◌||◌, if◌then◌else◌, ◌==◌, Option, Some, None, List, [], ◌∷◌, ◌++◌, filter, arith, refl, ap, sym, ◌∙◌}
+use Rattle.std.proofs.Common.{◌≡◌, ℕ, ◌+◌, ◌^◌, ◌<◌, ◌≤◌, ◌⊎◌, inl, inr, max, Bool, true, false, not, ◌||◌, if◌then◌else◌, ◌==◌, Option, Some, None, List, [], ◌∷◌, ◌++◌, filter, arith, refl, ap, sym, ◌∙◌, append-nil}
 use Rattle.std.specs.Prelude.{nat_lt}
 use Rattle.std.proofs.lemmas.Bool.Decides.{nat_tests}
 use Rattle.iv_value.specs.declared.value.Value.{Value}
@@ -137,15 +137,11 @@ rows_after_put rows next table number old values h m =
     ap (λ l. in_order (l ++ record { table = table; number = number; values = values } ∷ [])) (is_change_of number rows)
     ∙ put_after 0 (record { table = table; number = number; values = values }) rows next h m
 
-append_none : {A : Type 0} (xs : List A) → xs ++ [] ≡ xs
-append_none [] = refl
-append_none (x ∷ xs) = ap (λ l. x ∷ l) (append_none xs)
-
 -- The rows after the change of one row: without it.
 pub rows_after_taken : (rows : List StoredRow) (next table number : ℕ) (old : Option (List Value)) → Rising 0 rows next
     → rows_after rows (record { table = table; row = number; old = old; new = None } ∷ []) ≡ filter (is_other number) rows
 rows_after_taken rows next table number old h =
-    ap in_order (append_none (filter (λ r. not ((number == r.number) || false)) rows) ∙ is_change_of number rows)
+    ap in_order (append-nil (filter (λ r. not ((number == r.number) || false)) rows) ∙ is_change_of number rows)
     ∙ rising_in_order 0 (filter (is_other number) rows) next (rising_part 0 (is_other number) rows next h)
 
 -- ---- the database after one change

@@ -1,5 +1,6 @@
 -- Which constraints may be violated: after a change of one row, with more tables or constraints, and among marks.
 use Rattle.std.proofs.Common.{◌≡◌, ℕ, zero, suc, ◌+◌, ◌*◌, ◌<◌, ◌≤◌, ◌⊎◌, inl, inr, Bool, true, false, not, ◌&&◌, ◌||◌, if◌then◌else◌, ◌==◌, Option, Some, None, List, [], ◌∷◌, ◌++◌, ◌∙◌, max, option_map, map, filter, length, length-append, take, drop, remove, arith, refl, ap, sym, subst, IfSome}
+use Rattle.std.proofs.lemmas.Bool.{cases_Bool, or_parts}
 use Rattle.std.specs.Prelude.{nat_lt, find, slice_get, slice_index_or}
 use Rattle.std.specs.List.{list_any}
 use Rattle.std.proofs.lemmas.Bool.Decides.{nat_tests}
@@ -30,23 +31,15 @@ use Rattle.iv_plain_store.specs.Suspects.{refers_to, is_about, is_suspect, viola
 
 -- ---- more tables
 
-decided : (b : Bool) → (b ≡ true) ⊎ (b ≡ false)
-decided true = inl refl
-decided false = inr refl
-
-either_false : (a b : Bool) → (a || b) ≡ false → (a ≡ false) × (b ≡ false)
-either_false true b h = cc
-either_false false b h = (refl, h)
-
 any_left : (p : ℕ → Bool) (xs ys : List ℕ) → list_any p (xs ++ ys) ≡ false → list_any p xs ≡ false
 any_left p [] ys h = refl
 any_left p (x ∷ xs) ys h =
-    let parts : (p x ≡ false) × (list_any p (xs ++ ys) ≡ false) = either_false (p x) (list_any p (xs ++ ys)) h in
+    let parts : (p x ≡ false) × (list_any p (xs ++ ys) ≡ false) = or_parts (p x) (list_any p (xs ++ ys)) h in
     ap (λ b. b || list_any p xs) parts.0 ∙ any_left p xs ys parts.1
 
 any_last : (p : ℕ → Bool) (xs : List ℕ) (y : ℕ) → list_any p (xs ++ y ∷ []) ≡ false → p y ≡ false
-any_last p [] y h = (either_false (p y) false h).0
-any_last p (x ∷ xs) y h = any_last p xs y (either_false (p x) (list_any p (xs ++ y ∷ [])) h).1
+any_last p [] y h = (or_parts (p y) false h).0
+any_last p (x ∷ xs) y h = any_last p xs y (or_parts (p x) (list_any p (xs ++ y ∷ [])) h).1
 
 fewer : (table : ℕ) (touched : List ℕ) (c : Constraint) → is_suspect (with_table table touched) c ≡ false → is_suspect touched c ≡ false
 fewer table touched c h = by (list_any (λ t. t == table) touched) h where
@@ -71,15 +64,15 @@ equal_itself a = grind (arith, nat_tests)
 any_same : (p : ℕ → Bool) (table : ℕ) (touched : List ℕ) → list_any (λ t. t == table) touched ≡ true → list_any p touched ≡ false → p table ≡ false
 any_same p table [] e h = cc
 any_same p table (t ∷ ts) e h =
-    let parts : (p t ≡ false) × (list_any p ts ≡ false) = either_false (p t) (list_any p ts) h in
-    elim (decided (t == table)) [
+    let parts : (p t ≡ false) × (list_any p ts ≡ false) = or_parts (p t) (list_any p ts) h in
+    elim (cases_Bool (t == table)) [
       | inl s ↦ ap p (sym (same_number t table s)) ∙ parts.0
       | inr d ↦ any_same p table ts (ap (λ b. b || list_any (λ u. u == table) ts) (sym d) ∙ e) parts.1
     ]
 
 -- a constraint that isn't about one of these tables isn't about this one
 apart : (table : ℕ) (touched : List ℕ) (c : Constraint) → is_suspect (with_table table touched) c ≡ false → is_about c table ≡ false
-apart table touched c h = by (decided (list_any (λ t. t == table) touched)) where
+apart table touched c h = by (cases_Bool (list_any (λ t. t == table) touched)) where
   by : (list_any (λ t. t == table) touched ≡ true) ⊎ (list_any (λ t. t == table) touched ≡ false) → is_about c table ≡ false
   by (inl e) = any_same (is_about c) table touched e (fewer table touched c h)
   by (inr e) = any_last (is_about c) touched table (ap (λ b. list_any (is_about c) (if b then touched else touched ++ table ∷ [])) (sym e) ∙ h)
@@ -90,7 +83,7 @@ apart table touched c h = by (decided (list_any (λ t. t == table) touched)) whe
 others_with : (u : ℕ) (x : StoredRow) (rows : List StoredRow) → (x.table == u) ≡ false → IfSome (row_at rows x.number) (λ r. r.table ≡ x.table)
     → table_rows (rows_with x rows) u ≡ table_rows rows u
 others_with u x [] d own = ap (λ b. if b then x ∷ [] else []) d
-others_with u x (r ∷ rows) d own = by (decided (nat_lt x.number r.number)) (decided (x.number == r.number)) (others_with u x rows d) where
+others_with u x (r ∷ rows) d own = by (cases_Bool (nat_lt x.number r.number)) (cases_Bool (x.number == r.number)) (others_with u x rows d) where
   of_same : x.number ≡ r.number → IfSome (if r.number == x.number then Some r else row_at rows x.number) (λ (q : StoredRow). q.table ≡ x.table) → r.table ≡ x.table
   of_same e h = (let t : (r.number == x.number) ≡ true = grind (arith, nat_tests) in subst (λ b. IfSome (if b then Some r else row_at rows x.number) (λ (q : StoredRow). q.table ≡ x.table)) t h)
 
@@ -112,7 +105,7 @@ others_with u x (r ∷ rows) d own = by (decided (nat_lt x.number r.number)) (de
 others_without : (low number u t : ℕ) (rows : List StoredRow) → Rises low rows → (t == u) ≡ false → IfSome (row_at rows number) (λ r. r.table ≡ t)
     → table_rows (without_row number rows) u ≡ table_rows rows u
 others_without low number u t [] h d own = refl
-others_without low number u t (r ∷ rows) h d own = by (decided (number == r.number)) (others_without r.number number u t rows h.2 d) where
+others_without low number u t (r ∷ rows) h d own = by (cases_Bool (number == r.number)) (others_without r.number number u t rows h.2 d) where
   turned : (b : Bool) → (number == r.number) ≡ b → (r.number == number) ≡ b
   turned true e = grind (arith, nat_tests)
   turned false e = grind (arith, nat_tests)
@@ -200,7 +193,7 @@ clean_after t touched rows after [] stay h = tt
 clean_after t touched rows after (c ∷ cs) stay h = (head, clean_after t touched rows after cs stay h.1) where
   head : is_suspect (with_table t touched) c ≡ false → violating after c ≡ []
   head e =
-      let about : ((c.table == t) ≡ false) × (refers_to t c.rule ≡ false) = either_false (c.table == t) (refers_to t c.rule) (apart t touched c e) in
+      let about : ((c.table == t) ≡ false) × (refers_to t c.rule ≡ false) = or_parts (c.table == t) (refers_to t c.rule) (apart t touched c e) in
       violating_same rows after c (stay c.table (turned_false c.table t about.0)) (referenced_stay rows after t c.rule about.1 stay)
       ∙ h.0 (fewer t touched c e)
 
@@ -237,7 +230,7 @@ clean_with_new rows (c ∷ new) touched cs h = by (list_any (λ r. r.table == c.
 none_of_table : (all rows : List StoredRow) (c : Constraint) → list_any (λ r. r.table == c.table) rows ≡ false → filter (violates all c) rows ≡ []
 none_of_table all [] c e = refl
 none_of_table all (r ∷ rows) c e =
-    let p : ((r.table == c.table) ≡ false) × (list_any (λ q. q.table == c.table) rows ≡ false) = either_false (r.table == c.table) (list_any (λ q. q.table == c.table) rows) e in
+    let p : ((r.table == c.table) ≡ false) × (list_any (λ q. q.table == c.table) rows ≡ false) = or_parts (r.table == c.table) (list_any (λ q. q.table == c.table) rows) e in
     ap (λ b. if b && not (satisfies all c r) then r ∷ filter (violates all c) rows else filter (violates all c) rows) p.0
     ∙ none_of_table all rows c p.1
 
@@ -250,13 +243,13 @@ all_suspect : (touched : List ℕ) (rows : List StoredRow) (t : ℕ) (cs : List 
 all_suspect touched rows t [] on = tt
 all_suspect touched rows t (c ∷ cs) on = (head, all_suspect touched rows t cs on.1) where
   head : is_suspect (with_table t touched) c ≡ false → violating rows c ≡ []
-  head e = absurd (impossible (sym (ap (λ u. u == t) on.0 ∙ equal_itself t) ∙ (either_false (c.table == t) (refers_to t c.rule) (apart t touched c e)).0)) where
+  head e = absurd (impossible (sym (ap (λ u. u == t) on.0 ∙ equal_itself t) ∙ (or_parts (c.table == t) (refers_to t c.rule) (apart t touched c e)).0)) where
     impossible : true ≡ false → ⊥
     impossible x = cc
 
 new_clean : (rows : List StoredRow) (n : ℕ) (new : List Constraint) (touched : List ℕ) → AllOn n new → Clean (with_new rows new touched) rows new
 new_clean rows n [] touched on = tt
-new_clean rows n (c ∷ new) touched on = by (decided (list_any (λ r. r.table == c.table) rows)) where
+new_clean rows n (c ∷ new) touched on = by (cases_Bool (list_any (λ r. r.table == c.table) rows)) where
   here : (ks : List Constraint) → AllOn n ks → AllOn c.table ks
   here ks a = subst (λ t. AllOn t ks) (sym on.0) a
 

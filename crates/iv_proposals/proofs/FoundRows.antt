@@ -1,5 +1,5 @@
 -- The rows where a condition is true, found one after another, are those that the machine means.
-use Rattle.std.proofs.Common.{◌≡◌, ◌∙◌, refl, ℕ, ◌+◌, Bool, true, false, if◌then◌else◌, Result, Ok, Err, Option, Some, None, List, [], ◌∷◌, ◌++◌, map, fold, length, filter_map, ap, sym, append_assoc, append-nil, arith}
+use Rattle.std.proofs.Common.{◌≡◌, ◌∙◌, refl, ℕ, ◌+◌, Bool, true, false, if◌then◌else◌, Result, Ok, Err, Option, Some, None, List, [], ◌∷◌, ◌++◌, map, fold, length, filter_map, ap, sym, append_assoc, append-nil, arith, map-id}
 use Rattle.std.specs.List.{cons_option}
 use Rattle.iv_value.specs.declared.value.Value.{Value}
 use Rattle.iv_expr.specs.declared.row.StoredRow.{StoredRow}
@@ -53,10 +53,6 @@ fold_counted (x ∷ xs) n =
     let s : (n + 1) + length xs ≡ n + length (x ∷ xs) = omega arith in
     i ∙ s
 
-map_same : {A : Type 0} (xs : List A) → map (λ x. x) xs ≡ xs
-map_same [] = refl
-map_same (x ∷ xs) = ap (λ ys. x ∷ ys) (map_same xs)
-
 pub then_same : {A B : Type 0} (r : Result A Cause) (f g : A → B) → ((a : A) → f a ≡ g a) → and_then r (λ a. Ok (f a)) ≡ and_then r (λ a. Ok (g a))
 then_same (Ok a) f g e = ap (λ x. Ok x) (e a)
 then_same (Err c) f g e = refl
@@ -102,7 +98,7 @@ sides_found scope filter side changes =
     sides_in_turn scope filter side changes []
     ∙ where_found (λ (r : List Value). r) (λ r (f : List (List Value)). f ++ r ∷ []) scope filter (transition_rows side changes) []
     ∙ then_same (where_true (λ (r : List Value). r) scope filter (transition_rows side changes)) (λ found. fold (λ (b : List (List Value)) (r : List Value). b ++ r ∷ []) [] found) (λ found. found)
-    (λ found. fold_mapped (λ (r : List Value). r) found [] ∙ map_same found)
+    (λ found. fold_mapped (λ (r : List Value). r) found [] ∙ map-id found)
     ∙ whole (where_true (λ (r : List Value). r) scope filter (transition_rows side changes))
   where
     whole : (r : Result (List (List Value)) Cause) → and_then r (λ found. Ok found) ≡ r

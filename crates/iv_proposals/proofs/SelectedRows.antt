@@ -1,5 +1,5 @@
 -- What a query selects of rows.
-use Rattle.std.proofs.Common.{◌≡◌, ◌∙◌, refl, Result, Ok, Err, List, [], ◌∷◌, map, ap, sym, pos, length}
+use Rattle.std.proofs.Common.{◌≡◌, ◌∙◌, refl, Result, Ok, Err, List, [], ◌∷◌, map, ap, sym, pos, length, map-id}
 use Rattle.iv_value.specs.declared.value.Value.{Value}
 use Rattle.iv_value.specs.declared.value.Value.TheVariants.{Int}
 use Rattle.iv_expr.specs.declared.row.StoredRow.{StoredRow}
@@ -30,16 +30,12 @@ each_mapped : {A B C E : Type 0} (f : B → Result C E) (g : A → B) (xs : List
 each_mapped f g [] = refl
 each_mapped {C = C} {E = E} f g (x ∷ xs) = ap (λ (r : Result (List C) E). and_then (f (g x)) (λ y. and_then r (λ ys. Ok (y ∷ ys)))) (each_mapped f g xs)
 
-map_same : {A : Type 0} (xs : List A) → map (λ x. x) xs ≡ xs
-map_same [] = refl
-map_same (x ∷ xs) = ap (λ ys. x ∷ ys) (map_same xs)
-
 star : (scope : Scope) (row : List Value) → output_row scope Star row ≡ Ok row
-star scope row = each_mapped with_cause (λ (v : Value). Ok v) row ∙ each_ok (λ v. v) row ∙ ap (λ r. Ok r) (map_same row)
+star scope row = each_mapped with_cause (λ (v : Value). Ok v) row ∙ each_ok (λ v. v) row ∙ ap (λ r. Ok r) (map-id row)
 
 -- the whole rows
 pub stars : (scope : Scope) (rows : List (List Value)) → each (output_row scope Star) rows ≡ Ok rows
-stars scope rows = each_same (output_row scope Star) (λ row. Ok row) (star scope) rows ∙ each_ok (λ row. row) rows ∙ ap (λ r. Ok r) (map_same rows)
+stars scope rows = each_same (output_row scope Star) (λ row. Ok row) (star scope) rows ∙ each_ok (λ row. row) rows ∙ ap (λ r. Ok r) (map-id rows)
 
 -- the row of outputs one after another is that of all of them
 pub output_made : (scope o : Scope) (es : List Expr) (row : List Value) → o ≡ within scope row → all_added (λ e. with_cause (value o e)) es ≡ output_at scope es row

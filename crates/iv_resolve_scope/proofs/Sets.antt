@@ -1,5 +1,6 @@
 -- Names that come twice, by the set of those before them.
 use Rattle.std.proofs.Common.{◌≡◌, ℕ, Bool, true, false, not, ◌||◌, List, [], ◌∷◌, ◌++◌, ◌∙◌, refl, sym, ap, if◌then◌else◌, map}
+use mathlib.Core.Bool.{or-false}
 use Rattle.std.specs.List.{list_any}
 use Rattle.std.specs.Str.{bytes_eq}
 use Rattle.std.proofs.lemmas.List.Folds.{list_any-append}
@@ -7,14 +8,6 @@ use Rattle.iv_catalogue.specs.Names.{is_among}
 use Rattle.iv_resolution.specs.Constraints.{comes_twice}
 use Rattle.iv_resolve_scope.specs.Sets.{comes_again}
 use Rattle.iv_catalogue.proofs.WrittenNames.{same_turned}
-
-or_true : (b : Bool) → (b || true) ≡ true
-or_true true = refl
-or_true false = refl
-
-or_false : (b : Bool) → (b || false) ≡ b
-or_false true = refl
-or_false false = refl
 
 -- a new name among those of the set, or among the names after it
 joined : (a b c d : Bool) → ((a || b) || (c || d)) ≡ ((a || c) || (b || d))
@@ -29,7 +22,7 @@ regrouped false b c = refl
 
 among_more : (set : List (List ℕ)) (x name : List ℕ) → is_among (set ++ x ∷ []) name ≡ (is_among set name || bytes_eq x name)
 among_more set x name =
-    list_any-append (bytes_eq name) set (x ∷ []) ∙ ap (λ b. is_among set name || b) (or_false (bytes_eq name x) ∙ same_turned name x)
+    list_any-append (bytes_eq name) set (x ∷ []) ∙ ap (λ b. is_among set name || b) (or-false (bytes_eq name x) ∙ same_turned name x)
 
 any_more : (set : List (List ℕ)) (x : List ℕ) (names : List (List ℕ))
     → list_any (is_among (set ++ x ∷ [])) names ≡ (list_any (is_among set) names || is_among names x)

@@ -1,5 +1,7 @@
 -- Two sets of names are equal where they have the same names.
 use Rattle.std.proofs.Common.{◌≡◌, ℕ, Bool, true, false, ◌&&◌, ◌||◌, List, [], ◌∷◌, ◌∙◌, refl, sym, ap, map, not, cond, Option, drop, length, ◌≤◌, None, String, string_bytes}
+use mathlib.Core.Bool.{or-false}
+use Rattle.std.proofs.lemmas.Bool.{and_from, or_left, or_right}
 use Rattle.std.specs.List.{cons_option, list_any, list_all, AllByRecursion}
 use Rattle.std.specs.List.Sorted.{IsStrictlySortedBy}
 use Rattle.std.specs.declared.cmp.Ordering.TheVariants.{Less}
@@ -58,10 +60,6 @@ same_texts s t a b h =
 
 -- ---- lists with the same names
 
-and_both : (a b : Bool) → a ≡ true → b ≡ true → (a && b) ≡ true
-and_both true b g h = h
-and_both false b g h = cc
-
 and_first : (a b : Bool) → (a && b) ≡ true → a ≡ true
 and_first true b h = refl
 and_first false b h = cc
@@ -69,14 +67,6 @@ and_first false b h = cc
 and_second : (a b : Bool) → (a && b) ≡ true → b ≡ true
 and_second true b h = h
 and_second false b h = cc
-
-or_first : (a b : Bool) → a ≡ true → (a || b) ≡ true
-or_first true b h = refl
-or_first false b h = cc
-
-or_second : (a b : Bool) → b ≡ true → (a || b) ≡ true
-or_second true b h = refl
-or_second false b h = h
 
 as_well : (a b : Bool) → (a ≡ true → b ≡ true) → (b ≡ true → a ≡ true) → a ≡ b
 as_well true b g h = sym (g refl)
@@ -86,9 +76,9 @@ as_well false false g h = refl
 all_within : (whole names : List (List ℕ)) → ((name : List ℕ) → is_among names name ≡ true → is_among whole name ≡ true) → list_all (is_among whole) names ≡ true
 all_within whole [] h = refl
 all_within whole (n ∷ names) h =
-    and_both (is_among whole n) (list_all (is_among whole) names)
-    (h n (or_first (bytes_eq n n) (is_among names n) ((bytes_decides n n).1 refl)))
-    (all_within whole names (λ name g. h name (or_second (bytes_eq name n) (is_among names name) g)))
+    and_from (is_among whole n) (list_all (is_among whole) names)
+    (h n (or_left (bytes_eq n n) (is_among names n) ((bytes_decides n n).1 refl)))
+    (all_within whole names (λ name g. h name (or_right (bytes_eq name n) (is_among names name) g)))
 
 within_by : (whole names : List (List ℕ)) (n name : List ℕ) (b : Bool) → bytes_eq name n ≡ b → list_all (is_among whole) (n ∷ names) ≡ true
     → is_among (n ∷ names) name ≡ true → (is_among names name ≡ true → is_among whole name ≡ true) → is_among whole name ≡ true
@@ -109,7 +99,7 @@ unfolding HasNames
 same_from s t a b g h e =
     let alike : (name : List ℕ) → is_among a name ≡ is_among b name =
     λ name. sym (g.1 name) ∙ same_member name s.keys ∙ ap (list_any (is_at (slice_cmp nat_cmp name))) e ∙ sym (same_member name t.keys) ∙ h.1 name in
-    and_both (list_all (is_among b) a) (list_all (is_among a) b)
+    and_from (list_all (is_among b) a) (list_all (is_among a) b)
     (all_within b a (λ name q. sym (alike name) ∙ q)) (all_within a b (λ name q. alike name ∙ q))
 
 same_to : {Y : Type 0} (s t : BTreeSet (String Y)) (a b : List (List ℕ)) → HasNames s a → HasNames t b
@@ -134,16 +124,12 @@ equal_sets s t a b g h =
     ∙ as_well (pointwise bytes_eq (texts s.keys) (texts t.keys)) (same_set a b)
     (λ e. same_from s t a b g h (decides.0 e)) (λ e. decides.1 (same_to s t a b g h e))
 
-or_none : (b : Bool) → (b || false) ≡ b
-or_none true = refl
-or_none false = refl
-
 -- a set that has all names up to the end of the list
 pub all_names : {Y : Type 0} (set : BTreeSet (String Y)) (names : List (List ℕ)) (i : ℕ) → IsOrdered string_cmp set
     → ((name : List ℕ) → (contains_text set name || is_among (drop i names) name) ≡ is_among names name) → length names ≤ i → HasNames set names
 unfolding HasNames
 all_names set names i ordered h end =
-    (ordered, λ name. sym (or_none (contains_text set name)) ∙ ap (λ l. contains_text set name || is_among l name) (sym (none_left names i end)) ∙ h name)
+    (ordered, λ name. sym (or-false (contains_text set name)) ∙ ap (λ l. contains_text set name || is_among l name) (sym (none_left names i end)) ∙ h name)
 
 -- ---- a set gains a name, and sets gain a set
 
@@ -192,12 +178,12 @@ constraint_of name rule time = record { name = name; rule = rule; time = time }
 pub unique_alone : (columns : List NamedColumn) (name : Option (List ℕ)) (key : List (List ℕ)) (time : ConstraintTime) (names : List (List ℕ))
     → is_deferrable time ≡ false → some_reliable columns (constraint_of name (unique key) time ∷ []) names ≡ same_set names key
 unfolding some_reliable
-unique_alone columns name key time names h = ap (λ b. (not b && same_set names key) || false) h ∙ or_none (same_set names key)
+unique_alone columns name key time names h = ap (λ b. (not b && same_set names key) || false) h ∙ or-false (same_set names key)
 
 pub primary_alone : (columns : List NamedColumn) (name : Option (List ℕ)) (key : List (List ℕ)) (time : ConstraintTime) (names : List (List ℕ))
     → is_deferrable time ≡ false → some_reliable columns (constraint_of name (primary_key key) time ∷ []) names ≡ same_set names key
 unfolding some_reliable
-primary_alone columns name key time names h = ap (λ b. (not b && same_set names key) || false) h ∙ or_none (same_set names key)
+primary_alone columns name key time names h = ap (λ b. (not b && same_set names key) || false) h ∙ or-false (same_set names key)
 
 pub deferrable_alone : (columns : List NamedColumn) (name : Option (List ℕ)) (rule : WrittenRule) (time : ConstraintTime) (names : List (List ℕ))
     → is_deferrable time ≡ true → some_reliable columns (constraint_of name rule time ∷ []) names ≡ false
@@ -236,13 +222,13 @@ pub gains_all : {Y : Type 0} (old new : BTreeSet (BTreeSet (String Y))) (columns
     (rest : List WrittenConstraint) → [] ≡ rest → GainsOf old new p (some_reliable columns rest) → Gains old new p
 unfolding Gains GainsOf some_reliable
 gains_all old new columns p rest e h set names s =
-    sym (or_none (contains set_cmp new set))
+    sym (or-false (contains set_cmp new set))
     ∙ ap (λ l. contains set_cmp new set || list_any (is_reliable names) (written_keys columns l)) e
     ∙ h set names s
 
 pub gains_none : {Y : Type 0} (sets : BTreeSet (BTreeSet (String Y))) (p : List (List ℕ) → Bool) → ((names : List (List ℕ)) → p names ≡ false) → Gains sets sets p
 unfolding Gains
-gains_none sets p h set names s = sym (or_none (contains set_cmp sets set)) ∙ ap (λ b. contains set_cmp sets set || b) (sym (h names))
+gains_none sets p h set names s = sym (or-false (contains set_cmp sets set)) ∙ ap (λ b. contains set_cmp sets set || b) (sym (h names))
 
 -- sets that gain all from nothing
 pub finds_gained : {Y : Type 0} (old new : BTreeSet (BTreeSet (String Y))) (p : List (List ℕ) → Bool) → old.keys ≡ [] → Gains old new p → Finds new p

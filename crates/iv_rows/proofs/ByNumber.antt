@@ -1,5 +1,6 @@
 -- Lists in rising number: what two numbers tell, an item among the others, and the place of a number.
 use Rattle.std.proofs.Common.{◌≡◌, ℕ, zero, suc, ◌+◌, ◌-◌, ◌^◌, ◌<◌, ◌≤◌, ◌⊎◌, inl, inr, min, Bool, true, false, ◌||◌, if◌then◌else◌, ◌==◌, cond, Some, None, option_map, List, [], ◌∷◌, filter, length, take, drop, get_or, slice_set, arith, refl, ap, sym, subst, ◌∙◌}
+use Rattle.std.proofs.lemmas.Bool.{cases_Bool, or_left, or_right, or_cases}
 use Rattle.std.specs.Prelude.{nat_lt, slice_get, unwrap_or}
 use Rattle.std.specs.List.{insert}
 use Rattle.std.proofs.lemmas.Bool.Decides.{nat_tests}
@@ -45,23 +46,8 @@ same_tells a b = elim (tells a b) [
 pub equal_itself : (n : ℕ) → (n == n) ≡ true
 equal_itself n = grind (arith, nat_tests)
 
-pub decided : (b : Bool) → (b ≡ true) ⊎ (b ≡ false)
-decided true = inl refl
-decided false = inr refl
-
 pub impossible : true ≡ false → ⊥
 impossible x = cc
-
-pub or_left : (a b : Bool) → a ≡ true → (a || b) ≡ true
-or_left a b e = ap (λ c. c || b) e
-
-pub or_right : (a b : Bool) → b ≡ true → (a || b) ≡ true
-or_right true b e = refl
-or_right false b e = e
-
-pub either : (a b : Bool) → (a || b) ≡ true → (a ≡ true) ⊎ (b ≡ true)
-either true b e = inl refl
-either false b e = inr e
 
 one_more : (k : ℕ) → suc k ≡ 1 + k
 one_more k = omega arith
@@ -136,7 +122,7 @@ has_added number x (y ∷ ys) = by (tells (number x) (number y)) (has_added numb
 
 pub has_still : {A : Type 0} (number : A → ℕ) (x : A) (n : ℕ) (xs : List A) → has_number number xs n ≡ true → has_number number (with_item number x xs) n ≡ true
 has_still number x n [] e = or_right (number x == n) false e
-has_still number x n (y ∷ ys) e = by (tells (number x) (number y)) (either (number y == n) (has_number number ys n) e) (λ g. has_still number x n ys g) where
+has_still number x n (y ∷ ys) e = by (tells (number x) (number y)) (or_cases (number y == n) (has_number number ys n) e) (λ g. has_still number x n ys g) where
   by : Less (number x) (number y) ⊎ (Same (number x) (number y) ⊎ Less (number y) (number x))
       → ((number y == n) ≡ true) ⊎ (has_number number ys n ≡ true)
       → (has_number number ys n ≡ true → has_number number (with_item number x ys) n ≡ true)
@@ -308,7 +294,7 @@ from_place number n (y ∷ ys) zero x e f =
     let it : y ≡ x = cc in
     let s : place_by number n (y ∷ ys) ≡ 0 = place_here number n y ys (subst (λ z. nat_lt (number z) n ≡ false) (sym it) f) in
     omega (arith, s)
-from_place number n (y ∷ ys) (suc k) x e f = by (decided (nat_lt (number y) n)) (from_place number n ys k x e f) where
+from_place number n (y ∷ ys) (suc k) x e f = by (cases_Bool (nat_lt (number y) n)) (from_place number n ys k x e f) where
   by : (nat_lt (number y) n ≡ true) ⊎ (nat_lt (number y) n ≡ false) → place_by number n ys ≤ k → place_by number n (y ∷ ys) ≤ suc k
   by (inl t) more = let s : place_by number n (y ∷ ys) ≡ suc (place_by number n ys) = place_further number n y ys t in omega (arith, s, more)
   by (inr g) more = let s : place_by number n (y ∷ ys) ≡ 0 = place_here number n y ys g in omega (arith, s)
@@ -316,7 +302,7 @@ from_place number n (y ∷ ys) (suc k) x e f = by (decided (nat_lt (number y) n)
 pub place_in_rest : {A : Type 0} (number : A → ℕ) (n k : ℕ) (xs : List A) → k ≤ place_by number n xs → place_by number n xs ≡ k + place_by number n (drop k xs)
 place_in_rest number n zero xs le = omega arith
 place_in_rest number n (suc k) [] le = absurd (omega (arith, le))
-place_in_rest number n (suc k) (x ∷ xs) le = by (decided (nat_lt (number x) n)) (place_in_rest number n k xs) where
+place_in_rest number n (suc k) (x ∷ xs) le = by (cases_Bool (nat_lt (number x) n)) (place_in_rest number n k xs) where
   by : (nat_lt (number x) n ≡ true) ⊎ (nat_lt (number x) n ≡ false) → (k ≤ place_by number n xs → place_by number n xs ≡ k + place_by number n (drop k xs))
       → place_by number n (x ∷ xs) ≡ suc k + place_by number n (drop k xs)
   by (inl t) more =
@@ -329,7 +315,7 @@ pub place_in_front : {A : Type 0} (number : A → ℕ) (n k : ℕ) (xs : List A)
 place_in_front number n zero [] le = refl
 place_in_front number n zero (x ∷ xs) le = omega (arith, le)
 place_in_front number n (suc k) [] le = refl
-place_in_front number n (suc k) (x ∷ xs) le = by (decided (nat_lt (number x) n)) (place_in_front number n k xs) where
+place_in_front number n (suc k) (x ∷ xs) le = by (cases_Bool (nat_lt (number x) n)) (place_in_front number n k xs) where
   by : (nat_lt (number x) n ≡ true) ⊎ (nat_lt (number x) n ≡ false) → (place_by number n xs ≤ k → place_by number n (take k xs) ≡ place_by number n xs)
       → place_by number n (x ∷ take k xs) ≡ place_by number n (x ∷ xs)
   by (inl t) more =
@@ -341,7 +327,7 @@ place_in_front number n (suc k) (x ∷ xs) le = by (decided (nat_lt (number x) n
 pub past_place : {A : Type 0} (number : A → ℕ) (n : ℕ) (xs : List A) (k : ℕ) → slice_get xs k ≡ None → place_by number n xs ≤ k
 past_place number n [] k e = omega arith
 past_place number n (x ∷ xs) zero e = cc
-past_place number n (x ∷ xs) (suc k) e = by (decided (nat_lt (number x) n)) (past_place number n xs k e) where
+past_place number n (x ∷ xs) (suc k) e = by (cases_Bool (nat_lt (number x) n)) (past_place number n xs k e) where
   by : (nat_lt (number x) n ≡ true) ⊎ (nat_lt (number x) n ≡ false) → place_by number n xs ≤ k → place_by number n (x ∷ xs) ≤ suc k
   by (inl t) more = let s : place_by number n (x ∷ xs) ≡ suc (place_by number n xs) = place_further number n x xs t in omega (arith, s, more)
   by (inr f) more = let s : place_by number n (x ∷ xs) ≡ 0 = place_here number n x xs f in omega (arith, s)

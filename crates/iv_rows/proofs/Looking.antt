@@ -1,5 +1,6 @@
 -- The first row of a table above a number is the first under the numbers above it.
 use Rattle.std.proofs.Common.{◌≡◌, ℕ, ◌+◌, ◌<◌, ◌≤◌, ◌⊎◌, inl, inr, true, false, ◌||◌, if◌then◌else◌, ◌==◌, Option, Some, None, List, [], ◌∷◌, arith, refl, ap, sym, subst, ◌∙◌}
+use Rattle.std.proofs.lemmas.Bool.{cases_Bool}
 use Rattle.std.specs.Prelude.{nat_lt, slice_get}
 use Rattle.iv_expr.specs.declared.row.StoredRow.{StoredRow}
 use Rattle.iv_expr.specs.Scopes.{Rises, table_rows, row_above}
@@ -8,7 +9,7 @@ use Rattle.iv_rows.specs.declared.slot.Slot.{Slot}
 use Rattle.iv_rows.specs.ByNumber.{place_by}
 use Rattle.iv_rows.specs.InSlots.{slot_number, live_rows}
 use Rattle.iv_rows.specs.Filing.{NumbersRise, is_number, numbers_above, numbers_for, is_filed, Covers, Files, row_of, first_of, IsAhead}
-use Rattle.iv_rows.proofs.ByNumber.{less, below_tells, same_tells, equal_itself, decided, place_rises}
+use Rattle.iv_rows.proofs.ByNumber.{less, below_tells, same_tells, equal_itself, place_rises}
 use Rattle.iv_rows.proofs.Rows.{found, passed, none_at, found_above, part_rises}
 use Rattle.iv_rows.proofs.SlotLaws.{live_rises}
 use Rattle.iv_rows.proofs.FilingLaws.{above_rises}
@@ -37,7 +38,7 @@ first_at low bound n (s ∷ rows) r h e l none =
       by : ((nat_lt low s.number ≡ true) × (low < s.number)) ⊎ ((nat_lt low s.number ≡ false) × (s.number ≤ low))
           → (row_at rows n ≡ Some r → row_above low rows ≡ Some r) → row_above low (s ∷ rows) ≡ Some r
       by (inr f) more = above_later low s rows f.0 ∙ more (sym (passed n s rows (less s.number n (omega (arith, f.1, l))).2) ∙ e)
-      by (inl t) more = here (decided (s.number == n)) where
+      by (inl t) more = here (cases_Bool (s.number == n)) where
         here : ((s.number == n) ≡ true) ⊎ ((s.number == n) ≡ false) → row_above low (s ∷ rows) ≡ Some r
         here (inl q) = above_here low s rows t.0 ∙ sym (found n s rows q) ∙ e
         here (inr q) =
@@ -129,7 +130,7 @@ first_is low bound rows (n ∷ numbers) h k all = by (row_at rows n) refl (λ w.
 
 pub table_at : (low t n : ℕ) (rows : List StoredRow) → Rises low rows → row_at (table_rows rows t) n ≡ row_of t (row_at rows n)
 table_at low t n [] h = refl
-table_at low t n (s ∷ rows) h = by (decided (s.table == t)) (same_tells s.number n) (table_at s.number t n rows h.2) where
+table_at low t n (s ∷ rows) h = by (cases_Bool (s.table == t)) (same_tells s.number n) (table_at s.number t n rows h.2) where
   by : ((s.table == t) ≡ true) ⊎ ((s.table == t) ≡ false) → (((s.number == n) ≡ true) × (s.number ≡ n)) ⊎ (((s.number == n) ≡ false) × (s.number ≡ n → ⊥))
       → row_at (table_rows rows t) n ≡ row_of t (row_at rows n) → row_at (table_rows (s ∷ rows) t) n ≡ row_of t (row_at (s ∷ rows) n)
   by (inl a) (inl e) more =

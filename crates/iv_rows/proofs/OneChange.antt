@@ -1,5 +1,5 @@
 -- A database after a change of one row: its rows with that row set.
-use Rattle.std.proofs.Common.{◌≡◌, ℕ, ◌+◌, ◌^◌, ◌<◌, ◌≤◌, ◌⊎◌, inl, inr, max, Bool, true, false, not, ◌||◌, if◌then◌else◌, ◌==◌, Option, Some, None, List, [], ◌∷◌, ◌++◌, filter, arith, refl, ap, sym, subst, ◌∙◌}
+use Rattle.std.proofs.Common.{◌≡◌, ℕ, ◌+◌, ◌^◌, ◌<◌, ◌≤◌, ◌⊎◌, inl, inr, max, Bool, true, false, not, ◌||◌, if◌then◌else◌, ◌==◌, Option, Some, None, List, [], ◌∷◌, ◌++◌, filter, arith, refl, ap, sym, subst, ◌∙◌, append-nil}
 use Rattle.iv_value.specs.declared.value.Value.{Value}
 use Rattle.iv_expr.specs.declared.row.StoredRow.{StoredRow}
 use Rattle.iv_expr.specs.declared.row.Change.{Change}
@@ -93,10 +93,6 @@ put_after low x (r ∷ rows) next h m = by (tells x.number r.number) (put_after 
   by (inr (inr f)) more =
       kept f.3 more ∙ in_front r.number r (rows_with x rows) next (rising_with r.number x rows next f.4 m h.1) (omega arith) ∙ sym (further x r rows f.1 f.3)
 
-append_none : {A : Type 0} (xs : List A) → xs ++ [] ≡ xs
-append_none [] = refl
-append_none (x ∷ xs) = ap (λ l. x ∷ l) (append_none xs)
-
 -- The rows after a change of one row, where all numbers are below a limit.
 pub rows_after_set : (rows : List StoredRow) (limit : ℕ) (c : Change) → Rising 0 rows limit → c.row < limit
     → rows_after rows (c ∷ []) ≡ set_row c.table c.row c.new rows
@@ -106,7 +102,7 @@ rows_after_set rows limit c h m = by c.new where
       ap (λ l. in_order (l ++ record { table = c.table; number = c.row; values = values } ∷ [])) (others c.row rows)
       ∙ put_after 0 (record { table = c.table; number = c.row; values = values }) rows limit h m
   by None =
-      ap in_order (append_none (filter (λ r. not ((c.row == r.number) || false)) rows) ∙ others c.row rows)
+      ap in_order (append-nil (filter (λ r. not ((c.row == r.number) || false)) rows) ∙ others c.row rows)
       ∙ rising_in_order 0 (without_row c.row rows) limit (rising_part 0 (λ r. not (c.row == r.number)) rows limit h)
 
 -- ---- the database after one change

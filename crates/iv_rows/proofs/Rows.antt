@@ -1,5 +1,6 @@
 -- Rows in rising number: one of them is set, set again and set to what it is.
 use Rattle.std.proofs.Common.{◌≡◌, ℕ, ◌<◌, ◌≤◌, ◌⊎◌, inl, inr, Bool, true, false, not, if◌then◌else◌, ◌==◌, Option, Some, None, IfSome, List, [], ◌∷◌, filter, arith, refl, ap, sym, subst, ◌∙◌}
+use Rattle.std.proofs.lemmas.Bool.{cases_Bool}
 use Rattle.std.specs.Prelude.{nat_lt}
 use Rattle.iv_value.specs.declared.value.Value.{Value}
 use Rattle.iv_expr.specs.declared.row.StoredRow.{StoredRow}
@@ -9,7 +10,7 @@ use Rattle.iv_machine.specs.Databases.{row_at, rows_with}
 use Rattle.iv_machine.specs.Waves.{values_at}
 use Rattle.iv_rows.specs.SetRows.{without_row, set_row}
 use Rattle.iv_rows.specs.Histories.{rows_before}
-use Rattle.iv_rows.proofs.ByNumber.{Less, Same, tells, less, same_tells, equal_itself, decided}
+use Rattle.iv_rows.proofs.ByNumber.{Less, Same, tells, less, same_tells, equal_itself}
 
 pub lower : (low up : ℕ) (rows : List StoredRow) → low ≤ up → Rises up rows → Rises low rows
 lower low up [] le h = tt
@@ -223,7 +224,7 @@ without_with x (r ∷ rows) = by (tells x.number r.number) (without_with x rows)
 
 without_without : (n : ℕ) (rows : List StoredRow) → without_row n (without_row n rows) ≡ without_row n rows
 without_without n [] = refl
-without_without n (r ∷ rows) = by (decided (n == r.number)) (without_without n rows) where
+without_without n (r ∷ rows) = by (cases_Bool (n == r.number)) (without_without n rows) where
   by : ((n == r.number) ≡ true) ⊎ ((n == r.number) ≡ false) → without_row n (without_row n rows) ≡ without_row n rows
       → without_row n (without_row n (r ∷ rows)) ≡ without_row n (r ∷ rows)
   by (inl e) more = ap (without_row n) (without_this n r rows e) ∙ more ∙ sym (without_this n r rows e)
@@ -242,7 +243,7 @@ set_again table number None None rows h = without_without number rows
 
 with_itself : (low n : ℕ) (x : StoredRow) (rows : List StoredRow) → Rises low rows → row_at rows n ≡ Some x → rows_with x rows ≡ rows
 with_itself low n x [] h e = cc
-with_itself low n x (r ∷ rows) h e = by (decided (r.number == n)) (with_itself r.number n x rows h.2) where
+with_itself low n x (r ∷ rows) h e = by (cases_Bool (r.number == n)) (with_itself r.number n x rows h.2) where
   itself : Less r.number r.number ⊎ (Same r.number r.number ⊎ Less r.number r.number) → rows_with r (r ∷ rows) ≡ r ∷ rows
   itself (inl t) = absurd (omega (arith, t.4))
   itself (inr (inl q)) = instead r r rows q.0 q.2

@@ -1,5 +1,6 @@
 -- Rows in slots: the rows after a slot is set, the row of a number, and the slots that are kept.
 use Rattle.std.proofs.Common.{◌≡◌, ℕ, ◌^◌, ◌<◌, ◌≤◌, ◌⊎◌, inl, inr, Bool, true, false, not, ◌||◌, if◌then◌else◌, ◌==◌, Option, Some, None, List, [], ◌∷◌, slice_set, arith, refl, ap, sym, subst, ◌∙◌}
+use Rattle.std.proofs.lemmas.Bool.{cases_Bool}
 use Rattle.std.specs.Prelude.{slice_get, slice_index_or}
 use Rattle.iv_value.specs.declared.value.Value.{Value}
 use Rattle.iv_expr.specs.declared.row.StoredRow.{StoredRow}
@@ -9,7 +10,7 @@ use Rattle.iv_rows.specs.declared.slot.Slot.{Slot}
 use Rattle.iv_rows.specs.ByNumber.{place_by}
 use Rattle.iv_rows.specs.SetRows.{without_row, set_row}
 use Rattle.iv_rows.specs.InSlots.{SlotsRise, slot_number, live_rows, slots_with, emptied, slots_without, slots_after, swept, has_slot}
-use Rattle.iv_rows.proofs.ByNumber.{Less, Same, tells, decided, same_tells, impossible, place_further, place_here, has_at, has_still}
+use Rattle.iv_rows.proofs.ByNumber.{Less, Same, tells, same_tells, impossible, place_further, place_here, has_at, has_still}
 use Rattle.iv_rows.proofs.ByNumber as items
 use Rattle.iv_rows.proofs.Rows.{lower, found, passed, none_at, in_front}
 use Rattle.iv_rows.proofs.Rows as rows
@@ -38,7 +39,7 @@ live_slot r = record { row = r; is_live = true }
 -- the rows of slots after a row is put into one
 pub live_with : (low : ℕ) (x : StoredRow) (slots : List Slot) → SlotsRise low slots → live_rows (slots_with x slots) ≡ rows_with x (live_rows slots)
 live_with low x [] h = refl
-live_with low x (s ∷ slots) h = by (tells x.number s.row.number) (decided s.is_live) (live_with s.row.number x slots h.2) where
+live_with low x (s ∷ slots) h = by (tells x.number s.row.number) (cases_Bool s.is_live) (live_with s.row.number x slots h.2) where
   rest : Rises s.row.number (live_rows slots)
   rest = live_rises s.row.number slots h.2
 
@@ -85,7 +86,7 @@ emptied_other n s e = ap (λ b. if b then record { row = s.row; is_live = false 
 -- the rows of slots after one is emptied
 pub live_without : (n : ℕ) (slots : List Slot) → live_rows (slots_without n slots) ≡ without_row n (live_rows slots)
 live_without n [] = refl
-live_without n (s ∷ slots) = by (decided (s.row.number == n)) (decided s.is_live) (live_without n slots) where
+live_without n (s ∷ slots) = by (cases_Bool (s.row.number == n)) (cases_Bool s.is_live) (live_without n slots) where
   by : ((s.row.number == n) ≡ true) ⊎ ((s.row.number == n) ≡ false) → (s.is_live ≡ true) ⊎ (s.is_live ≡ false)
       → live_rows (slots_without n slots) ≡ without_row n (live_rows slots) → live_rows (slots_without n (s ∷ slots)) ≡ without_row n (live_rows (s ∷ slots))
   by (inl e) (inl a) more =
@@ -137,7 +138,7 @@ stays_after table number None n slots e = same_slots number n slots ∙ e
 -- a row that is there has a slot
 pub found_slot : (n : ℕ) (slots : List Slot) (r : StoredRow) → row_at (live_rows slots) n ≡ Some r → has_slot slots n ≡ true
 found_slot n [] r e = cc
-found_slot n (s ∷ slots) r e = by s.is_live (decided (s.row.number == n)) e (found_slot n slots r) where
+found_slot n (s ∷ slots) r e = by s.is_live (cases_Bool (s.row.number == n)) e (found_slot n slots r) where
   by : (b : Bool) → ((s.row.number == n) ≡ true) ⊎ ((s.row.number == n) ≡ false) → row_at (if b then s.row ∷ live_rows slots else live_rows slots) n ≡ Some r
       → (row_at (live_rows slots) n ≡ Some r → has_slot slots n ≡ true) → ((s.row.number == n) || has_slot slots n) ≡ true
   by b (inl q) f more = items.or_left (s.row.number == n) (has_slot slots n) q
@@ -175,7 +176,7 @@ row_in_dead n s d = ap (λ b. if b then (if s.row.number == n then Some s.row el
 pub live_at_place : (low n : ℕ) (slots : List Slot) → SlotsRise low slots
     → row_at (live_rows slots) n ≡ row_in n (slice_get slots (place_by slot_number n slots))
 live_at_place low n [] h = refl
-live_at_place low n (s ∷ slots) h = by (tells s.row.number n) (decided s.is_live) (live_at_place s.row.number n slots h.2) where
+live_at_place low n (s ∷ slots) h = by (tells s.row.number n) (cases_Bool s.is_live) (live_at_place s.row.number n slots h.2) where
   dead : s.is_live ≡ false → row_in n (Some s) ≡ None
   dead d = ap (λ b. if b then (if s.row.number == n then Some s.row else None) else None) d
 
@@ -237,7 +238,7 @@ emptied_at low n (s ∷ slots) d x h e i = by (tells s.row.number n) (emptied_at
 -- where the place has no slot of the number, none is emptied
 pub emptied_none : (n : ℕ) (slots : List Slot) → has_slot slots n ≡ false → slots_without n slots ≡ slots
 emptied_none n [] e = refl
-emptied_none n (s ∷ slots) e = by (decided (s.row.number == n)) (emptied_none n slots) where
+emptied_none n (s ∷ slots) e = by (cases_Bool (s.row.number == n)) (emptied_none n slots) where
   by : ((s.row.number == n) ≡ true) ⊎ ((s.row.number == n) ≡ false) → (has_slot slots n ≡ false → slots_without n slots ≡ slots)
       → slots_without n (s ∷ slots) ≡ s ∷ slots
   by (inl q) more = absurd (impossible (sym (items.or_left (s.row.number == n) (has_slot slots n) q) ∙ e))
@@ -248,7 +249,7 @@ emptied_none n (s ∷ slots) e = by (decided (s.row.number == n)) (emptied_none 
 -- the slots that are kept have the same rows
 pub live_swept : (slots : List Slot) → live_rows (swept slots) ≡ live_rows slots
 live_swept [] = refl
-live_swept (s ∷ slots) = by (decided s.is_live) (live_swept slots) where
+live_swept (s ∷ slots) = by (cases_Bool s.is_live) (live_swept slots) where
   by : (s.is_live ≡ true) ⊎ (s.is_live ≡ false) → live_rows (swept slots) ≡ live_rows slots → live_rows (swept (s ∷ slots)) ≡ live_rows (s ∷ slots)
   by (inl a) more =
       ap (λ b. live_rows (if b then s ∷ swept slots else swept slots)) a ∙ kept s (swept slots) a ∙ ap (λ l. s.row ∷ l) more ∙ sym (kept s slots a)

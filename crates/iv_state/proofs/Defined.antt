@@ -1,5 +1,6 @@
 -- CREATE TABLE and ALTER TABLE ADD outside a transaction, and statements by their plans.
 use Rattle.std.proofs.Common.{◌≡◌, ℕ, zero, suc, ◌==◌, Bool, true, false, Option, Some, None, Result, Ok, Err, List, [], ◌∷◌, ◌++◌, length, option_map, is_some, refl, ap, sym, subst, ◌∙◌, MatchBool}
+use Rattle.std.proofs.lemmas.Bool.{and_from, and_parts}
 use Rattle.iv_value.specs.declared.value.Value.{Value}
 use Rattle.iv_expr.specs.declared.row.StoredRow.{StoredRow}
 use Rattle.iv_state.specs.Words.{Statement, Table, Fault, Refusal, Constraint, Plan, Answer}
@@ -24,7 +25,6 @@ use Rattle.iv_state.proofs.Performed.{refuse_performs}
 use Rattle.iv_step.specs.Step.{Executes, step}
 use Rattle.iv_state.proofs.Fitting.{runs_as}
 use Rattle.iv_laws_fitting.proofs.Plans.{accepted}
-use Rattle.iv_state.proofs.Saves.{two, parts_of}
 
 pub shut_is : (b : Bool) (s : StoreState) → is_some (started b s) ≡ false → b ≡ false
 shut_is true s h = cc
@@ -40,8 +40,8 @@ table_more (t ∷ tables) more (suc n) v h = table_more tables more n v h
 rows_more : (tables more : List Table) (rows : List StoredRow) → rows_fit tables rows ≡ true → rows_fit (tables ++ more) rows ≡ true
 rows_more tables more [] h = refl
 rows_more tables more (r ∷ rows) h =
-    let p : (row_fits tables r ≡ true) × (rows_fit tables rows ≡ true) = parts_of (row_fits tables r) (rows_fit tables rows) h in
-    two (row_fits (tables ++ more) r) (rows_fit (tables ++ more) rows) (table_more tables more r.table r.values p.0) (rows_more tables more rows p.1)
+    let p : (row_fits tables r ≡ true) × (rows_fit tables rows ≡ true) = and_parts (row_fits tables r) (rows_fit tables rows) h in
+    and_from (row_fits (tables ++ more) r) (rows_fit (tables ++ more) rows) (table_more tables more r.table r.values p.0) (rows_more tables more rows p.1)
 
 -- ---- CREATE TABLE
 

@@ -1,5 +1,6 @@
 -- The plan of a statement that deserves no cause, and may run now, fits.
 use Rattle.std.proofs.Common.{◌≡◌, ℕ, ◌≤◌, ◌<◌, Bool, true, false, ◌||◌, Option, Some, None, Ok, length, map, slice_get, arith, refl, ap, sym, subst, ◌∙◌, nat_le, nat_lt}
+use Rattle.std.proofs.lemmas.Bool.{or_parts}
 use Rattle.std.specs.List.{list_any}
 use Rattle.std.proofs.lemmas.Bool.Decides.{nat_tests}
 use Rattle.iv_state.specs.Words.{Statement, Table, Plan, SchemaPlan, Trigger}
@@ -16,7 +17,6 @@ use Rattle.iv_resolution.specs.Constraints.{WrittenConstraint, comes_twice, tabl
 use Rattle.iv_resolution.specs.Resolution.{resolution}
 use Rattle.iv_resolution.specs.Tables.{altered_at, table_names}
 use Rattle.iv_resolution.specs.Triggers.{duplicate_action, trigger_names, trigger_variables}
-use Rattle.iv_laws_naming.proofs.Firsts.{neither}
 use Rattle.iv_laws_fitting.specs.ConstraintShapes.{SchemaSuits}
 use Rattle.iv_laws_fitting.proofs.Plans.{Accepted, accepted, changes_fit}
 use Rattle.iv_laws_fitting.proofs.Pointwise.{mapped_length}
@@ -33,8 +33,8 @@ alteration c place k o = elim o [ Some t ↦ bound_addition c (altered_at c plac
 
 three : (a b d : ℕ) (x y z : ℕ) → (nat_le x a || (nat_le y b || nat_lt z d)) ≡ false → (a < x) × (b < y) × (d ≤ z)
 three a b d x y z h =
-    let p : (nat_le x a ≡ false) × ((nat_le y b || nat_lt z d) ≡ false) = neither (nat_le x a) (nat_le y b || nat_lt z d) h in
-    let q : (nat_le y b ≡ false) × (nat_lt z d ≡ false) = neither (nat_le y b) (nat_lt z d) p.1 in
+    let p : (nat_le x a ≡ false) × ((nat_le y b || nat_lt z d) ≡ false) = or_parts (nat_le x a) (nat_le y b || nat_lt z d) h in
+    let q : (nat_le y b ≡ false) × (nat_lt z d ≡ false) = or_parts (nat_le y b) (nat_lt z d) p.1 in
     (grind (arith, nat_tests, p.0), grind (arith, nat_tests, q.0), grind (arith, nat_tests, q.1))
 
 trigger_is : (c : Schema) (x : TriggerDefinition) (t : Trigger) → Accepted c (statement.CreateTrigger x) (plan.Schema (schema.CreateTrigger t)) → TriggerFits c t
@@ -46,7 +46,7 @@ trigger_is c x t a =
       room = limits.0;
       ever = limits.1;
       short = subst (λ n. n ≤ MOST_BODY_STATEMENTS) (sym (mapped_length (bound_action (trigger_names c x) (trigger_variables c x)) x.body)) limits.2;
-      free = (neither (has_trigger c x.name) (comes_twice (map (λ i. i.name) x.referencing) || list_any duplicate_action x.body) a.single).0;
+      free = (or_parts (has_trigger c x.name) (comes_twice (map (λ i. i.name) x.referencing) || list_any duplicate_action x.body) a.single).0;
     })
 
 no_trigger : (c : Schema) (place : ℕ) (k : WrittenConstraint) (t : Trigger) (P : Type 0) (o : Option Table) → alteration c place k o ≡ plan.Schema (schema.CreateTrigger t) → P

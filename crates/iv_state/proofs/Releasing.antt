@@ -1,7 +1,7 @@
 -- RELEASE and ROLLBACK TO: the newest savepoint of a name, and those before it.
 use Rattle.std.proofs.Common.{◌≡◌, ℕ, zero, suc, ◌+◌, ◌<◌, Bool, true, false, if◌then◌else◌, Option, Some, None, List, [], ◌∷◌, ◌++◌, length, take, get_or, arith, refl, ap, sym, subst, ◌∙◌, slice_get, is_some, IfSome}
 use Rattle.std.specs.Str.{bytes_eq}
-use Rattle.std.proofs.lemmas.Bool.{true≢false}
+use Rattle.std.proofs.lemmas.Bool.{true≢false, and_from, and_parts}
 use Rattle.std.proofs.lemmas.List.{take_more, length-take-le}
 use Rattle.iv_state.specs.Words.{Table, Constraint, Database}
 use Rattle.iv_machine.specs.Machine.{Savepoint, NamedSavepoint, State, savepoint_named}
@@ -11,7 +11,7 @@ use Rattle.iv_state.specs.Saved.{Saved}
 use Rattle.iv_laws_rows.specs.RowFits.{rows_fit}
 use Rattle.iv_state.specs.Kept.{Parts, Kept, IsOpen, StandsAs, AllModes, AreModes, AreSaved, all_fit, brought_back, current, later, savepoint_at, savepoints_of, started, state_of}
 use Rattle.iv_state.specs.Saving.{last_named, with_marks}
-use Rattle.iv_state.proofs.Saves.{two, parts_of, saves_more, first_or, later_length}
+use Rattle.iv_state.proofs.Saves.{saves_more, first_or, later_length}
 use Rattle.iv_state.proofs.TakenOut.{last_in, last_named_is, none_first, At, here, there, at_of}
 
 -- ---- the newest of a name
@@ -113,8 +113,8 @@ fit_take tables [] zero h = h
 fit_take tables [] (suc p) h = h
 fit_take tables (d ∷ dbs) zero h = refl
 fit_take tables (d ∷ dbs) (suc p) h =
-    let f : (rows_fit tables d.rows ≡ true) × (all_fit tables dbs ≡ true) = parts_of (rows_fit tables d.rows) (all_fit tables dbs) h in
-    two (rows_fit tables d.rows) (all_fit tables (take p dbs)) f.0 (fit_take tables dbs p f.1)
+    let f : (rows_fit tables d.rows ≡ true) × (all_fit tables dbs ≡ true) = and_parts (rows_fit tables d.rows) (all_fit tables dbs) h in
+    and_from (rows_fit tables d.rows) (all_fit tables (take p dbs)) f.0 (fit_take tables dbs p f.1)
 
 abbrev at_or : Database → Option Database → Database
 at_or base o = elim o [ Some db ↦ db | None ↦ base ]
@@ -122,8 +122,8 @@ at_or base o = elim o [ Some db ↦ db | None ↦ base ]
 fit_at : (tables : List Table) (dbs : List Database) (p : ℕ) (base : Database) → all_fit tables dbs ≡ true → rows_fit tables base.rows ≡ true
     → rows_fit tables (at_or base (slice_get dbs p)).rows ≡ true
 fit_at tables [] p base h g = g
-fit_at tables (d ∷ dbs) zero base h g = (parts_of (rows_fit tables d.rows) (all_fit tables dbs) h).0
-fit_at tables (d ∷ dbs) (suc p) base h g = fit_at tables dbs p base (parts_of (rows_fit tables d.rows) (all_fit tables dbs) h).1 g
+fit_at tables (d ∷ dbs) zero base h g = (and_parts (rows_fit tables d.rows) (all_fit tables dbs) h).0
+fit_at tables (d ∷ dbs) (suc p) base h g = fit_at tables dbs p base (and_parts (rows_fit tables d.rows) (all_fit tables dbs) h).1 g
 
 among : (dbs : List Database) (p : ℕ) (base db : Database) → p < length dbs → at_or base (slice_get dbs p) ≡ get_or dbs p db
 among [] p base db w = absurd (omega (arith, w))

@@ -1,5 +1,6 @@
 -- A list of savepoints with one more, and without those of a name.
 use Rattle.std.proofs.Common.{◌≡◌, ℕ, suc, ◌+◌, ◌<◌, Bool, true, false, not, ◌&&◌, if◌then◌else◌, Some, None, Option, List, [], ◌∷◌, ◌++◌, length, arith, refl, ap, sym, subst, ◌∙◌, append-nil, length-append, slice_get, IfSome, is_some}
+use Rattle.std.proofs.lemmas.Bool.{and_from, and_parts}
 use Rattle.std.specs.Str.{bytes_eq}
 use Rattle.iv_state.specs.Words.{Table, Constraint, Database}
 use Rattle.iv_machine.specs.Machine.{Savepoint, without_name, state_with_savepoint}
@@ -11,13 +12,6 @@ use Rattle.iv_state.specs.Kept.{Parts, Kept, IsOpen, StandsAs, AllModes, AreMode
 use Rattle.iv_state.specs.Saving.{saves_without, marks_without, IsWithout}
 
 -- ---- lists
-
-pub two : (a b : Bool) → a ≡ true → b ≡ true → (a && b) ≡ true
-two a b x y = ap (λ p. p && b) x ∙ y
-
-pub parts_of : (a b : Bool) → (a && b) ≡ true → (a ≡ true) × (b ≡ true)
-parts_of true b h = (refl, h)
-parts_of false b h = cc
 
 -- one savepoint more
 pub saves_more : (initial : ModeMap) (ss : List Saved) (dbs : List Database) (s : Saved) (db : Database) → length ss ≡ length dbs
@@ -99,21 +93,21 @@ modes_changed ks c [] h = h
 modes_changed ks c (s ∷ ss) h = (modes_set ks c s.modes h.0, modes_changed ks c ss h.1)
 
 pub fit_more : (tables : List Table) (dbs : List Database) (db : Database) → all_fit tables dbs ≡ true → rows_fit tables db.rows ≡ true → all_fit tables (dbs ++ db ∷ []) ≡ true
-fit_more tables [] db h g = two (rows_fit tables db.rows) true g refl
+fit_more tables [] db h g = and_from (rows_fit tables db.rows) true g refl
 fit_more tables (x ∷ dbs) db h g =
-    let p : (rows_fit tables x.rows ≡ true) × (all_fit tables dbs ≡ true) = parts_of (rows_fit tables x.rows) (all_fit tables dbs) h in
-    two (rows_fit tables x.rows) (all_fit tables (dbs ++ db ∷ [])) p.0 (fit_more tables dbs db p.1 g)
+    let p : (rows_fit tables x.rows ≡ true) × (all_fit tables dbs ≡ true) = and_parts (rows_fit tables x.rows) (all_fit tables dbs) h in
+    and_from (rows_fit tables x.rows) (all_fit tables (dbs ++ db ∷ [])) p.0 (fit_more tables dbs db p.1 g)
 
 pub fit_others : (tables : List Table) (name : List ℕ) (ss : List Saved) (dbs : List Database) → all_fit tables dbs ≡ true → all_fit tables (marks_without name ss dbs) ≡ true
 fit_others tables name [] dbs h = h
 fit_others tables name (s ∷ ss) [] h = refl
 fit_others tables name (s ∷ ss) (db ∷ dbs) h =
-    let p : (rows_fit tables db.rows ≡ true) × (all_fit tables dbs ≡ true) = parts_of (rows_fit tables db.rows) (all_fit tables dbs) h in
+    let p : (rows_fit tables db.rows ≡ true) × (all_fit tables dbs ≡ true) = and_parts (rows_fit tables db.rows) (all_fit tables dbs) h in
     by (bytes_eq name s.name) p.0 (fit_others tables name ss dbs p.1) where
       by : (b : Bool) → rows_fit tables db.rows ≡ true → all_fit tables (marks_without name ss dbs) ≡ true
           → all_fit tables (if b then marks_without name ss dbs else db ∷ marks_without name ss dbs) ≡ true
       by true f g = g
-      by false f g = two (rows_fit tables db.rows) (all_fit tables (marks_without name ss dbs)) f g
+      by false f g = and_from (rows_fit tables db.rows) (all_fit tables (marks_without name ss dbs)) f g
 
 abbrev pub first_or : Database → List Database → Database
 first_or base dbs = elim (slice_get dbs 0) [ Some db ↦ db | None ↦ base ]
@@ -121,12 +115,12 @@ first_or base dbs = elim (slice_get dbs 0) [ Some db ↦ db | None ↦ base ]
 pub fit_first : (tables : List Table) (base : Database) (dbs : List Database) → 0 < length dbs → all_fit tables dbs ≡ true
     → (rows_fit tables (first_or base dbs).rows ≡ true) × (all_fit tables (later dbs) ≡ true)
 fit_first tables base [] w h = absurd (omega (arith, w))
-fit_first tables base (db ∷ dbs) w h = parts_of (rows_fit tables db.rows) (all_fit tables dbs) h
+fit_first tables base (db ∷ dbs) w h = and_parts (rows_fit tables db.rows) (all_fit tables dbs) h
 
 pub fit_whole : (tables : List Table) (base : Database) (dbs : List Database) → 0 < length dbs → rows_fit tables (first_or base dbs).rows ≡ true
     → all_fit tables (later dbs) ≡ true → all_fit tables dbs ≡ true
 fit_whole tables base [] w h g = absurd (omega (arith, w))
-fit_whole tables base (db ∷ dbs) w h g = two (rows_fit tables db.rows) (all_fit tables dbs) h g
+fit_whole tables base (db ∷ dbs) w h g = and_from (rows_fit tables db.rows) (all_fit tables dbs) h g
 
 pub later_more : (dbs : List Database) (db : Database) → 0 < length dbs → later (dbs ++ db ∷ []) ≡ later dbs ++ db ∷ []
 later_more [] db w = absurd (omega (arith, w))

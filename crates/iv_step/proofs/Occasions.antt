@@ -1,5 +1,6 @@
 -- A statement and its plan may run on the same occasions.
 use Rattle.std.proofs.Common.{◌≡◌, ℕ, false, not, List, Option, Some, None, Ok, slice_get, refl, sym, ap, ◌∙◌}
+use Rattle.std.proofs.lemmas.Bool.{or_parts}
 use Rattle.iv_syntax.specs.declared.statement.Statement.{Statement}
 use Rattle.iv_syntax.specs.declared.statement.Statement.TheVariants as statement
 use Rattle.iv_syntax.specs.declared.table.TableConstraint.{TableConstraint}
@@ -13,7 +14,6 @@ use Rattle.iv_resolution.specs.Bound.{bound, bound_addition, table_id}
 use Rattle.iv_resolution.specs.Constraints.{WrittenConstraint, table_constraint}
 use Rattle.iv_resolution.specs.Resolution.{is_there, of_altered, resolution}
 use Rattle.iv_resolution.specs.Tables.{altered_at, table_names, unknown_rule}
-use Rattle.iv_laws_naming.proofs.Firsts.{neither}
 use Rattle.iv_laws_fitting.proofs.Plans.{Accepted, accepted}
 use Rattle.iv_laws_fitting.proofs.Targets.{Target, target_of, target_id}
 use Rattle.iv_step.specs.Laws.{PlansKeepTheOccasion}
@@ -25,7 +25,7 @@ alteration c place k o = elim o [ Some t ↦ bound_addition c (altered_at c plac
 -- the table that is altered is there
 altered_outside : (c : Schema) (name : List ℕ) (k : TableConstraint) (p : Plan) → Accepted c (statement.AlterTable name k) p → plan_occasion p ≡ outside
 altered_outside c name k p a =
-    let known : (not (is_there c name) ≡ false) × _ = neither (not (is_there c name)) (of_altered c name (λ own. unknown_rule c (table_names c) own (table_constraint k).rule)) a.known in
+    let known : (not (is_there c name) ≡ false) × _ = or_parts (not (is_there c name)) (of_altered c name (λ own. unknown_rule c (table_names c) own (table_constraint k).rule)) a.known in
     let t : Target (table_names c).tables name = target_of (table_names c) name known.0 in
     sym (ap plan_occasion
     (sym (ap (alteration c t.place (table_constraint k)) t.there)

@@ -1,5 +1,6 @@
 -- Each statement leads from a state that statements reach to one of which the same holds.
 use Rattle.std.proofs.Common.{◌≡◌, ℕ, ◌<◌, ◌-◌, ◌==◌, true, not, nat_lt, List, [], ◌∷◌, length, find, Option, Some, None, Result, Ok, Err, refl, sym, ap, subst, ◌∙◌, arith}
+use Rattle.std.proofs.lemmas.Bool.{and_parts}
 use Rattle.std.specs.List.{list_all}
 use Rattle.std.proofs.lemmas.Bool.Decides.{nat_tests}
 use Rattle.iv_value.specs.declared.value.Kind.{Kind}
@@ -40,7 +41,6 @@ use Rattle.iv_resolution.specs.Resolution.{resolution}
 use Rattle.iv_laws_fitting.specs.ConstraintShapes.{SchemaSuits}
 use Rattle.iv_laws_fitting.specs.PlanShapes.{action_suits, data_suits, is_there, plain_shape, rows_suit, setting_suits, table_kinds, target_kinds, trigger_shape, trigger_suits}
 use Rattle.iv_laws_fitting.proofs.Plans.{changes_fit}
-use Rattle.iv_laws_fitting.proofs.Pointwise.{parts_of}
 use Rattle.iv_laws_fitting.proofs.Schemas.{tables_fit}
 use Rattle.iv_laws_fitting.proofs.Staying.{empty_suits, schemas_stay}
 use Rattle.iv_laws_fitting.proofs.Triggers.{triggers_fit}
@@ -58,27 +58,27 @@ there tables place h = grind (arith, nat_tests)
 
 table_there : (c : Schema) (shape : Shape) (d : DataStatement) → data_suits c.tables shape d ≡ true → IsThere c (table_of d)
 table_there c shape (Insert t listed given) h =
-    there c.tables t (parts_of (is_there c.tables t) (rows_suit c.tables shape (target_kinds (table_kinds c.tables t) listed) given) h).0
+    there c.tables t (and_parts (is_there c.tables t) (rows_suit c.tables shape (target_kinds (table_kinds c.tables t) listed) given) h).0
 table_there c shape (Update t settings filter) h =
-    there c.tables t (parts_of (is_there c.tables t) _ h).0
+    there c.tables t (and_parts (is_there c.tables t) _ h).0
 table_there c shape (Delete t filter) h =
-    there c.tables t (parts_of (is_there c.tables t) (suits (shape_within shape (table_kinds c.tables t)) filter) h).0
+    there c.tables t (and_parts (is_there c.tables t) (suits (shape_within shape (table_kinds c.tables t)) filter) h).0
 
 body_fits : (c : Schema) (shape : Shape) (kinds : List Kind) (actions : List BodyStatement) → list_all (action_suits c.tables shape kinds) actions ≡ true → BodyFits c actions
 body_fits c shape kinds [] h = tt
 body_fits c shape kinds (body.Data d ∷ rest) h =
-    let p = parts_of (data_suits c.tables shape d) (list_all (action_suits c.tables shape kinds) rest) h in
+    let p = and_parts (data_suits c.tables shape d) (list_all (action_suits c.tables shape kinds) rest) h in
     (table_there c shape d p.0, body_fits c shape kinds rest p.1)
 body_fits c shape kinds (body.Signal text ∷ rest) h = body_fits c shape kinds rest h
 body_fits c shape kinds (body.Set setting ∷ rest) h =
-    body_fits c shape kinds rest (parts_of (setting_suits shape kinds setting) (list_all (action_suits c.tables shape kinds) rest) h).1
+    body_fits c shape kinds rest (and_parts (setting_suits shape kinds setting) (list_all (action_suits c.tables shape kinds) rest) h).1
 
 trigger_fits : (c : Schema) (t : Trigger) → trigger_suits c.tables t ≡ true → BodyFits c t.body
 trigger_fits c t h =
     let kinds = table_kinds c.tables t.table in
     let shape = trigger_shape c.tables t.granularity t.event kinds in
     let acts = list_all (action_suits c.tables shape kinds) t.body in
-    body_fits c shape kinds t.body (parts_of (suits shape t.when) acts (parts_of (is_there c.tables t.table) _ h).1).1
+    body_fits c shape kinds t.body (and_parts (suits shape t.when) acts (and_parts (is_there c.tables t.table) _ h).1).1
 
 plan_fits : (c : Schema) (st : Statement) (p : Plan) → SchemaSuits c → resolution c st ≡ Ok p → FitsSchema c p
 plan_fits c st (plan.Schema q) suited h = by q h where

@@ -2,7 +2,7 @@
 use Rattle.std.proofs.Common.{◌≡◌, refl, ℕ, ◌<◌, ◌≤◌, Bool, true, false, ◌||◌, if◌then◌else◌, List, [], ◌∷◌, ◌++◌, Option, Some, None, sym, ap, subst, ◌∙◌, arith}
 use Rattle.std.specs.Bool.{◌==◌}
 use Rattle.std.specs.List.{cons_option}
-use Rattle.std.proofs.lemmas.Bool.{eqb-true, true≢false}
+use Rattle.std.proofs.lemmas.Bool.{eqb-true, true≢false, or_parts}
 use Rattle.iv_value.specs.declared.value.Value.{Value}
 use Rattle.iv_expr.specs.declared.row.StoredRow.{StoredRow}
 use Rattle.iv_expr.specs.declared.row.Change.{Change}
@@ -146,16 +146,12 @@ in_waves_both (x ∷ xs) ys n =
 pub either_wave : (xs ys : List Wave) (n : ℕ) → in_waves (xs ++ ys) n ≡ (in_waves xs n || in_waves ys n)
 either_wave = in_waves_both
 
-neither : (a b : Bool) → (a || b) ≡ false → (a ≡ false) × (b ≡ false)
-neither true b e = absurd (true≢false e)
-neither false b e = (refl, e)
-
 pub across_twice : (db mid last : Database) (xs ys : List Wave) → Across db mid xs → Across mid last ys → Across db last (xs ++ ys)
 across_twice db mid last xs ys a b = record {
   numbered = a.numbered;
   ends = b.ends;
   next = omega (arith, a.next, b.next);
-  outside = λ n e. let out = neither (in_waves xs n) (in_waves ys n) (sym (in_waves_both xs ys n) ∙ e) in b.outside n out.1 ∙ a.outside n out.0;
+  outside = λ n e. let out = or_parts (in_waves xs n) (in_waves ys n) (sym (in_waves_both xs ys n) ∙ e) in b.outside n out.1 ∙ a.outside n out.0;
   added = λ n s none some. option_cases (row_at mid.rows n) (db.next ≤ n)
       (λ gone. omega (arith, a.next, b.added n s gone some))
       (λ r is. a.added n r none is);

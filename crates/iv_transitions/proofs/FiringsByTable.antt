@@ -2,7 +2,7 @@
 use Rattle.std.proofs.Common.{◌≡◌, refl, ℕ, zero, suc, ◌+◌, ◌*◌, ◌<◌, ◌≤◌, Bool, true, false, ◌&&◌, not, if◌then◌else◌, List, [], ◌∷◌, ◌++◌, length, filter, flat_map, get_or, replicate, drop, sym, ap, subst, ◌∙◌, arith}
 use Rattle.std.specs.Bool.{◌==◌}
 use Rattle.std.specs.List.{slice_set}
-use Rattle.std.proofs.lemmas.Bool.{eqb-true, eq-eqb, true≢false}
+use Rattle.std.proofs.lemmas.Bool.{eqb-true, eq-eqb, true≢false, not-true, not-false}
 use Rattle.std.proofs.lemmas.List.{get_or-set_same, get_or-set_other, append-nil}
 use Rattle.std.proofs.lemmas.List.Elements.{filter-append}
 use Rattle.iv_expr.specs.declared.row.Change.{Change}
@@ -27,21 +27,13 @@ flat_filter p f g in_it out (t ∷ ts) =
       | false ↦ λ e. λ i. out t e i ++ flat_filter p f g in_it out ts i
     ] refl
 
-not_true : (b : Bool) → not b ≡ true → b ≡ false
-not_true true e = absurd (true≢false (sym e))
-not_true false e = refl
-
-not_false : (b : Bool) → not b ≡ false → b ≡ true
-not_false true e = refl
-not_false false e = absurd (true≢false e)
-
 -- what fires by the parts is what the definition fires
 pub firings_parted : (w : Context) (statement : DataStatement) (parts : List (List Change)) (net : Wave) → ByTableAndEvent parts net.changes
     → all_firings statement parts w.schema.triggers ≡ firings w statement net
 firings_parted w statement parts net h =
     flat_filter (λ t. not (is_before t)) (λ t. firings_of statement t (filter (λ c. is_on c.table (event_of_change c) t) net.changes)) (after_firings statement parts)
-    (λ t e. ap (λ b. if b then [] else firings_of statement t (transitions_on parts t.table t.event)) (not_true (is_before t) e) ∙ ap (firings_of statement t) (h t.table t.event))
-    (λ t e. ap (λ b. if b then [] else firings_of statement t (transitions_on parts t.table t.event)) (not_false (is_before t) e))
+    (λ t e. ap (λ b. if b then [] else firings_of statement t (transitions_on parts t.table t.event)) (not-true (is_before t) e) ∙ ap (firings_of statement t) (h t.table t.event))
+    (λ t e. ap (λ b. if b then [] else firings_of statement t (transitions_on parts t.table t.event)) (not-false (is_before t) e))
     w.schema.triggers
 
 -- ---- the parts

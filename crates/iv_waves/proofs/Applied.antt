@@ -3,7 +3,7 @@ use Rattle.std.proofs.Common.{◌≡◌, refl, ℕ, ◌+◌, ◌*◌, ◌<◌, �
 use Rattle.std.specs.Bool.{nat_lt, ◌==◌}
 use Rattle.std.proofs.lemmas.List.{drop_all, drop_more}
 use Rattle.std.proofs.Math.Nat.{mul-add, mul-one}
-use Rattle.std.proofs.lemmas.Bool.{true≢false}
+use Rattle.std.proofs.lemmas.Bool.{true≢false, or_parts, and_parts}
 use Rattle.std.proofs.lemmas.Bool.Decides.{nat_tests}
 use Rattle.iv_value.specs.declared.value.Value.{Value}
 use Rattle.iv_expr.specs.declared.row.StoredRow.{StoredRow}
@@ -50,14 +50,6 @@ applying_starts tables db changes h = record {
 
 -- ---- tests that are joined
 
-pub neither : (a b : Bool) → (a || b) ≡ false → (a ≡ false) × (b ≡ false)
-neither true b e = absurd (true≢false e)
-neither false b e = (refl, e)
-
-pub both : (a b : Bool) → (a && b) ≡ true → (a ≡ true) × (b ≡ true)
-both true b e = (refl, e)
-both false b e = absurd (true≢false (sym e))
-
 eqb_turned : (a b : ℕ) → (a == b) ≡ false → (b == a) ≡ false
 eqb_turned a b e = grind (arith, nat_tests)
 
@@ -72,7 +64,7 @@ less n m e = grind (arith, nat_tests)
 current_after : (db : Database) (c : Change) (rest : List Change) → has_change rest c.row ≡ false → Current db.rows rest → Current (after_changes db (c ∷ [])).rows rest
 current_after db c [] e h = tt
 current_after db c (d ∷ rest) e h =
-    let out = neither (d.row == c.row) (has_change rest c.row) e in (
+    let out = or_parts (d.row == c.row) (has_change rest c.row) e in (
       row_at_rows_after db.rows (c ∷ []) d.row
           ∙ ap (λ b. if b || false then row_at (news (c ∷ [])) d.row else row_at db.rows d.row) (eqb_turned d.row c.row out.0)
           ∙ h.0,
@@ -108,17 +100,17 @@ new_fits tables c (Some values) e = e
 pub next_of : (s : StoreState) (start : Database) (changes : List Change) (c : Change) (rest : List Change)
     → Applying s.tables start changes s.base (c ∷ rest) → IsNext s c
 next_of s start changes c rest h =
-    let fits = both (change_fits s.tables c) (changes_fit s.tables rest) h.fit in
-    let there = both (is_there s.tables c.table) ((is_some c.old || is_some c.new) && (side_fits s.tables c.table c.old && side_fits s.tables c.table c.new)) fits.0 in
-    let some = both (is_some c.old || is_some c.new) (side_fits s.tables c.table c.old && side_fits s.tables c.table c.new) there.1 in
-    let sides = both (side_fits s.tables c.table c.old) (side_fits s.tables c.table c.new) some.1 in
+    let fits = and_parts (change_fits s.tables c) (changes_fit s.tables rest) h.fit in
+    let there = and_parts (is_there s.tables c.table) ((is_some c.old || is_some c.new) && (side_fits s.tables c.table c.old && side_fits s.tables c.table c.new)) fits.0 in
+    let some = and_parts (is_some c.old || is_some c.new) (side_fits s.tables c.table c.old && side_fits s.tables c.table c.new) there.1 in
+    let sides = and_parts (side_fits s.tables c.table c.old) (side_fits s.tables c.table c.new) some.1 in
     record {
       added = less c.table (length s.tables) there.0;
       current = current_values s.base.rows c h.current.0;
       own = own_table s.base.rows c h.current.0;
       fits = new_fits s.tables c c.new sides.1;
       positive = h.positive.0;
-      small = least last_row_number c.row (neither (nat_lt last_row_number c.row) (is_beyond_last_row rest) h.small).0;
+      small = least last_row_number c.row (or_parts (nat_lt last_row_number c.row) (is_beyond_last_row rest) h.small).0;
       room = omega (arith, h.room);
     }
 
@@ -129,9 +121,9 @@ applying_more tables start changes now c rest h = record {
   distinct = h.distinct.1;
   current = current_after now c rest h.distinct.0 h.current.1;
   positive = h.positive.1;
-  small = (neither (nat_lt last_row_number c.row) (is_beyond_last_row rest) h.small).1;
+  small = (or_parts (nat_lt last_row_number c.row) (is_beyond_last_row rest) h.small).1;
   room = omega (arith, h.room);
-  fit = (both (change_fits tables c) (changes_fit tables rest) h.fit).1;
+  fit = (and_parts (change_fits tables c) (changes_fit tables rest) h.fit).1;
 }
 
 -- ---- all
