@@ -24,7 +24,7 @@ use Rattle.iv_faults.proofs.WatchAppended.{still_named}
 -- ---- the appended list
 
 -- a place among the first constraints
-among_first : {A : Type 0} (olds more : List A) (k : ℕ) (x : A) → k < length olds → slice_get (olds ++ more) k ≡ Some x → slice_get olds k ≡ Some x
+pub among_first : {A : Type 0} (olds more : List A) (k : ℕ) (x : A) → k < length olds → slice_get (olds ++ more) k ≡ Some x → slice_get olds k ≡ Some x
 among_first [] more k x less e = absurd (none less)
   where
     none : k < 0 → ⊥
@@ -33,7 +33,7 @@ among_first (y ∷ olds) more zero x less e = e
 among_first (y ∷ olds) more (suc k) x less e = among_first olds more k x (omega (arith, less)) e
 
 -- a place behind them
-among_more : {A : Type 0} (olds more : List A) (k : ℕ) (x : A) → length olds ≤ k → slice_get (olds ++ more) k ≡ Some x → (n : ℕ) × (slice_get more n ≡ Some x)
+pub among_more : {A : Type 0} (olds more : List A) (k : ℕ) (x : A) → length olds ≤ k → slice_get (olds ++ more) k ≡ Some x → (n : ℕ) × (slice_get more n ≡ Some x)
 among_more [] more k x less e = (k, e)
 among_more (y ∷ olds) more zero x less e = absurd (none less)
   where

@@ -16,6 +16,7 @@ use Rattle.iv_laws_kept.specs.Kept.{AllNamed, Group, Groups, Show, can_be_key, i
 use Rattle.iv_laws_kept.specs.Kept as kept
 use Rattle.iv_laws_kept.specs.Marks.{marks_of}
 use Rattle.iv_laws_kept.proofs.Naming.{Named, named_of}
+use Rattle.iv_faults.proofs.Taken.{among_first, among_more}
 use Rattle.iv_faults.specs.Watching.{AreWatched, IsShownBy, Watching}
 use Rattle.iv_index_store.proofs.Tables.{none_kept, of_tables, own_table}
 
@@ -84,22 +85,6 @@ watched_same w start now more same s k less = record {
 }
 
 -- ---- new constraints of a table of no row
-
-among_first : {A : Type 0} (olds more : List A) (k : ℕ) (x : A) → k < length olds → slice_get (olds ++ more) k ≡ Some x → slice_get olds k ≡ Some x
-among_first [] more k x less e = absurd (none less)
-  where
-    none : k < 0 → ⊥
-    none h = omega (arith, h)
-among_first (y ∷ olds) more zero x less e = e
-among_first (y ∷ olds) more (suc k) x less e = among_first olds more k x (omega (arith, less)) e
-
-among_more : {A : Type 0} (olds more : List A) (k : ℕ) (x : A) → length olds ≤ k → slice_get (olds ++ more) k ≡ Some x → (n : ℕ) × (slice_get more n ≡ Some x)
-among_more [] more k x less e = (k, e)
-among_more (y ∷ olds) more zero x less e = absurd (none less)
-  where
-    none : suc (length olds) ≤ 0 → ⊥
-    none h = omega (arith, h)
-among_more (y ∷ olds) more (suc k) x less e = among_more olds more k x (omega (arith, less)) e
 
 pub shown_with_table : (rows : List StoredRow) (olds more : List Constraint) (tables : ℕ) (groups : List (List GroupOf)) → Show rows olds (shown groups) → AllOn tables more → Every (of_tables tables) rows
     → ((k : ℕ) → length olds ≤ k → k < length (olds ++ more) → groups_of groups k ≡ []) → Show rows (olds ++ more) (shown groups)

@@ -10,7 +10,7 @@ use Rattle.iv_catalogue.specs.Catalogues.{AllOn}
 use Rattle.iv_laws_levels.specs.RisingRows.{Every}
 use Rattle.iv_machine.specs.Databases.{rows_with, satisfies, violates}
 use Rattle.iv_store.specs.Stores.{numbers_of}
-use Rattle.iv_rows.specs.SetRows.{set_row}
+use Rattle.iv_laws_changes.specs.SetRows.{set_row}
 use Rattle.iv_rows.specs.Histories.{History, history_after, rows_before_all}
 use Rattle.iv_laws_kept.specs.Kept.{is_kept_under, kept_key}
 use Rattle.iv_faults.specs.Watching.{NoneViolates}

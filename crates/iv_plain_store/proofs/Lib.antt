@@ -1,4 +1,3 @@
 pub mod Places
-pub mod OneChange
 pub mod KeyHolders
 pub mod Suspects

@@ -25,8 +25,8 @@ use Rattle.iv_machine.specs.Databases.{row_at, shares_key, matches, obeys, satis
 use Rattle.iv_machine.proofs.Scans.{scan_from, left_empty, right_empty}
 use Rattle.iv_store.specs.Stores.{StoreState, marked_database, store_before_mark}
 use Rattle.iv_plain_store.proofs.Places.{all_others}
-use Rattle.iv_plain_store.proofs.OneChange.{rows_after_set, higher, rises}
-use Rattle.iv_plain_store.specs.PlainRows.{InBounds, set_row, without_row}
+use Rattle.iv_laws_changes.proofs.OneChange.{rows_after_set, higher, rises}
+use Rattle.iv_laws_changes.specs.SetRows.{InBounds, set_row, without_row}
 use Rattle.iv_plain_store.specs.Suspects.{refers_to, is_about, is_suspect, violating, Clean, EachClean, Watched, with_table, with_new}
 
 -- ---- more tables

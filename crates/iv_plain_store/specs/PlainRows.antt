@@ -1,29 +1,6 @@
--- What holds of each database that a store keeps, and its rows after one is set.
-use Rattle.std.specs.Prelude.{ℕ, ◌+◌, ◌≤◌, ◌==◌, not, List, filter, Option, Some, None}
-use Rattle.iv_value.specs.declared.value.Value.{Value}
-use Rattle.iv_expr.specs.declared.row.StoredRow.{StoredRow}
+-- The database that a plain one keeps.
 use Rattle.iv_machine.specs.declared.database.Database.{Database}
-use Rattle.iv_machine.specs.Bounds.{last_row_number, most_changes_in_a_transaction}
-use Rattle.iv_machine.specs.Databases.{rows_with}
-use Rattle.iv_machine.specs.Invariants.{Rising}
 use Rattle.iv_plain_store.specs.declared.database.PlainDatabase.TheInside.{Inside}
 
--- The numbers of the rows rise from 1 and stay below the next one, which is above the last number that a row may have at most by
--- one; and no more changes are counted than a transaction may have.
-pub record InBounds (db : Database) : Type 0 where
-  pub rising : Rising 0 db.rows db.next
-  pub next : db.next ≤ last_row_number + 1
-  pub count : db.count ≤ most_changes_in_a_transaction
-
--- the database that a plain one keeps
 abbrev pub database_of : Inside → Database
 database_of d = record { rows = d.rows.items; next = d.next; count = d.count }
-
--- the rows without that of this number
-abbrev pub without_row : ℕ → List StoredRow → List StoredRow
-without_row number rows = filter (λ r. not (number == r.number)) rows
-
--- the rows with these values for that of this number, or without it
-abbrev pub set_row : ℕ → ℕ → Option (List Value) → List StoredRow → List StoredRow
-set_row table number (Some values) rows = rows_with (record { table = table; number = number; values = values }) rows
-set_row table number None rows = without_row number rows

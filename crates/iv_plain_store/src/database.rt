@@ -6,7 +6,7 @@ ghost use Rattle.iv_expr.specs.Scopes.{Rises, row_above, table_rows, numbered};
 ghost use Rattle.iv_machine.specs.Bounds.{last_row_number, most_changes_in_a_transaction};
 ghost use Rattle.iv_machine.specs.Databases.{no_rows, row_at, database_after};
 ghost use Rattle.iv_machine.specs.Invariants.{Rising};
-ghost use Rattle.iv_plain_store.specs.PlainRows.{InBounds};
+ghost use Rattle.iv_laws_changes.specs.SetRows.{InBounds};
 
 use crate::place::{row_above, row_at, set_row};
 use iv_expr::{Change, StoredRow, TableId};
@@ -25,7 +25,8 @@ pub struct PlainDatabase {
 
 impl Model for PlainDatabase {
     ghost use Rattle.iv_machine.specs.declared.database.Database.{Database};
-    ghost use Rattle.iv_plain_store.specs.PlainRows.{InBounds, database_of};
+    ghost use Rattle.iv_laws_changes.specs.SetRows.{InBounds};
+    ghost use Rattle.iv_plain_store.specs.PlainRows.{database_of};
 
     ghost Value = { Database };
 

@@ -4,7 +4,7 @@ ghost use Rattle.std.specs.List.{prefix_len};
 ghost use Rattle.std.specs.Option.{option_copied};
 ghost use Rattle.iv_expr.specs.Scopes.{Rises, row_above, table_rows};
 ghost use Rattle.iv_machine.specs.Databases.{row_at, rows_with};
-ghost use Rattle.iv_plain_store.specs.PlainRows.{set_row, without_row};
+ghost use Rattle.iv_laws_changes.specs.SetRows.{set_row, without_row};
 
 use iv_expr::{Row, StoredRow, TableId};
 use sqlite_items::at;

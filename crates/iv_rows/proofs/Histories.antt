@@ -11,10 +11,10 @@ use Rattle.iv_machine.specs.Bounds.{last_row_number, most_changes_in_a_transacti
 use Rattle.iv_machine.specs.Databases.{row_at, rows_after, database_after}
 use Rattle.iv_machine.specs.Waves.{values_at}
 use Rattle.iv_rows.specs.declared.saved.Saved.{Saved}
-use Rattle.iv_rows.specs.SetRows.{InBounds, set_row}
+use Rattle.iv_laws_changes.specs.SetRows.{InBounds, set_row}
 use Rattle.iv_rows.specs.Histories.{History, database_of, rows_before, database_at, databases_at, marked_databases, Marked, marked_of, after_change, marked_database, at_mark, before_mark, without_mark, history_after, saved_of, noted_at, stepped_back, last_change, NeverFalls, AllMade, AllBelow, EachBelow, EachInBounds, Sound}
 use Rattle.iv_rows.proofs.Rows.{back_again}
-use Rattle.iv_rows.proofs.OneChange.{rises, set_rises, rows_after_set, changed_is, changed_in_bounds}
+use Rattle.iv_laws_changes.proofs.OneChange.{rises, set_rises, rows_after_set, changed_is, changed_in_bounds}
 use Rattle.iv_rows.proofs.Marks.{plus_one, Ends, ends, ends_of, last_is, front_is, made_more, made_fewer, made_last, rows_before_is, map_take, map_remove, map_more, take_taken, taken_at, removed_last, falls_more, falls_marked, falls_without, falls_taken, falls_to, falls_at, marked_with_change, marked_now, each_more, each_taken, each_without, below_higher, below_more, below_fewer, below_last, before_same, before_more, before_taken, before_without, before_at, noted_is, marked_at}
 
 -- the rows rise

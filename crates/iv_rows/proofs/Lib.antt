@@ -1,6 +1,5 @@
 pub mod ByNumber
 pub mod Rows
-pub mod OneChange
 pub mod SlotLaws
 pub mod FilingLaws
 pub mod Looking

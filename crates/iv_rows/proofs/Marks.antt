@@ -7,7 +7,7 @@ use Rattle.iv_expr.specs.declared.row.StoredRow.{StoredRow}
 use Rattle.iv_expr.specs.declared.row.Change.{Change}
 use Rattle.iv_machine.specs.declared.database.Database.{Database}
 use Rattle.iv_rows.specs.declared.saved.Saved.{Saved}
-use Rattle.iv_rows.specs.SetRows.{set_row}
+use Rattle.iv_laws_changes.specs.SetRows.{set_row}
 use Rattle.iv_rows.specs.Histories.{rows_before, rows_before_all, database_at, databases_at, last_change, noted_at, rows_before_last, NeverFalls, AllMade, AllBelow, EachBelow, EachInBounds}
 
 -- ---- the last of a list

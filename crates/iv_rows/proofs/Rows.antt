@@ -8,7 +8,7 @@ use Rattle.iv_expr.specs.declared.row.Change.{Change}
 use Rattle.iv_expr.specs.Scopes.{Rises}
 use Rattle.iv_machine.specs.Databases.{row_at, rows_with}
 use Rattle.iv_machine.specs.Waves.{values_at}
-use Rattle.iv_rows.specs.SetRows.{without_row, set_row}
+use Rattle.iv_laws_changes.specs.SetRows.{without_row, set_row}
 use Rattle.iv_rows.specs.Histories.{rows_before}
 use Rattle.iv_rows.proofs.ByNumber.{Less, Same, tells, less, same_tells, equal_itself}
 

@@ -8,7 +8,7 @@ use Rattle.iv_expr.specs.Scopes.{Rises}
 use Rattle.iv_machine.specs.Databases.{row_at, rows_with}
 use Rattle.iv_rows.specs.declared.slot.Slot.{Slot}
 use Rattle.iv_rows.specs.ByNumber.{place_by}
-use Rattle.iv_rows.specs.SetRows.{without_row, set_row}
+use Rattle.iv_laws_changes.specs.SetRows.{without_row, set_row}
 use Rattle.iv_rows.specs.InSlots.{SlotsRise, slot_number, live_rows, slots_with, emptied, slots_without, slots_after, swept, has_slot}
 use Rattle.iv_rows.proofs.ByNumber.{Less, Same, tells, same_tells, impossible, place_further, place_here, has_at, has_still}
 use Rattle.iv_rows.proofs.ByNumber as items

@@ -8,7 +8,7 @@ use Rattle.iv_machine.specs.declared.database.Database.{Database}
 use Rattle.iv_machine.specs.Databases.{database_after}
 use Rattle.iv_rows.specs.declared.saved.Saved.{Saved}
 use Rattle.iv_rows.specs.declared.slot.Slot.{Slot}
-use Rattle.iv_rows.specs.SetRows.{InBounds, set_row}
+use Rattle.iv_laws_changes.specs.SetRows.{InBounds, set_row}
 use Rattle.iv_rows.specs.InSlots.{live_rows, has_slot_for}
 use Rattle.iv_rows.specs.Filing.{is_filed_for}
 

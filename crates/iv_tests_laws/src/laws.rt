@@ -36,6 +36,7 @@ fn laws_of_plans_are_called(rt: HostRuntime) {
 
 #[test]
 fn laws_of_levels_and_waves_are_called(rt: HostRuntime) {
+    iv_laws_changes::one_change_sets_a_row();
     iv_laws_levels::budget_falls();
     iv_laws_levels::changes_are_counted();
     iv_laws_levels::waves_one_by_one();

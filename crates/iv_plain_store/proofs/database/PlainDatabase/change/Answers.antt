@@ -4,8 +4,8 @@ use Rattle.iv_expr.specs.Changes.{wave_of}
 use Rattle.iv_machine.specs.declared.database.Database.{Database}
 use Rattle.iv_machine.specs.Bounds.{most_changes_in_a_transaction}
 use Rattle.iv_machine.specs.Databases.{database_after}
-use Rattle.iv_plain_store.specs.PlainRows.{InBounds, set_row}
-use Rattle.iv_plain_store.proofs.OneChange.{rises, changed_is, changed_in_bounds}
+use Rattle.iv_laws_changes.specs.SetRows.{InBounds, set_row}
+use Rattle.iv_laws_changes.proofs.OneChange.{rises, changed_is, changed_in_bounds}
 use Rattle.iv_plain_store.proofs.database.PlainDatabase.change.Goals as goal
 
 pub set_row-requires : goal.set_row-requires

@@ -1,6 +1,6 @@
 use Rattle.std.proofs.Common.{subst}
 use Rattle.iv_expr.specs.Scopes.{Rises}
-use Rattle.iv_plain_store.proofs.OneChange.{rises}
+use Rattle.iv_laws_changes.proofs.OneChange.{rises}
 use Rattle.iv_plain_store.proofs.database.PlainDatabase.rows.Goals as goal
 
 pub returns-clause-rising : goal.returns-clause-rising

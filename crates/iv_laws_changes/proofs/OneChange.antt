@@ -1,4 +1,4 @@
--- A change of one row, in a list of rows in rising number.
+-- A database after a change of one row: its rows with that row set.
 use Rattle.std.proofs.Common.{◌≡◌, ℕ, ◌+◌, ◌^◌, ◌<◌, ◌≤◌, ◌⊎◌, inl, inr, max, Bool, true, false, not, ◌||◌, if◌then◌else◌, ◌==◌, Option, Some, None, List, [], ◌∷◌, ◌++◌, filter, arith, refl, ap, sym, ◌∙◌, append-nil}
 use Rattle.std.specs.Prelude.{nat_lt}
 use Rattle.std.proofs.lemmas.Bool.Decides.{nat_tests}
@@ -12,8 +12,7 @@ use Rattle.iv_machine.specs.Bounds.{last_row_number, most_changes_in_a_transacti
 use Rattle.iv_machine.specs.Databases.{in_order, rows_with, rows_after, database_after}
 use Rattle.iv_machine.specs.Invariants.{Rising}
 use Rattle.iv_machine.proofs.Orders.{low_below, rising_in_order}
-use Rattle.iv_plain_store.specs.PlainRows.{InBounds, set_row}
-use Rattle.iv_plain_store.proofs.Places.{is_other}
+use Rattle.iv_laws_changes.specs.SetRows.{InBounds, set_row}
 
 -- ---- the numbers rise
 
@@ -55,6 +54,9 @@ rising_with low x (r ∷ rows) next l m h = elim (tells x.number r.number) [
   same e = rw e h.1
 
 -- ---- the rows after one change
+
+abbrev is_other : ℕ → StoredRow → Bool
+is_other n r = not (n == r.number)
 
 is_change_of : (n : ℕ) (rows : List StoredRow) → filter (λ r. not ((n == r.number) || false)) rows ≡ filter (is_other n) rows
 is_change_of n [] = refl
@@ -153,7 +155,7 @@ rows_after_set rows limit c h m = by c.new where
   by (Some values) = rows_after_put rows limit c.table c.row c.old values h m
   by None = rows_after_taken rows limit c.table c.row c.old h
 
-set_rises : (rows : List StoredRow) (limit table number : ℕ) (values : Option (List Value)) → Rising 0 rows limit → 0 < number → number < limit
+pub set_rises : (rows : List StoredRow) (limit table number : ℕ) (values : Option (List Value)) → Rising 0 rows limit → 0 < number → number < limit
     → Rising 0 (set_row table number values rows) limit
 set_rises rows limit table number (Some values) h l m = rising_with 0 (record { table = table; number = number; values = values }) rows limit l m h
 set_rises rows limit table number None h l m = rising_part 0 (is_other number) rows limit h
