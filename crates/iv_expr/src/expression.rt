@@ -17,10 +17,7 @@ pub fn eval<R: Rows>(expr: &Expr, scope: &Scope<'_, R>) -> Result<Value, ExprFau
     ensures value { CopyOf (value scope.now expr.now) result }
     ensures suited { SuitsExpr scope.now expr.now → result ≢ Err fault.IllTyped }
 {
-    match value_in(expr, scope) {
-        Ok(value) => copy(value),
-        Err(fault) => Err(fault),
-    }
+    copy(value_in(expr, scope)?)
 }
 
 fn copy(value: ValueRef<'_>) -> Result<Value, ExprFault>

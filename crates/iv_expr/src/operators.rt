@@ -119,20 +119,14 @@ impl Comparison {
 pub fn is_null_of(operand: Result<ValueRef<'_>, ExprFault>) -> Result<Truth, ExprFault>
     ensures { result ≡ and_then (result_of operand.entry) (λ v. Ok (truth_of (is_null v))) }
 {
-    match operand {
-        Ok(value) => Ok(Truth::of(value.is_null())),
-        Err(fault) => Err(fault),
-    }
+    Ok(Truth::of(operand?.is_null()))
 }
 
 /// NOT of an operand.
 pub fn not_of(operand: Result<Truth, ExprFault>) -> Result<Truth, ExprFault>
     ensures { result ≡ and_then operand (λ t. Ok (truth_not t)) }
 {
-    match operand {
-        Ok(truth) => Ok(truth.not()),
-        Err(fault) => Err(fault),
-    }
+    Ok(operand?.not())
 }
 
 /// AND of two operands.

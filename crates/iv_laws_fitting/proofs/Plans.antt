@@ -187,7 +187,8 @@ select_suits schema d (select.Count r filter) i u w = from_suits schema d list.S
 
 -- ---- the laws
 
-abbrev alteration : Schema → ℕ → WrittenConstraint → Option Table → Plan
+-- what an ALTER TABLE means, by the table that is found
+abbrev pub alteration : Schema → ℕ → WrittenConstraint → Option Table → Plan
 alteration schema place k o = elim o [ Some t ↦ bound_addition schema (altered_at schema place t) k | None ↦ plan.Transaction transaction.Commit ]
 
 no_change : (schema : Schema) (place : ℕ) (k : WrittenConstraint) (d : DataStatement) (P : Type 0) (o : Option Table) → alteration schema place k o ≡ plan.Change d → P

@@ -32,7 +32,7 @@ use Rattle.iv_laws_fitting.proofs.ColumnKinds.{ColumnsMatch, stored_match}
 use Rattle.iv_laws_fitting.proofs.KeysThere.{AllNamed, written_keys_named, stored_keys_named, others_named, key_of_rule_there}
 use Rattle.iv_laws_fitting.proofs.NewConstraints.{KeyMatches, key_of_names}
 use Rattle.iv_laws_fitting.proofs.NewTables.{columns_suit, new_names, all_on}
-use Rattle.iv_laws_fitting.proofs.Plans.{Accepted, accepted}
+use Rattle.iv_laws_fitting.proofs.Plans.{Accepted, accepted, alteration}
 use Rattle.iv_laws_fitting.proofs.Pointwise.{any_at, all_at, made_of, placed_at, mapped_length, enumerated_length, all_by}
 use Rattle.iv_laws_fitting.proofs.References.{made_by, stored_keys_match}
 use Rattle.iv_laws_fitting.proofs.Rules.{OwnFits, stored_fits, rule_of_written_suits}
@@ -268,9 +268,6 @@ the_addition schema d c name k kk a = by (search (table_is_called name) schema.t
     parts : (not (is_there schema name) ≡ false) × (of_altered schema name (λ own. unknown_rule schema (table_names schema) own (table_constraint k).rule) ≡ false)
     parts = or_parts (not (is_there schema name)) _ a.known
 
-    alteration : ℕ → Option Table → Plan
-    alteration place o = elim o as (λ x. Plan) [ Some t ↦ bound_addition schema (altered_at schema place t) (table_constraint k) | None ↦ plan.Transaction transaction.Commit ]
-
     by : Search (table_is_called name) schema.tables → ConstraintFits schema kk
     by (nothing n) = let e : true ≡ false = ap (λ (o : Option ℕ). not (is_some o)) (sym (none_position (table_is_called name) schema.tables n)) ∙ parts.0 in cc
     by (something place t f) =
@@ -287,8 +284,8 @@ the_addition schema d c name k kk a = by (search (table_is_called name) schema.t
         let small = sym (asked_of schema name place t at there (λ o. addition_beyond_limits schema o w)) ∙ a.small in
         let few = or_parts (nat_le MOST_CONSTRAINTS (length (constraints_of schema place))) (long_key w.rule) small in
         let fits = addition_fits schema d c place t there w known unused fine.1 shaped few.0 in
-        let plan_is : alteration place (Some t) ≡ plan.Schema (AddConstraint kk) =
-        sym (ap (alteration place) there) ∙ sym (ap (λ (o : Option ℕ). alteration (unwrap_or o 0) (slice_get schema.tables (unwrap_or o 0))) at) ∙ a.is in
+        let plan_is : alteration schema place w (Some t) ≡ plan.Schema (AddConstraint kk) =
+        sym (ap (alteration schema place w) there) ∙ sym (ap (λ (o : Option ℕ). alteration schema (unwrap_or o 0) w (slice_get schema.tables (unwrap_or o 0))) at) ∙ a.is in
         let same : bound_constraint schema (table_names schema) own (added_name schema own w) w ≡ kk = cc in
         subst (ConstraintFits schema) same fits
 

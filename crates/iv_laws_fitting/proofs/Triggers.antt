@@ -42,7 +42,7 @@ use Rattle.iv_laws_fitting.proofs.Pointwise.{any_at, all_at, map_at, made_of, ma
 use Rattle.iv_laws_fitting.proofs.Targets.{Target, target_of, target_id, target_stored, target_kinds_of, place_is_there, few_columns, column_target, expression_suits}
 use Rattle.iv_laws_fitting.proofs.Changes.{Around, filter_suits}
 use Rattle.iv_laws_fitting.proofs.Statements.{insert_suits, update_suits, delete_suits}
-use Rattle.iv_laws_fitting.proofs.Plans.{Accepted, accepted, stored_kinds}
+use Rattle.iv_laws_fitting.proofs.Plans.{Accepted, accepted, alteration, stored_kinds}
 
 -- ---- row variables
 
@@ -267,9 +267,6 @@ trigger_fits schema d t a = by (target_of (table_names schema) t.table parts.0)
         ap (action_suits schema.tables shape kinds) made.2
         ∙ action_suits_columns names variables shape around columns refl few made.0 (all_at is_action t.body writable.1 j made.0 made.1)
         (any_at (unknown_action names variables) t.body known.1 j made.0 made.1) (any_at (misshaped_action names variables) t.body shaped.1 j made.0 made.1))))
-
-abbrev alteration : Schema → ℕ → WrittenConstraint → Option Table → Plan
-alteration schema place k o = elim o [ Some t ↦ bound_addition schema (altered_at schema place t) k | None ↦ plan.Transaction transaction.Commit ]
 
 no_trigger : (schema : Schema) (place : ℕ) (k : WrittenConstraint) (t : Trigger) (P : Type 0) (o : Option Table) → alteration schema place k o ≡ plan.Schema (CreateTrigger t) → P
 no_trigger schema place k t P None h = cc

@@ -18,16 +18,12 @@ use Rattle.iv_resolution.specs.Resolution.{resolution}
 use Rattle.iv_resolution.specs.Tables.{altered_at, table_names}
 use Rattle.iv_resolution.specs.Triggers.{duplicate_action, trigger_names, trigger_variables}
 use Rattle.iv_laws_fitting.specs.ConstraintShapes.{SchemaSuits}
-use Rattle.iv_laws_fitting.proofs.Plans.{Accepted, accepted, changes_fit}
+use Rattle.iv_laws_fitting.proofs.Plans.{Accepted, accepted, alteration, changes_fit}
 use Rattle.iv_laws_fitting.proofs.Pointwise.{mapped_length}
 use Rattle.iv_laws_fitting.proofs.Schemas.{tables_fit, additions_fit}
 use Rattle.iv_laws_fitting.proofs.Staying.{schemas_stay}
 use Rattle.iv_state.specs.Performing.{plan_changes_rows}
 use Rattle.iv_state.specs.Fits.{AdditionFits, PlanFits, TriggerFits}
-
--- what an ALTER TABLE means, by the table that is found
-abbrev alteration : Schema → ℕ → WrittenConstraint → Option Table → Plan
-alteration c place k o = elim o [ Some t ↦ bound_addition c (altered_at c place t) k | None ↦ plan.Transaction transaction.Commit ]
 
 -- ---- a new trigger
 

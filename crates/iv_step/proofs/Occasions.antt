@@ -14,13 +14,9 @@ use Rattle.iv_resolution.specs.Bound.{bound, bound_addition, table_id}
 use Rattle.iv_resolution.specs.Constraints.{WrittenConstraint, table_constraint}
 use Rattle.iv_resolution.specs.Resolution.{is_there, of_altered, resolution}
 use Rattle.iv_resolution.specs.Tables.{altered_at, table_names, unknown_rule}
-use Rattle.iv_laws_fitting.proofs.Plans.{Accepted, accepted}
+use Rattle.iv_laws_fitting.proofs.Plans.{Accepted, accepted, alteration}
 use Rattle.iv_laws_fitting.proofs.Targets.{Target, target_of, target_id}
 use Rattle.iv_step.specs.Laws.{PlansKeepTheOccasion}
-
--- what an ALTER TABLE means, by the table that is found
-abbrev alteration : Schema → ℕ → WrittenConstraint → Option Table → Plan
-alteration c place k o = elim o [ Some t ↦ bound_addition c (altered_at c place t) k | None ↦ plan.Transaction transaction.Commit ]
 
 -- the table that is altered is there
 altered_outside : (c : Schema) (name : List ℕ) (k : TableConstraint) (p : Plan) → Accepted c (statement.AlterTable name k) p → plan_occasion p ≡ outside
