@@ -17,7 +17,10 @@ pub fn eval<R: Rows>(expr: &Expr, scope: &Scope<'_, R>) -> Result<Value, ExprFau
     ensures value { CopyOf (value scope.now expr.now) result }
     ensures suited { SuitsExpr scope.now expr.now → result ≢ Err fault.IllTyped }
 {
-    copy(value_in(expr, scope)?)
+    match value_in(expr, scope) {
+        Ok(value) => copy(value),
+        Err(fault) => Err(fault),
+    }
 }
 
 fn copy(value: ValueRef<'_>) -> Result<Value, ExprFault>
