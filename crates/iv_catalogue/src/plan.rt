@@ -121,7 +121,7 @@ pub enum QueryPlan {
     },
 }
 
-/// A statement of transaction management (16).
+/// A statement of transaction management.
 #[derive(Drop)]
 pub enum TransactionPlan {
     Start,

@@ -197,7 +197,7 @@ fn remove_under(indexes: &mut Vec<KeyIndex>, constraint: usize, key: &Key<'_>, r
     place
 }
 
-// Does nothing. It tells what holds of the groups of every constraint.
+// Does nothing. Its contract says what holds of the groups of every constraint.
 fn kept(indexes: &[KeyIndex])
     requires { AreSound indexes.now }
     ensures found { (constraint : ℕ) → EachIsFound (groups_of indexes.now constraint) }

@@ -46,7 +46,7 @@ fn find(hashes: &HashIndex, groups: &[Group], key: &Key<'_>, hash: u64) -> Optio
     None
 }
 
-// Does nothing. It tells what holds of groups beside their hashes.
+// Does nothing. Its contract says what holds of groups beside their hashes.
 fn sound(hashes: &HashIndex, groups: &[Group])
     requires { IsIndexed hashes.now groups.now }
     ensures { IsSound groups.now }
@@ -241,7 +241,7 @@ impl KeyIndex {
         self.groups.len()
     }
 
-    /// Does nothing. It tells what holds of the groups: each is found under its key, no two have one key, and the rows
+    /// Does nothing. Its contract says what holds of the groups: each is found under its key, no two have one key, and the rows
     /// of every key rise.
     pub fn are_sound(&self)
         ensures { IsSound self.now }

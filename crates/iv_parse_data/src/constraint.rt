@@ -6,11 +6,11 @@ ghost use Rattle.iv_parse_terms.specs.Seen.{with_words};
 ghost use Rattle.iv_parse_data.specs.readers.Series.{read_either_order};
 ghost use Rattle.iv_parse_data.specs.readers.Tables.{read_match_type, read_match, read_set_action, read_strict_action, read_referential_action, read_on, read_actions, read_reference_columns, read_references, read_null_rule, read_primary_rule, read_plain_rule, read_condition_rule, read_column_rule, column_constraint_of, read_column_constraint, read_key, read_primary_key, read_foreign_key, read_check_rule, read_unique_rule, read_table_rule, read_table_constraint};
 
+use crate::characteristics::{constraint_name, time};
 use crate::inserting::column_list;
 use crate::parts::ParseSome;
 use crate::repeated::enclosed_series;
 use crate::selecting::enclosed_condition;
-use crate::time::{constraint_name, time};
 use iv_lex::{Token, TokenKind};
 use iv_parse_terms::{after, name};
 use iv_syntax::{

@@ -1,6 +1,7 @@
 //! Statements about tables and rows, and the parts of statements.
 #![tactic(auto)]
 
+mod characteristics;
 mod constraint;
 mod inserting;
 mod parts;
@@ -8,11 +9,12 @@ mod referencing;
 mod repeated;
 mod selecting;
 mod table;
-mod time;
+mod types;
 
+pub use characteristics::mode;
 pub use inserting::insert;
 pub use parts::{Parse, ParseSome};
 pub use repeated::{sequence, series, skip};
 pub use selecting::{delete, enclosed_condition, select, update};
 pub use table::{alter_table, create_table};
-pub use time::{mode, quoted};
+pub use types::quoted;

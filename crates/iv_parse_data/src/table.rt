@@ -7,7 +7,7 @@ ghost use Rattle.iv_parse_data.specs.readers.Tables.{read_column, read_column_co
 use crate::constraint::table_constraint;
 use crate::parts::Parse;
 use crate::repeated::{enclosed_series, sequence};
-use crate::time::{column_type, default};
+use crate::types::{column_type, default};
 use iv_lex::{Token, TokenKind};
 use iv_parse_terms::{after, name};
 use iv_syntax::{ColumnConstraint, ColumnDefinition, Name, Statement, TableElement};

@@ -107,7 +107,7 @@ pub fn settle<K: ChangeableRows>(
         (LooksUp (K.view store.old) (K.lookups store.old)
         (K.view store.new) (K.lookups store.new)) }
 {
-    // It tells that the rows are numbered in rising order.
+    // Called for what its contract says: the rows are numbered in rising order.
     store.next_row();
     let mut waves = Vec::new(store.allocator());
     let mut changes = changes;

@@ -1,6 +1,6 @@
 use Rattle.std.proofs.Common.{refl}
 use Rattle.iv_parse_data.specs.readers.Tables.{read_literal}
-use Rattle.iv_parse_data.proofs.time.literal.Goals as goal
+use Rattle.iv_parse_data.proofs.types.literal.Goals as goal
 
 pub returns-in-Some-number : goal.returns-in-Some-number
 unfolding read_literal

@@ -1,5 +1,5 @@
 use Rattle.iv_parse_data.specs.readers.Tables.{read_varchar}
-use Rattle.iv_parse_data.proofs.time.varchar.Goals as goal
+use Rattle.iv_parse_data.proofs.types.varchar.Goals as goal
 
 pub returns-in-Some : goal.returns-in-Some
 unfolding read_varchar

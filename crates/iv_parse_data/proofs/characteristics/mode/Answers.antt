@@ -1,6 +1,6 @@
 use Rattle.std.proofs.Common.{refl}
 use Rattle.iv_parse_data.specs.readers.Tables.{read_mode}
-use Rattle.iv_parse_data.proofs.time.mode.Goals as goal
+use Rattle.iv_parse_data.proofs.characteristics.mode.Goals as goal
 
 pub returns-in-Some : goal.returns-in-Some
 unfolding read_mode
