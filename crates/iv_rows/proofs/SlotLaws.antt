@@ -1,6 +1,6 @@
 -- Rows in slots: the rows after a slot is set, the row of a number, and the slots that are kept.
 use Rattle.std.proofs.Common.{◌≡◌, ℕ, ◌^◌, ◌<◌, ◌≤◌, ◌⊎◌, inl, inr, Bool, true, false, not, ◌||◌, if◌then◌else◌, ◌==◌, Option, Some, None, List, [], ◌∷◌, slice_set, arith, refl, ap, sym, subst, ◌∙◌}
-use Rattle.std.proofs.lemmas.Bool.{cases_Bool}
+use Rattle.std.proofs.lemmas.Bool.{cases_Bool, or_left, or_right}
 use Rattle.std.specs.Prelude.{slice_get, slice_index_or}
 use Rattle.iv_value.specs.declared.value.Value.{Value}
 use Rattle.iv_expr.specs.declared.row.StoredRow.{StoredRow}
@@ -141,9 +141,9 @@ found_slot n [] r e = cc
 found_slot n (s ∷ slots) r e = by s.is_live (cases_Bool (s.row.number == n)) e (found_slot n slots r) where
   by : (b : Bool) → ((s.row.number == n) ≡ true) ⊎ ((s.row.number == n) ≡ false) → row_at (if b then s.row ∷ live_rows slots else live_rows slots) n ≡ Some r
       → (row_at (live_rows slots) n ≡ Some r → has_slot slots n ≡ true) → ((s.row.number == n) || has_slot slots n) ≡ true
-  by b (inl q) f more = items.or_left (s.row.number == n) (has_slot slots n) q
-  by true (inr d) f more = items.or_right (s.row.number == n) (has_slot slots n) (more (sym (passed n s.row (live_rows slots) d) ∙ f))
-  by false (inr d) f more = items.or_right (s.row.number == n) (has_slot slots n) (more f)
+  by b (inl q) f more = or_left (s.row.number == n) (has_slot slots n) q
+  by true (inr d) f more = or_right (s.row.number == n) (has_slot slots n) (more (sym (passed n s.row (live_rows slots) d) ∙ f))
+  by false (inr d) f more = or_right (s.row.number == n) (has_slot slots n) (more f)
 
 -- ---- by place
 
@@ -241,7 +241,7 @@ emptied_none n [] e = refl
 emptied_none n (s ∷ slots) e = by (cases_Bool (s.row.number == n)) (emptied_none n slots) where
   by : ((s.row.number == n) ≡ true) ⊎ ((s.row.number == n) ≡ false) → (has_slot slots n ≡ false → slots_without n slots ≡ slots)
       → slots_without n (s ∷ slots) ≡ s ∷ slots
-  by (inl q) more = absurd (impossible (sym (items.or_left (s.row.number == n) (has_slot slots n) q) ∙ e))
+  by (inl q) more = absurd (impossible (sym (or_left (s.row.number == n) (has_slot slots n) q) ∙ e))
   by (inr d) more = ap (λ y. y ∷ slots_without n slots) (emptied_other n s d) ∙ ap (λ l. s ∷ l) (more (sym (ap (λ b. b || has_slot slots n) d) ∙ e))
 
 -- ---- swept
