@@ -31,7 +31,7 @@ use Rattle.iv_laws_fitting.proofs.Pointwise.{map_at}
 use Rattle.iv_laws_levels.specs.RisingRows.{InOrder}
 use Rattle.iv_laws_levels.proofs.RowNumbers.{some_none, some_same}
 use Rattle.iv_laws_levels.proofs.AppliedRows.{rows_after_in_order}
-use Rattle.iv_laws_levels.proofs.NumberedRows.{and_parts as numbers_of}
+use Rattle.iv_laws_levels.proofs.NumberedRows.{parts_of as numbers_of}
 use Rattle.iv_laws_levels.proofs.Readying.{followed_is}
 use Rattle.iv_laws_levels.proofs.Members.{In, of_filter, of_filter_map, of_flat_map, of_map, of_first, all_in, in_rows, rows_in}
 use Rattle.iv_laws_rows.specs.RowFits.{side_fits, change_fits, changes_fit, wave_fits, row_fits, rows_fit}
