@@ -1,5 +1,5 @@
 //! Rows in slots, by rising number.
-ghost use Rattle.std.specs.Prelude.{◌≡◌, ◌<◌, ◌^◌, [], true, OnOk, OnErr};
+ghost use Rattle.std.specs.Prelude.{◌≡◌, ◌<◌, ◌^◌, [], true, None, OnOk, OnErr};
 ghost use Rattle.std.specs.Option.{option_copied};
 ghost use Rattle.iv_expr.specs.Scopes.{Rises, row_above, table_rows};
 ghost use Rattle.iv_machine.specs.Databases.{row_at};
@@ -82,21 +82,46 @@ impl Slots {
         next_above(self.slots.as_slice(), self.numbers.as_slice(), table, from)
     }
 
-    // Takes the row of a number out, where there is one: its slot stays.
+    // Passes on to the first row of a table.
+    fn pass_on(&mut self, table: TableId)
+        ensures slots { self.new.slots ≡ self.old.slots }
+        ensures numbers { self.new.numbers ≡ self.old.numbers }
+    {
+        let old = passed_for(self.passed.as_slice(), table);
+        let gap = gap_for(self.gaps.as_slice(), table);
+        let slots = self.slots.as_slice();
+        let numbers = self.numbers.as_slice();
+        let passed = passed_now(slots, numbers, table, old, gap);
+        pass(&mut self.passed, table, passed);
+    }
+
+    // Widens the gap of a table after the row of a number was taken out.
+    fn widen(&mut self, table: TableId, number: u64)
+        requires { row_at (live_rows self.old.slots) number ≡ None }
+        ensures slots { self.new.slots ≡ self.old.slots }
+        ensures numbers { self.new.numbers ≡ self.old.numbers }
+    {
+        let gap = gap_for(self.gaps.as_slice(), table);
+        let slots = self.slots.as_slice();
+        let numbers = self.numbers.as_slice();
+        let wider = gap_now(slots, numbers, table, number, gap);
+        set_gap(&mut self.gaps, table, wider);
+    }
+
+    // Takes the row of a number out, where there is one: its slot stays. Where it was the first of its table, as far as
+    // is known, looks pass on to the next one; else the gap of the table may be wider now.
     fn take_out(&mut self, table: TableId, number: u64)
         ensures slots { self.new.slots ≡ slots_without number self.old.slots }
         ensures numbers { self.new.numbers ≡ self.old.numbers }
     {
         empty(&mut self.slots, number);
         self.emptied = self.emptied.saturating_add(1);
-        let old = passed_for(self.passed.as_slice(), table);
-        let gap = gap_for(self.gaps.as_slice(), table);
-        let slots = self.slots.as_slice();
-        let numbers = self.numbers.as_slice();
-        let passed = passed_now(slots, numbers, table, old, gap);
-        let wider = gap_now(slots, numbers, table, number, gap);
-        pass(&mut self.passed, table, passed);
-        set_gap(&mut self.gaps, table, wider);
+        let passed = passed_for(self.passed.as_slice(), table);
+        if passed == 0 || number <= passed.saturating_add(1) {
+            self.pass_on(table);
+        } else {
+            self.widen(table, number);
+        }
     }
 
     /// Sets the row of a number to these values, or takes it out. Where memory is refused, all rows stay.
