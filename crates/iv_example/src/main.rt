@@ -56,10 +56,7 @@ fn transfers(rt: &HostRuntime, database: &mut Database) -> io::Result<()> {
     let back = database.rollback_to("TAKEN");
     show_outcome(rt, database.catalogue(), &back)?;
     let work = database.work();
-    println!(rt;
-        "undone {}, keys looked_up up {}",
-        work.undone, work.lookups
-    )?;
+    println!(rt; "undone {}, keys looked up {}", work.undone, work.lookups)?;
     commit(rt, database)?;
     run(rt, database, TWICE)?;
     run(rt, database, BALANCES)
