@@ -19,8 +19,8 @@ ROOT = os.path.dirname(os.path.dirname(os.path.realpath(__file__)))
 sys.path.insert(0, os.path.join(ROOT, "tests"))
 import edits
 
-# The endings of the files that are renamed and whose texts are; DIGESTS and others have none.
-RENAMED = {".rt", ".antt", ".edit", ".md", ".py", ".txt", ""}
+# The endings of the files that are renamed and whose texts are, and DIGESTS. What a program reads or prints stays.
+RENAMED = {".rt", ".antt", ".edit", ".md", ".py", ".txt"}
 
 
 def run(words, folder):
@@ -67,7 +67,7 @@ def rename_tree(root, names):
             path = os.path.join(place, file)
             at = names_at(names, os.path.relpath(path, root))
             suffix = os.path.splitext(file)[1]
-            if suffix not in RENAMED:
+            if suffix not in RENAMED and file != "DIGESTS":
                 continue
             with open(path, encoding="utf-8", newline="") as source:
                 text = source.read()
