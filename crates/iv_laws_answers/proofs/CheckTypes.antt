@@ -1,6 +1,5 @@
 -- The condition of a CHECK meets no value of the wrong kind at a row that fits.
-use Rattle.std.proofs.Common.{◌≡◌, refl, ℕ, true, ◌&&◌, List, ◌∙◌, Result, Ok, Err, slice_get, Some, sym, ap, subst}
-use Rattle.std.specs.List.{list_all}
+use Rattle.std.proofs.Common.{◌≡◌, true, List, ◌∙◌, Result, Err, sym, ap, subst}
 use Rattle.iv_value.specs.declared.value.Kind.{Kind}
 use Rattle.iv_value.specs.declared.value.Truth.{Truth}
 use Rattle.iv_value.specs.declared.value.Value.{Value}

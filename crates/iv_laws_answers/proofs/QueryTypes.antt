@@ -1,5 +1,5 @@
 -- A SELECT that suits is refused for a number out of range alone.
-use Rattle.std.proofs.Common.{◌≡◌, refl, ℕ, zero, suc, Bool, true, false, ◌&&◌, ◌==◌, List, [], ◌∷◌, ◌∙◌, map, filter_map, length, pos, Option, Some, None, is_some, Result, Ok, Err, slice_get, sym, ap}
+use Rattle.std.proofs.Common.{◌≡◌, refl, ℕ, zero, suc, Bool, true, ◌&&◌, ◌==◌, List, [], ◌∷◌, ◌∙◌, map, filter_map, length, pos, Option, Some, None, is_some, Result, Ok, Err, slice_get, sym, ap}
 use Rattle.std.specs.List.{list_all}
 use Rattle.std.proofs.lemmas.Bool.{eqb-true, and_parts}
 use Rattle.iv_value.specs.declared.value.Kind.{Kind}
@@ -18,9 +18,9 @@ use Rattle.iv_catalogue.specs.Refusals.{cause_of, refusal_of}
 use Rattle.iv_machine.specs.declared.answer.Answer.{Answer}
 use Rattle.iv_machine.specs.declared.answer.Answer.TheVariants.{Rows}
 use Rattle.iv_machine.specs.Context.{each}
-use Rattle.iv_machine.specs.Machine.{State, empty_state, answer_outcome, rows_meant, output_row, rows_answer, count_answer, query_outcome}
-use Rattle.iv_machine.specs.Proposals.{with_cause, holds, element_where_true, where_true, outputs_of}
-use Rattle.iv_laws_fitting.specs.PlanShapes.{table_kinds, plain_shape, is_there, has_sort, listed_suit, query_suits}
+use Rattle.iv_machine.specs.Machine.{State, empty_state, answer_outcome, rows_meant, output_row, rows_answer, count_answer}
+use Rattle.iv_machine.specs.Proposals.{with_cause, holds, element_where_true}
+use Rattle.iv_laws_fitting.specs.PlanShapes.{table_kinds, plain_shape, is_there, has_sort, listed_suit}
 use Rattle.iv_laws_fitting.proofs.Plans.{queries_fit}
 use Rattle.iv_laws_fitting.proofs.Running.{within_shape, where_kept}
 use Rattle.iv_laws_levels.proofs.Members.{all_in, of_filter}

@@ -1,5 +1,5 @@
 -- A state that is reached refuses for a wrong shape only what resolution does.
-use Rattle.std.proofs.Common.{◌≡◌, refl, ℕ, ◌-◌, true, false, ◌∙◌, Option, Some, None, Result, Ok, Err, sym, ap}
+use Rattle.std.proofs.Common.{◌≡◌, refl, ◌-◌, true, ◌∙◌, Option, Some, None, Result, Ok, Err, sym, ap}
 use Rattle.std.proofs.lemmas.Bool.{true≢false}
 use Rattle.iv_expr.specs.Scopes.{no_frame}
 use Rattle.iv_catalogue.specs.Refusals.{refusal_of, refusal_answer}
@@ -13,7 +13,7 @@ use Rattle.iv_laws_rows.specs.WellTyped.{is_ill_typed}
 use Rattle.iv_laws_rows.proofs.FittingFrames.{plain_statements_fit}
 use Rattle.iv_laws_rows.proofs.FreeLevels.{levels_are_well_typed}
 use Rattle.iv_step.specs.Step.{step, run}
-use Rattle.iv_laws_answers.specs.Words.{Statement, Cause, Refusal, Plan, QueryPlan}
+use Rattle.iv_laws_answers.specs.Words.{Statement, Cause, Refusal, Plan}
 use Rattle.iv_laws_answers.specs.Words.plan
 use Rattle.iv_laws_answers.specs.Words.cause.{WrongShape}
 use Rattle.iv_laws_answers.specs.Shapes.{WrongShapesAreOfResolution}

@@ -1,5 +1,5 @@
 -- Results that aren't refused for want of memory, one step after another.
-use Rattle.std.proofs.Common.{◌≡◌, refl, ℕ, true, false, if◌then◌else◌, List, [], ◌∷◌, map, Some, is_none, Result, Ok, Err, subst}
+use Rattle.std.proofs.Common.{◌≡◌, ℕ, true, false, if◌then◌else◌, List, [], ◌∷◌, map, Some, is_none, Result, Ok, Err, subst}
 use Rattle.iv_laws_answers.specs.Words.{ExprFault, Cause, Fault, Refusal, Database}
 use Rattle.iv_expr.specs.Evaluation.{both, and_then, all_results}
 use Rattle.iv_catalogue.specs.Refusals.{is_memory_cause, cause_of}

@@ -1,12 +1,11 @@
 -- No statement is answered by OutOfMemory, in any state.
-use Rattle.std.proofs.Common.{◌≡◌, refl, ℕ, ◌-◌, Bool, true, false, ◌||◌, List, [], ◌∷◌, length, pos, ◌∙◌, ap, cond, Option, Some, None, Result, Ok, Err}
+use Rattle.std.proofs.Common.{◌≡◌, refl, ℕ, ◌-◌, Bool, true, false, ◌||◌, [], ◌∷◌, length, pos, ◌∙◌, ap, cond, Some, None, Result, Ok, Err}
 use Rattle.std.specs.List.{list_any}
 use Rattle.iv_value.specs.declared.value.Value.TheVariants.{Int}
 use Rattle.iv_expr.specs.Evaluation.{and_then}
 use Rattle.iv_expr.specs.Scopes.{no_frame, scope_of, table_rows}
 use Rattle.iv_catalogue.specs.declared.plan.Outputs.{Outputs}
 use Rattle.iv_catalogue.specs.declared.plan.QueryPlan.TheVariants as query
-use Rattle.iv_catalogue.specs.Catalogues.{Schema}
 use Rattle.iv_catalogue.specs.Refusals.{is_memory_cause, is_memory}
 use Rattle.iv_machine.specs.declared.answer.Answer.{Answer}
 use Rattle.iv_machine.specs.declared.answer.Answer.TheVariants.{Rows}
@@ -16,7 +15,7 @@ use Rattle.iv_machine.specs.Machine.{State, is_open, context_of, rows_meant, out
 use Rattle.iv_resolution.specs.Bound.{bound}
 use Rattle.iv_resolution.specs.Resolution.{is_unknown, is_duplicate, is_faulty, is_misshaped, is_beyond_limits, refused_or_planned, resolution}
 use Rattle.iv_step.specs.Step.{step, run}
-use Rattle.iv_laws_answers.specs.Words.{StoredRow, Cond, Statement, Refusal, Plan}
+use Rattle.iv_laws_answers.specs.Words.{StoredRow, Cond, Refusal, Plan}
 use Rattle.iv_laws_answers.specs.Words.plan
 use Rattle.iv_laws_answers.specs.Words.cause.{Unknown, Duplicate, SchemaFault, WrongShape, Limit}
 use Rattle.iv_laws_answers.specs.Answers.{ResolutionsWantNoMemory, PlansWantNoMemory, StepsWantNoMemory, RunsWantNoMemory}

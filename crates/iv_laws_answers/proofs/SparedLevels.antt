@@ -1,5 +1,5 @@
 -- Waves and levels aren't refused for want of memory.
-use Rattle.std.proofs.Common.{◌≡◌, refl, ℕ, zero, suc, ◌+◌, ◌-◌, nat_lt, Bool, true, false, if◌then◌else◌, List, [], ◌∷◌, Result, Ok}
+use Rattle.std.proofs.Common.{refl, ℕ, zero, suc, ◌+◌, ◌-◌, nat_lt, Bool, true, false, if◌then◌else◌, List, [], ◌∷◌, Ok}
 use Rattle.iv_laws_answers.specs.Words.{BodyStatement, DataStatement, Database}
 use Rattle.iv_laws_answers.specs.Words.cause.{Restrict, ActionConflict, Violation, TooManyChanges, TransactionTooLarge, Limit}
 use Rattle.iv_laws_answers.specs.Words.body
@@ -9,7 +9,7 @@ use Rattle.iv_expr.specs.Scopes.{Frame, scope_of}
 use Rattle.iv_machine.specs.declared.database.Which.TheVariants.{Immediate}
 use Rattle.iv_machine.specs.Bounds.{most_changes_in_a_transaction}
 use Rattle.iv_machine.specs.Databases.{scan, is_chosen, size, database_after}
-use Rattle.iv_machine.specs.Context.{Context, fails, over, with_count, in_turn}
+use Rattle.iv_machine.specs.Context.{Context, fails, over, with_count}
 use Rattle.iv_machine.specs.Proposals.{holds, proposed_wave, table_of, event_of}
 use Rattle.iv_machine.specs.BeforeTriggers.{placed_statements, before_statement, wave_after_triggers}
 use Rattle.iv_machine.specs.ReferentialActions.{lost_keys, restricted_rows, conflicts, following_wave}

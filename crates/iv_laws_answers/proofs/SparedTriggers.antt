@@ -1,5 +1,5 @@
 -- BEFORE triggers aren't refused for want of memory.
-use Rattle.std.proofs.Common.{◌≡◌, refl, ℕ, Bool, true, false, ◌&&◌, if◌then◌else◌, List, Option, Some, None, Result, Ok, Err, find, filter}
+use Rattle.std.proofs.Common.{refl, ℕ, Bool, true, false, ◌&&◌, if◌then◌else◌, List, Option, Some, None, Result, Ok, Err, find, filter}
 use Rattle.iv_laws_answers.specs.Words.{StoredRow, Change, TriggerEvent, Cause, Refusal, BodyStatement, Trigger}
 use Rattle.iv_laws_answers.specs.Words.cause.{Signal}
 use Rattle.iv_laws_answers.specs.Words.body

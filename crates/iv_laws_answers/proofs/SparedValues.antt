@@ -1,5 +1,5 @@
 -- Expressions, conditions and proposals aren't refused for want of memory.
-use Rattle.std.proofs.Common.{◌≡◌, ◌≢◌, refl, ℕ, ◌+◌, ℤ, ◌+ℤ◌, ◌-ℤ◌, ◌*ℤ◌, Bool, true, false, ◌||◌, if◌then◌else◌, List, [], ◌∷◌, map, filter_map, zip, Option, Some, None, Result, Ok, Err, slice_get}
+use Rattle.std.proofs.Common.{◌≢◌, refl, ℕ, ◌+◌, ℤ, ◌+ℤ◌, ◌-ℤ◌, ◌*ℤ◌, Bool, true, false, ◌||◌, if◌then◌else◌, List, [], ◌∷◌, map, filter_map, zip, Option, Some, None, Result, Ok, Err, slice_get}
 use Rattle.std.proofs.lemmas.Bool.{true≢false}
 use Rattle.std.specs.List.{enumerate_from}
 use Rattle.std.specs.declared.cmp.Ordering.{Ordering}
@@ -9,7 +9,7 @@ use Rattle.iv_value.specs.declared.value.Truth.{Truth}
 use Rattle.iv_value.specs.declared.value.Truth.TheVariants.{Unknown}
 use Rattle.iv_value.specs.declared.value.Fit.{Fit}
 use Rattle.iv_value.specs.declared.value.Fit.TheVariants.{Yes, WrongKind, TooLong}
-use Rattle.iv_value.specs.Truths.{truth_not, truth_and, truth_or, truth_of, is_true}
+use Rattle.iv_value.specs.Truths.{truth_of, is_true}
 use Rattle.iv_value.specs.Values.{is_null, order, checked, fit_of}
 use Rattle.iv_expr.specs.declared.tree.Comparison.{Comparison}
 use Rattle.iv_expr.specs.declared.tree.Expr.TheVariants.{Literal, Column, Variable}
