@@ -42,7 +42,8 @@ pub reached_checks_are_well_typed : ReachedChecksAreWellTyped
 reached_checks_are_well_typed limits sts id k there =
     let s : State = (run (empty_state limits) sts).1 in
     let h : Fitting s = all_fitting limits sts in
-    checks_are_well_typed s.schema k s.database.rows (all_at (constraint_suits s.schema.tables) s.schema.constraints h.reached.suits.constraints id k there) h.rows.now
+    checks_are_well_typed s.schema k s.database.rows
+    (all_at (constraint_suits s.schema.tables) s.schema.constraints h.reached.suits.constraints id k there) h.rows.now
 
 pub added_checks_are_well_typed : AddedChecksAreWellTyped
 added_checks_are_well_typed limits sts st k e =

@@ -1,5 +1,5 @@
 -- Each statement leads from a state that fits to one that does.
-use Rattle.std.proofs.Common.{◌≡◌, refl, ℕ, ◌-◌, ◌==◌, true, false, not, if◌then◌else◌, List, [], ◌∷◌, ◌++◌, length, find, Option, Some, None, unwrap_or, Result, Ok, Err, sym, ap, ◌∙◌}
+use Rattle.std.proofs.Common.{◌≡◌, refl, ℕ, ◌-◌, ◌==◌, Bool, true, false, not, if◌then◌else◌, List, [], ◌∷◌, ◌++◌, length, find, Option, Some, None, unwrap_or, Result, Ok, Err, sym, ap, ◌∙◌}
 use Rattle.std.specs.List.{list_all}
 use Rattle.std.specs.Str.{bytes_eq}
 use Rattle.iv_syntax.specs.declared.statement.ConstraintMode.{ConstraintMode}
@@ -47,14 +47,25 @@ without_fit tables name (x ∷ xs) h =
     ]
 
 -- the one that is found, and those before it
+abbrev with_older : Savepoint → List Savepoint → NamedSavepoint
+with_older x xs = record { savepoint = x; older = xs }
+
+abbrev named_fits : List Table → NamedSavepoint → Bool
+named_fits tables x = list_all (savepoint_fits tables) (x.savepoint ∷ x.older)
+
 named_fit : (tables : List Table) (name : List ℕ) (xs : List Savepoint) (x : NamedSavepoint) → savepoint_named name xs ≡ Some x → SavesFit tables xs
-    → SavesFit tables (x.savepoint ∷ x.older)
+    → named_fits tables x ≡ true
 named_fit tables name [] x e h = absurd (none-some x e)
 named_fit tables name (y ∷ xs) x e h =
-    elim (bytes_eq name y.name) as (λ b. (if b then Some (record { savepoint = y; older = xs }) else savepoint_named name xs) ≡ Some x → SavesFit tables (x.savepoint ∷ x.older)) [
-      | true ↦ λ is. ap (λ (f : NamedSavepoint). list_all (savepoint_fits tables) (f.savepoint ∷ f.older)) (sym (same_Some (record { savepoint = y; older = xs }) x is)) ∙ h
-      | false ↦ λ is. named_fit tables name xs x is (and_parts (savepoint_fits tables y) (list_all (savepoint_fits tables) xs) h).1
+    let rest = (and_parts (savepoint_fits tables y) (list_all (savepoint_fits tables) xs) h).1 in
+    elim (bytes_eq name y.name) as (λ b. (if b then Some (with_older y xs) else savepoint_named name xs) ≡ Some x → named_fits tables x ≡ true) [
+      | true ↦ λ is. ap (named_fits tables) (sym (same_Some (with_older y xs) x is)) ∙ h
+      | false ↦ λ is. named_fit tables name xs x is rest
     ] e
+
+named_parts : (tables : List Table) (x : NamedSavepoint) → named_fits tables x ≡ true
+    → (savepoint_fits tables x.savepoint ≡ true) × (list_all (savepoint_fits tables) x.older ≡ true)
+named_parts tables x h = and_parts (savepoint_fits tables x.savepoint) (list_all (savepoint_fits tables) x.older) h
 
 -- ---- more tables
 
@@ -111,9 +122,11 @@ rollback_fits s (Some start) e h = record { now = begun_fits s start e h; first 
 
 release_fits : (s : State) (name : List ℕ) (o : Option NamedSavepoint) → savepoint_named name s.savepoints ≡ o → Fits s → Fits (release_outcome s o).state
 release_fits s name None e h = h
-release_fits s name (Some x) e h =
-    let p = and_parts (savepoint_fits s.schema.tables x.savepoint) (list_all (savepoint_fits s.schema.tables) x.older) (named_fit s.schema.tables name s.savepoints x e h.saves) in
-    record { now = h.now; first = h.first; saves = p.1 }
+release_fits s name (Some x) e h = record {
+  now = h.now;
+  first = h.first;
+  saves = (named_parts s.schema.tables x (named_fit s.schema.tables name s.savepoints x e h.saves)).1;
+}
 
 -- the database at the start, where another one is the current one
 started_fits : (tables : List Table) (start : Option Database) (before after : Database) → rows_fit tables (unwrap_or start before).rows ≡ true
@@ -121,11 +134,12 @@ started_fits : (tables : List Table) (start : Option Database) (before after : D
 started_fits tables None before after h g = g
 started_fits tables (Some start) before after h g = h
 
-rollback_to_fits : (s : State) (name : List ℕ) (o : Option NamedSavepoint) → savepoint_named name s.savepoints ≡ o → Fits s → Fits (rollback_to_outcome s o).state
+rollback_to_fits : (s : State) (name : List ℕ) (o : Option NamedSavepoint) → savepoint_named name s.savepoints ≡ o → Fits s
+    → Fits (rollback_to_outcome s o).state
 rollback_to_fits s name None e h = h
 rollback_to_fits s name (Some x) e h =
     let all = named_fit s.schema.tables name s.savepoints x e h.saves in
-    let p = and_parts (savepoint_fits s.schema.tables x.savepoint) (list_all (savepoint_fits s.schema.tables) x.older) all in
+    let p = named_parts s.schema.tables x all in
     record { now = p.0; first = started_fits s.schema.tables s.start s.database x.savepoint.database h.first p.0; saves = all }
 
 set_fits : (s : State) (ids : List ℕ) (m : ConstraintMode) → Fits s → Fits (set_constraints_outcome s ids m).state

@@ -71,7 +71,8 @@ module _ (bad : Cause → Bool) (h : IsOfEvaluation bad) where
           → Without bad (elim o as (λ _. Outcome) [ Some id ↦ refuse s (NotDeferrable id) | None ↦ modes_outcome s (with_modes s.modes ids m) ]).answer
       by (Some id) = h.deferrable id
       by None =
-          first_without s Violation h.violation (first_made_immediate s (with_modes s.modes ids m)) (accept (record s { modes = with_modes s.modes ids m }) Done) tt
+          first_without s Violation h.violation (first_made_immediate s (with_modes s.modes ids m))
+          (accept (record s { modes = with_modes s.modes ids m }) Done) tt
 
   pub transaction_without : (s : State) (p : TransactionPlan) → Without bad (transaction_outcome s p).answer
   transaction_without s transaction.Start = tt

@@ -1,5 +1,5 @@
 -- Waves and levels aren't refused for want of memory.
-use Rattle.std.proofs.Common.{refl, ℕ, zero, suc, ◌+◌, ◌-◌, nat_lt, Bool, true, false, if◌then◌else◌, List, [], ◌∷◌, Ok}
+use Rattle.std.proofs.Common.{refl, ℕ, zero, suc, ◌+◌, ◌-◌, nat_lt, Bool, true, false, if◌then◌else◌, List, ◌∷◌, Ok}
 use Rattle.iv_laws_answers.specs.Words.{BodyStatement, DataStatement, Database}
 use Rattle.iv_laws_answers.specs.Words.cause.{Restrict, ActionConflict, Violation, TooManyChanges, TransactionTooLarge, Limit}
 use Rattle.iv_laws_answers.specs.Words.body
@@ -15,7 +15,7 @@ use Rattle.iv_machine.specs.BeforeTriggers.{placed_statements, before_statement,
 use Rattle.iv_machine.specs.ReferentialActions.{lost_keys, restricted_rows, conflicts, following_wave}
 use Rattle.iv_machine.specs.Waves.{numbered_wave, is_beyond_last_row, wave_as_applied, one_wave, is_empty, Settles, none_settled, settled_by, settled_within, settled_waves, net_wave}
 use Rattle.iv_machine.specs.Levels.{Firing, Progress, Runs, statement_run, body_run, firing_run, firings_run, firings, immediate_check, level_steps, nested_level, level}
-use Rattle.iv_laws_levels.proofs.Settling.{then_next, then_settled}
+use Rattle.iv_laws_levels.proofs.Settling.{nothing_settled, then_next, then_settled}
 use Rattle.iv_laws_answers.specs.Memory.{WavesWantNoMemory, LevelsWantNoMemory, NestedLevelsWantNoMemory}
 use Rattle.iv_laws_answers.proofs.Spared.{SparedFailure, then_spared, in_turn_spared, counted_spared, over_spared, inside_spared, unless_spared, spared_refused}
 use Rattle.iv_laws_answers.proofs.SparedValues.{holds_spared, proposed_spared}
@@ -53,7 +53,7 @@ settled_by_spared : (w : Context) (rest : Settles) → ((db : Database) (budget 
 settled_by_spared w rest others db budget wave = by (is_empty wave.changes)
   where
     by : (empty : Bool)
-        → SparedFailure (if empty then Ok (record { last = db; waves = []; rest = budget }) else and_then (one_wave w db budget wave) (then_settled rest db budget))
+        → SparedFailure (if empty then nothing_settled db budget else and_then (one_wave w db budget wave) (then_settled rest db budget))
     by true = tt
     by false =
         then_spared (λ x. x.cause) (one_wave w db budget wave) (then_settled rest db budget) (one_spared w db budget wave)

@@ -68,7 +68,8 @@ trigger_spared w rows t c = by (is_on c.table (event_of_change c) t)
     by true = running_spared t.id (before_row_run w rows t c) (row_run_spared w rows t c)
     by false = tt
 
-pub row_triggers_spared : (w : Context) (rows : List StoredRow) (ts : List Trigger) (changes : List Change) → SparedRefusal (changes_after_triggers w rows ts changes)
+pub row_triggers_spared : (w : Context) (rows : List StoredRow) (ts : List Trigger) (changes : List Change)
+    → SparedRefusal (changes_after_triggers w rows ts changes)
 row_triggers_spared w rows ts changes =
     in_turn_spared (λ (x : Refusal). x.cause) (λ t. each (change_after_trigger w rows t))
     (λ t cs. each_spared (λ (x : Refusal). x.cause) (change_after_trigger w rows t) (trigger_spared w rows t) cs) ts changes
@@ -79,5 +80,6 @@ row_triggers_want_no_memory w rows ts changes refusal e =
 
 pub wave_triggers_spared : (w : Context) (rows : List StoredRow) (wave : Wave) → SparedRefusal (wave_after_triggers w rows wave)
 wave_triggers_spared w rows wave =
-    then_spared (λ (x : Refusal). x.cause) (changes_after_triggers w rows (filter is_before_row w.schema.triggers) wave.changes) (λ changes. Ok (record wave { changes = changes }))
+    then_spared (λ (x : Refusal). x.cause) (changes_after_triggers w rows (filter is_before_row w.schema.triggers) wave.changes)
+    (λ changes. Ok (record wave { changes = changes }))
     (row_triggers_spared w rows (filter is_before_row w.schema.triggers) wave.changes) (λ changes. tt)

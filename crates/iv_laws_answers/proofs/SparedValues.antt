@@ -109,7 +109,8 @@ with_cause_spared (Err f) h = h
 pub holds_spared : (s : Scope) (c : Cond) → SparedCause (holds s c)
 holds_spared s c = by (truth s c) (truth_spared s c)
   where
-    by : (r : Result Truth ExprFault) → SparedFault r → SparedCause (elim r as (λ x. Result Bool Cause) [ Ok t ↦ Ok (is_true t) | Err fault ↦ Err (cause_of fault) ])
+    by : (r : Result Truth ExprFault) → SparedFault r
+        → SparedCause (elim r as (λ x. Result Bool Cause) [ Ok t ↦ Ok (is_true t) | Err fault ↦ Err (cause_of fault) ])
     by (Ok t) h = tt
     by (Err f) h = h
 
@@ -124,7 +125,8 @@ fitted_spared (Some column) v = by (fit_of v column.kind)
 
 pub stored_spared : (w : Context) (table column : ℕ) (r : Result Value ExprFault) → SparedFault r → SparedCause (stored_value w table column r)
 stored_spared w table column r h =
-    then_spared (λ c. c) (with_cause r) (value_for_column (column_at w.schema table column)) (with_cause_spared r h) (fitted_spared (column_at w.schema table column))
+    then_spared (λ c. c) (with_cause r) (value_for_column (column_at w.schema table column)) (with_cause_spared r h)
+    (fitted_spared (column_at w.schema table column))
 
 -- results, and results with their columns
 abbrev AllSpared : List (Result Value ExprFault) → Type 0
@@ -195,14 +197,17 @@ where_spared row_of s c xs =
     (each_spared (λ c. c) (λ x. and_then (holds (within s (row_of x)) c) (λ b. Ok (x, b)))
     (λ x. then_spared (λ c. c) (holds (within s (row_of x)) c) (λ b. Ok (x, b)) (holds_spared (within s (row_of x)) c) (λ b. tt)) xs) (λ pairs. tt)
 
-insertion_spared : (w : Context) (table : ℕ) (listed : InsertColumns) (rs : List (Result Value ExprFault)) → AllSpared rs → SparedCause (insertion_of w table listed rs)
+insertion_spared : (w : Context) (table : ℕ) (listed : InsertColumns) (rs : List (Result Value ExprFault)) → AllSpared rs
+    → SparedCause (insertion_of w table listed rs)
 insertion_spared w table listed rs h =
     then_spared (λ c. c) (stored_values w table (values_by_column listed rs)) (λ pairs. Ok (insertion table (row_of_values w.schema table listed pairs)))
     (stored_values_spared w table (values_by_column listed rs) (by_column_spared listed rs h)) (λ pairs. tt)
 
-insertions_spared : (w : Context) (s : Scope) (table : ℕ) (listed : InsertColumns) (given : InsertRows) → SparedCause (proposed_insertions w s table listed given)
+insertions_spared : (w : Context) (s : Scope) (table : ℕ) (listed : InsertColumns) (given : InsertRows)
+    → SparedCause (proposed_insertions w s table listed given)
 insertions_spared w s table listed (rows.Values tuples) =
-    each_spared (λ c. c) (λ tuple. insertion_of w table listed (map (value s) tuple)) (λ tuple. insertion_spared w table listed (map (value s) tuple) (values_spared s tuple)) tuples
+    each_spared (λ c. c) (λ tuple. insertion_of w table listed (map (value s) tuple))
+    (λ tuple. insertion_spared w table listed (map (value s) tuple) (values_spared s tuple)) tuples
 insertions_spared w s table listed (rows.Query l range filter) =
     then_spared (λ c. c) (where_true (λ row. row) s filter (range_rows s range)) (each (λ row. insertion_of w table listed (outputs_of s l row)))
     (where_spared (λ row. row) s filter (range_rows s range))
