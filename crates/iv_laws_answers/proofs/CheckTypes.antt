@@ -17,9 +17,10 @@ use Rattle.iv_laws_fitting.proofs.Pointwise.{all_at}
 use Rattle.iv_laws_fitting.proofs.Schemas.{additions_fit}
 use Rattle.iv_laws_rows.specs.RowFits.{row_fits}
 use Rattle.iv_laws_rows.proofs.FittingFrames.{values_have_kinds}
+use Rattle.iv_laws_rows.proofs.SettledRows.{proposals_start, started_waves_fit}
 use Rattle.iv_laws_answers.specs.Words.{ExprFault}
 use Rattle.iv_laws_answers.specs.Words.expr_fault.{OutOfRange}
-use Rattle.iv_laws_answers.specs.Shapes.{ChecksAreWellTyped, ReachedChecksAreWellTyped, AddedChecksAreWellTyped}
+use Rattle.iv_laws_answers.specs.Shapes.{ChecksAreWellTyped, SettledChecksAreWellTyped, ReachedChecksAreWellTyped, AddedChecksAreWellTyped}
 use Rattle.iv_laws_answers.proofs.FittingStates.{Fitting, all_fitting}
 
 -- a row alone has the shape that a CHECK of its kinds sees
@@ -37,6 +38,12 @@ checks_are_well_typed c k rows suits fit condition place row fault is there of e
     let own = ap (λ n. row_suits (table_kinds c.tables n) row.values) (sym of) ∙ kinds in
     fine_fault (truth (alone row.values) condition) fault
     (truth_fine (check_shape (table_kinds c.tables k.table)) (alone row.values) condition (alone_shape (table_kinds c.tables k.table) row.values own) suited) e
+
+pub settled_checks_are_well_typed : SettledChecksAreWellTyped
+settled_checks_are_well_typed w d f db budget wave settled id k s numbered fit fits is_proposed is_settled there =
+    let start = proposals_start w d f db wave s.tables numbered fit fits is_proposed in
+    let settles = started_waves_fit w db budget wave settled s start is_settled in
+    checks_are_well_typed w.schema k settled.last.rows (all_at (constraint_suits w.schema.tables) w.schema.constraints s.constraints id k there) settles.1
 
 pub reached_checks_are_well_typed : ReachedChecksAreWellTyped
 reached_checks_are_well_typed limits sts id k there =

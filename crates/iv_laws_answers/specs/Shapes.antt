@@ -1,22 +1,27 @@
 -- No value of the wrong kind is met where a CHECK is evaluated, or a SELECT; so it is resolution that refuses for a wrong shape, and
 -- nothing after it.
 use Rattle.std.specs.Prelude.{◌≡◌, ℕ, true, List, slice_get, Some, Ok, Err}
-use Rattle.iv_laws_answers.specs.Words.{StoredRow, Cond, ExprFault, Statement, Refusal, Constraint, QueryPlan}
+use Rattle.iv_laws_answers.specs.Words.{StoredRow, Cond, ExprFault, Statement, Refusal, Constraint, DataStatement, QueryPlan, Database}
 use Rattle.iv_laws_answers.specs.Words.expr_fault.{OutOfRange}
 use Rattle.iv_laws_answers.specs.Words.cause.{WrongShape, NumberOutOfRange}
 use Rattle.iv_laws_answers.specs.Words.rule.{Check}
 use Rattle.iv_laws_answers.specs.Words.plan
 use Rattle.iv_laws_answers.specs.Words.schema.{AddConstraint}
-use Rattle.iv_expr.specs.Scopes.{alone}
+use Rattle.iv_expr.specs.Changes.{Wave}
+use Rattle.iv_expr.specs.Scopes.{Frame, alone}
 use Rattle.iv_expr.specs.Evaluation.{truth}
 use Rattle.iv_catalogue.specs.Catalogues.{Schema}
 use Rattle.iv_catalogue.specs.Refusals.{refusal_of, refusal_answer}
 use Rattle.iv_machine.specs.Bounds.{Bounds}
+use Rattle.iv_machine.specs.Context.{Context}
 use Rattle.iv_machine.specs.Machine.{State, empty_state, query_outcome}
+use Rattle.iv_machine.specs.Proposals.{proposed_wave}
+use Rattle.iv_machine.specs.Waves.{SettledWaves, settled_waves}
 use Rattle.iv_resolution.specs.Resolution.{resolution}
-use Rattle.iv_laws_fitting.specs.ConstraintShapes.{constraint_suits}
+use Rattle.iv_laws_fitting.specs.ConstraintShapes.{constraint_suits, SchemaSuits}
 use Rattle.iv_laws_fitting.specs.PlanShapes.{query_suits}
-use Rattle.iv_laws_rows.specs.RowFits.{rows_fit}
+use Rattle.iv_laws_levels.specs.FittingWaves.{Numbered}
+use Rattle.iv_laws_rows.specs.RowFits.{rows_fit, StatementFits}
 use Rattle.iv_step.specs.Step.{step, run}
 
 -- ---- CHECK
@@ -33,6 +38,17 @@ abbrev pub ChecksAreWellTyped : Type 0
 ChecksAreWellTyped =
     (c : Schema) (k : Constraint) (rows : List StoredRow)
     → constraint_suits c.tables k ≡ true → rows_fit c.tables rows ≡ true → ChecksAt rows k
+
+-- So it is where a data statement that fits checks its constraints: at the rows after its waves.
+abbrev pub SettledChecksAreWellTyped : Type 0
+SettledChecksAreWellTyped =
+    (context : Context) (d : DataStatement) (frame : Frame) (db : Database) (budget : ℕ) (wave : Wave) (settled : SettledWaves) (id : ℕ) (k : Constraint)
+    → SchemaSuits context.schema
+    → Numbered db → rows_fit context.schema.tables db.rows ≡ true
+    → StatementFits context.schema.tables frame d
+    → proposed_wave context db frame d ≡ Ok wave → settled_waves context db budget wave ≡ Ok settled
+    → slice_get context.schema.constraints id ≡ Some k
+    → ChecksAt settled.last.rows k
 
 -- So it is of each constraint of a state that a run reaches, at the rows of its database.
 abbrev pub ReachedChecksAreWellTyped : Type 0

@@ -2,7 +2,7 @@
 ghost use Rattle.iv_laws_answers.specs.Memory.{LevelsWantNoMemory, NestedLevelsWantNoMemory, ProposalsWantNoMemory, RowTriggersWantNoMemory, StatementTriggersWantNoMemory, TruthsWantNoMemory, ValuesWantNoMemory, WavesWantNoMemory};
 ghost use Rattle.iv_laws_answers.specs.Answers.{PlansWantNoMemory, ResolutionsWantNoMemory, RunsWantNoMemory, StepsWantNoMemory};
 ghost use Rattle.iv_laws_answers.specs.FittingStates.{ReachedStatesFit};
-ghost use Rattle.iv_laws_answers.specs.Shapes.{AddedChecksAreWellTyped, ChecksAreWellTyped, QueriesAreWellTyped, ReachedChecksAreWellTyped, ReachedQueriesAreWellTyped, WrongShapesAreOfResolution};
+ghost use Rattle.iv_laws_answers.specs.Shapes.{AddedChecksAreWellTyped, ChecksAreWellTyped, QueriesAreWellTyped, ReachedChecksAreWellTyped, ReachedQueriesAreWellTyped, SettledChecksAreWellTyped, WrongShapesAreOfResolution};
 
 /// No expression and no condition has the fault of refused memory, in any scope.
 pub fn evaluation_wants_no_memory()
@@ -38,6 +38,7 @@ pub fn reached_states_fit()
 /// of range.
 pub fn checks_are_well_typed()
     ensures suited { ChecksAreWellTyped }
+    ensures settled { SettledChecksAreWellTyped }
     ensures reached { ReachedChecksAreWellTyped }
     ensures added { AddedChecksAreWellTyped }
 {}
