@@ -70,6 +70,17 @@ fn laws_of_runs_are_called(rt: HostRuntime) {
 }
 
 #[test]
+fn laws_of_answers_are_called(rt: HostRuntime) {
+    iv_laws_answers::evaluation_wants_no_memory();
+    iv_laws_answers::data_statements_want_no_memory();
+    iv_laws_answers::answers_want_no_memory();
+    iv_laws_answers::reached_states_fit();
+    iv_laws_answers::checks_are_well_typed();
+    iv_laws_answers::queries_are_well_typed();
+    iv_laws_answers::wrong_shapes_are_of_resolution();
+}
+
+#[test]
 fn worked_scripts_are_called(rt: HostRuntime) {
     iv_worked_machine::worked_scripts();
 }

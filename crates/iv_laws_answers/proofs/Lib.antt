@@ -1,0 +1,10 @@
+mod CheckTypes
+mod FittingStates
+mod Outcomes
+mod QueryTypes
+mod ShapeRefusals
+mod Spared
+mod SparedAnswers
+mod SparedLevels
+mod SparedTriggers
+mod SparedValues

@@ -1,0 +1,5 @@
+pub mod Words
+pub mod Memory
+pub mod Answers
+pub mod FittingStates
+pub mod Shapes

@@ -1,0 +1,58 @@
+-- The definitions have memory enough: no tree has the fault of refused memory, and no statement is refused for it. So an answer that is such
+-- a refusal is always the program's own.
+use Rattle.std.specs.Prelude.{◌≡◌, ◌≢◌, ℕ, false, List, Err}
+use Rattle.iv_laws_answers.specs.Words.{StoredRow, Change, Expr, Cond, TriggerEvent, Cause, Refusal, DataStatement, Trigger, Database}
+use Rattle.iv_laws_answers.specs.Words.expr_fault.{NoMemory}
+use Rattle.iv_expr.specs.Changes.{Wave}
+use Rattle.iv_expr.specs.Scopes.{Scope, Frame}
+use Rattle.iv_expr.specs.Evaluation.{value, truth}
+use Rattle.iv_catalogue.specs.Refusals.{is_memory_cause}
+use Rattle.iv_machine.specs.Context.{Context, Failure}
+use Rattle.iv_machine.specs.Proposals.{proposed_wave}
+use Rattle.iv_machine.specs.BeforeTriggers.{before_statement, changes_after_triggers}
+use Rattle.iv_machine.specs.Waves.{settled_waves}
+use Rattle.iv_machine.specs.Levels.{nested_level, level}
+
+-- ---- evaluation
+
+abbrev pub ValuesWantNoMemory : Type 0
+ValuesWantNoMemory = (scope : Scope) (e : Expr) → value scope e ≢ Err NoMemory
+
+abbrev pub TruthsWantNoMemory : Type 0
+TruthsWantNoMemory = (scope : Scope) (c : Cond) → truth scope c ≢ Err NoMemory
+
+-- ---- a data statement, step by step
+
+-- What a statement proposes is refused for another cause.
+abbrev pub ProposalsWantNoMemory : Type 0
+ProposalsWantNoMemory =
+    (context : Context) (db : Database) (frame : Frame) (d : DataStatement) (cause : Cause)
+    → proposed_wave context db frame d ≡ Err cause → is_memory_cause cause ≡ false
+
+-- So are BEFORE triggers, of rows and of statements.
+abbrev pub RowTriggersWantNoMemory : Type 0
+RowTriggersWantNoMemory =
+    (context : Context) (rows : List StoredRow) (triggers : List Trigger) (changes : List Change) (refusal : Refusal)
+    → changes_after_triggers context rows triggers changes ≡ Err refusal → is_memory_cause refusal.cause ≡ false
+
+abbrev pub StatementTriggersWantNoMemory : Type 0
+StatementTriggersWantNoMemory =
+    (context : Context) (rows : List StoredRow) (table : ℕ) (event : TriggerEvent) (refusal : Refusal)
+    → before_statement context rows table event ≡ Err refusal → is_memory_cause refusal.cause ≡ false
+
+-- So are all waves.
+abbrev pub WavesWantNoMemory : Type 0
+WavesWantNoMemory =
+    (context : Context) (db : Database) (budget : ℕ) (wave : Wave) (failure : Failure)
+    → settled_waves context db budget wave ≡ Err failure → is_memory_cause failure.cause ≡ false
+
+-- So is a data statement of a script, and one of a trigger's body, with all that follows from it.
+abbrev pub LevelsWantNoMemory : Type 0
+LevelsWantNoMemory =
+    (deeper : ℕ) (context : Context) (d : DataStatement) (frame : Frame) (db : Database) (budget : ℕ) (failure : Failure)
+    → level deeper context d frame db budget ≡ Err failure → is_memory_cause failure.cause ≡ false
+
+abbrev pub NestedLevelsWantNoMemory : Type 0
+NestedLevelsWantNoMemory =
+    (depth : ℕ) (context : Context) (trigger : ℕ) (d : DataStatement) (frame : Frame) (db : Database) (budget : ℕ) (failure : Failure)
+    → nested_level depth context trigger d frame db budget ≡ Err failure → is_memory_cause failure.cause ≡ false
