@@ -22,7 +22,7 @@ pub runs_performed : (s : State) (st : Statement) (said : Outcome) (r : Result A
 runs_performed s st said r x p = by (is_memory r) p where
   by : (b : Bool) → MatchBool b ((x.state ≡ s) × (r ≡ Err out_of_memory)) (Did said r x)
       → MatchBool b ((x.state ≡ s) × IsMemoryRefusal (changes_rows st) s.schema r) (Did said r x)
-  by true p = (p.0, None, refl, p.1)
+  by true p = (p.0, (None, refl, p.1))
   by false p = p
 
 -- so of a plan
@@ -30,7 +30,7 @@ pub plan_performed : (s : State) (p : Plan) (r : Result Answer Refusal) (x : See
 plan_performed s p r x h = by (is_memory r) h where
   by : (b : Bool) → MatchBool b ((x.state ≡ s) × (r ≡ Err out_of_memory)) (Did (plan_outcome s p) r x)
       → MatchBool b ((x.state ≡ s) × IsMemoryRefusal (plan_changes_rows p) s.schema r) (Did (plan_outcome s p) r x)
-  by true h = (h.0, None, refl, h.1)
+  by true h = (h.0, (None, refl, h.1))
   by false h = h
 
 -- ---- what may always run
