@@ -88,7 +88,7 @@ change_refused h d begins r told_on t x changes other memory told e = by (is_mem
       → Follows (state_of h) (change_outcome (state_of h) d) (Err told_on) x
   by true m c =
       let same : x.state ≡ state_of h = e ∙ ap (λ (u : StoreState). state_of (stored h u)) c in
-      rw (memory m) (same, (told_on.trigger, told m, λ i. Err (record { cause = memory m i; trigger = told_on.trigger })))
+      rw (memory m) (same, (told_on.trigger, told m, refl))
   by false m c =
       let outcome : change_outcome (state_of h) d ≡ outcome_said (state_of h) said =
       level_said (state_of h) (level (h.limits.depth - 1) (record { schema = h.schema; modes = (current h.initial h.changed).modes }) d no_frame h.store.base h.limits.changes) in
