@@ -28,6 +28,11 @@ fn laws_of_names_are_called(rt: HostRuntime) {
 }
 
 #[test]
+fn laws_of_texts_are_called(rt: HostRuntime) {
+    iv_laws_writable::statements_are_writable();
+}
+
+#[test]
 fn laws_of_plans_are_called(rt: HostRuntime) {
     iv_laws_fitting::plans_fit();
     iv_laws_fitting::schemas_suit();

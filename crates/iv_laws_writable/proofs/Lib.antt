@@ -1,0 +1,7 @@
+pub mod Names
+pub mod Parts
+pub mod Terms
+pub mod Data
+pub mod Tables
+pub mod Triggers
+pub mod Statements
