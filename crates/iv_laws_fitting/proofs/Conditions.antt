@@ -1,5 +1,5 @@
 -- A condition that has no name that names nothing, and no operand of the wrong kind, suits the shape of its names.
-use Rattle.std.proofs.Common.{◌≡◌, ℕ, ◌+◌, ◌≤◌, Bool, true, false, not, ◌&&◌, ◌||◌, List, [], ◌∷◌, ◌∙◌, Option, Some, None, is_some, refl, sym, ap, length, subst, arith}
+use Rattle.std.proofs.Common.{◌≡◌, ℕ, ◌+◌, ◌≤◌, true, false, not, ◌&&◌, ◌||◌, List, [], ◌∷◌, ◌∙◌, Option, Some, None, is_some, refl, sym, ap, length, subst, arith}
 use Rattle.std.proofs.lemmas.Bool.{and_from, or_parts}
 use Rattle.iv_laws_fitting.specs.Words.{Kind, Range}
 use Rattle.iv_laws_fitting.specs.Words.range

@@ -20,16 +20,15 @@ use Rattle.iv_syntax.specs.declared.trigger.TriggerAction.{TriggerAction}
 use Rattle.iv_syntax.specs.declared.trigger.TriggerAction.TheVariants as action
 use Rattle.iv_syntax.specs.declared.trigger.TriggerDefinition.{TriggerDefinition}
 use Rattle.iv_catalogue.specs.Catalogues.{Schema}
-use Rattle.iv_catalogue.specs.declared.plan.Plan.{Plan}
 use Rattle.iv_catalogue.specs.declared.plan.TransactionPlan.TheVariants as transaction
 use Rattle.iv_resolution.specs.declared.origin.Origin.TheVariants.{Variable}
 use Rattle.iv_resolution.specs.Scopes.{NamedColumn, NamedRange, Names, Source, named_columns, place_of, has_column, type_named}
 use Rattle.iv_resolution.specs.Terms.{unknown_expression, unknown_filter, misshaped_expression, misshaped_filter, bound_expression, bound_filter}
 use Rattle.iv_resolution.specs.Constraints.{WrittenConstraint, table_constraint}
-use Rattle.iv_resolution.specs.Tables.{table_names, altered_at}
+use Rattle.iv_resolution.specs.Tables.{table_names}
 use Rattle.iv_resolution.specs.Changes.{is_table, target_columns, clashes_with}
 use Rattle.iv_resolution.specs.Triggers.{names_row, row_variables, transition_tables, subject_of, trigger_names, trigger_variables, variable_named, unknown_set, unknown_action, for_each_row, is_before, has_side, is_allowed_item, is_side, items_of, item_twice, some_item_twice, misshaped_action}
-use Rattle.iv_resolution.specs.Bound.{table_id, bound_action, bound_trigger, bound_addition}
+use Rattle.iv_resolution.specs.Bound.{table_id, bound_action, bound_trigger}
 use Rattle.iv_resolution.specs.Writable.{is_name, is_filter, is_action}
 use Rattle.iv_laws_naming.specs.Naming.{NamesSource, transition, created, stored}
 use Rattle.iv_laws_naming.proofs.Firsts.{first_there}

@@ -11,7 +11,7 @@ use Rattle.iv_laws_levels.specs.FittingWaves.{old_row}
 use Rattle.iv_laws_levels.specs.Locality.{concerns, is_elsewhere}
 use Rattle.iv_laws_levels.proofs.RowNumbers.{number_of_row_at, in_order_filter, same_rows, passing, row_at_filter_in_order}
 use Rattle.iv_laws_levels.proofs.AppliedRows.{news, row_at_rows_after, rows_after_in_order}
-use Rattle.iv_laws_levels.proofs.Keys.{false_true, and_second}
+use Rattle.iv_laws_levels.proofs.Keys.{and_second}
 use Rattle.iv_laws_levels.proofs.Locality.{change_is_local}
 
 -- ---- two tests, one after another

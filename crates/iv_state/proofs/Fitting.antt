@@ -12,10 +12,10 @@ use Rattle.iv_catalogue.specs.Catalogues.{Schema, has_trigger}
 use Rattle.iv_catalogue.specs.declared.limits.TheConstants.{MOST_BODY_STATEMENTS, MOST_TRIGGERS, MOST_TRIGGERS_EVER}
 use Rattle.iv_catalogue.specs.declared.plan.TransactionPlan.TheVariants as transaction
 use Rattle.iv_machine.specs.Machine.{State, is_open, occasion_of, transaction_cause, plan_occasion, changes_rows, outside, inside, beginning}
-use Rattle.iv_resolution.specs.Bound.{bound, bound_action, bound_addition, bound_trigger, table_id}
+use Rattle.iv_resolution.specs.Bound.{bound, bound_action, bound_trigger, table_id}
 use Rattle.iv_resolution.specs.Constraints.{WrittenConstraint, comes_twice, table_constraint}
 use Rattle.iv_resolution.specs.Resolution.{resolution}
-use Rattle.iv_resolution.specs.Tables.{altered_at, table_names}
+use Rattle.iv_resolution.specs.Tables.{table_names}
 use Rattle.iv_resolution.specs.Triggers.{duplicate_action, trigger_names, trigger_variables}
 use Rattle.iv_laws_fitting.specs.ConstraintShapes.{SchemaSuits}
 use Rattle.iv_laws_fitting.proofs.Plans.{Accepted, accepted, alteration, changes_fit}

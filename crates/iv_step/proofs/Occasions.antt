@@ -1,19 +1,18 @@
 -- A statement and its plan may run on the same occasions.
-use Rattle.std.proofs.Common.{◌≡◌, ℕ, false, not, List, Option, Some, None, Ok, slice_get, refl, sym, ap, ◌∙◌}
+use Rattle.std.proofs.Common.{◌≡◌, ℕ, false, not, List, Ok, slice_get, refl, sym, ap, ◌∙◌}
 use Rattle.std.proofs.lemmas.Bool.{or_parts}
 use Rattle.iv_syntax.specs.declared.statement.Statement.{Statement}
 use Rattle.iv_syntax.specs.declared.statement.Statement.TheVariants as statement
 use Rattle.iv_syntax.specs.declared.table.TableConstraint.{TableConstraint}
 use Rattle.iv_catalogue.specs.Catalogues.{Schema}
-use Rattle.iv_catalogue.specs.declared.catalogue.Table.{Table}
 use Rattle.iv_catalogue.specs.declared.plan.Plan.{Plan}
 use Rattle.iv_catalogue.specs.declared.plan.Plan.TheVariants as plan
 use Rattle.iv_catalogue.specs.declared.plan.TransactionPlan.TheVariants as transaction
 use Rattle.iv_machine.specs.Machine.{occasion_of, plan_occasion, outside}
-use Rattle.iv_resolution.specs.Bound.{bound, bound_addition, table_id}
-use Rattle.iv_resolution.specs.Constraints.{WrittenConstraint, table_constraint}
+use Rattle.iv_resolution.specs.Bound.{bound, table_id}
+use Rattle.iv_resolution.specs.Constraints.{table_constraint}
 use Rattle.iv_resolution.specs.Resolution.{is_there, of_altered, resolution}
-use Rattle.iv_resolution.specs.Tables.{altered_at, table_names, unknown_rule}
+use Rattle.iv_resolution.specs.Tables.{table_names, unknown_rule}
 use Rattle.iv_laws_fitting.proofs.Plans.{Accepted, accepted, alteration}
 use Rattle.iv_laws_fitting.proofs.Targets.{Target, target_of, target_id}
 use Rattle.iv_step.specs.Laws.{PlansKeepTheOccasion}

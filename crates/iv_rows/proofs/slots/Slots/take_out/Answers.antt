@@ -1,4 +1,4 @@
-use Rattle.std.proofs.Common.{◌≡◌, ◌<◌, ℕ, List, sym, ap, subst, ◌∙◌}
+use Rattle.std.proofs.Common.{◌<◌, ℕ, List, sym, ap, subst, ◌∙◌}
 use Rattle.iv_machine.specs.Databases.{row_at}
 use Rattle.iv_rows.specs.declared.gap.Gap.{Gap}
 use Rattle.iv_rows.specs.declared.slot.Slot.{Slot}
