@@ -32,8 +32,10 @@ impl<K: Keeper + Drop> Session<K> {
             → UnlessMemory result (LooksUpFew self.old self.new) }
     {
         self.state.clear_work();
-        let plan = resolve(self.state.allocator(), self.state.catalogue(), statement)?;
-        self.state.perform::<Levels>(plan)
+        match resolve(self.state.allocator(), self.state.catalogue(), statement) {
+            Ok(plan) => self.state.perform::<Levels>(plan),
+            Err(refusal) => Err(refusal),
+        }
     }
 
     // What a statement does, but for the count of look-ups.
