@@ -1,5 +1,5 @@
 //! Tokens of one text that are read in another. The program reads tokens in their own text alone.
-use iv_lex::{Kind, Token, folded_text, tokens};
+use iv_lex::{Token, TokenKind, folded_text, tokens};
 use iv_parse_data::insert;
 use iv_syntax::Insert;
 use std::alloc::{AllocError, Global};
@@ -61,7 +61,7 @@ fn places_outside_the_text(rt: HostRuntime) -> Result<(), Fail> {
     ];
     for (start, end) in places {
         let token = Token {
-            kind: Kind::Quoted,
+            kind: TokenKind::Quoted,
             start,
             end,
         };
