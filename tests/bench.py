@@ -156,9 +156,9 @@ def savepoints(engine, part):
 
 
 def inserts_over(rows, engine, part):
-    times = 10_000 // part
-    each = (engine.transaction(['INSERT INTO t VALUES (%d, 0)' % (rows // part + n)]) for n in range(1, times + 1))
-    return [*filled(engine, rows // part or 1), *itertools.chain.from_iterable(each), 'SELECT COUNT(*) FROM t']
+    times, first = 10_000 // part, max(rows // part, 1)
+    each = (engine.transaction(['INSERT INTO t VALUES (%d, 0)' % (first + n)]) for n in range(1, times + 1))
+    return [*filled(engine, first), *itertools.chain.from_iterable(each), 'SELECT COUNT(*) FROM t']
 
 
 def updates_over(rows, engine, part):
