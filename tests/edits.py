@@ -40,7 +40,8 @@ IMPORT = re.compile(r"^ *(?:ghost )?use ([^;{]*)(?:\{([^}]*)\})?;\n", re.M)
 COMMENTS = {".rt": "//", ".antt": "--"}
 # How a proof and code name a module of a crate of the repository.
 PROOF_PATH = re.compile(r"\bRattle\.(iv_\w+)\.(specs|proofs)\.([\w.◌+-]*\w)")
-CODE_PATH = re.compile(r"\b(iv_\w+|crate)((?:::\w+)+)")
+CODE_PATH = re.compile(r"\b(iv_\w+|crate)((?:::\w+)*)::(?:(\w+)|\{([^}]*)\})")
+EXPORT = re.compile(r"^pub use (\w+)::(?:(\w+)|\{([^}]*)\});", re.M)
 IMPLEMENTS = re.compile(r"^impl\b(?:<[^{]*?>)? *(?:[\w:<>, ]+ for )?(\w+)", re.M)
 
 
@@ -108,6 +109,12 @@ def below(crate):
     return repository.below([crate], repository.crates())
 
 
+def without_comments(path):
+    """A file's text without the lines that hold a comment alone."""
+    mark = COMMENTS.get(os.path.splitext(path)[1])
+    return "".join(line for line in read(path).splitlines(True) if mark is None or not line.lstrip().startswith(mark))
+
+
 def with_used_imports(source):
     """A file's text with those of its imports alone that the rest of it names, one a line."""
     rest = IMPORT.sub("", source)
@@ -116,26 +123,28 @@ def with_used_imports(source):
         signs = [part for part in name.split(" as ")[-1].split("◌") if part]
         return all(re.search(rf"\b{part}\b", rest) if re.fullmatch(r"\w+", part) else part in rest for part in signs)
 
-    imports = [(path, name.strip()) for path, names in IMPORT.findall(source) for name in (names or re.split(r"::|\.", path)[-1]).split(",")]
-    return "".join(f"{path} {name}\n" for path, name in imports if is_named(name)) + rest
+    imports = [
+        (path + name.strip() if names else path, name)
+        for path, names in IMPORT.findall(source)
+        for name in (names or re.split(r"::|\.", path)[-1]).split(",")
+    ]
+    return "".join(f"use {path};\n" for path, name in imports if is_named(name.strip())) + rest
+
+
+def seen_from_above(source):
+    """What a crate above sees of a file of code: no private functions, tactics and bodies of functions that have clauses, and no imports
+    for these."""
+    return with_used_imports(BODY.sub("", PRIVATE.sub("", TACTIC.sub("", source))))
 
 
 def bare(path, from_above=False):
     """A file's text without the lines that hold a comment alone; of code also without the breaks of its lines, without
     the module of tests, and without the marks that the layout puts before the first case and after the last field of
-    what it writes over several lines; and, as a crate above sees it, without private functions, tactics, the bodies of
-    functions that have clauses, and imports for these.
-
-    No proof depends on these."""
-    suffix = os.path.splitext(path)[1]
-    mark = COMMENTS.get(suffix)
-    source = read(path)
-    if from_above and suffix == ".rt":
-        source = with_used_imports(BODY.sub("", PRIVATE.sub("", TACTIC.sub("", source))))
-    lines = [line for line in source.splitlines() if mark is None or not line.lstrip().startswith(mark)]
-    if suffix != ".rt":
-        return "\n".join(lines)
-    text = " ".join(" ".join(lines).split()).replace("#[cfg(test)] mod tests;", "").replace("  ", " ")
+    what it writes over several lines; and, where it is asked, as a crate above sees it. No proof depends on the rest."""
+    source = without_comments(path)
+    if not path.endswith(".rt"):
+        return source
+    text = " ".join((seen_from_above(source) if from_above else source).split()).replace("#[cfg(test)] mod tests;", "").replace("  ", " ")
     return re.sub(r"(\brecord \{[^{}]*); \}", r"\1 }", text.replace("[ | ", "[ "))
 
 
@@ -158,9 +167,33 @@ def module(folder, parts, suffix):
 
 
 @functools.lru_cache(maxsize=None)
-def named_in(path):
-    """The files of the repository's crates that a file names by their modules; of a crate that its code names, all code."""
-    text = "\n".join(line for line in read(path).splitlines() if not line.lstrip().startswith(COMMENTS.get(os.path.splitext(path)[1], "--")))
+def exported(crate):
+    """For each name that a crate's root offers, the files of the crate that define it or have an `impl` that names it."""
+    folder = os.path.join(ROOT, "crates", crate, "src")
+    sources = {path: read(path) for path in files_in(folder)}
+    offered = {}
+    for part, one, several in EXPORT.findall(sources.get(os.path.join(folder, "lib.rt"), "")):
+        for name in filter(None, map(str.strip, (one or several).split(","))):
+            uses = re.compile(rf"^ *impl\b[^{{]*\b{name}\b", re.M)
+            offered[name] = module(folder, [part], ".rt") + [path for path, source in sources.items() if uses.search(source)]
+    return offered
+
+
+def code_named(crate, parts):
+    """The files that a path of code leads to in another crate: those of the name that the crate's root offers, or else all code."""
+    folder = os.path.join(ROOT, "crates", crate)
+    if parts[0] in ("proofs", "specs"):
+        return module(os.path.join(folder, parts[0]), parts[1:], ".antt")
+    return exported(crate).get(parts[0]) or files_in(os.path.join(folder, "src"))
+
+
+@functools.lru_cache(maxsize=None)
+def named_in(path, from_above):
+    """The files of the repository's crates that a file names by their modules, or of which it names what they offer; of a file of a crate
+    below, in what is seen of it from above."""
+    text = without_comments(path)
+    if from_above and path.endswith(".rt"):
+        text = seen_from_above(text)
     found = set()
     for crate, kind, rest in PROOF_PATH.findall(text):
         folder, parts = os.path.join(ROOT, "crates", crate), rest.split(".")
@@ -169,26 +202,26 @@ def named_in(path):
         else:
             files = module(os.path.join(folder, kind), parts, ".antt")
         found.update(files or files_in(os.path.join(folder, "src")) + files_in(os.path.join(folder, "specs")))
-    for crate, rest in CODE_PATH.findall(text) if path.endswith(".rt") else []:
+    for crate, rest, one, several in CODE_PATH.findall(text) if path.endswith(".rt") else []:
         own = os.path.relpath(path, os.path.join(ROOT, "crates")).split(os.sep)[0]
-        folder, parts = os.path.join(ROOT, "crates", own if crate == "crate" else crate), rest.split("::")[1:]
-        if parts[:1] == ["proofs"]:
-            found.update(module(os.path.join(folder, "proofs"), parts[1:], ".antt"))
-        elif crate == "crate":
-            found.update(module(os.path.join(folder, "src"), parts, ".rt") or files_in(os.path.join(folder, "src")))
-        elif os.path.isdir(folder):
-            found.update(files_in(os.path.join(folder, "src")))
+        for name in filter(None, map(str.strip, (one or several).split(","))):
+            parts = [*rest.split("::")[1:], name.split(" ")[0]]
+            if crate == "crate" and parts[0] != "proofs":
+                folder = os.path.join(ROOT, "crates", own, "src")
+                found.update(module(folder, parts, ".rt") or exported(own).get(parts[0]) or files_in(folder))
+            elif crate == "crate" or os.path.isdir(os.path.join(ROOT, "crates", crate)):
+                found.update(code_named(own if crate == "crate" else crate, parts))
     return frozenset(found)
 
 
 def reached(files):
-    """These files, and those that they name, and so on."""
+    """The files of a crate, and those that they name, and so on."""
     found, left = set(), list(files)
     while left:
         path = left.pop()
         if path not in found:
             found.add(path)
-            left += named_in(path)
+            left += named_in(path, path not in files)
     return found
 
 
