@@ -314,6 +314,17 @@ def row_triggers(times):
     return ';'.join(texts) + ';', answered(*answers)
 
 
+def triggers_of_another(times):
+    """255 triggers of a table that nothing changes, and one that logs each of 21,000 rows, which come and are taken back again and again: 21,000 nested
+    statements each time, with which none of the 255 has to do."""
+    texts = ['CREATE TABLE %s (a INT)' % table for table in ('t', 's', 'log', 'other')]
+    texts += ['INSERT INTO s VALUES ' + ','.join(['(1)'] * 21_000), 'COMMIT']
+    texts += numbered('CREATE TRIGGER r{n} AFTER INSERT ON other REFERENCING NEW AS n FOR EACH ROW INSERT INTO log VALUES (n.a)', 255)
+    texts += ['CREATE TRIGGER logs AFTER INSERT ON t REFERENCING NEW AS n FOR EACH ROW INSERT INTO log VALUES (n.a)']
+    texts += ['INSERT INTO t SELECT a FROM s', 'SELECT COUNT(*) FROM log', 'ROLLBACK'] * times
+    return ';'.join(texts) + ';', answered(*['ok'] * 4, 'ok 21000', 'ok', *['ok'] * 256, *['ok 21000', 'rows 1', '| 21000', 'ok'] * times)
+
+
 def before_triggers():
     """256 BEFORE triggers on one table that each add one to the new row, over an INSERT of 20,000 rows."""
     texts = ['CREATE TABLE t (a INT)']
@@ -533,6 +544,7 @@ def cases():
     yield Case('32,000 such keys with a child each', colliding_children)
     yield Case('256 triggers on one table, and 200 statements', lambda: row_triggers(200))
     yield Case('256 BEFORE triggers over 20,000 rows', before_triggers)
+    yield Case('255 triggers of another table, beside 630,000 nested statements', lambda: triggers_of_another(30))
     yield Case('a chain of 64 tables of 1,023 rows', chain)
     yield Case('a chain of 64 tables of one row, 2,000 times', lambda: chain_of_one(2_000))
     yield Case('triggers that fire each other to the depth', to_the_depth)

@@ -1,9 +1,10 @@
 -- The steps of a level put together.
-use Rattle.std.proofs.Common.{◌≡◌, refl, ℕ, zero, suc, ◌-◌, Bool, List, length, Result, Ok, Err, MatchBool, ap, sym, ◌∙◌, arith}
+use Rattle.std.proofs.Common.{◌≡◌, refl, ℕ, zero, suc, ◌-◌, Bool, true, List, [], length, Option, Some, None, Result, Ok, Err, MatchBool, ap, sym, ◌∙◌, arith}
 use Rattle.iv_expr.specs.declared.row.Change.{Change}
 use Rattle.iv_expr.specs.Changes.{Wave, wave_of}
 use Rattle.iv_expr.specs.Evaluation.{and_then}
 use Rattle.iv_expr.specs.Scopes.{Frame}
+use Rattle.iv_catalogue.specs.declared.catalogue.Table.{Table}
 use Rattle.iv_catalogue.specs.declared.plan.DataStatement.{DataStatement}
 use Rattle.iv_catalogue.specs.declared.plan.Trigger.{Trigger}
 use Rattle.iv_machine.specs.declared.database.Database.{Database}
@@ -15,9 +16,11 @@ use Rattle.iv_machine.specs.Proposals.{event_of, proposed_wave, table_of}
 use Rattle.iv_machine.specs.Waves.{SettledWaves, net_wave, settled_waves}
 use Rattle.iv_transitions.specs.ByTable.{ByTableAndEvent, all_firings}
 use Rattle.iv_transitions.proofs.FiringsByTable.{firings_parted}
+use Rattle.iv_laws_rows.specs.RowFits.{wave_fits}
 use Rattle.iv_triggers.proofs.Answers.{unless_memory}
 use Rattle.iv_exec.specs.Steps.{allowed_wave, finished, progress, waves_and_after}
-use Rattle.iv_exec.specs.Settled.{SettledParts}
+use Rattle.iv_exec.specs.Firing.{MayBeParts}
+use Rattle.iv_exec.specs.Settled.{NetParts, SettledParts}
 
 -- ---- the check and the triggers
 
@@ -34,6 +37,17 @@ pub finished_is : (run : Runs) (w : Context) (d : DataStatement) (parts : List (
 finished_is run w d parts net triggers at r check h e fired =
     ap (then_fired run w d net at) check ∙ ap (λ xs. firings_run run xs at) (sym (same_firings w d parts net triggers h e)) ∙ fired
 
+-- no trigger fires
+pub finished_quietly : (run : Runs) (w : Context) (d : DataStatement) (net : Wave) (at : Progress)
+    → immediate_check w at.database ≡ Ok tt → firings w d net ≡ [] → finished run w d net at ≡ Ok at
+finished_quietly run w d net at check quiet = ap (then_fired run w d net at) check ∙ ap (λ xs. firings_run run xs at) quiet
+
+-- the net changes by table and event fit, where they were made
+pub parts_fit : (w : Context) (d : DataStatement) (tables : List Table) (net : Wave) (parts : Option (List (List Change)))
+    → wave_fits tables net ≡ true → NetParts w d net parts → MayBeParts tables parts
+parts_fit w d tables net None fit h = tt
+parts_fit w d tables net (Some parts) fit h = record { net = net; fit = fit; by_table = h }
+
 -- ---- the waves and what comes after them
 
 abbrev done : ℕ → Progress → Finished
@@ -43,18 +57,18 @@ abbrev then_finished : Runs → Context → DataStatement → Database → ℕ �
 then_finished run w d db n r =
     and_then r (λ s. and_then (finished run w d (net_wave db.rows s.last.rows s.waves) (progress s.last s.rest)) (λ at. Ok (done n at)))
 
-pub waves_done : (run : Runs) (w : Context) (d : DataStatement) (db last : Database) (budget rest : ℕ) (changes : List Change) (parts : List (List Change)) (n : ℕ) (at : Progress)
-    → SettledParts w db budget changes last rest parts → n ≡ length changes
-    → ((net : Wave) → ByTableAndEvent parts net.changes → finished run w d net (progress last rest) ≡ Ok at)
+pub waves_done : (run : Runs) (w : Context) (d : DataStatement) (db last : Database) (budget rest : ℕ) (changes : List Change) (parts : Option (List (List Change))) (n : ℕ) (at : Progress)
+    → SettledParts w d db budget changes last rest parts → n ≡ length changes
+    → ((net : Wave) → NetParts w d net parts → finished run w d net (progress last rest) ≡ Ok at)
     → waves_and_after run w d db budget (wave_of changes) ≡ Ok (record { database = at.database; rest = at.budget; size = n })
 waves_done run w d db last budget rest changes parts n at h same f =
     ap (then_finished run w d db (length changes)) h.is
     ∙ ap (λ r. and_then {B = Finished} r (λ x. Ok (done (length changes) x))) (f (net_wave db.rows last.rows h.waves) h.by_table)
     ∙ (λ i. Ok (done (sym same i) at))
 
-pub waves_refused : (memory : Bool) (run : Runs) (w : Context) (d : DataStatement) (db last : Database) (budget rest : ℕ) (changes : List Change) (parts : List (List Change)) (failure : Failure)
-    → SettledParts w db budget changes last rest parts
-    → ((net : Wave) → ByTableAndEvent parts net.changes → MatchBool memory (Unit {0}) (finished run w d net (progress last rest) ≡ Err failure))
+pub waves_refused : (memory : Bool) (run : Runs) (w : Context) (d : DataStatement) (db last : Database) (budget rest : ℕ) (changes : List Change) (parts : Option (List (List Change))) (failure : Failure)
+    → SettledParts w d db budget changes last rest parts
+    → ((net : Wave) → NetParts w d net parts → MatchBool memory (Unit {0}) (finished run w d net (progress last rest) ≡ Err failure))
     → MatchBool memory (Unit {0}) (waves_and_after run w d db budget (wave_of changes) ≡ Err failure)
 waves_refused memory run w d db last budget rest changes parts failure h f =
     unless_memory memory (finished run w d (net_wave db.rows last.rows h.waves) (progress last rest) ≡ Err failure)

@@ -1,5 +1,5 @@
 -- What the triggers that fire are lent.
-use Rattle.std.specs.Prelude.{◌≡◌, ℕ, ◌≤◌, true, List, length, Some, slice_get}
+use Rattle.std.specs.Prelude.{◌≡◌, ℕ, ◌≤◌, true, List, length, Option, Some, None, slice_get}
 use Rattle.std.specs.List.{list_all}
 use Rattle.iv_expr.specs.declared.row.Change.{Change}
 use Rattle.iv_expr.specs.Changes.{Wave}
@@ -25,6 +25,11 @@ pub record AreParts (tables : List Table) (parts : List (List Change)) : Type 0 
   pub net : Wave
   pub fit : wave_fits tables net ≡ true
   pub by_table : ByTableAndEvent parts net.changes
+
+-- so, where there are any
+abbrev pub MayBeParts : List Table → Option (List (List Change)) → Type 0
+MayBeParts tables None = Unit {0}
+MayBeParts tables (Some parts) = AreParts tables parts
 
 -- a trigger of the schema, with no more statements than a body may have
 pub record CanFire (tables : List Table) (t : Trigger) : Type 0 where

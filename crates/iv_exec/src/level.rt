@@ -9,11 +9,13 @@ ghost use Rattle.iv_expr.specs.Changes.{Wave as Changes, wave_of};
 ghost use Rattle.iv_machine.specs.BeforeTriggers.{for_each_row, placed_statements};
 ghost use Rattle.iv_machine.specs.Levels.{body_run, firing_run, firings_run, level, nested_level, row_firing, statement_firing, statement_run};
 ghost use Rattle.iv_laws_rows.specs.RowFits.{BodyFits, StatementFits, changes_fit};
-ghost use Rattle.iv_transitions.specs.ByTable.{ByTableAndEvent, after_firings, all_firings};
+ghost use Rattle.iv_transitions.specs.ByTable.{after_firings, all_firings};
 ghost use Rattle.iv_laws_rows.specs.Changing.{AnswersAt, StoreFits, UnlessMemory, database_and_size, with_database};
 ghost use Rattle.iv_waves.specs.Applying.{Proposes};
+ghost use Rattle.iv_waves.specs.Running.{LeavesStore};
 ghost use Rattle.iv_store.specs.Lookups.{LooksUp};
-ghost use Rattle.iv_exec.specs.Firing.{ActionFits, AreParts, AreTransitions, CanFire};
+ghost use Rattle.iv_exec.specs.Firing.{ActionFits, AreParts, AreTransitions, CanFire, MayBeParts};
+ghost use Rattle.iv_exec.specs.Settled.{NetParts};
 ghost use Rattle.iv_exec.specs.Steps.{body_run_where_true, finished, innermost, progress, waves_and_after};
 
 use crate::lent::{are_transitions, row_frame, statement_at, statement_frame, trigger_at};
@@ -45,10 +47,8 @@ fn run_statement<K: ChangeableRows>(
         (statement_run (nested_level deeper context.now)
         (record { trigger = trigger.now; frame = frame.now }) place statement.now
         (progress (K.view store.old).base budget.old)) }
-    ensures kept { K.view store.new ≡ with_database (K.view store.old) (K.view store.new).base }
-    ensures looked_up { UnlessMemory result (LooksUp
-        (K.view store.old) (K.lookups store.old) (K.view store.new) (K.lookups store.new)) }
-    ensures store { OnOk result (StoreFits context.now.schema (K.view store.new)) }
+    ensures store { LeavesStore context.now.schema result
+        (K.view store.old) (K.lookups store.old) (K.view store.new) (K.lookups store.new) }
 {
     match statement {
         BodyStatement::Data(statement) => {
@@ -80,10 +80,8 @@ fn nested<K: ChangeableRows>(
         (K.view store.new).base.count result
         (nested_level deeper context.now trigger statement.now frame.now
         (K.view store.old).base budget.old) }
-    ensures kept { K.view store.new ≡ with_database (K.view store.old) (K.view store.new).base }
-    ensures looked_up { UnlessMemory result (LooksUp
-        (K.view store.old) (K.lookups store.old) (K.view store.new) (K.lookups store.new)) }
-    ensures store { OnOk result (StoreFits context.now.schema (K.view store.new)) }
+    ensures store { LeavesStore context.now.schema result
+        (K.view store.old) (K.lookups store.old) (K.view store.new) (K.lookups store.new) }
 {
     if deeper == 0 {
         return Err(Refusal::of(Cause::DepthLimit(trigger)));
@@ -109,10 +107,8 @@ fn run_body<K: ChangeableRows>(
         (body_run (nested_level deeper context.now)
         (record { trigger = trigger.now; frame = frame.now }) (placed_statements trigger.now)
         (progress (K.view store.old).base budget.old)) }
-    ensures kept { K.view store.new ≡ with_database (K.view store.old) (K.view store.new).base }
-    ensures looked_up { UnlessMemory result (LooksUp
-        (K.view store.old) (K.lookups store.old) (K.view store.new) (K.lookups store.new)) }
-    ensures store { OnOk result (StoreFits context.now.schema (K.view store.new)) }
+    ensures store { LeavesStore context.now.schema result
+        (K.view store.old) (K.lookups store.old) (K.view store.new) (K.lookups store.new) }
 {
     let body = trigger.body.as_slice();
     let mut at = 0usize;
@@ -146,10 +142,8 @@ fn run_where_true<K: ChangeableRows>(
         (body_run_where_true (nested_level deeper context.now)
         (record { trigger = trigger.now; frame = frame.now })
         (progress (K.view store.old).base budget.old)) }
-    ensures kept { K.view store.new ≡ with_database (K.view store.old) (K.view store.new).base }
-    ensures looked_up { UnlessMemory result (LooksUp
-        (K.view store.old) (K.lookups store.old) (K.view store.new) (K.lookups store.new)) }
-    ensures store { OnOk result (StoreFits context.now.schema (K.view store.new)) }
+    ensures store { LeavesStore context.now.schema result
+        (K.view store.old) (K.lookups store.old) (K.view store.new) (K.lookups store.new) }
 {
     match takes_effect(&*store, trigger, &*frame) {
         Ok(true) => run_body(store, &*context, trigger, &*frame, deeper, budget),
@@ -186,10 +180,8 @@ fn fire<K: ChangeableRows>(
         (firing_run (nested_level deeper context.now)
         (record { trigger = trigger.now; frame = frame.now })
         (progress (K.view store.old).base budget.old)) }
-    ensures kept { K.view store.new ≡ with_database (K.view store.old) (K.view store.new).base }
-    ensures looked_up { UnlessMemory result (LooksUp
-        (K.view store.old) (K.lookups store.old) (K.view store.new) (K.lookups store.new)) }
-    ensures store { OnOk result (StoreFits context.now.schema (K.view store.new)) }
+    ensures store { LeavesStore context.now.schema result
+        (K.view store.old) (K.lookups store.old) (K.view store.new) (K.lookups store.new) }
 {
     match run_where_true(store, &*context, trigger, &*frame, deeper, budget) {
         Ok(()) => Ok(()),
@@ -218,10 +210,8 @@ fn fire_rows<K: ChangeableRows>(
         (firings_run (nested_level deeper context.now)
         (map (row_firing trigger.now transitions.now) transitions.now)
         (progress (K.view store.old).base budget.old)) }
-    ensures kept { K.view store.new ≡ with_database (K.view store.old) (K.view store.new).base }
-    ensures looked_up { UnlessMemory result (LooksUp
-        (K.view store.old) (K.lookups store.old) (K.view store.new) (K.lookups store.new)) }
-    ensures store { OnOk result (StoreFits context.now.schema (K.view store.new)) }
+    ensures store { LeavesStore context.now.schema result
+        (K.view store.old) (K.lookups store.old) (K.view store.new) (K.lookups store.new) }
 {
     let mut at = 0usize;
     while at < transitions.len() {
@@ -250,10 +240,8 @@ fn fire_once<K: ChangeableRows>(
         (K.view store.new).base.count result
         (firing_run (nested_level deeper context.now) (statement_firing trigger.now transitions.now)
         (progress (K.view store.old).base budget.old)) }
-    ensures kept { K.view store.new ≡ with_database (K.view store.old) (K.view store.new).base }
-    ensures looked_up { UnlessMemory result (LooksUp
-        (K.view store.old) (K.lookups store.old) (K.view store.new) (K.lookups store.new)) }
-    ensures store { OnOk result (StoreFits context.now.schema (K.view store.new)) }
+    ensures store { LeavesStore context.now.schema result
+        (K.view store.old) (K.lookups store.old) (K.view store.new) (K.lookups store.new) }
 {
     let frame = statement_frame(&*context, trigger, transitions);
     fire(store, &*context, trigger, &frame, deeper, budget)
@@ -278,10 +266,8 @@ fn fire_trigger<K: ChangeableRows>(
         (firings_run (nested_level deeper context.now)
         (after_firings statement.now transitions.now trigger.now)
         (progress (K.view store.old).base budget.old)) }
-    ensures kept { K.view store.new ≡ with_database (K.view store.old) (K.view store.new).base }
-    ensures looked_up { UnlessMemory result (LooksUp
-        (K.view store.old) (K.lookups store.old) (K.view store.new) (K.lookups store.new)) }
-    ensures store { OnOk result (StoreFits context.now.schema (K.view store.new)) }
+    ensures store { LeavesStore context.now.schema result
+        (K.view store.old) (K.lookups store.old) (K.view store.new) (K.lookups store.new) }
 {
     match firings(statement, trigger, &*transitions) {
         Fires::Never => Ok(()),
@@ -316,10 +302,8 @@ fn fire_all<K: ChangeableRows>(
         (firings_run (nested_level deeper context.now)
         (all_firings statement.now transitions.now triggers.now)
         (progress (K.view store.old).base budget.old)) }
-    ensures kept { K.view store.new ≡ with_database (K.view store.old) (K.view store.new).base }
-    ensures looked_up { UnlessMemory result (LooksUp
-        (K.view store.old) (K.lookups store.old) (K.view store.new) (K.lookups store.new)) }
-    ensures store { OnOk result (StoreFits context.now.schema (K.view store.new)) }
+    ensures store { LeavesStore context.now.schema result
+        (K.view store.old) (K.lookups store.old) (K.view store.new) (K.lookups store.new) }
 {
     let mut at = 0usize;
     while at < triggers.len() {
@@ -344,32 +328,33 @@ fn finish<K: ChangeableRows>(
     store: &mut K,
     context: &Context<'_>,
     statement: &DataStatement,
-    transitions: &Transitions,
+    transitions: &Option<Transitions>,
     deeper: u8,
     budget: &mut u64,
 ) -> Result<(), Refusal>
     requires store { StoreFits context.now.schema (K.view store.old) }
-    requires parts { AreParts context.now.schema.tables transitions.now }
-    ensures answer { (net : Changes) → ByTableAndEvent transitions.now net.changes
+    requires parts { MayBeParts context.now.schema.tables transitions.now }
+    ensures answer { (net : Changes) → NetParts context.now statement.now net transitions.now
         → AnswersAt (λ _. progress (K.view store.new).base budget.new)
         (K.view store.new).base.count result
         (finished (nested_level deeper context.now) context.now statement.now net
         (progress (K.view store.old).base budget.old)) }
-    ensures kept { K.view store.new ≡ with_database (K.view store.old) (K.view store.new).base }
-    ensures looked_up { UnlessMemory result (LooksUp
-        (K.view store.old) (K.lookups store.old) (K.view store.new) (K.lookups store.new)) }
-    ensures store { OnOk result (StoreFits context.now.schema (K.view store.new)) }
+    ensures store { LeavesStore context.now.schema result
+        (K.view store.old) (K.lookups store.old) (K.view store.new) (K.lookups store.new) }
 {
     check(&*store, &*context)?;
-    fire_all(
-        store,
-        &*context,
-        statement,
-        context.catalogue().triggers(),
-        &*transitions,
-        deeper,
-        budget,
-    )
+    match transitions {
+        None => Ok(()),
+        Some(transitions) => fire_all(
+            store,
+            &*context,
+            statement,
+            context.catalogue().triggers(),
+            transitions,
+            deeper,
+            budget,
+        ),
+    }
 }
 
 // The waves of a statement from what it proposes on, and what comes after them.
@@ -390,13 +375,11 @@ fn run_waves<K: ChangeableRows>(
         (K.view store.new).base.count result
         (waves_and_after (nested_level deeper context.now) context.now statement.now
         (K.view store.old).base budget.old (wave_of changes.items)) }
-    ensures kept { K.view store.new ≡ with_database (K.view store.old) (K.view store.new).base }
-    ensures looked_up { UnlessMemory result (LooksUp
-        (K.view store.old) (K.lookups store.old) (K.view store.new) (K.lookups store.new)) }
-    ensures store { OnOk result (StoreFits context.now.schema (K.view store.new)) }
+    ensures store { LeavesStore context.now.schema result
+        (K.view store.old) (K.lookups store.old) (K.view store.new) (K.lookups store.new) }
 {
     let size = changes.len() as u64;
-    let transitions = settle_waves(store, &*context, budget, changes)?;
+    let transitions = settle_waves(store, &*context, statement, budget, changes)?;
     finish(store, &*context, statement, &transitions, deeper, budget)?;
     Ok(size)
 }
@@ -417,10 +400,8 @@ fn run_level<K: ChangeableRows>(
         (λ size. record { database = (K.view store.new).base; rest = budget.new; size = size })
         (K.view store.new).base.count result
         (level deeper context.now statement.now frame.now (K.view store.old).base budget.old) }
-    ensures kept { K.view store.new ≡ with_database (K.view store.old) (K.view store.new).base }
-    ensures looked_up { UnlessMemory result (LooksUp
-        (K.view store.old) (K.lookups store.old) (K.view store.new) (K.lookups store.new)) }
-    ensures store { OnOk result (StoreFits context.now.schema (K.view store.new)) }
+    ensures store { LeavesStore context.now.schema result
+        (K.view store.old) (K.lookups store.old) (K.view store.new) (K.lookups store.new) }
 {
     if *budget == 0 {
         return Err(Refusal::of(Cause::TooManyChanges));
@@ -454,7 +435,7 @@ pub fn change<K: ChangeableRows>(
         (K.view store.old) (K.lookups store.old) (K.view store.new) (K.lookups store.new)) }
     ensures store { OnOk result (StoreFits catalogue.now (K.view store.new)) }
 {
-    let context = Context { catalogue, modes };
+    let context = Context::new(catalogue, modes);
     let frame = Frame::none();
     let mut budget = u64::from(limits.changes());
     run_level(

@@ -5,47 +5,25 @@ ghost use Rattle.iv_expr.specs.Scopes.{scope_of};
 ghost use Rattle.iv_laws_levels.specs.FittingWaves.{Chain};
 ghost use Rattle.iv_machine.specs.declared.database.Database.{Database};
 ghost use Rattle.iv_machine.specs.Levels.{immediate_check};
-ghost use Rattle.iv_machine.specs.Proposals.{event_of, holds, table_of};
+ghost use Rattle.iv_machine.specs.Proposals.{holds};
 ghost use Rattle.iv_machine.specs.Waves.{net_wave};
-ghost use Rattle.iv_transitions.specs.ByTable.{ByTableAndEvent};
 ghost use Rattle.iv_laws_rows.specs.RowFits.{StatementFits, changes_fit};
-ghost use Rattle.iv_laws_rows.specs.Changing.{AnswersAt, StoreFits, UnlessMemory, with_database};
+ghost use Rattle.iv_laws_rows.specs.Changing.{AnswersAt, StoreFits};
 ghost use Rattle.iv_waves.specs.Applying.{Proposes};
-ghost use Rattle.iv_store.specs.Lookups.{LooksUp};
-ghost use Rattle.iv_exec.specs.Firing.{AreParts};
-ghost use Rattle.iv_exec.specs.Settled.{Settles};
+ghost use Rattle.iv_waves.specs.Running.{LeavesStore};
+ghost use Rattle.iv_exec.specs.Firing.{MayBeParts};
+ghost use Rattle.iv_exec.specs.Settled.{NetParts, Settles};
 ghost use Rattle.iv_exec.specs.Steps.{allowed_wave};
 
 use iv_catalogue::{Cause, DataStatement, Refusal, Trigger};
-use iv_expr::{Change, Frame, Scope, TableId, Wave};
+use iv_expr::{Change, Frame, Scope, Wave};
 use iv_machine::Which;
 use iv_proposals::proposed;
 use iv_store::ChangeableRows;
-use iv_syntax::TriggerEvent;
-use iv_transitions::{Transitions, transitions, transitions_of};
-use iv_triggers::{Context, before_statement, holds};
+use iv_transitions::{Transitions, may_fire, transitions, transitions_of};
+use iv_triggers::{Context, before_statement, event_of, holds, table_of};
 use iv_waves::settle;
 use std::alloc::{AllocError, Global};
-
-fn table_of(statement: &DataStatement) -> TableId
-    ensures { result ≡ table_of statement.now }
-{
-    match statement {
-        DataStatement::Insert { table, .. } => *table,
-        DataStatement::Update { table, .. } => *table,
-        DataStatement::Delete { table, .. } => *table,
-    }
-}
-
-fn event_of(statement: &DataStatement) -> TriggerEvent
-    ensures { result ≡ event_of statement.now }
-{
-    match statement {
-        DataStatement::Insert { .. } => TriggerEvent::Insert,
-        DataStatement::Update { .. } => TriggerEvent::Update,
-        DataStatement::Delete { .. } => TriggerEvent::Delete,
-    }
-}
 
 /// What a statement proposes, unless a BEFORE statement trigger refuses it.
 pub fn allowed<'x, K: ChangeableRows>(
@@ -85,36 +63,44 @@ pub fn check<K: ChangeableRows>(store: &K, context: &Context<'_>) -> Result<(), 
     }
 }
 
-// The net changes of the waves, by table and event.
-fn net_changes(alloc: Global, waves: &[Wave]) -> Result<Transitions, AllocError>
+// The net changes of the waves by table and event; none where no trigger may fire on them.
+fn net_changes(
+    alloc: Global,
+    context: &Context<'_>,
+    statement: &DataStatement,
+    waves: &[Wave],
+) -> Result<Option<Transitions>, AllocError>
     ensures { IfOk result (λ parts. (db last : Database) → Chain db waves.now last
-        → ByTableAndEvent parts (net_wave db.rows last.rows waves.now).changes) }
+        → NetParts context.now statement.now (net_wave db.rows last.rows waves.now) parts) }
 {
+    if !may_fire(context, statement, waves) {
+        return Ok(None);
+    }
     let net = transitions(alloc, waves)?;
-    transitions_of(alloc, &net)
+    let parts = transitions_of(alloc, &net)?;
+    Ok(Some(parts))
 }
 
 /// Applies the changes that a statement proposes and what follows from them, and answers their net changes by
-/// table and event.
+/// table and event. Where no trigger may fire on these, none are made.
 pub fn settle_waves<K: ChangeableRows>(
     store: &mut K,
     context: &Context<'_>,
+    statement: &DataStatement,
     budget: &mut u64,
     changes: Vec<Change>,
-) -> Result<Transitions, Refusal>
+) -> Result<Option<Transitions>, Refusal>
     requires store { StoreFits context.now.schema (K.view store.old) }
     requires fit { changes_fit context.now.schema.tables changes.items ≡ true }
     requires proposed { Proposes context.now (K.view store.old).base changes.items }
-    ensures answer { Settles context.now (K.view store.old).base budget.old changes.items
-        (K.view store.new).base budget.new result }
-    ensures parts { IfOk result (λ parts. AreParts context.now.schema.tables parts) }
-    ensures kept { K.view store.new ≡ with_database (K.view store.old) (K.view store.new).base }
-    ensures looked_up { UnlessMemory result (LooksUp
-        (K.view store.old) (K.lookups store.old) (K.view store.new) (K.lookups store.new)) }
-    ensures store { OnOk result (StoreFits context.now.schema (K.view store.new)) }
+    ensures answer { Settles context.now statement.now (K.view store.old).base budget.old
+        changes.items (K.view store.new).base budget.new result }
+    ensures parts { IfOk result (λ parts. MayBeParts context.now.schema.tables parts) }
+    ensures store { LeavesStore context.now.schema result
+        (K.view store.old) (K.lookups store.old) (K.view store.new) (K.lookups store.new) }
 {
     let waves = settle(store, context, budget, changes)?;
-    Ok(net_changes(store.allocator(), waves.as_slice())?)
+    Ok(net_changes(store.allocator(), context, statement, waves.as_slice())?)
 }
 
 /// Whether the WHEN of a trigger takes effect.

@@ -8,6 +8,7 @@ mod operators;
 mod row;
 mod scope;
 mod tree;
+mod two_trees;
 mod wave;
 mod worked;
 
@@ -17,5 +18,6 @@ pub use number::{Id, OfTable, TableId};
 pub use row::{Change, Row, StoredRow};
 pub use scope::{Frame, Ranges, Rows, Scope};
 pub use tree::{Comparison, Cond, Expr, ExprFault, Range, Side};
+pub use two_trees::boxes;
 pub use wave::Wave;
 pub use worked::worked_values;

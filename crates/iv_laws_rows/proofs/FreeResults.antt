@@ -1,5 +1,5 @@
 -- Results that are without a fault of types, one step after another.
-use Rattle.std.proofs.Common.{◌≡◌, ℕ, true, false, List, [], ◌∷◌, Some, is_none, Result, Ok, Err, if◌then◌else◌, refl, subst, inl, inr}
+use Rattle.std.proofs.Common.{◌≡◌, ℕ, true, false, List, Result, Ok, Err, refl}
 use Rattle.iv_expr.specs.Evaluation.{and_then}
 use Rattle.iv_laws_rows.specs.Words.{Cause, Refusal, Database}
 use Rattle.iv_laws_rows.specs.Words.cause.{NumberOutOfRange, TextTooLong}
@@ -9,11 +9,11 @@ use Rattle.iv_laws_fitting.specs.Running.{is_of_values}
 use Rattle.iv_laws_fitting.proofs.Running.{Plain}
 use Rattle.iv_laws_levels.proofs.Members.{In}
 use Rattle.iv_laws_rows.specs.WellTyped.{is_ill_typed}
+use Rattle.iv_laws_rows.proofs.Without.{Without, counted_without, each_without, in_turn_without, inside_without, over_without, running_without, then_without, unless_without, without_refused}
 
 -- an answer, or a refusal for another cause
 abbrev pub FreeBy : {A E : Type 0} → (E → Cause) → Result A E → Type 0
-FreeBy cause (Ok a) = Unit {0}
-FreeBy cause (Err e) = is_ill_typed (cause e) ≡ false
+FreeBy cause r = Without (λ e. is_ill_typed (cause e)) r
 
 abbrev pub FreeCause : {A : Type 0} → Result A Cause → Type 0
 FreeCause r = FreeBy (λ c. c) r
@@ -27,23 +27,16 @@ FreeFailure r = FreeBy (λ x. x.cause) r
 -- ---- steps
 
 pub then_free : {A B E : Type 0} (cause : E → Cause) (r : Result A E) (f : A → Result B E) → FreeBy cause r → ((a : A) → r ≡ Ok a → FreeBy cause (f a)) → FreeBy cause (and_then r f)
-then_free cause (Ok a) f p q = q a refl
-then_free cause (Err e) f p q = p
+then_free cause = then_without (λ e. is_ill_typed (cause e))
 
 pub each_free : {A B E : Type 0} (cause : E → Cause) (f : A → Result B E) (xs : List A) → ((x : A) → In x xs → FreeBy cause (f x)) → FreeBy cause (each f xs)
-each_free cause f [] h = tt
-each_free cause f (x ∷ xs) h =
-    then_free cause (f x) (λ y. and_then (each f xs) (λ ys. Ok (y ∷ ys))) (h x (inl refl))
-    (λ y e. then_free cause (each f xs) (λ ys. Ok (y ∷ ys)) (each_free cause f xs (λ z i. h z (inr i))) (λ ys g. tt))
+each_free cause = each_without (λ e. is_ill_typed (cause e))
 
 -- one after another, where each keeps what the next asks
 pub in_turn_free : {A B E : Type 0} (cause : E → Cause) (P : B → Type 0) (f : A → B → Result B E) (xs : List A)
     → ((x : A) → In x xs → (b : B) → P b → FreeBy cause (f x b)) → ((x : A) → In x xs → (b after : B) → P b → f x b ≡ Ok after → P after)
     → (b : B) → P b → FreeBy cause (in_turn f xs b)
-in_turn_free cause P f [] h keeps b p = tt
-in_turn_free cause P f (x ∷ xs) h keeps b p =
-    then_free cause (f x b) (in_turn f xs) (h x (inl refl) b p)
-    (λ after e. in_turn_free cause P f xs (λ y i. h y (inr i)) (λ y i. keeps y (inr i)) after (keeps x (inl refl) b after p e))
+in_turn_free cause = in_turn_without (λ e. is_ill_typed (cause e))
 
 -- ---- from one kind of refusal to another
 
@@ -57,27 +50,21 @@ plain_free (Ok a) h = tt
 plain_free (Err c) h = of_values c h
 
 pub running_free : {A : Type 0} (trigger : ℕ) (r : Result A Cause) → FreeCause r → FreeRefusal (while_running trigger r)
-running_free trigger (Ok a) h = tt
-running_free trigger (Err c) h = h
+running_free = running_without is_ill_typed
 
 pub counted_free : {A : Type 0} (db : Database) (r : Result A Refusal) → FreeRefusal r → FreeFailure (with_count db r)
-counted_free db (Ok a) h = tt
-counted_free db (Err c) h = h
+counted_free = counted_without is_ill_typed
 
 pub over_free : {A : Type 0} (db : Database) (r : Result A Cause) → FreeCause r → FreeFailure (over db r)
-over_free db (Ok a) h = tt
-over_free db (Err c) h = h
+over_free = over_without is_ill_typed
 
 pub inside_free : {A : Type 0} (trigger : ℕ) (r : Result A Failure) → FreeFailure r → FreeFailure (inside_trigger trigger r)
-inside_free trigger (Ok a) h = tt
-inside_free trigger (Err f) h =
-    elim (is_none f.trigger) as (λ b. is_ill_typed (if b then record f { trigger = Some trigger } else f).cause ≡ false) [ true ↦ h | false ↦ h ]
+inside_free = inside_without is_ill_typed
 
 pub unless_free : {A : Type 0} (db : Database) (cause : Fault → Cause) (faults : List Fault) (r : Result A Failure)
     → ((f : Fault) → is_ill_typed (cause f) ≡ false) → FreeFailure r → FreeFailure (unless_first db cause faults r)
-unless_free db cause [] r h p = p
-unless_free db cause (f ∷ faults) r h p = h f
+unless_free = unless_without is_ill_typed
 
 -- a refusal of what is free is for another cause
 pub free_refused : {A E : Type 0} (cause : E → Cause) (r : Result A E) (e : E) → FreeBy cause r → r ≡ Err e → is_ill_typed (cause e) ≡ false
-free_refused cause r e h is = subst (FreeBy cause) is h
+free_refused cause = without_refused (λ e. is_ill_typed (cause e))

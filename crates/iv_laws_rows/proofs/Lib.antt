@@ -5,6 +5,7 @@ pub mod FittingProposals
 pub mod FittingValues
 pub mod FollowingRows
 pub mod FreeLevels
+pub mod Without
 pub mod FreeResults
 pub mod FreeTriggers
 pub mod MadeChanges

@@ -4,22 +4,10 @@ ghost use Rattle.iv_syntax.specs.Trees.{group, signed, product, sum, enclosed, n
 ghost use Rattle.iv_parse_terms.specs.readers.Conditions.{connection, exists_over};
 
 use crate::item::Connective;
+use iv_expr::boxes;
 use iv_syntax::{Condition, Expression, RangeName, Sign};
 use sqlite_items::Boxed;
 use std::alloc::{AllocError, Global};
-
-// Both in boxes.
-fn boxes<T: Drop>(alloc: Global, a: T, b: T) -> Result<(Boxed<T>, Boxed<T>), AllocError>
-    ensures { IfOk result (λ p. (p.0 ≡ a) × (p.1 ≡ b)) }
-{
-    match Boxed::new(alloc, a) {
-        Ok(a) => Ok((a, Boxed::new(alloc, b)?)),
-        Err(refused) => {
-            drop(b);
-            Err(refused)
-        }
-    }
-}
 
 /// The expression in parentheses.
 #[tactic(auto, using(iv_syntax::proofs::TreeShapes::group_is))]

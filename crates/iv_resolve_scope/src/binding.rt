@@ -8,7 +8,7 @@ ghost use Rattle.iv_resolve_scope.specs.Seen.{found_seen, names_seen, ranges_see
 use crate::names::{Names, inside, source_range};
 use crate::ranges::{Found, Ranges, column_meant};
 use iv_catalogue::MOST_TABLES;
-use iv_expr::{Cond, Expr, Range};
+use iv_expr::{Cond, Expr, Range, boxes};
 use iv_resolution::Origin;
 use iv_syntax::{Condition, Expression, GREATEST_INTEGER, Sign};
 use iv_value::Value;
@@ -35,21 +35,8 @@ fn bound_column(found: Option<Found>) -> Expr
     }
 }
 
-// Both in boxes. Here and below a generic function owns what falls where memory is refused, so that it is dropped by a call: the drop of a
-// tree by value is written out for each variant, and takes long to prove.
-fn boxes<T: Drop>(alloc: Global, a: T, b: T) -> Result<(Boxed<T>, Boxed<T>), AllocError>
-    ensures { IfOk result (λ p. (p.0 ≡ a) × (p.1 ≡ b)) }
-{
-    match Boxed::new(alloc, a) {
-        Ok(a) => Ok((a, Boxed::new(alloc, b)?)),
-        Err(refused) => {
-            drop(b);
-            Err(refused)
-        }
-    }
-}
-
-// Both, where the second is there.
+// Both, where the second is there. Here and below a generic function owns what falls where memory is refused, so that it is dropped by a
+// call, as in `boxes` of `iv_expr`.
 fn pair<T: Drop>(a: T, b: Result<T, AllocError>) -> Result<(T, T), AllocError>
     ensures { IfOk result (λ p. (p.0 ≡ a) × (b ≡ Ok p.1)) }
 {

@@ -3,3 +3,4 @@ pub mod Chained
 pub mod Nets
 pub mod Merges
 pub mod FiringsByTable
+pub mod NoneFires

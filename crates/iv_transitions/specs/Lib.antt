@@ -1,3 +1,4 @@
 pub mod Merging
 pub mod ByTable
 pub mod Laws
+pub mod MayFire

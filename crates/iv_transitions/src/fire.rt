@@ -6,9 +6,9 @@ ghost use Rattle.iv_transitions.specs.ByTable.{FiresOn, expanded, after_firings}
 
 use crate::by_table::Transitions;
 use iv_catalogue::{DataStatement, Trigger};
-use iv_expr::{Change, TableId};
-use iv_syntax::{ActionTime, Granularity, TriggerEvent};
-use iv_triggers::is_on;
+use iv_expr::Change;
+use iv_syntax::{ActionTime, Granularity};
+use iv_triggers::{event_of, is_on, table_of};
 
 /// How a trigger fires: not at all, once, or for each of the transitions of its table and event.
 #[derive(Clone, Copy)]
@@ -39,11 +39,7 @@ fn for_each_row(trigger: &Trigger) -> bool
 fn is_of_statement(statement: &DataStatement, trigger: &Trigger) -> bool
     ensures { result ≡ is_on (table_of statement.now) (event_of statement.now) trigger.now }
 {
-    match statement {
-        DataStatement::Insert { table, .. } => is_on(*table, TriggerEvent::Insert, trigger),
-        DataStatement::Update { table, .. } => is_on(*table, TriggerEvent::Update, trigger),
-        DataStatement::Delete { table, .. } => is_on(*table, TriggerEvent::Delete, trigger),
-    }
+    is_on(table_of(statement), event_of(statement), trigger)
 }
 
 /// How a trigger fires after a data statement, and on which transitions. They are lent, and nothing is

@@ -3,10 +3,12 @@
 
 mod by_table;
 mod fire;
+mod firing_at_all;
 mod laws;
 mod net;
 
 pub use by_table::{Transitions, transitions_of};
 pub use fire::{Fires, firings};
+pub use firing_at_all::may_fire;
 pub use laws::firings_are_the_machines;
 pub use net::transitions;

@@ -245,7 +245,9 @@ fn run_all<R: Rows>(
 }
 
 /// The changes of a wave after its BEFORE row triggers, by their creation. They see the tables with these
-/// rows, as they are before the wave. Where they refuse it, nothing is said of the changes.
+/// rows, as they are before the wave. Where they refuse it, nothing is said of the changes. Where no table of the
+/// changes has a trigger, it takes one look at each change.
+#[tactic(auto, using(crate::proofs::Untriggered::rows_untouched))]
 pub fn before_rows<R: Rows>(
     alloc: Global,
     context: &Context<'_>,
@@ -257,6 +259,9 @@ pub fn before_rows<R: Rows>(
         (changes_after_triggers context.now (R.rows rows.now)
         (filter is_before_row context.now.schema.triggers) changes.entry.now) }
 {
+    if !context.has_trigger_on(&*changes) {
+        return Ok(());
+    }
     run_all(
         alloc,
         context,
@@ -354,7 +359,9 @@ fn run_statement_triggers<R: Rows>(
     }
 }
 
-/// The BEFORE statement triggers of a table and event, by creation. They take no memory.
+/// The BEFORE statement triggers of a table and event, by creation. They take no memory. Where the table has no
+/// trigger, that takes constant time.
+#[tactic(auto, using(crate::proofs::Untriggered::none_before_statement))]
 pub fn before_statement<R: Rows>(
     context: &Context<'_>,
     rows: &R,
@@ -363,5 +370,8 @@ pub fn before_statement<R: Rows>(
 ) -> Result<(), Refusal>
     ensures { result ≡ before_statement context.now (R.rows rows.now) table event }
 {
+    if !context.has_trigger(table) {
+        return Ok(());
+    }
     run_statement_triggers(rows, context.catalogue().triggers(), table, event)
 }

@@ -4,9 +4,10 @@
 mod before;
 mod context;
 mod matching;
+mod triggered;
 mod values;
 
 pub use before::{before_rows, before_statement};
 pub use context::Context;
-pub use matching::{event_of_change, is_on};
+pub use matching::{event_of, event_of_change, is_on, table_of};
 pub use values::{holds, stored_copy, stored_value};

@@ -1,10 +1,33 @@
 //! Which triggers are on a table, an event and a granularity ("Trigger definition").
 ghost use Rattle.std.specs.Prelude.{◌≡◌};
 ghost use Rattle.iv_machine.specs.BeforeTriggers.{event_of_change, is_before_row, is_before_statement, is_on, same_event};
+ghost use Rattle.iv_machine.specs.Proposals.{event_of, table_of};
 
-use iv_catalogue::Trigger;
+use iv_catalogue::{DataStatement, Trigger};
 use iv_expr::{Change, TableId};
 use iv_syntax::{ActionTime, Granularity, TriggerEvent};
+
+/// The table that a data statement is about.
+pub fn table_of(statement: &DataStatement) -> TableId
+    ensures { result ≡ table_of statement.now }
+{
+    match statement {
+        DataStatement::Insert { table, .. } => *table,
+        DataStatement::Update { table, .. } => *table,
+        DataStatement::Delete { table, .. } => *table,
+    }
+}
+
+/// The event that a data statement is.
+pub fn event_of(statement: &DataStatement) -> TriggerEvent
+    ensures { result ≡ event_of statement.now }
+{
+    match statement {
+        DataStatement::Insert { .. } => TriggerEvent::Insert,
+        DataStatement::Update { .. } => TriggerEvent::Update,
+        DataStatement::Delete { .. } => TriggerEvent::Delete,
+    }
+}
 
 /// The event that a change is.
 pub fn event_of_change(change: &Change) -> TriggerEvent

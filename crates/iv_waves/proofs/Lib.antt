@@ -5,3 +5,4 @@ pub mod Looking
 pub mod ToldOn
 pub mod Rows
 pub mod Rounds
+pub mod Running

@@ -1,3 +1,4 @@
 pub mod Applying
 pub mod Progress
+pub mod Running
 pub mod Steps

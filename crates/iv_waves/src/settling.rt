@@ -5,11 +5,11 @@ ghost use Rattle.iv_laws_levels.specs.FittingWaves.{Chain};
 ghost use Rattle.iv_machine.specs.Databases.{database_after};
 ghost use Rattle.iv_machine.specs.Waves.{one_wave, settled_waves};
 ghost use Rattle.iv_laws_rows.specs.RowFits.{changes_fit};
-ghost use Rattle.iv_laws_rows.specs.Changing.{AnswersAt, StoreFits, UnlessMemory, with_database};
+ghost use Rattle.iv_laws_rows.specs.Changing.{AnswersAt, StoreFits};
 ghost use Rattle.iv_waves.specs.Applying.{Applicable, Proposes};
 ghost use Rattle.iv_waves.specs.Progress.{Progress};
+ghost use Rattle.iv_waves.specs.Running.{LeavesStore};
 ghost use Rattle.iv_waves.specs.Steps.{followed_by};
-ghost use Rattle.iv_store.specs.Lookups.{LooksUp};
 
 use crate::applying::apply_all;
 use crate::entering::enter;
@@ -41,10 +41,8 @@ fn follow<K: ChangeableRows>(
         (followed_by context.now (K.view store.old).base wave) }
     ensures applied { IfOk result (λ x. (K.view store.new).base
         ≡ database_after (K.view store.old).base x.wave) }
-    ensures kept { K.view store.new ≡ with_database (K.view store.old) (K.view store.new).base }
-    ensures looked_up { UnlessMemory result
-        (LooksUp (K.view store.old) (K.lookups store.old)
-        (K.view store.new) (K.lookups store.new)) }
+    ensures store { LeavesStore context.now.schema result
+        (K.view store.old) (K.lookups store.old) (K.view store.new) (K.lookups store.new) }
 {
     apply_all(store, wave.changes())?;
     let next = next_wave(store, context.catalogue(), &wave)?;
@@ -64,10 +62,8 @@ fn one_wave<K: ChangeableRows>(
         (one_wave context.now (K.view store.old).base budget (wave_of changes.items)) }
     ensures applied { IfOk result (λ x. (K.view store.new).base
         ≡ database_after (K.view store.old).base x.wave) }
-    ensures kept { K.view store.new ≡ with_database (K.view store.old) (K.view store.new).base }
-    ensures looked_up { UnlessMemory result
-        (LooksUp (K.view store.old) (K.lookups store.old)
-        (K.view store.new) (K.lookups store.new)) }
+    ensures store { LeavesStore context.now.schema result
+        (K.view store.old) (K.lookups store.old) (K.view store.new) (K.lookups store.new) }
 {
     let wave = enter(&*store, context, budget, changes)?;
     follow(store, context, wave)
@@ -99,13 +95,10 @@ pub fn settle<K: ChangeableRows>(
     })
         (K.view store.new).base.count result
         (settled_waves context.now (K.view store.old).base budget.old (wave_of changes.items)) }
-    ensures kept { K.view store.new ≡ with_database (K.view store.old) (K.view store.new).base }
-    ensures store { OnOk result (StoreFits context.now.schema (K.view store.new)) }
     ensures chain { IfOk result
         (λ waves. Chain (K.view store.old).base waves.items (K.view store.new).base) }
-    ensures looked_up { UnlessMemory result
-        (LooksUp (K.view store.old) (K.lookups store.old)
-        (K.view store.new) (K.lookups store.new)) }
+    ensures store { LeavesStore context.now.schema result
+        (K.view store.old) (K.lookups store.old) (K.view store.new) (K.lookups store.new) }
 {
     // Called for what its contract says: the rows are numbered in rising order.
     store.next_row();

@@ -1,19 +1,25 @@
-use Rattle.std.proofs.Common.{ℕ, refl, ap, sym, ◌∙◌, arith}
+use Rattle.std.proofs.Common.{ℕ, refl, ap, sym, subst, ◌∙◌, arith}
 use Rattle.iv_machine.specs.Levels.{Firing, nested_level}
+use Rattle.iv_exec.specs.Settled.{NetParts}
 use Rattle.iv_exec.specs.Steps.{progress}
-use Rattle.iv_waves.proofs.ToldOn.{told_on, told_unless}
-use Rattle.iv_waves.proofs.Looking.{kept_both, looked_up_both, looked_refused}
+use Rattle.iv_waves.proofs.Running.{left_by_both, left_by_refused}
+use Rattle.iv_waves.proofs.ToldOn.{told_on}
 use Rattle.iv_exec.proofs.Refusing.{answers_as}
-use Rattle.iv_exec.proofs.Levels.{finished_is, level_done, nested_opens, waves_done, waves_refused}
+use Rattle.iv_exec.proofs.Levels.{finished_is, finished_quietly, level_done, nested_opens, waves_done, waves_refused}
 use Rattle.iv_exec.proofs.Turns.{rows_refused, rows_so_far, statements_refused, statements_so_far, triggers_refused, triggers_so_far}
 use Rattle.iv_exec.proofs.level.+level.Goals as goal
 
-pub finish-returns-clause-answer : goal.finish-returns-clause-answer
-finish-returns-clause-answer g t c net h =
+pub finish-returns-in-Some-clause-answer : goal.finish-returns-in-Some-clause-answer
+finish-returns-in-Some-clause-answer g t c net h =
     let later = g.K.ReferencingRows.view c.fire_all.new.store in
     answers_as (λ (u : Unit {0}). progress later.base c.fire_all.new.budget) later.base.count c.fire_all.result _ _
-    (sym (finished_is (nested_level c.args.deeper c.args.context.now) c.args.context.now c.args.statement.now c.args.transitions.now net c.triggers.result.now
-    (progress (g.K.ReferencingRows.view c.args.store.now).base c.args.budget.now) _ c.in_ok-check.ensures h (c.triggers.ensures.triggers ∙ ap (λ s. s.triggers) c.catalogue.ensures) refl)) c.fire_all.ensures.answer
+    (sym (finished_is (nested_level c.args.deeper c.args.context.now) c.args.context.now c.args.statement.now c.in-Some.transitions net c.triggers.result.now
+    (progress (g.K.ReferencingRows.view c.args.store.now).base c.args.budget.now) _ c.in_ok-check.ensures (subst (λ x. NetParts c.args.context.now c.args.statement.now net x) c.in-Some.is h) (c.triggers.ensures.triggers ∙ ap (λ s. s.triggers) c.catalogue.ensures) refl)) c.fire_all.ensures.answer
+
+pub finish-returns-in-None-clause-answer : goal.finish-returns-in-None-clause-answer
+finish-returns-in-None-clause-answer g t c net h =
+    finished_quietly (nested_level c.args.deeper c.args.context.now) c.args.context.now c.args.statement.now net
+    (progress (g.K.ReferencingRows.view c.args.store.now).base c.args.budget.now) c.in_ok-check.ensures (subst (λ x. NetParts c.args.context.now c.args.statement.now net x) c.in-None.is h)
 
 pub fire_all-returns-in_err-fire_trigger-clause-answer : goal.fire_all-returns-in_err-fire_trigger-clause-answer
 fire_all-returns-in_err-fire_trigger-clause-answer g t c =
@@ -21,11 +27,11 @@ fire_all-returns-in_err-fire_trigger-clause-answer g t c =
     (triggers_refused _ (nested_level c.args.deeper c.args.context.now) c.args.statement.now c.args.transitions.now c.args.triggers.now c.loop-at.at c.trigger_at-trigger.result.now
     (progress (g.K.ReferencingRows.view c.loop-at.store).base c.loop-at.budget) _ _ c.trigger_at-trigger.ensures.trigger c.loop-at.invariant.so_far c.in_err-fire_trigger.ensures.answer)
 
-pub fire_all-returns-in_err-fire_trigger-clause-looked_up : goal.fire_all-returns-in_err-fire_trigger-clause-looked_up
-fire_all-returns-in_err-fire_trigger-clause-looked_up g t c =
-    told_unless c.from_residual.result c.in_err-fire_trigger.field-0.0 _ c.from_residual.ensures.1
-    (looked_refused _ (g.K.ReferencingRows.view c.args.store.now) (g.K.ReferencingRows.view c.loop-at.store) (g.K.ReferencingRows.view c.fire_trigger.new.store) (g.K.ReferencingRows.lookups c.args.store.now) (g.K.ReferencingRows.lookups c.loop-at.store)
-    (g.K.ReferencingRows.lookups c.fire_trigger.new.store) c.loop-at.invariant.kept c.loop-at.invariant.looked_up c.in_err-fire_trigger.ensures.looked_up)
+pub fire_all-returns-in_err-fire_trigger-clause-store : goal.fire_all-returns-in_err-fire_trigger-clause-store
+fire_all-returns-in_err-fire_trigger-clause-store g t c =
+    left_by_refused _ tt c.from_residual.result c.in_err-fire_trigger.field-0.0 (g.K.ReferencingRows.view c.args.store.now) (g.K.ReferencingRows.view c.loop-at.store) (g.K.ReferencingRows.view c.fire_trigger.new.store)
+    (g.K.ReferencingRows.lookups c.args.store.now) (g.K.ReferencingRows.lookups c.loop-at.store) (g.K.ReferencingRows.lookups c.fire_trigger.new.store) c.from_residual.ensures.1
+    c.loop-at.invariant.left c.in_err-fire_trigger.ensures.store
 
 pub fire_all-loop-at-preserved : goal.fire_all-loop-at-preserved
 fire_all-loop-at-preserved g t c =
@@ -36,10 +42,8 @@ fire_all-loop-at-preserved g t c =
       within = omega arith;
       so_far = triggers_so_far (nested_level c.args.deeper c.args.context.now) c.args.statement.now c.args.transitions.now c.args.triggers.now c.loop-at.at c.trigger_at-trigger.result.now
           (progress now.base c.loop-at.budget) _ _ c.trigger_at-trigger.ensures.trigger c.in_ok-fire_trigger.ensures.answer c.loop-at.invariant.so_far;
-      kept = kept_both old now later c.loop-at.invariant.kept c.in_ok-fire_trigger.ensures.kept;
-      looked_up = looked_up_both old now later (g.K.ReferencingRows.lookups c.args.store.now) (g.K.ReferencingRows.lookups c.loop-at.store) (g.K.ReferencingRows.lookups c.fire_trigger.new.store)
-          c.loop-at.invariant.kept c.loop-at.invariant.looked_up c.in_ok-fire_trigger.ensures.looked_up;
-      fits = c.in_ok-fire_trigger.ensures.store;
+      left = left_by_both _ tt tt tt old now later (g.K.ReferencingRows.lookups c.args.store.now) (g.K.ReferencingRows.lookups c.loop-at.store) (g.K.ReferencingRows.lookups c.fire_trigger.new.store)
+          c.loop-at.invariant.left c.in_ok-fire_trigger.ensures.store;
     }
 
 pub fire_rows-returns-in_err-fire-clause-answer : goal.fire_rows-returns-in_err-fire-clause-answer
@@ -48,11 +52,11 @@ fire_rows-returns-in_err-fire-clause-answer g t c =
     (rows_refused _ (nested_level c.args.deeper c.args.context.now) c.args.trigger.now c.args.transitions.now c.loop-at.at c.row_frame-frame.result
     (progress (g.K.ReferencingRows.view c.loop-at.store).base c.loop-at.budget) _ _ c.row_frame-frame.ensures.firing c.loop-at.invariant.so_far c.in_err-fire.ensures.answer)
 
-pub fire_rows-returns-in_err-fire-clause-looked_up : goal.fire_rows-returns-in_err-fire-clause-looked_up
-fire_rows-returns-in_err-fire-clause-looked_up g t c =
-    told_unless c.from_residual.result c.in_err-fire.field-0.0 _ c.from_residual.ensures.1
-    (looked_refused _ (g.K.ReferencingRows.view c.args.store.now) (g.K.ReferencingRows.view c.loop-at.store) (g.K.ReferencingRows.view c.fire.new.store) (g.K.ReferencingRows.lookups c.args.store.now) (g.K.ReferencingRows.lookups c.loop-at.store)
-    (g.K.ReferencingRows.lookups c.fire.new.store) c.loop-at.invariant.kept c.loop-at.invariant.looked_up c.in_err-fire.ensures.looked_up)
+pub fire_rows-returns-in_err-fire-clause-store : goal.fire_rows-returns-in_err-fire-clause-store
+fire_rows-returns-in_err-fire-clause-store g t c =
+    left_by_refused _ tt c.from_residual.result c.in_err-fire.field-0.0 (g.K.ReferencingRows.view c.args.store.now) (g.K.ReferencingRows.view c.loop-at.store) (g.K.ReferencingRows.view c.fire.new.store)
+    (g.K.ReferencingRows.lookups c.args.store.now) (g.K.ReferencingRows.lookups c.loop-at.store) (g.K.ReferencingRows.lookups c.fire.new.store) c.from_residual.ensures.1
+    c.loop-at.invariant.left c.in_err-fire.ensures.store
 
 pub fire_rows-loop-at-preserved : goal.fire_rows-loop-at-preserved
 fire_rows-loop-at-preserved g t c =
@@ -63,10 +67,8 @@ fire_rows-loop-at-preserved g t c =
       within = omega arith;
       so_far = rows_so_far (nested_level c.args.deeper c.args.context.now) c.args.trigger.now c.args.transitions.now c.loop-at.at c.row_frame-frame.result
           (progress now.base c.loop-at.budget) _ _ c.row_frame-frame.ensures.firing c.in_ok-fire.ensures.answer c.loop-at.invariant.so_far;
-      kept = kept_both old now later c.loop-at.invariant.kept c.in_ok-fire.ensures.kept;
-      looked_up = looked_up_both old now later (g.K.ReferencingRows.lookups c.args.store.now) (g.K.ReferencingRows.lookups c.loop-at.store) (g.K.ReferencingRows.lookups c.fire.new.store)
-          c.loop-at.invariant.kept c.loop-at.invariant.looked_up c.in_ok-fire.ensures.looked_up;
-      fits = c.in_ok-fire.ensures.store;
+      left = left_by_both _ tt tt tt old now later (g.K.ReferencingRows.lookups c.args.store.now) (g.K.ReferencingRows.lookups c.loop-at.store) (g.K.ReferencingRows.lookups c.fire.new.store)
+          c.loop-at.invariant.left c.in_ok-fire.ensures.store;
     }
 
 pub nested-returns-clause-answer : goal.nested-returns-clause-answer
@@ -75,11 +77,11 @@ nested-returns-clause-answer g t c =
     answers_as (λ (n : ℕ). record { database = later.base; rest = c.run_level.new.budget; size = n }) later.base.count c.run_level.result _ _
     (sym (nested_opens c.args.deeper c.args.context.now c.args.trigger c.args.statement.now c.args.frame.now (g.K.ReferencingRows.view c.args.store.now).base c.args.budget.now c.if-deeper-eq0.false)) c.run_level.ensures.answer
 
-pub run_body-returns-in_err-run_statement-clause-looked_up : goal.run_body-returns-in_err-run_statement-clause-looked_up
-run_body-returns-in_err-run_statement-clause-looked_up g t c =
-    told_unless c.from_residual.result c.in_err-run_statement.field-0.0 _ c.from_residual.ensures.1
-    (looked_refused _ (g.K.ReferencingRows.view c.args.store.now) (g.K.ReferencingRows.view c.loop-at.store) (g.K.ReferencingRows.view c.run_statement.new.store) (g.K.ReferencingRows.lookups c.args.store.now) (g.K.ReferencingRows.lookups c.loop-at.store)
-    (g.K.ReferencingRows.lookups c.run_statement.new.store) c.loop-at.invariant.kept c.loop-at.invariant.looked_up c.in_err-run_statement.ensures.looked_up)
+pub run_body-returns-in_err-run_statement-clause-store : goal.run_body-returns-in_err-run_statement-clause-store
+run_body-returns-in_err-run_statement-clause-store g t c =
+    left_by_refused _ tt c.from_residual.result c.in_err-run_statement.field-0.0 (g.K.ReferencingRows.view c.args.store.now) (g.K.ReferencingRows.view c.loop-at.store) (g.K.ReferencingRows.view c.run_statement.new.store)
+    (g.K.ReferencingRows.lookups c.args.store.now) (g.K.ReferencingRows.lookups c.loop-at.store) (g.K.ReferencingRows.lookups c.run_statement.new.store) c.from_residual.ensures.1
+    c.loop-at.invariant.left c.in_err-run_statement.ensures.store
 
 pub run_level-returns-clause-answer : goal.run_level-returns-clause-answer
 run_level-returns-clause-answer g t c =
@@ -98,11 +100,17 @@ run_waves-returns-in_err-finish-clause-answer g t c =
     (waves_refused _ (nested_level c.args.deeper c.args.context.now) c.args.context.now c.args.statement.now (g.K.ReferencingRows.view c.args.store.now).base (g.K.ReferencingRows.view c.settle_waves.new.store).base
     c.args.budget.now c.settle_waves.new.budget c.args.changes.items c.in_ok-transitions.transitions _ c.in_ok-transitions.ensures.answer c.in_err-finish.ensures.answer)
 
-pub run_waves-returns-in_err-finish-clause-looked_up : goal.run_waves-returns-in_err-finish-clause-looked_up
-run_waves-returns-in_err-finish-clause-looked_up g t c =
-    told_unless c.from_residual-in_err-finish.result c.in_err-finish.field-0.0 _ c.from_residual-in_err-finish.ensures.1
-    (looked_refused _ (g.K.ReferencingRows.view c.args.store.now) (g.K.ReferencingRows.view c.settle_waves.new.store) (g.K.ReferencingRows.view c.finish.new.store) (g.K.ReferencingRows.lookups c.args.store.now) (g.K.ReferencingRows.lookups c.settle_waves.new.store)
-    (g.K.ReferencingRows.lookups c.finish.new.store) c.in_ok-transitions.ensures.kept c.in_ok-transitions.ensures.looked_up c.in_err-finish.ensures.looked_up)
+pub run_waves-returns-clause-store : goal.run_waves-returns-clause-store
+run_waves-returns-clause-store g t c =
+    left_by_both _ c.in_ok-transitions.transitions tt c.len-size.result (g.K.ReferencingRows.view c.args.store.now) (g.K.ReferencingRows.view c.settle_waves.new.store) (g.K.ReferencingRows.view c.finish.new.store)
+    (g.K.ReferencingRows.lookups c.args.store.now) (g.K.ReferencingRows.lookups c.settle_waves.new.store) (g.K.ReferencingRows.lookups c.finish.new.store)
+    c.in_ok-transitions.ensures.store c.in_ok-finish.ensures.store
+
+pub run_waves-returns-in_err-finish-clause-store : goal.run_waves-returns-in_err-finish-clause-store
+run_waves-returns-in_err-finish-clause-store g t c =
+    left_by_refused _ c.in_ok-transitions.transitions c.from_residual-in_err-finish.result c.in_err-finish.field-0.0 (g.K.ReferencingRows.view c.args.store.now) (g.K.ReferencingRows.view c.settle_waves.new.store)
+    (g.K.ReferencingRows.view c.finish.new.store) (g.K.ReferencingRows.lookups c.args.store.now) (g.K.ReferencingRows.lookups c.settle_waves.new.store) (g.K.ReferencingRows.lookups c.finish.new.store)
+    c.from_residual-in_err-finish.ensures.1 c.in_ok-transitions.ensures.store c.in_err-finish.ensures.store
 
 pub run_body-returns-in_err-run_statement-clause-answer : goal.run_body-returns-in_err-run_statement-clause-answer
 run_body-returns-in_err-run_statement-clause-answer g t c =
@@ -122,8 +130,6 @@ run_body-loop-at-preserved g t c =
       counted = omega (arith, c.loop-at.invariant.counted);
       so_far = statements_so_far (nested_level c.args.deeper c.args.context.now) x c.as_slice-body.result.now c.loop-at.place c.loop-at.at c.statement_at-statement.result.now
           (progress now.base c.loop-at.budget) _ _ c.statement_at-statement.ensures.statement c.in_ok-run_statement.ensures.answer c.loop-at.invariant.so_far;
-      kept = kept_both old now later c.loop-at.invariant.kept c.in_ok-run_statement.ensures.kept;
-      looked_up = looked_up_both old now later (g.K.ReferencingRows.lookups c.args.store.now) (g.K.ReferencingRows.lookups c.loop-at.store) (g.K.ReferencingRows.lookups c.run_statement.new.store)
-          c.loop-at.invariant.kept c.loop-at.invariant.looked_up c.in_ok-run_statement.ensures.looked_up;
-      fits = c.in_ok-run_statement.ensures.store;
+      left = left_by_both _ tt tt tt old now later (g.K.ReferencingRows.lookups c.args.store.now) (g.K.ReferencingRows.lookups c.loop-at.store) (g.K.ReferencingRows.lookups c.run_statement.new.store)
+          c.loop-at.invariant.left c.in_ok-run_statement.ensures.store;
     }

@@ -1,10 +1,9 @@
-use Rattle.std.proofs.Common.{length, ◌-◌, ◌≡◌, ◌≤◌, map, ◌+◌, ◌*◌, drop}
+use Rattle.std.proofs.Common.{length, ◌-◌, ◌≡◌, ◌≤◌, map, ◌+◌, ◌*◌, drop, Ok}
 use Rattle.std.specs.List.{enumerate_from}
 use Rattle.iv_machine.specs.Levels.{Firing, body_run, firings_run, nested_level, row_firing}
 use Rattle.iv_machine.specs.BeforeTriggers.{placed_statements}
 use Rattle.iv_transitions.specs.ByTable.{all_firings}
-use Rattle.iv_laws_rows.specs.Changing.{StoreFits, with_database}
-use Rattle.iv_store.specs.Lookups.{LooksUp}
+use Rattle.iv_waves.specs.Running.{LeavesStore}
 use Rattle.iv_exec.specs.Steps.{progress}
 use Rattle.iv_exec.proofs.level.+level.Given as goal
 
@@ -55,9 +54,7 @@ invariant-fire_all-loop-at g l =
       within : l.at ≤ length l.triggers;
       so_far : firings_run run (all_firings l.statement l.transitions (drop l.at l.triggers)) (progress now.base l.budget)
           ≡ firings_run run (all_firings l.statement l.transitions l.triggers) (progress old.base l.initial.budget);
-      kept : now ≡ with_database old now.base;
-      looked_up : LooksUp old (g.K.ReferencingRows.lookups l.initial.store) now (g.K.ReferencingRows.lookups l.store);
-      fits : StoreFits l.context.schema now;
+      left : LeavesStore l.context.schema (Ok (tt {0})) old (g.K.ReferencingRows.lookups l.initial.store) now (g.K.ReferencingRows.lookups l.store);
     }
 
 abbrev pub invariant-fire_rows-loop-at : goal.invariant-fire_rows-loop-at
@@ -69,9 +66,7 @@ invariant-fire_rows-loop-at g l =
       within : l.at ≤ length l.transitions;
       so_far : firings_run run (map (row_firing l.trigger l.transitions) (drop l.at l.transitions)) (progress now.base l.budget)
           ≡ firings_run run (map (row_firing l.trigger l.transitions) l.transitions) (progress old.base l.initial.budget);
-      kept : now ≡ with_database old now.base;
-      looked_up : LooksUp old (g.K.ReferencingRows.lookups l.initial.store) now (g.K.ReferencingRows.lookups l.store);
-      fits : StoreFits l.context.schema now;
+      left : LeavesStore l.context.schema (Ok (tt {0})) old (g.K.ReferencingRows.lookups l.initial.store) now (g.K.ReferencingRows.lookups l.store);
     }
 
 abbrev pub invariant-run_body-loop-at : goal.invariant-run_body-loop-at
@@ -85,9 +80,7 @@ invariant-run_body-loop-at g l =
       counted : l.place ≡ 1 + l.at;
       so_far : body_run run x (enumerate_from l.place (drop l.at l.body)) (progress now.base l.budget)
           ≡ body_run run x (placed_statements l.trigger) (progress old.base l.initial.budget);
-      kept : now ≡ with_database old now.base;
-      looked_up : LooksUp old (g.K.ReferencingRows.lookups l.initial.store) now (g.K.ReferencingRows.lookups l.store);
-      fits : StoreFits l.context.schema now;
+      left : LeavesStore l.context.schema (Ok (tt {0})) old (g.K.ReferencingRows.lookups l.initial.store) now (g.K.ReferencingRows.lookups l.store);
     }
 
 abbrev pub decreases-run_body-loop-at : goal.decreases-run_body-loop-at

@@ -5,10 +5,11 @@ use Rattle.iv_catalogue.specs.Catalogues.{Schema}
 use Rattle.iv_machine.specs.declared.database.Database.{Database}
 use Rattle.iv_machine.specs.Databases.{database_after}
 use Rattle.iv_store.specs.Stores.{most_lookups}
-use Rattle.iv_triggers.proofs.Answers.{anyway}
+use Rattle.iv_laws_rows.specs.Changing.{StoreFits}
 use Rattle.iv_waves.proofs.Followed.{followed_ok, followed_refused, led}
 use Rattle.iv_waves.proofs.Looking.{looked_on}
-use Rattle.iv_waves.proofs.ToldOn.{told_on, told_unless}
+use Rattle.iv_waves.proofs.Running.{fits_after_wave, kept_by_a_look, left_by_look}
+use Rattle.iv_waves.proofs.ToldOn.{told_on}
 use Rattle.iv_waves.proofs.settling.follow.Goals as goal
 
 pub returns-clause-answer : goal.returns-clause-answer
@@ -31,23 +32,34 @@ returns-in_err-next-clause-answer g c =
     (ap (λ s. s.base.count) c.in_err-next.ensures.kept)
     (c.in_err-next.ensures.followed old.base c.args.context.now (sym c.catalogue.ensures) constraints (led old.tables old.base later.base c.args.wave.changes c.requires.applicable is)))
 
-pub returns-clause-looked_up : goal.returns-clause-looked_up
-returns-clause-looked_up g c =
+pub returns-clause-store : goal.returns-clause-store
+returns-clause-store g c =
     let old = g.K.ReferencingRows.view c.args.store.now in
+    let later = g.K.ReferencingRows.view c.apply_all.new.store in
+    let last = g.K.ReferencingRows.view c.next_wave.new.store in
+    let is = c.in_ok-apply_all.ensures.applied ∙ ap (λ l. database_after old.base (wave_of l)) c.changes.ensures.list in
     let constraints = ap (λ (s : Schema). s.constraints) c.catalogue.ensures ∙ sym c.requires.store.constraints in
-    looked_on old (g.K.ReferencingRows.view c.apply_all.new.store) (g.K.ReferencingRows.view c.next_wave.new.store) (length c.args.wave.changes) c.catalogue.result.now.constraints
-    (g.K.ReferencingRows.lookups c.args.store.now) (g.K.ReferencingRows.lookups c.apply_all.new.store) (g.K.ReferencingRows.lookups c.next_wave.new.store) constraints
-    (ap (λ (db : Database). db.count) c.in_ok-apply_all.ensures.applied ∙ ap (λ (l : List Change). old.base.count + length l) c.changes.ensures.list) c.in_ok-next.ensures.kept
-    (subst (λ (l : List Change). g.K.ReferencingRows.lookups c.apply_all.new.store ≤ g.K.ReferencingRows.lookups c.args.store.now + most_lookups * length old.constraints * length l) c.changes.ensures.list c.in_ok-apply_all.ensures.looked_up)
-    c.in_ok-next.ensures.looked_up
+    record {
+      kept = kept_by_a_look old later last c.in_ok-apply_all.ensures.kept c.in_ok-next.ensures.kept;
+      looked_up = looked_on old later last (length c.args.wave.changes) c.catalogue.result.now.constraints
+          (g.K.ReferencingRows.lookups c.args.store.now) (g.K.ReferencingRows.lookups c.apply_all.new.store) (g.K.ReferencingRows.lookups c.next_wave.new.store) constraints
+          (ap (λ (db : Database). db.count) c.in_ok-apply_all.ensures.applied ∙ ap (λ (l : List Change). old.base.count + length l) c.changes.ensures.list) c.in_ok-next.ensures.kept
+          (subst (λ (l : List Change). g.K.ReferencingRows.lookups c.apply_all.new.store ≤ g.K.ReferencingRows.lookups c.args.store.now + most_lookups * length old.constraints * length l) c.changes.ensures.list c.in_ok-apply_all.ensures.looked_up)
+          c.in_ok-next.ensures.looked_up;
+      fits = subst (StoreFits c.args.context.now.schema) (sym c.in_ok-next.ensures.kept)
+          (fits_after_wave c.args.context.now.schema old later c.args.wave c.requires.store c.requires.applicable.fit is c.in_ok-apply_all.ensures.kept);
+    }
 
-pub returns-in_err-next-clause-looked_up : goal.returns-in_err-next-clause-looked_up
-returns-in_err-next-clause-looked_up g c =
+pub returns-in_err-next-clause-store : goal.returns-in_err-next-clause-store
+returns-in_err-next-clause-store g c =
     let old = g.K.ReferencingRows.view c.args.store.now in
+    let later = g.K.ReferencingRows.view c.apply_all.new.store in
+    let last = g.K.ReferencingRows.view c.next_wave.new.store in
     let constraints = ap (λ (s : Schema). s.constraints) c.catalogue.ensures ∙ sym c.requires.store.constraints in
-    told_unless c.from_residual-in_err-next.result c.in_err-next.field-0.0 _ c.from_residual-in_err-next.ensures.1 (anyway _ _ (
-    looked_on old (g.K.ReferencingRows.view c.apply_all.new.store) (g.K.ReferencingRows.view c.next_wave.new.store) (length c.args.wave.changes) c.catalogue.result.now.constraints
+    left_by_look c.args.context.now.schema c.from_residual-in_err-next.result c.in_err-next.field-0.0 old later last _ _ c.from_residual-in_err-next.ensures.1
+    c.in_ok-apply_all.ensures.kept c.in_err-next.ensures.kept
+    (looked_on old later last (length c.args.wave.changes) c.catalogue.result.now.constraints
     (g.K.ReferencingRows.lookups c.args.store.now) (g.K.ReferencingRows.lookups c.apply_all.new.store) (g.K.ReferencingRows.lookups c.next_wave.new.store) constraints
     (ap (λ (db : Database). db.count) c.in_ok-apply_all.ensures.applied ∙ ap (λ (l : List Change). old.base.count + length l) c.changes.ensures.list) c.in_err-next.ensures.kept
     (subst (λ (l : List Change). g.K.ReferencingRows.lookups c.apply_all.new.store ≤ g.K.ReferencingRows.lookups c.args.store.now + most_lookups * length old.constraints * length l) c.changes.ensures.list c.in_ok-apply_all.ensures.looked_up)
-    c.in_err-next.ensures.looked_up))
+    c.in_err-next.ensures.looked_up)

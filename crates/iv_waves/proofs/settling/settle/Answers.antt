@@ -3,9 +3,10 @@ use Rattle.iv_expr.specs.Changes.{wave_of}
 use Rattle.iv_machine.specs.Databases.{size}
 use Rattle.iv_machine.specs.Waves.{AppliedWave, settled_waves}
 use Rattle.iv_laws_levels.proofs.FittingWaves.{settled_fits}
-use Rattle.iv_waves.proofs.Looking.{kept_both, looked_up_both, looked_refused, none_looked}
+use Rattle.iv_waves.proofs.Looking.{none_looked}
 use Rattle.iv_waves.proofs.Rounds.{after_waves, first_round, more_than_none, next_round, none_before, none_left, round_progress, round_so_far, settled_nothing, settled_refused}
-use Rattle.iv_waves.proofs.ToldOn.{told_on, told_unless}
+use Rattle.iv_waves.proofs.Running.{left_by_both, left_by_refused}
+use Rattle.iv_waves.proofs.ToldOn.{told_on}
 use Rattle.iv_waves.proofs.settling.settle.Goals as goal
 
 pub loop-store-init : goal.loop-store-init
@@ -15,8 +16,7 @@ loop-store-init g c =
     record {
       so_far = ap (λ done. after_waves done all) c.new-waves.ensures.items ∙ none_before all;
       progress = first_round c.args.context.now s c.args.changes.items c.requires.store c.next_row.ensures.rising c.requires.fit c.requires.proposed;
-      kept = refl;
-      looked_up = none_looked s (g.K.ReferencingRows.lookups c.args.store.now);
+      left = record { kept = refl; looked_up = none_looked s (g.K.ReferencingRows.lookups c.args.store.now); fits = c.requires.store };
     }
 
 pub overflow_sub-budget : goal.overflow_sub-budget
@@ -49,10 +49,9 @@ loop-store-preserved g c =
       so_far = round_so_far c.args.context.now s later c.loop-store.budget (c.loop-store.budget - length c.changes.result.now) c.loop-store.changes.items c.into_vec-changes.result.items
           c.loop-store.waves.items c.add.new.waves.items _ one more c.loop-store.invariant.so_far c.in_ok-applied.ensures.answer c.in_ok-applied.ensures.applied less c.into_vec-changes.ensures c.in_ok-add.ensures;
       progress = round_progress c.args.context.now s later c.loop-store.budget c.loop-store.changes.items c.into_vec-changes.result.items one c.loop-store.invariant.progress
-          c.in_ok-applied.ensures.answer c.in_ok-applied.ensures.applied c.in_ok-applied.ensures.kept c.into_vec-changes.ensures;
-      kept = kept_both (g.K.ReferencingRows.view c.args.store.now) s later c.loop-store.invariant.kept c.in_ok-applied.ensures.kept;
-      looked_up = looked_up_both (g.K.ReferencingRows.view c.args.store.now) s later (g.K.ReferencingRows.lookups c.args.store.now) (g.K.ReferencingRows.lookups c.loop-store.store) (g.K.ReferencingRows.lookups c.one_wave.new.store)
-          c.loop-store.invariant.kept c.loop-store.invariant.looked_up c.in_ok-applied.ensures.looked_up;
+          c.in_ok-applied.ensures.answer c.in_ok-applied.ensures.applied c.in_ok-applied.ensures.store.kept c.into_vec-changes.ensures;
+      left = left_by_both _ tt c.in_ok-applied.applied tt (g.K.ReferencingRows.view c.args.store.now) s later (g.K.ReferencingRows.lookups c.args.store.now) (g.K.ReferencingRows.lookups c.loop-store.store)
+          (g.K.ReferencingRows.lookups c.one_wave.new.store) c.loop-store.invariant.left c.in_ok-applied.ensures.store;
     }
 
 pub returns-in_err-applied-clause-answer : goal.returns-in_err-applied-clause-answer
@@ -64,12 +63,11 @@ returns-in_err-applied-clause-answer g c =
     told_on _ _ c.from_residual.result c.in_err-applied.field-0.0 _ c.from_residual.ensures.1
     (settled_refused c.args.context.now s.base c.loop-store.budget c.loop-store.changes.items c.loop-store.waves.items _ c.in_err-applied.field-0.0 _ more c.loop-store.invariant.so_far c.in_err-applied.ensures.answer)
 
-pub returns-in_err-applied-clause-looked_up : goal.returns-in_err-applied-clause-looked_up
-returns-in_err-applied-clause-looked_up g c =
-    told_unless c.from_residual.result c.in_err-applied.field-0.0 _ c.from_residual.ensures.1
-    (looked_refused _ (g.K.ReferencingRows.view c.args.store.now) (g.K.ReferencingRows.view c.loop-store.store) (g.K.ReferencingRows.view c.one_wave.new.store)
-    (g.K.ReferencingRows.lookups c.args.store.now) (g.K.ReferencingRows.lookups c.loop-store.store) (g.K.ReferencingRows.lookups c.one_wave.new.store)
-    c.loop-store.invariant.kept c.loop-store.invariant.looked_up c.in_err-applied.ensures.looked_up)
+pub returns-in_err-applied-clause-store : goal.returns-in_err-applied-clause-store
+returns-in_err-applied-clause-store g c =
+    left_by_refused _ tt c.from_residual.result c.in_err-applied.field-0.0 (g.K.ReferencingRows.view c.args.store.now) (g.K.ReferencingRows.view c.loop-store.store) (g.K.ReferencingRows.view c.one_wave.new.store)
+    (g.K.ReferencingRows.lookups c.args.store.now) (g.K.ReferencingRows.lookups c.loop-store.store) (g.K.ReferencingRows.lookups c.one_wave.new.store) c.from_residual.ensures.1
+    c.loop-store.invariant.left c.in_err-applied.ensures.store
 
 pub returns-clause-answer : goal.returns-clause-answer
 returns-clause-answer g c =

@@ -1,9 +1,8 @@
-use Rattle.std.proofs.Common.{◌≡◌}
+use Rattle.std.proofs.Common.{◌≡◌, Ok}
 use Rattle.iv_expr.specs.Changes.{wave_of}
 use Rattle.iv_machine.specs.Waves.{settled_waves}
-use Rattle.iv_laws_rows.specs.Changing.{with_database}
-use Rattle.iv_store.specs.Lookups.{LooksUp}
 use Rattle.iv_waves.specs.Progress.{Progress}
+use Rattle.iv_waves.specs.Running.{LeavesStore}
 use Rattle.iv_waves.proofs.Rounds.{after_waves}
 use Rattle.iv_waves.proofs.settling.settle.Given as goal
 
@@ -15,8 +14,7 @@ invariant-loop-store g l =
       so_far : after_waves l.waves.items (settled_waves l.context now.base l.budget (wave_of l.changes.items))
           ≡ settled_waves l.context old.base l.initial.budget (wave_of l.initial.changes.items);
       progress : Progress l.context now l.changes.items;
-      kept : now ≡ with_database old now.base;
-      looked_up : LooksUp old (g.K.ReferencingRows.lookups l.initial.store) now (g.K.ReferencingRows.lookups l.store);
+      left : LeavesStore l.context.schema (Ok (tt {0})) old (g.K.ReferencingRows.lookups l.initial.store) now (g.K.ReferencingRows.lookups l.store);
     }
 
 abbrev pub decreases-loop-store : goal.decreases-loop-store

@@ -1,0 +1,38 @@
+//! Whether a trigger may fire at all.
+ghost use Rattle.std.specs.Prelude.{◌≡◌, [], false};
+ghost use Rattle.std.specs.List.{list_any};
+ghost use Rattle.iv_machine.specs.declared.database.Database.{Database};
+ghost use Rattle.iv_machine.specs.Levels.{firings};
+ghost use Rattle.iv_machine.specs.Waves.{net_wave};
+ghost use Rattle.iv_laws_levels.specs.FittingWaves.{Chain};
+ghost use Rattle.iv_triggers.specs.Triggered.{some_have_triggers};
+ghost use Rattle.iv_transitions.specs.MayFire.{may_fire};
+
+use iv_catalogue::DataStatement;
+use iv_expr::Wave;
+use iv_triggers::{Context, table_of};
+
+// Whether a trigger is on a table that a wave changes.
+fn has_trigger_on(context: &Context<'_>, wave: &Wave) -> bool
+    ensures { result ≡ some_have_triggers context.now.schema.triggers wave.now.changes }
+{
+    context.has_trigger_on(wave.changes())
+}
+
+// So with one of these waves.
+fn some_have_triggers(context: &Context<'_>, waves: &[Wave]) -> bool
+    ensures { result ≡ list_any
+        (λ w. some_have_triggers context.now.schema.triggers w.changes) waves.now }
+{
+    waves.iter().any(|wave| has_trigger_on(context, wave))
+}
+
+/// Whether a trigger is on the table of a statement, or on one that its waves change. Where none is, no AFTER trigger
+/// fires, and the net changes needn't be made. It takes one look at each change.
+pub fn may_fire(context: &Context<'_>, statement: &DataStatement, waves: &[Wave]) -> bool
+    ensures value { result ≡ may_fire context.now statement.now waves.now }
+    ensures quiet { result ≡ false → (db last : Database) → Chain db waves.now last
+        → firings context.now statement.now (net_wave db.rows last.rows waves.now) ≡ [] }
+{
+    context.has_trigger(table_of(statement)) || some_have_triggers(context, waves)
+}

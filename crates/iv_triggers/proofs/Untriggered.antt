@@ -1,0 +1,77 @@
+-- Tables without triggers.
+use Rattle.std.proofs.Common.{◌≡◌, refl, ℕ, ◌==◌, Bool, true, false, ◌&&◌, ◌||◌, if◌then◌else◌, List, [], ◌∷◌, filter, Result, Ok, ap, cond, sym, ◌∙◌}
+use Rattle.std.specs.List.{list_any}
+use Rattle.std.proofs.lemmas.Bool.{or_parts}
+use Rattle.iv_expr.specs.declared.row.Change.{Change}
+use Rattle.iv_expr.specs.declared.row.StoredRow.{StoredRow}
+use Rattle.iv_expr.specs.Evaluation.{and_then}
+use Rattle.iv_syntax.specs.declared.trigger.TriggerEvent.{TriggerEvent}
+use Rattle.iv_catalogue.specs.declared.plan.Trigger.{Trigger}
+use Rattle.iv_machine.specs.BeforeTriggers.{before_row_run, before_statement, before_statement_run, change_after_trigger, changes_after_triggers, event_of_change, is_before_row, is_before_statement, is_on, same_event}
+use Rattle.iv_machine.specs.Context.{Context, each, in_turn, while_running}
+use Rattle.iv_triggers.specs.Triggered.{has_trigger, some_have_triggers}
+
+-- a trigger that isn't on the table is none of the table and an event
+pub not_on : (table : ℕ) (event : TriggerEvent) (t : Trigger) → (t.table == table) ≡ false → is_on table event t ≡ false
+not_on table event t e = ap (λ b. b && same_event t.event event) e
+
+not_both : (a b : Bool) → b ≡ false → (a && b) ≡ false
+not_both true b e = e
+not_both false b e = refl
+
+-- ---- of a statement
+
+none_meant : (table : ℕ) (event : TriggerEvent) (triggers : List Trigger) → has_trigger triggers table ≡ false
+    → filter (λ t. is_before_statement t && is_on table event t) triggers ≡ []
+none_meant table event [] e = refl
+none_meant table event (t ∷ triggers) e =
+    let parts = or_parts (t.table == table) (has_trigger triggers table) e in
+    ap (λ b. cond b (t ∷ filter (λ x. is_before_statement x && is_on table event x) triggers) (filter (λ x. is_before_statement x && is_on table event x) triggers))
+    (not_both (is_before_statement t) (is_on table event t) (not_on table event t parts.0))
+    ∙ none_meant table event triggers parts.1
+
+pub none_before_statement : (context : Context) (rows : List StoredRow) (table : ℕ) (event : TriggerEvent) → has_trigger context.schema.triggers table ≡ false
+    → Ok tt ≡ before_statement context rows table event
+none_before_statement context rows table event e =
+    ap (λ l. in_turn (λ (t : Trigger) (_ : Unit {0}). while_running t.id (before_statement_run rows t)) l tt) (sym (none_meant table event context.schema.triggers e))
+
+-- ---- of the rows of a wave
+
+-- no change is on a trigger's table
+abbrev pub apart : Trigger → List Change → Bool
+apart t changes = list_any (λ c. t.table == c.table) changes
+
+pub apart_of_each : (t : Trigger) (triggers : List Trigger) (changes : List Change) → some_have_triggers (t ∷ triggers) changes ≡ false
+    → (apart t changes ≡ false) × (some_have_triggers triggers changes ≡ false)
+apart_of_each t triggers [] e = (refl, refl)
+apart_of_each t triggers (c ∷ changes) e =
+    let both = or_parts ((t.table == c.table) || has_trigger triggers c.table) (some_have_triggers (t ∷ triggers) changes) e in
+    let here = or_parts (t.table == c.table) (has_trigger triggers c.table) both.0 in
+    let rest = apart_of_each t triggers changes both.1 in
+    (ap (λ b. b || apart t changes) here.0 ∙ rest.0, ap (λ b. b || some_have_triggers triggers changes) here.1 ∙ rest.1)
+
+untouched : (context : Context) (rows : List StoredRow) (t : Trigger) (changes : List Change) → apart t changes ≡ false
+    → each (change_after_trigger context rows t) changes ≡ Ok changes
+untouched context rows t [] e = refl
+untouched context rows t (c ∷ changes) e =
+    let parts = or_parts (t.table == c.table) (apart t changes) e in
+    ap (λ b. and_then (if b then while_running t.id (before_row_run context rows t c) else Ok c) (λ y. and_then (each (change_after_trigger context rows t) changes) (λ ys. Ok (y ∷ ys))))
+    (not_on c.table (event_of_change c) t parts.0)
+    ∙ ap (λ r. and_then r (λ ys. Ok (c ∷ ys))) (untouched context rows t changes parts.1)
+
+with_or_without : (context : Context) (rows : List StoredRow) (t : Trigger) (triggers : List Trigger) (changes : List Change) (b : Bool) → apart t changes ≡ false
+    → changes_after_triggers context rows triggers changes ≡ Ok changes → changes_after_triggers context rows (cond b (t ∷ triggers) triggers) changes ≡ Ok changes
+with_or_without context rows t triggers changes true e h =
+    ap (λ r. and_then r (λ cs. changes_after_triggers context rows triggers cs)) (untouched context rows t changes e) ∙ h
+with_or_without context rows t triggers changes false e h = h
+
+all_untouched : (context : Context) (rows : List StoredRow) (triggers : List Trigger) (changes : List Change) → some_have_triggers triggers changes ≡ false
+    → changes_after_triggers context rows (filter is_before_row triggers) changes ≡ Ok changes
+all_untouched context rows [] changes e = refl
+all_untouched context rows (t ∷ triggers) changes e =
+    let parts = apart_of_each t triggers changes e in
+    with_or_without context rows t (filter is_before_row triggers) changes (is_before_row t) parts.0 (all_untouched context rows triggers changes parts.1)
+
+pub rows_untouched : (context : Context) (rows : List StoredRow) (changes : List Change) → some_have_triggers context.schema.triggers changes ≡ false
+    → changes_after_triggers context rows (filter is_before_row context.schema.triggers) changes ≡ Ok changes
+rows_untouched context rows changes e = all_untouched context rows context.schema.triggers changes e
