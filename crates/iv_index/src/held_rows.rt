@@ -2,7 +2,7 @@
 ghost use Rattle.std.specs.Prelude.{◌≡◌, ℕ, ◌+◌, ◌<◌, ◌≤◌, ◌^◌, ◌==◌, ◌++◌, length, slice_get, slice_index, true, false, IfOk, OnOk, OnErr};
 ghost use Rattle.std.specs.Option.{option_copied};
 ghost use Rattle.std.specs.List.Sorted.{IsSearchInRange};
-ghost use Rattle.iv_index.specs.Rows.{IsRising, Found};
+ghost use Rattle.iv_index.specs.Rows.{IsRising, Found, has_row};
 ghost use Rattle.iv_index.specs.Search.{further};
 
 use std::alloc::{AllocError, Global};
@@ -128,6 +128,14 @@ impl<'a> HeldRows<'a> {
         ensures { result ≡ slice_get self.now 0 }
     {
         first(self.front, self.back)
+    }
+
+    /// Whether a number is among them.
+    pub fn has(&self, row: u64) -> bool
+        requires { IsRising self.now }
+        ensures { result ≡ has_row row self.now }
+    {
+        self.find(row).is_ok()
     }
 
     /// Adds all of them to others. Where memory is refused it adds none.
