@@ -1,4 +1,4 @@
-pub mod StretchLemmas
+pub mod PartsLemmas
 pub mod RowsLemmas
 pub mod RowsFound
 pub mod RowsKept

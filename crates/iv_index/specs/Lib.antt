@@ -1,7 +1,9 @@
 pub mod Rows
-pub mod Stretches
+pub mod Parts
+pub mod Search
 pub mod Kept
 pub mod Linked
 pub mod Groups
 pub mod Laws
 pub mod Lending
+pub mod Closing

@@ -1,9 +1,12 @@
 //! One group: a key and the rows that hold it.
 ghost use Rattle.std.specs.Prelude.{◌≡◌, ◌<◌, true, false, IfOk, OnOk, OnErr};
 ghost use Rattle.iv_index.specs.Rows.{IsRising, added, has_row, no_rows, put, removed, roomy};
+ghost use Rattle.std.specs.Borrow.{sem};
 ghost use Rattle.iv_index.specs.Groups.{changed};
+ghost use Rattle.iv_index.specs.Closing.{GroupStays};
 ghost use Rattle.iv_value.specs.Values.{all_same};
 
+use crate::held_rows::HeldRows;
 use crate::row_numbers::RowNumbers;
 use iv_key::Key;
 use iv_value::Value;
@@ -54,11 +57,20 @@ impl Group {
     }
 
     /// Its rows.
-    pub fn rows(&self) -> &[u64]
-        ensures value { result.now ≡ self.now.held.rows }
+    pub fn rows(&self) -> HeldRows<'_>
+        ensures value { result ≡ self.now.held.rows }
+        ensures rising { IsRising result }
+    {
+        self.rows.held()
+    }
+
+    /// Its rows as one slice, which are moved for it.
+    pub fn rows_closed(&mut self) -> &[u64]
+        ensures* stays { sem 𝓛 (GroupStays self.entry) }
+        ensures value { result.now ≡ self.old.held.rows }
         ensures rising { IsRising result.now }
     {
-        self.rows.as_slice()
+        self.rows.closed()
     }
 
     /// How many more rows it takes without memory.

@@ -5,6 +5,7 @@ ghost use Rattle.iv_index.specs.Rows.{IsRising, has_row};
 ghost use Rattle.iv_index.specs.Groups.{AreSound, EachIsApart, EachIsFound, EachRises, counted, groups_of, place_in, room_of, rows_at, rows_of, with_groups, with_room_under, with_row_put, with_row_under, without_row_under};
 ghost use Rattle.iv_index.specs.Lending.{Looked};
 
+use crate::held_rows::HeldRows;
 use crate::key_index::KeyIndex;
 use iv_key::Key;
 use std::alloc::{AllocError, Global};
@@ -87,25 +88,25 @@ fn place_under(indexes: &[KeyIndex], constraint: usize, key: &Key<'_>) -> Option
 }
 
 // The rows of a key in a constraint.
-fn rows_under<'a>(indexes: &'a [KeyIndex], constraint: usize, key: &Key<'_>) -> &'a [u64]
-    ensures value { result.now ≡ rows_of (groups_of indexes.now constraint) key.now }
-    ensures rising { IsRising result.now }
+fn rows_under<'a>(indexes: &'a [KeyIndex], constraint: usize, key: &Key<'_>) -> HeldRows<'a>
+    ensures value { result ≡ rows_of (groups_of indexes.now constraint) key.now }
+    ensures rising { IsRising result }
 {
     match indexes.get(constraint) {
         Some(index) => index.rows(key),
-        None => &[],
+        None => HeldRows::new(&[], &[]),
     }
 }
 
 // The rows of the group at a place of a constraint.
-fn rows_in(indexes: &[KeyIndex], constraint: usize, place: usize) -> &[u64]
+fn rows_in(indexes: &[KeyIndex], constraint: usize, place: usize) -> HeldRows<'_>
     requires { place < length (groups_of indexes.now constraint) }
-    ensures value { result.now ≡ rows_at (groups_of indexes.now constraint) place }
-    ensures rising { IsRising result.now }
+    ensures value { result ≡ rows_at (groups_of indexes.now constraint) place }
+    ensures rising { IsRising result }
 {
     match indexes.get(constraint) {
         Some(index) => index.rows_at(place),
-        None => &[],
+        None => HeldRows::new(&[], &[]),
     }
 }
 
@@ -273,18 +274,18 @@ impl Groups {
     }
 
     /// The rows of the group at a place, in rising order. It is no look-up.
-    pub fn rows_at(&self, constraint: usize, place: usize) -> &[u64]
+    pub fn rows_at(&self, constraint: usize, place: usize) -> HeldRows<'_>
         requires { place < length (groups_of self.now.groups constraint) }
-        ensures value { result.now ≡ rows_at (groups_of self.now.groups constraint) place }
-        ensures rising { IsRising result.now }
+        ensures value { result ≡ rows_at (groups_of self.now.groups constraint) place }
+        ensures rising { IsRising result }
     {
         rows_in(self.indexes.as_slice(), constraint, place)
     }
 
     /// The rows of a key, in rising order, as `rows` tells them, but it isn't counted: searches ask it.
-    pub fn holders(&self, constraint: usize, key: &Key<'_>) -> &[u64]
-        ensures value { result.now ≡ rows_of (groups_of self.now.groups constraint) key.now }
-        ensures rising { IsRising result.now }
+    pub fn holders(&self, constraint: usize, key: &Key<'_>) -> HeldRows<'_>
+        ensures value { result ≡ rows_of (groups_of self.now.groups constraint) key.now }
+        ensures rising { IsRising result }
     {
         rows_under(self.indexes.as_slice(), constraint, key)
     }
@@ -296,6 +297,13 @@ impl Groups {
         room_under(self.indexes.as_slice(), constraint, key) as u64
     }
 
+    // No rows.
+    fn none(&self) -> &[u64]
+        ensures { result.now ≡ [] }
+    {
+        &[]
+    }
+
     /// The rows of a key, in rising order: none, where it has no group.
     pub fn rows(&mut self, constraint: usize, key: &Key<'_>) -> &[u64]
         ensures* stays { sem 𝓛 (Looked self.entry) }
@@ -303,7 +311,11 @@ impl Groups {
         ensures rising { IsRising result.now }
     {
         count(&mut self.looked_up);
-        self.holders(constraint, key)
+        if constraint < self.indexes.len() {
+            self.indexes[constraint].rows_closed(key)
+        } else {
+            self.none()
+        }
     }
 
     /// The place of a key's group.

@@ -1,11 +1,14 @@
 //! The groups of one constraint.
 ghost use Rattle.std.specs.Prelude.{◌≡◌, ◌<◌, ◌^◌, [], ◌∷◌, ◌++◌, length, true, false, IfSome, OnOk, OnErr, Some, slice_index_or, slice_set};
 ghost use Rattle.iv_key.specs.Hashes.{hash_of};
+ghost use Rattle.std.specs.Borrow.{sem};
+ghost use Rattle.iv_index.specs.Closing.{IndexStays};
 ghost use Rattle.iv_index.specs.Rows.{IsRising, added, has_row, put, removed, roomy};
 ghost use Rattle.iv_index.specs.Groups.{GroupOf, IsIndexed, IsSound, changed, place_in, room_of, rows_at, rows_of, with_room_under, with_row_put, with_row_under, without_row_under};
 
 use crate::group::Group;
 use crate::hash_index::HashIndex;
+use crate::held_rows::HeldRows;
 use iv_key::Key;
 use std::alloc::{AllocError, Global};
 use std::marker::Model;
@@ -56,14 +59,14 @@ fn sound(hashes: &HashIndex, groups: &[Group])
 }
 
 // The rows of a key.
-fn rows_under<'a>(hashes: &HashIndex, groups: &'a [Group], key: &Key<'_>) -> &'a [u64]
+fn rows_under<'a>(hashes: &HashIndex, groups: &'a [Group], key: &Key<'_>) -> HeldRows<'a>
     requires { IsIndexed hashes.now groups.now }
-    ensures value { result.now ≡ rows_of groups.now key.now }
-    ensures rising { IsRising result.now }
+    ensures value { result ≡ rows_of groups.now key.now }
+    ensures rising { IsRising result }
 {
     match find(hashes, groups, key, key.hash()) {
         Some(place) => groups[place].rows(),
-        None => &[],
+        None => HeldRows::new(&[], &[]),
     }
 }
 
@@ -257,18 +260,47 @@ impl KeyIndex {
     }
 
     /// The rows of a key, in rising order.
-    pub fn rows(&self, key: &Key<'_>) -> &[u64]
-        ensures value { result.now ≡ rows_of self.now key.now }
-        ensures rising { IsRising result.now }
+    pub fn rows(&self, key: &Key<'_>) -> HeldRows<'_>
+        ensures value { result ≡ rows_of self.now key.now }
+        ensures rising { IsRising result }
     {
         rows_under(&self.hashes, self.groups.as_slice(), key)
     }
 
-    /// The rows of the group at a place, in rising order.
-    pub fn rows_at(&self, place: usize) -> &[u64]
-        requires { place < length self.now }
-        ensures value { result.now ≡ rows_at self.now place }
+    // No rows.
+    fn none(&self) -> &[u64]
+        ensures { result.now ≡ [] }
+    {
+        &[]
+    }
+
+    // The rows of the group at a place, as one slice, which are moved for it.
+    fn closed_at(&mut self, place: usize) -> &[u64]
+        requires { place < length self.old }
+        ensures* stays { sem 𝓛 (IndexStays self.entry) }
+        ensures value { (d : GroupOf) → result.now ≡ (slice_index_or self.old place d).held.rows }
         ensures rising { IsRising result.now }
+    {
+        self.groups[place].rows_closed()
+    }
+
+    /// The rows of a key, in rising order, as one slice, which are moved for it.
+    pub fn rows_closed(&mut self, key: &Key<'_>) -> &[u64]
+        ensures* stays { sem 𝓛 (IndexStays self.entry) }
+        ensures value { result.now ≡ rows_of self.old key.now }
+        ensures rising { IsRising result.now }
+    {
+        match self.place(key) {
+            Some(place) => self.closed_at(place),
+            None => self.none(),
+        }
+    }
+
+    /// The rows of the group at a place, in rising order.
+    pub fn rows_at(&self, place: usize) -> HeldRows<'_>
+        requires { place < length self.now }
+        ensures value { result ≡ rows_at self.now place }
+        ensures rising { IsRising result }
     {
         self.groups[place].rows()
     }

@@ -1,25 +1,29 @@
 //! Row numbers in rising order.
 ghost use Rattle.std.specs.Prelude.{◌≡◌, ℕ, ◌+◌, ◌-◌, ◌<◌, ◌≤◌, length, true, false, OnOk, OnErr, MatchResult, insert, remove};
-ghost use Rattle.iv_index.specs.Stretches.{held};
+ghost use Rattle.std.specs.Borrow.{sem};
+ghost use Rattle.iv_index.specs.Closing.{NumbersStay};
+ghost use Rattle.iv_index.specs.Parts.{AreWithin, held, size};
 ghost use Rattle.iv_index.specs.Rows.{IsRising, Found, added, has_row, no_rows, put, removed, roomy, with_row, without_row};
 
-use crate::stretch::{Stretch, insert_at, remove_at};
+use crate::held_rows::HeldRows;
+use crate::parts::{Parts, insert_at, move_gap, remove_at, size};
 use std::alloc::{AllocError, Global};
 use std::marker::Model;
 
-/// Different row numbers in rising order, and their room: how many more they take without memory. They stand in one
-/// stretch of a list of places, so that the first and the last are removed in constant time.
+/// Different row numbers in rising order, and their room: how many more they take without memory. They stand in
+/// two parts of a list of places. Between these is a gap, where the last number came or went in the middle: the next one
+/// beside it takes constant time, as do the first and the last.
 #[derive(Drop)]
 pub struct RowNumbers {
     places: Vec<u64>,
-    live: Stretch,
+    live: Parts,
     room: usize,
 }
 
 impl Model for RowNumbers {
     ghost use Rattle.std.specs.Prelude.{ℕ, ◌+◌, ◌≤◌, length};
     ghost use Rattle.iv_index.specs.Rows.{Rows, IsRising};
-    ghost use Rattle.iv_index.specs.Stretches.{held};
+    ghost use Rattle.iv_index.specs.Parts.{held};
     ghost use Rattle.iv_index.specs.Kept.{IsKept};
 
     ghost Value = { Rows };
@@ -29,21 +33,31 @@ impl Model for RowNumbers {
     ghost invariant = { λ r. IsKept r.places.items r.live r.room };
 }
 
-// Doubles the places where not a fifth of them is free. So a list is moved to the middle once in many changes, also
-// where numbers go at one end and come at the other.
-fn more_places(places: &mut Vec<u64>, live: Stretch) -> Result<(), AllocError>
-    requires ordered { live.start ≤ live.end }
-    requires within { live.end ≤ length places.old.items }
-    ensures within { OnOk result (live.end ≤ length places.new.items) }
-    ensures free { OnOk result (live.end - live.start < length places.new.items) }
+// Doubles the places where not a fifth of them is free. So the numbers are moved to the middle once in many changes, also
+// where they go at one end and come at the other.
+fn more_places(places: &mut Vec<u64>, live: Parts) -> Result<(), AllocError>
+    requires within { AreWithin live (length places.old.items) }
+    ensures within { OnOk result (AreWithin live (length places.new.items)) }
+    ensures free { OnOk result (size live < length places.new.items) }
     ensures held { OnOk result (held places.new.items live ≡ held places.old.items live) }
     ensures err { OnErr result (places.new.items ≡ places.old.items) }
 {
-    let count = live.end - live.start;
+    let count = size(live);
     if count + count / 4 >= places.len() {
         places.resize(places.len().saturating_mul(2).max(1), 0)?;
     }
     Ok(())
+}
+
+// The numbers that stand in the parts.
+fn held(places: &[u64], live: Parts) -> HeldRows<'_>
+    requires { AreWithin live (length places.now) }
+    ensures { result ≡ held places.now live }
+{
+    HeldRows::new(
+        &places[live.start..live.gap_start],
+        &places[live.gap_end..live.end],
+    )
 }
 
 impl RowNumbers {
@@ -53,17 +67,32 @@ impl RowNumbers {
     {
         RowNumbers {
             places: Vec::new(alloc),
-            live: Stretch { start: 0, end: 0 },
+            live: Parts {
+                start: 0,
+                gap_start: 0,
+                gap_end: 0,
+                end: 0,
+            },
             room: 0,
         }
     }
 
     /// The numbers.
-    pub fn as_slice(&self) -> &[u64]
-        ensures value { result.now ≡ self.now.rows }
+    pub fn held(&self) -> HeldRows<'_>
+        ensures value { result ≡ self.now.rows }
+        ensures rising { IsRising result }
+    {
+        held(self.places.as_slice(), self.live)
+    }
+
+    /// The numbers as one slice. The gap is closed for it, which moves what is behind it.
+    pub fn closed(&mut self) -> &[u64]
+        ensures* stays { sem 𝓛 (NumbersStay self.entry) }
+        ensures value { result.now ≡ self.old.rows }
         ensures rising { IsRising result.now }
     {
-        &self.places.as_slice()[self.live.start..self.live.end]
+        self.live = move_gap(self.places.as_mut_slice(), self.live, size(self.live));
+        &self.places.as_slice()[self.live.start..self.live.gap_start]
     }
 
     /// How many more numbers it takes without memory.
@@ -77,7 +106,7 @@ impl RowNumbers {
     fn find(&self, row: u64) -> Result<usize, usize>
         ensures { Found self.now.rows row result }
     {
-        self.as_slice().binary_search(&row)
+        self.held().find(row)
     }
 
     // The place of one of the numbers.

@@ -34,7 +34,7 @@ fn holders(
         return Ok(Vec::new(alloc));
     }
     match groups.place(id, key) {
-        Some(place) => Vec::from_slice(alloc, groups.rows_at(id, place)),
+        Some(place) => groups.rows_at(id, place).to_vec(alloc),
         None => Ok(Vec::new(alloc)),
     }
 }

@@ -8,14 +8,14 @@ ghost use Rattle.iv_laws_kept.specs.Numbers.{has, in_rising_order, Rise};
 ghost use Rattle.iv_marks.specs.Answers.{lesser};
 ghost use Rattle.iv_marks.specs.Shown.{shown};
 
-use iv_index::Groups;
+use iv_index::{Groups, HeldRows};
 use std::alloc::{AllocError, Global};
 
 // The rows of the group at a place of a constraint.
-fn rows_of(groups: &Groups, constraint: usize, place: usize) -> &[u64]
+fn rows_of(groups: &Groups, constraint: usize, place: usize) -> HeldRows<'_>
     requires { place < length (groups_of (shown groups.now.groups) constraint) }
-    ensures value { result.now ≡ rows_at (groups_of (shown groups.now.groups) constraint) place }
-    ensures rising { Rise result.now }
+    ensures value { result ≡ rows_at (groups_of (shown groups.now.groups) constraint) place }
+    ensures rising { Rise result }
 {
     groups.rows_at(constraint, place)
 }
@@ -34,13 +34,10 @@ pub fn lesser(one: Option<u64>, other: Option<u64>) -> Option<u64>
 }
 
 // The first of some rows.
-fn first_of(rows: &[u64]) -> Option<u64>
+fn first_of(rows: &HeldRows<'_>) -> Option<u64>
     ensures { result ≡ first rows.now }
 {
-    match rows {
-        [] => None,
-        [row, ..] => Some(*row),
-    }
+    rows.first()
 }
 
 /// The first of the rows of the groups at these places. It takes the time of one look at each place.
@@ -52,7 +49,7 @@ pub fn first_row(groups: &Groups, constraint: usize, places: &[usize]) -> Option
 {
     let mut least = None;
     for place in places {
-        least = lesser(least, first_of(rows_of(groups, constraint, *place)));
+        least = lesser(least, first_of(&rows_of(groups, constraint, *place)));
     }
     least
 }
@@ -85,7 +82,7 @@ fn push_rows(
         ++ flat_map (rows_at (groups_of (shown groups.now.groups) constraint)) places.now) }
 {
     for place in places {
-        rows.extend_from_slice(rows_of(groups, constraint, *place))?;
+        rows_of(groups, constraint, *place).push_onto(rows)?;
     }
     Ok(())
 }

@@ -3,25 +3,15 @@ ghost use Rattle.std.specs.Prelude.{◌≡◌, ◌<◌, length, true, false};
 ghost use Rattle.iv_index.specs.Rows.{has_row};
 ghost use Rattle.iv_index.specs.Groups.{groups_of, rows_of};
 
-use iv_index::Groups;
+use iv_index::{Groups, HeldRows};
 use iv_key::Key;
-use std::alloc::AllocError;
-
-// Whether a row is among these.
-fn among(rows: &[u64], row: u64) -> bool
-    ensures { result ≡ has_row row rows.now }
-{
-    match rows {
-        [] => false,
-        [first, rest @ ..] => *first == row || among(rest, row),
-    }
-}
+use std::alloc::{AllocError, Global};
 
 // Whether a row is under a key.
 fn holds(groups: &Groups, constraint: usize, key: &Key<'_>, row: u64) -> bool
     ensures { result ≡ has_row row (rows_of (groups_of groups.now.groups constraint) key.now) }
 {
-    among(groups.holders(constraint, key), row)
+    groups.holders(constraint, key).has(row)
 }
 
 /// Adds a row where it isn't under the key.
@@ -61,12 +51,35 @@ pub fn remove(groups: &mut Groups, constraint: usize, key: &Key<'_>, row: u64) -
     Some(groups.remove(constraint, key, row))
 }
 
+// Whether the rows of a group are these.
+fn are(alloc: Global, held: &HeldRows<'_>, rows: &[u64]) -> Result<bool, AllocError> {
+    let held = held.to_vec(alloc)?;
+    Ok(held.as_slice() == rows)
+}
+
+/// Whether the rows of a key are these.
+pub fn holders_are(
+    alloc: Global,
+    groups: &Groups,
+    constraint: usize,
+    key: &Key<'_>,
+    rows: &[u64],
+) -> Result<bool, AllocError> {
+    are(alloc, &groups.holders(constraint, key), rows)
+}
+
 /// Whether the rows at a place are these, where there is such a place.
-pub fn rows_are(groups: &Groups, constraint: usize, place: usize, rows: &[u64]) -> bool {
+pub fn rows_are(
+    alloc: Global,
+    groups: &Groups,
+    constraint: usize,
+    place: usize,
+    rows: &[u64],
+) -> Result<bool, AllocError> {
     if place >= groups.count_groups(constraint) {
-        return false;
+        return Ok(false);
     }
-    groups.rows_at(constraint, place) == rows
+    are(alloc, &groups.rows_at(constraint, place), rows)
 }
 
 /// Takes the groups of a constraint away that there is.

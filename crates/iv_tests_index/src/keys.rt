@@ -8,7 +8,7 @@ use std::test::Fail;
 
 // Rows 5 and 3 are added under the key 1, and 5 is removed: whether the rows are 3 and 5 before, and the look-ups then;
 // whether they are 3 alone after, and the room.
-fn one_key(groups: &mut Groups) -> Result<(bool, u64, bool, u64), AllocError> {
+fn one_key(alloc: Global, groups: &mut Groups) -> Result<(bool, u64, bool, u64), AllocError> {
     let values = [Value::Int(1)];
     let key = Key::new(&[0], &values);
     groups.cover(1)?;
@@ -17,7 +17,7 @@ fn one_key(groups: &mut Groups) -> Result<(bool, u64, bool, u64), AllocError> {
     let both = groups.rows(0, &key) == [3u64, 5].as_slice();
     checked::remove(groups, 0, &key, 5);
     let looked_up = groups.looked_up();
-    let one = groups.holders(0, &key) == [3u64].as_slice();
+    let one = checked::holders_are(alloc, groups, 0, &key, &[3])?;
     Ok((both, looked_up, one, groups.room(0, &key)))
 }
 
@@ -58,7 +58,7 @@ fn nulls(groups: &mut Groups) -> Result<([bool; 3], [Option<usize>; 2]), AllocEr
 #[test]
 fn rows_of_one_key_rise(rt: HostRuntime) -> Result<(), Fail> {
     let mut groups = Groups::new(rt.alloc());
-    let said = one_key(&mut groups);
+    let said = one_key(rt.alloc(), &mut groups);
     drop(groups);
     let (both, looked_up, one, room) = said?;
     assert!(rt; both);

@@ -6,6 +6,8 @@ mod checked;
 #[cfg(test)]
 mod constraints;
 #[cfg(test)]
+mod gaps;
+#[cfg(test)]
 mod keys;
 #[cfg(test)]
 mod rooms;

@@ -3,7 +3,7 @@ use crate::checked;
 use iv_index::Groups;
 use iv_key::Key;
 use iv_value::Value;
-use std::alloc::AllocError;
+use std::alloc::{AllocError, Global};
 use std::test::Fail;
 
 // The room of a key at first, after room was made for it twice, after a row was put, after it was put again, which asks
@@ -30,7 +30,10 @@ fn rooms(groups: &mut Groups) -> Result<([u64; 5], u64), AllocError> {
 
 // Room is made for the key 1, and the key 2 gets the row 7: what `place` tells of 1, 2 and 3; what `put_back` of the row 9
 // under 1 and `remove` of 7 under 2 tell; whether the rows at the places are 9, then none, and how many groups there are.
-fn places(groups: &mut Groups) -> Result<([Option<usize>; 5], [bool; 3], usize), AllocError> {
+fn places(
+    alloc: Global,
+    groups: &mut Groups,
+) -> Result<([Option<usize>; 5], [bool; 3], usize), AllocError> {
     let (one, two, three) = ([Value::Int(1)], [Value::Int(2)], [Value::Int(3)]);
     let (first, second, third) = (
         Key::new(&[0], &one),
@@ -40,7 +43,7 @@ fn places(groups: &mut Groups) -> Result<([Option<usize>; 5], [bool; 3], usize),
     groups.cover(1)?;
     checked::make_room(groups, 0, &first)?;
     checked::add(groups, 0, &second, 7)?;
-    let added = checked::rows_are(groups, 0, 1, &[7]);
+    let added = checked::rows_are(alloc, groups, 0, 1, &[7])?;
     let places = [
         groups.place(0, &first),
         groups.place(0, &second),
@@ -50,8 +53,8 @@ fn places(groups: &mut Groups) -> Result<([Option<usize>; 5], [bool; 3], usize),
     ];
     let rows = [
         added,
-        checked::rows_are(groups, 0, 0, &[9]),
-        checked::rows_are(groups, 0, 1, &[]),
+        checked::rows_are(alloc, groups, 0, 0, &[9])?,
+        checked::rows_are(alloc, groups, 0, 1, &[])?,
     ];
     Ok((places, rows, groups.count_groups(0)))
 }
@@ -95,7 +98,7 @@ fn put_all(groups: &mut Groups, key: &Key<'_>) {
 
 // The rows 0 to 99 of one key are removed and put back: whether they are none and then all again, and the room at both
 // times.
-fn mixed(groups: &mut Groups) -> Result<([bool; 2], [u64; 2]), AllocError> {
+fn mixed(alloc: Global, groups: &mut Groups) -> Result<([bool; 2], [u64; 2]), AllocError> {
     let values = [Value::Int(1)];
     let key = Key::new(&[0], &values);
     groups.cover(1)?;
@@ -104,7 +107,8 @@ fn mixed(groups: &mut Groups) -> Result<([bool; 2], [u64; 2]), AllocError> {
     let none = groups.holders(0, &key).is_empty();
     let room = groups.room(0, &key);
     put_all(groups, &key);
-    let all = are_all(groups.holders(0, &key), 100);
+    let held = groups.holders(0, &key).to_vec(alloc)?;
+    let all = are_all(held.as_slice(), 100);
     Ok(([none, all], [room, groups.room(0, &key)]))
 }
 
@@ -122,7 +126,7 @@ fn room_is_made_and_taken(rt: HostRuntime) -> Result<(), Fail> {
 #[test]
 fn groups_stay_at_their_places(rt: HostRuntime) -> Result<(), Fail> {
     let mut groups = Groups::new(rt.alloc());
-    let said = places(&mut groups);
+    let said = places(rt.alloc(), &mut groups);
     drop(groups);
     let (places, rows, count) = said?;
     assert_eq!(rt; places, [Some(0), Some(1), None, Some(0), Some(1)]);
@@ -134,7 +138,7 @@ fn groups_stay_at_their_places(rt: HostRuntime) -> Result<(), Fail> {
 #[test]
 fn rows_come_back(rt: HostRuntime) -> Result<(), Fail> {
     let mut groups = Groups::new(rt.alloc());
-    let said = mixed(&mut groups);
+    let said = mixed(rt.alloc(), &mut groups);
     drop(groups);
     let (found, room) = said?;
     assert_eq!(rt; found, [true; 2]);

@@ -10,4 +10,4 @@ returns-in-Some-clause-value c =
     c.rows.ensures.value ∙ ap (λ (g : GroupOf). g.held.rows) c.index-groups-place.is ∙ sym (ap (λ h. h.rows) (at.held_is x))
 
 pub returns-in-None-clause-value : goal.returns-in-None-clause-value
-returns-in-None-clause-value c = sym (ap (λ h. h.rows) (missing c.args.groups.now c.args.key.now (sym c.in-None.ensures.place)).held_is)
+returns-in-None-clause-value c = c.new.ensures ∙ sym (ap (λ h. h.rows) (missing c.args.groups.now c.args.key.now (sym c.in-None.ensures.place)).held_is)

@@ -11,10 +11,10 @@ rows_at-requires c =
 pub returns-in-Some-clause-numbers : goal.returns-in-Some-clause-numbers
 returns-in-Some-clause-numbers c =
     let own = groups_of c.args.groups.now.groups c.args.id in
-    subst (λ l. IfOk c.from_slice.result (λ v. v.items ≡ l))
+    subst (λ l. IfOk c.to_vec.result (λ v. v.items ≡ l))
     (c.rows_at.ensures.value ∙ ap (λ gs. rows_at (groups_of gs c.args.id) c.in-Some.place) c.place.ensures.groups
     ∙ found_in own c.args.key.now c.in-Some.place (sym c.place.ensures.place ∙ c.in-Some.is)
-    ∙ ap (λ b. if b then rows_of own c.args.key.now else []) (sym c.if-not-none_null.false ∙ c.none_null.ensures)) c.from_slice.ensures.items
+    ∙ ap (λ b. if b then rows_of own c.args.key.now else []) (sym c.if-not-none_null.false ∙ c.none_null.ensures)) c.to_vec.ensures
 
 pub returns-in-None-clause-numbers : goal.returns-in-None-clause-numbers
 returns-in-None-clause-numbers c =

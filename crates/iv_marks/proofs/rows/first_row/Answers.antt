@@ -15,8 +15,8 @@ rows_of-requires c = c.requires _ (has_at c.args.places.now c.loop-place.place-i
 pub loop-place-preserved : goal.loop-place-preserved
 loop-place-preserved c =
     least_step (λ xs. first (in_rising_order (flat_map (rows_at (groups_of (shown c.args.groups.now.groups) c.args.constraint)) xs)))
-    c.args.places.now c.loop-place.place-index _ (first c.rows_of.result.now) c.loop-place.least c.lesser-least.result _
+    c.args.places.now c.loop-place.place-index _ (first c.rows_of.result) c.loop-place.least c.lesser-least.result _
     c.loop-place-test.true refl
     (λ rest. ap (λ rows. first (in_rising_order (rows ++ flat_map (rows_at (groups_of (shown c.args.groups.now.groups) c.args.constraint)) rest))) (sym c.rows_of.ensures.value)
-    ∙ first_before c.rows_of.result.now (flat_map (rows_at (groups_of (shown c.args.groups.now.groups) c.args.constraint)) rest) c.rows_of.ensures.rising)
+    ∙ first_before c.rows_of.result (flat_map (rows_at (groups_of (shown c.args.groups.now.groups) c.args.constraint)) rest) c.rows_of.ensures.rising)
     (c.lesser-least.ensures ∙ ap (lesser c.loop-place.least) c.first_of.ensures) c.loop-place.invariant

@@ -2,4 +2,4 @@ use Rattle.iv_marks.proofs.Shown.{rise}
 use Rattle.iv_marks.proofs.rows.rows_of.Goals as goal
 
 pub returns-clause-rising : goal.returns-clause-rising
-returns-clause-rising c = rise c.rows_at.result.now c.rows_at.ensures.rising
+returns-clause-rising c = rise c.rows_at.result c.rows_at.ensures.rising

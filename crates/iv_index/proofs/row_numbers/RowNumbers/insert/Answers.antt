@@ -1,7 +1,7 @@
 use Rattle.std.proofs.Common.{◌≡◌, ℕ, ◌<◌, List, length, insert, false, ap, sym, ◌∙◌, subst}
 use Rattle.iv_index.specs.Kept.{IsKept}
 use Rattle.iv_index.specs.Rows.{has_row, with_row}
-use Rattle.iv_index.specs.Stretches.{held}
+use Rattle.iv_index.specs.Parts.{held}
 use Rattle.iv_index.proofs.RowsKept.{whole_after, kept_inserted}
 use Rattle.iv_index.proofs.row_numbers.RowNumbers.insert.Goals as goal
 
@@ -23,5 +23,5 @@ invariant_of-self c =
     let absent : has_row row (held old c.self.inside.live) ≡ false = subst (λ (rs : List ℕ). has_row row rs ≡ false) (sym rows_are) c.requires.absent in
     let less : c.args.room < c.self.inside.room = subst (λ (n : ℕ). c.args.room < n) (sym room_is) c.requires.room in
     subst (λ (xs : List ℕ). IsKept xs c.insert_at-self-inside.result c.args.room) (sym whole)
-    (kept_inserted old new c.self.inside.live c.insert_at-self-inside.result c.self.inside.room c.args.room at row c.self.invariant len c.insert_at-self-inside.ensures.ordered
-    c.insert_at-self-inside.ensures.within c.insert_at-self-inside.ensures.count held_is with_is absent less)
+    (kept_inserted old new c.self.inside.live c.insert_at-self-inside.result c.self.inside.room c.args.room at row c.self.invariant len c.insert_at-self-inside.ensures.within
+    c.insert_at-self-inside.ensures.size held_is with_is absent less)

@@ -1,7 +1,7 @@
 use Rattle.std.proofs.Common.{◌≡◌, ℕ, ◌+◌, List, length, remove, ap, sym, ◌∙◌, subst}
 use Rattle.iv_index.specs.Kept.{IsKept}
 use Rattle.iv_index.specs.Rows.{without_row}
-use Rattle.iv_index.specs.Stretches.{held}
+use Rattle.iv_index.specs.Parts.{held}
 use Rattle.iv_index.proofs.RowsKept.{whole_after, kept_removed}
 use Rattle.iv_index.proofs.row_numbers.RowNumbers.remove.Goals as goal
 
@@ -20,5 +20,5 @@ invariant_of-self c =
     let without_is : remove (held old c.self.inside.live) at ≡ without_row row (held old c.self.inside.live) =
     subst (λ (rs : List ℕ). remove rs at ≡ without_row row rs) (sym rows_are) c.place_of-at.ensures.removed in
     subst (λ (xs : List ℕ). IsKept xs c.remove_at-self-inside.result (c.self.inside.room + 1)) (sym whole)
-    (kept_removed old new c.self.inside.live c.remove_at-self-inside.result c.self.inside.room at row c.self.invariant len c.remove_at-self-inside.ensures.ordered
-    c.remove_at-self-inside.ensures.within c.remove_at-self-inside.ensures.count held_is without_is)
+    (kept_removed old new c.self.inside.live c.remove_at-self-inside.result c.self.inside.room at row c.self.invariant len c.remove_at-self-inside.ensures.within
+    c.remove_at-self-inside.ensures.size held_is without_is)
