@@ -25,7 +25,7 @@ static int side_by_side(void) {
     sqlkeep one = SQLKEEP_EMPTY, two = SQLKEEP_EMPTY;
     sqlkeep_summary summary;
     WANT(sqlkeep_open(&one, 16, 65536) == SQLKEEP_OK);
-    WANT(sqlkeep_open(&two, 1, 1) == SQLKEEP_OK);
+    WANT(sqlkeep_open(&two, 1, 2) == SQLKEEP_OK);
     WANT(run_text(&one, FIRST, &summary) == SQLKEEP_OK && summary.accepted == 4 && summary.refused == 0);
     WANT(run_text(&two, SECOND, &summary) == SQLKEEP_OK && summary.accepted == 3 && summary.has_fault == 0);
     WANT(has_transcript(&one, "1 ok\n2 ok 2\n3 ok\n4 rows 2\n| 1\n| 2\n"));
