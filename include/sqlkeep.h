@@ -82,6 +82,63 @@ typedef struct sqlkeep_summary {
     uint64_t fault_at;
 } sqlkeep_summary;
 
+/* What was read of a text. */
+typedef struct sqlkeep_script {
+    /* How many statements there are. */
+    uint64_t statements;
+    /* 1 where something is left of the text that is no statement, else 0; and the byte, from 0, where that begins. */
+    uint64_t has_fault;
+    uint64_t fault_at;
+} sqlkeep_script;
+
+/* What a statement answered. */
+enum sqlkeep_kind {
+    SQLKEEP_DONE = 0,
+    /* It inserted, updated or deleted rows. */
+    SQLKEEP_CHANGED = 1,
+    /* It was a query, and gave rows. */
+    SQLKEEP_ROWS = 2,
+    SQLKEEP_REFUSED = 3
+};
+
+/* The outcome of a statement. */
+typedef struct sqlkeep_outcome {
+    /* One of enum sqlkeep_kind. */
+    uint32_t kind;
+    /* The number of the cause of a refusal, 1 to 22, as docs/language/refusals.md has them; otherwise 0. */
+    uint32_t cause;
+    /* How many rows were changed, or how many a query gave; otherwise 0. */
+    uint64_t count;
+    /* The row that the cause of a refusal speaks of; 0 where it speaks of none. */
+    uint64_t row;
+} sqlkeep_outcome;
+
+/* The kind of a value. */
+enum sqlkeep_value_kind {
+    SQLKEEP_NULL = 0,
+    SQLKEEP_INTEGER = 1,
+    SQLKEEP_TEXT = 2
+};
+
+/* A value of a row. */
+typedef struct sqlkeep_cell {
+    /* One of enum sqlkeep_value_kind. */
+    uint64_t kind;
+    /* The integer; 0 where it is none. */
+    int64_t integer;
+    /* How many bytes the text has; 0 where it is none. */
+    uint64_t length;
+} sqlkeep_cell;
+
+/* What the last statement or call did. */
+typedef struct sqlkeep_done {
+    /* How many row changes it made, those of triggers and actions too, and how many it undid. */
+    uint64_t changes;
+    uint64_t undone;
+    /* How many keys it looked up. */
+    uint64_t lookups;
+} sqlkeep_done;
+
 /* Opens a session over a database without tables. Triggers may nest `depth` deep, 1 to 32, and a statement may make
    `changes` row changes, 1 to 65,536; the program has 16 and 65,536.
    SQLKEEP_OPEN: the handle is open. SQLKEEP_LIMITS: a limit isn't in its range. SQLKEEP_NO_MEMORY. */
@@ -100,6 +157,83 @@ uint32_t sqlkeep_run(sqlkeep *handle, const uint8_t *text, size_t length, sqlkee
 /* Copies bytes of the transcript to the buffer, from byte `from` on: as many as there are and as fit. Their number is
    written to `copied`, 0 at the end. The bytes are UTF-8, and no zero byte is added. SQLKEEP_CLOSED. */
 uint32_t sqlkeep_transcript(sqlkeep *handle, size_t from, uint8_t *buffer, size_t size, size_t *copied);
+
+/* ---- statements, one after the other in the session
+
+   A text is read into statements first, and then each of them is executed by its place, as often as is wanted. The
+   statements stay until the next text is read, and the outcome of a statement until the next statement or COMMIT. */
+
+/* Reads the statements of a text and keeps them, in place of those before. Nothing is executed.
+   SQLKEEP_CLOSED, SQLKEEP_NOT_UTF8, SQLKEEP_NO_MEMORY. */
+uint32_t sqlkeep_read(sqlkeep *handle, const uint8_t *text, size_t length, sqlkeep_script *script);
+
+/* Executes the statement at this place, from 0, of those that were read. SQLKEEP_OK says that it was executed, also where it
+   was refused: then `outcome->kind` is SQLKEEP_REFUSED. Where memory was refused, the cause is 22, the database is as
+   before, and the statement may be executed again.
+   SQLKEEP_CLOSED; SQLKEEP_NOTHING: there are fewer statements. */
+uint32_t sqlkeep_execute(sqlkeep *handle, size_t at, sqlkeep_outcome *outcome);
+
+/* Writes the lines of the last outcome as the program does, with this number in front, and keeps them for
+   sqlkeep_transcript. It is to be called before the next statement. SQLKEEP_CLOSED, SQLKEEP_NO_MEMORY. */
+uint32_t sqlkeep_lines(sqlkeep *handle, uint64_t number);
+
+/* ---- the rows of a query
+
+   These read the last outcome, as long as it is there. Rows and columns count from 0. */
+
+/* How many values a row has. SQLKEEP_CLOSED; SQLKEEP_NOTHING: there is no such row. */
+uint32_t sqlkeep_columns(sqlkeep *handle, size_t row, size_t *count);
+
+/* The value in a row and a column. SQLKEEP_CLOSED; SQLKEEP_NOTHING: there is no such value. */
+uint32_t sqlkeep_value(sqlkeep *handle, size_t row, size_t column, sqlkeep_cell *value);
+
+/* Copies bytes of a text to the buffer, from byte `from` on, as sqlkeep_transcript does.
+   SQLKEEP_CLOSED; SQLKEEP_NOTHING: there is no such value. */
+uint32_t sqlkeep_value_text(sqlkeep *handle, size_t row, size_t column, size_t from, uint8_t *buffer, size_t size, size_t *copied);
+
+/* ---- why the last statement was refused
+
+   Each copies bytes of a text to the buffer, from byte `from` on, as sqlkeep_transcript does. Where the cause speaks of no
+   constraint, no trigger or no SIGNAL, the text is empty.
+   SQLKEEP_CLOSED; SQLKEEP_NOTHING: the last outcome is no refusal. */
+
+/* The number of the cause and its name, as "13 Violation". */
+uint32_t sqlkeep_cause(sqlkeep *handle, size_t from, uint8_t *buffer, size_t size, size_t *copied);
+
+/* The name of the constraint. */
+uint32_t sqlkeep_constraint(sqlkeep *handle, size_t from, uint8_t *buffer, size_t size, size_t *copied);
+
+/* The name of the trigger that the cause speaks of, or else of the innermost one that was running. */
+uint32_t sqlkeep_trigger(sqlkeep *handle, size_t from, uint8_t *buffer, size_t size, size_t *copied);
+
+/* The text of the SIGNAL. */
+uint32_t sqlkeep_signal(sqlkeep *handle, size_t from, uint8_t *buffer, size_t size, size_t *copied);
+
+/* ---- transactions */
+
+/* COMMIT, with the outcome of the statement. It takes no memory. SQLKEEP_CLOSED. */
+uint32_t sqlkeep_commit(sqlkeep *handle, sqlkeep_outcome *outcome);
+
+/* ROLLBACK. It takes no memory. SQLKEEP_CLOSED. */
+uint32_t sqlkeep_rollback(sqlkeep *handle);
+
+/* ROLLBACK TO SAVEPOINT, with the outcome of the statement; the name as it is folded, in upper case. It takes no memory.
+   SQLKEEP_CLOSED, SQLKEEP_NOT_UTF8. */
+uint32_t sqlkeep_rollback_to(sqlkeep *handle, const uint8_t *name, size_t length, sqlkeep_outcome *outcome);
+
+/* Whether a transaction is open. SQLKEEP_CLOSED. */
+uint32_t sqlkeep_in_transaction(sqlkeep *handle, bool *is_open);
+
+/* What the last statement or call did. SQLKEEP_CLOSED. */
+uint32_t sqlkeep_work(sqlkeep *handle, sqlkeep_done *work);
+
+/* Looks for the rows that violate deferred constraints, what COMMIT would find first at place 0, and keeps them until the
+   next look. Their number is written to `count`. SQLKEEP_CLOSED, SQLKEEP_NO_MEMORY. */
+uint32_t sqlkeep_pending(sqlkeep *handle, size_t *count);
+
+/* The number of the row of a violation that was found, and the name of its constraint as far as it fits. It is to be called
+   before the next statement. SQLKEEP_CLOSED; SQLKEEP_NOTHING: there is no violation at this place. */
+uint32_t sqlkeep_violation(sqlkeep *handle, size_t at, uint64_t *row, uint8_t *buffer, size_t size, size_t *copied);
 
 #ifdef __cplusplus
 }

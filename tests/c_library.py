@@ -7,12 +7,14 @@ The folder has libsqlkeep.a, libsqlkeep.so and sqlkeep.h, as `./build --library`
 examples that has no other words than limits is run by the C example, which does what the program does, and so by those in Rust and
 Python: transcript, standard error and status are to be those of the program. The last line is `N passed, N failed`."""
 import argparse
+import importlib.util
 import os
 import re
 import shlex
 import shutil
 import stat
 import subprocess
+import sys
 import tempfile
 from concurrent.futures import ThreadPoolExecutor
 
@@ -104,9 +106,43 @@ def refused(program, words=()):
             yield 'refused memory: %s' % ' '.join([request, *words]), why
 
 
+def example(language, name):
+    return os.path.join(EXAMPLES, language, name)
+
+
 def programs(room):
-    """What runs scripts: a name, the program, and what its compiler said."""
-    yield ('C', *room.c_program(os.path.join(EXAMPLES, 'c', 'script.c'), 'script'))
+    """What runs scripts, for each language that is there: a name, the program, and what its compiler said."""
+    yield ('C', *room.c_program(example('c', 'script.c'), 'script'))
+    if shutil.which('rustc'):
+        words = ['rustc', '--edition', '2021', '-O', '-D', 'warnings', '-L', room.library, '-l', 'static=sqlkeep', '-o', room.place('rust'), example('rust', 'sqlkeep.rs')]
+        why = told(words)
+        yield 'Rust', room.starter('rust_script', room.place('rust') + ' script'), why
+    shared = shlex.quote(os.path.join(room.library, 'libsqlkeep.so'))
+    yield 'Python', room.starter('python_script', 'env SQLKEEP_LIBRARY=%s %s %s' % (shared, sys.executable, example('python', 'script.py'))), []
+
+
+def firsts(room):
+    """The first script of the README in each language: its refused COMMIT is shown with the constraint and the row."""
+    program, why = room.c_program(example('c', 'first.c'), 'first')
+    commands = [('C', [program])] + ([('Rust', [room.place('rust')])] if shutil.which('rustc') else []) + [('Python', [sys.executable, example('python', 'first.py')])]
+    settings = {**os.environ, 'SQLKEEP_LIBRARY': os.path.join(room.library, 'libsqlkeep.so')}
+    yield 'the first script in C is built', why
+    for what, words in commands:
+        done = subprocess.run(words, capture_output=True, check=False, env=settings)
+        wanted = all(word in done.stdout for word in (b'Persuasion', b'CommitRefused', b'WRITTEN_BY', b'6')) and done.returncode == 0
+        yield 'the first script in ' + what, [] if wanted else ['status %d: %r' % (done.returncode, done.stdout + done.stderr)]
+    if importlib.util.find_spec('pytest'):
+        yield 'tests of a schema', told([sys.executable, '-m', 'pytest', '-q', '-p', 'no:cacheprovider', example('python', 'test_schema.py')], env=settings)
+
+
+def by_c(room, program):
+    """What is tried with the C example alone: refused memory, and bad accesses and leaks."""
+    yield from refused(program)
+    yield from refused(program, ['--statements'])
+    if shutil.which('valgrind'):
+        checked = room.starter('checked', 'valgrind -q --leak-check=full --show-leak-kinds=all --error-exitcode=99 ' + program)
+        yield from scripts('C under valgrind', checked, 10)
+        yield from scripts('C under valgrind, statement by statement', checked, 20, ['--statements'])
 
 
 def tried(room):
@@ -116,11 +152,10 @@ def tried(room):
         yield what + ' example is built', why
         if not why:
             yield from scripts(what, program)
+            yield from scripts(what + ', statement by statement', program, 10, ['--statements'])
             if what == 'C':
-                yield from refused(program)
-                if shutil.which('valgrind'):
-                    checked = room.starter('checked', 'valgrind -q --leak-check=full --show-leak-kinds=all --error-exitcode=99 ' + program)
-                    yield from scripts('C under valgrind', checked, 10)
+                yield from by_c(room, program)
+    yield from firsts(room)
     program, why = room.c_program(os.path.join(HERE, 'c_sessions.c'), 'sessions')
     yield 'sessions side by side', why or told([program])
 

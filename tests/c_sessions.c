@@ -38,6 +38,114 @@ static int side_by_side(void) {
     return 0;
 }
 
+static uint32_t read_text(sqlkeep *session, const char *text, sqlkeep_script *script) {
+    return sqlkeep_read(session, (const uint8_t *)text, strlen(text), script);
+}
+
+static bool has_text(const uint8_t *bytes, size_t length, const char *want) {
+    return length == strlen(want) && memcmp(bytes, want, length) == 0;
+}
+
+static const char KEYS[] =
+    "CREATE TABLE p (k INT PRIMARY KEY);"
+    "CREATE TABLE c (a INT, b VARCHAR(5), CONSTRAINT of_p FOREIGN KEY (a) REFERENCES p INITIALLY DEFERRED);"
+    "INSERT INTO p VALUES (1); COMMIT; INSERT INTO c VALUES (1, 'one'), (2, NULL); SAVEPOINT s;"
+    "INSERT INTO c VALUES (3, 'x'); SELECT a, b FROM c; INSERT INTO p VALUES (1);";
+
+/* What each statement answers, and the rows of a query. */
+static int values(sqlkeep *session) {
+    sqlkeep_script script;
+    sqlkeep_outcome outcome;
+    sqlkeep_cell cell;
+    uint8_t text[100];
+    size_t count = 0;
+    WANT(read_text(session, KEYS, &script) == SQLKEEP_OK && script.statements == 9 && script.has_fault == 0);
+    for (size_t place = 0; place < 8; place++) {
+        WANT(sqlkeep_execute(session, place, &outcome) == SQLKEEP_OK && outcome.kind != SQLKEEP_REFUSED && outcome.cause == 0);
+    }
+    WANT(outcome.kind == SQLKEEP_ROWS && outcome.count == 3);
+    WANT(sqlkeep_columns(session, 2, &count) == SQLKEEP_OK && count == 2);
+    WANT(sqlkeep_columns(session, 3, &count) == SQLKEEP_NOTHING && count == 2);
+    WANT(sqlkeep_value(session, 1, 0, &cell) == SQLKEEP_OK && cell.kind == SQLKEEP_INTEGER && cell.integer == 2);
+    WANT(sqlkeep_value(session, 1, 1, &cell) == SQLKEEP_OK && cell.kind == SQLKEEP_NULL);
+    WANT(sqlkeep_value(session, 0, 1, &cell) == SQLKEEP_OK && cell.kind == SQLKEEP_TEXT && cell.length == 3);
+    WANT(sqlkeep_value(session, 0, 2, &cell) == SQLKEEP_NOTHING);
+    WANT(sqlkeep_value_text(session, 0, 1, 1, text, sizeof text, &count) == SQLKEEP_OK && has_text(text, count, "ne"));
+    WANT(sqlkeep_cause(session, 0, text, sizeof text, &count) == SQLKEEP_NOTHING);
+    WANT(sqlkeep_lines(session, 8) == SQLKEEP_OK);
+    WANT(has_transcript(session, "8 rows 3\n| 1, 'one'\n| 2, NULL\n| 3, 'x'\n"));
+    return 0;
+}
+
+/* A refusal, and a refused COMMIT. */
+static int refusals(sqlkeep *session) {
+    sqlkeep_outcome outcome;
+    sqlkeep_done work;
+    uint8_t text[100];
+    size_t count = 0;
+    uint64_t row = 0;
+    bool is_open = false;
+    WANT(sqlkeep_execute(session, 8, &outcome) == SQLKEEP_OK && outcome.kind == SQLKEEP_REFUSED && outcome.cause == 13);
+    WANT(sqlkeep_cause(session, 0, text, sizeof text, &count) == SQLKEEP_OK && has_text(text, count, "13 Violation"));
+    WANT(sqlkeep_constraint(session, 0, text, sizeof text, &count) == SQLKEEP_OK && has_text(text, count, "P_C1"));
+    WANT(sqlkeep_trigger(session, 0, text, sizeof text, &count) == SQLKEEP_OK && count == 0);
+    WANT(sqlkeep_execute(session, 9, &outcome) == SQLKEEP_NOTHING);
+    WANT(sqlkeep_pending(session, &count) == SQLKEEP_OK && count == 2);
+    WANT(sqlkeep_violation(session, 1, &row, text, sizeof text, &count) == SQLKEEP_OK && row == 4 && has_text(text, count, "OF_P"));
+    WANT(sqlkeep_violation(session, 2, &row, text, sizeof text, &count) == SQLKEEP_NOTHING);
+    WANT(sqlkeep_rollback_to(session, (const uint8_t *)"S", 1, &outcome) == SQLKEEP_OK && outcome.kind == SQLKEEP_DONE);
+    WANT(sqlkeep_work(session, &work) == SQLKEEP_OK && work.undone == 1);
+    WANT(sqlkeep_rollback_to(session, (const uint8_t *)"T", 1, &outcome) == SQLKEEP_OK && outcome.cause == 7);
+    WANT(sqlkeep_rollback_to(session, (const uint8_t *)"\xff", 1, &outcome) == SQLKEEP_NOT_UTF8 && outcome.cause == 7);
+    WANT(sqlkeep_in_transaction(session, &is_open) == SQLKEEP_OK && is_open);
+    WANT(sqlkeep_commit(session, &outcome) == SQLKEEP_OK && outcome.cause == 19 && outcome.row == 3);
+    WANT(sqlkeep_constraint(session, 0, text, sizeof text, &count) == SQLKEEP_OK && has_text(text, count, "OF_P"));
+    WANT(sqlkeep_in_transaction(session, &is_open) == SQLKEEP_OK && !is_open);
+    WANT(sqlkeep_rollback(session) == SQLKEEP_OK);
+    WANT(sqlkeep_pending(session, &count) == SQLKEEP_OK && count == 0);
+    return 0;
+}
+
+static int statements(void) {
+    sqlkeep session = SQLKEEP_EMPTY;
+    WANT(sqlkeep_open(&session, 16, 65536) == SQLKEEP_OK);
+    int failed = values(&session);
+    failed = failed ? failed : refusals(&session);
+    WANT(sqlkeep_close(&session) == SQLKEEP_OK);
+    return failed;
+}
+
+/* Every function with an empty handle. */
+static int empty(void) {
+    sqlkeep session = SQLKEEP_EMPTY;
+    sqlkeep_script script;
+    sqlkeep_outcome outcome;
+    sqlkeep_cell cell;
+    sqlkeep_done work;
+    uint8_t text[1];
+    size_t count = 0;
+    uint64_t row = 0;
+    bool is_open = false;
+    WANT(read_text(&session, KEYS, &script) == SQLKEEP_CLOSED);
+    WANT(sqlkeep_execute(&session, 0, &outcome) == SQLKEEP_CLOSED);
+    WANT(sqlkeep_lines(&session, 1) == SQLKEEP_CLOSED);
+    WANT(sqlkeep_columns(&session, 0, &count) == SQLKEEP_CLOSED);
+    WANT(sqlkeep_value(&session, 0, 0, &cell) == SQLKEEP_CLOSED);
+    WANT(sqlkeep_value_text(&session, 0, 0, 0, text, 1, &count) == SQLKEEP_CLOSED);
+    WANT(sqlkeep_cause(&session, 0, text, 1, &count) == SQLKEEP_CLOSED);
+    WANT(sqlkeep_constraint(&session, 0, text, 1, &count) == SQLKEEP_CLOSED);
+    WANT(sqlkeep_trigger(&session, 0, text, 1, &count) == SQLKEEP_CLOSED);
+    WANT(sqlkeep_signal(&session, 0, text, 1, &count) == SQLKEEP_CLOSED);
+    WANT(sqlkeep_commit(&session, &outcome) == SQLKEEP_CLOSED);
+    WANT(sqlkeep_rollback(&session) == SQLKEEP_CLOSED);
+    WANT(sqlkeep_rollback_to(&session, text, 0, &outcome) == SQLKEEP_CLOSED);
+    WANT(sqlkeep_in_transaction(&session, &is_open) == SQLKEEP_CLOSED);
+    WANT(sqlkeep_work(&session, &work) == SQLKEEP_CLOSED);
+    WANT(sqlkeep_pending(&session, &count) == SQLKEEP_CLOSED);
+    WANT(sqlkeep_violation(&session, 0, &row, text, 1, &count) == SQLKEEP_CLOSED);
+    return 0;
+}
+
 /* Each status but that for want of memory. */
 static int statuses(void) {
     sqlkeep session = SQLKEEP_EMPTY;
@@ -66,5 +174,7 @@ static int statuses(void) {
 
 int main(void) {
     int failed = side_by_side();
-    return failed ? failed : statuses();
+    failed = failed ? failed : statuses();
+    failed = failed ? failed : statements();
+    return failed ? failed : empty();
 }

@@ -7,6 +7,8 @@ use crate::handle::{Handle, put, take};
 use crate::opened::{Database, Opened};
 use crate::status::{CLOSED, LIMITS, NO_MEMORY, OK, OPEN};
 use iv_machine::Limits;
+use iv_session::Answer;
+use sqlite_items::Items;
 use std::alloc::{AllocError, Global};
 
 // A session with these limits, in a box.
@@ -17,6 +19,9 @@ fn boxed(alloc: Global, limits: Limits) -> Result<Box<Opened>, AllocError>
     let opened = Opened {
         limits,
         session,
+        statements: Items::new(alloc),
+        outcome: Ok(Answer::Done),
+        pending: Vec::new(alloc),
         transcript: Vec::new(alloc),
     };
     Ok(Box::new(alloc, opened)?)
