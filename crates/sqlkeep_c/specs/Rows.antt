@@ -1,5 +1,5 @@
 -- The rows that an outcome has, value by value.
-use Rattle.std.specs.Prelude.{◌≡◌, ℕ, List, [], length, slice_get, option_and_then, Option, Some, None, Result, Ok, Err, pos}
+use Rattle.std.specs.Prelude.{ℕ, List, [], length, slice_get, option_and_then, Option, Result, Ok, Err, pos}
 use Rattle.iv_catalogue.specs.declared.cause.Refusal.{Refusal}
 use Rattle.iv_machine.specs.declared.answer.Answer.{Answer}
 use Rattle.iv_machine.specs.declared.answer.Answer.TheVariants.{Done, Changed, Rows}

@@ -1,5 +1,5 @@
 -- What statements that were read from a text answer to C.
-use Rattle.std.specs.Prelude.{◌≡◌, ℕ, Bool, true, false, ◌+◌, List, length, Option, Some, None, Result, Ok, Err, MatchBool, option_map, slice_get}
+use Rattle.std.specs.Prelude.{◌≡◌, ℕ, true, false, List, length, Option, Some, None, Result, Ok, Err, MatchBool, option_map}
 use Rattle.iv_catalogue.specs.declared.cause.Cause.{Cause}
 use Rattle.iv_catalogue.specs.declared.cause.Cause.TheVariants as cause
 use Rattle.iv_catalogue.specs.declared.cause.Refusal.{Refusal}

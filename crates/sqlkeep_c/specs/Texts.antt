@@ -1,9 +1,8 @@
 -- The texts of a refusal.
-use Rattle.std.specs.Prelude.{◌≡◌, ℕ, ◌-◌, List, [], slice_get, option_map, option_and_then, Option, Some, None, Result, Ok, Err}
+use Rattle.std.specs.Prelude.{ℕ, List, [], slice_get, Option, Some, None}
 use Rattle.iv_catalogue.specs.Catalogues.{Schema, trigger_numbered}
 use Rattle.iv_catalogue.specs.declared.cause.Cause.{Cause}
 use Rattle.iv_catalogue.specs.declared.cause.Cause.TheVariants as cause
-use Rattle.iv_catalogue.specs.declared.cause.Refusal.{Refusal}
 use Rattle.iv_print.specs.Lines.{body_statement, name_of, signal_text, trigger_name}
 
 -- the constraint that a cause speaks of

@@ -1,5 +1,5 @@
 -- What the calls for transactions do to a session, as the clauses of `Session` say it.
-use Rattle.std.specs.Prelude.{◌≡◌, ◌≢◌, ℕ, [], List, Bool, false, Result, Ok, Err, OnOk, OnErr}
+use Rattle.std.specs.Prelude.{◌≡◌, ◌≢◌, ℕ, [], List, false, Result, OnOk, OnErr}
 use Rattle.iv_catalogue.specs.declared.cause.Refusal.{Refusal}
 use Rattle.iv_catalogue.specs.Refusals.{is_memory}
 use Rattle.iv_machine.specs.declared.answer.Answer.{Answer}

@@ -1,5 +1,5 @@
 //! Bytes that are copied to C.
-ghost use Rattle.std.specs.Prelude.{◌≡◌};
+
 ghost use Rattle.sqlkeep_c.specs.Copying.{Copies};
 
 /// Copies as many of the bytes from this place on as the buffer has room for, and answers how many.

@@ -1,5 +1,5 @@
 //! The rows that a query gave.
-ghost use Rattle.std.specs.Prelude.{◌≡◌, ◌≢◌, length, None, is_some, IfSome, option_copied};
+ghost use Rattle.std.specs.Prelude.{◌≡◌, length, None, IfSome, option_copied};
 ghost use Rattle.sqlkeep_c.specs.Copying.{Copies};
 ghost use Rattle.sqlkeep_c.specs.Rows.{row_at, rows_of, text_of, value_at, value_shown};
 

@@ -1,7 +1,7 @@
 //! Whole scripts, and their transcripts.
 ghost use Rattle.std.specs.Prelude.{◌≡◌, ◌≢◌, ◌<◌, ◌≤◌, length, None, IfOk, IfSome, IsErrOf, OnErr, OnOk};
 ghost use Rattle.std.specs.Str.{IsUtf8};
-ghost use Rattle.iv_script.specs.Lengths.{Fits, IsExact};
+ghost use Rattle.iv_script.specs.Lengths.{Fits};
 ghost use Rattle.iv_script.specs.declared.summary.Summary.{Summary as Counts};
 ghost use Rattle.sqlkeep_c.specs.Calls.{Called};
 ghost use Rattle.sqlkeep_c.specs.Copying.{Copies};
@@ -72,10 +72,12 @@ pub extern "C" fn sqlkeep_run(
     text: &[u8],
     summary: &mut RunSummary,
 ) -> u32
-    // What is kept is the transcript, for some choice of the statements that were refused memory.
+    // What is kept is the transcript, for some choice of the statements that were refused memory; where there is none it is
+    // that of the machine.
     ensures transcript { Called handle.old.kept.behind handle.new.kept.behind (λ old new. result ≡ OK
         → (counts : Counts) × Shows counts summary.new
-        × IsTranscript text.now old.limits counts new.transcript.items) }
+        × IsTranscript text.now old.limits counts new.transcript.items
+        × (counts.memory_refused ≡ 0 → IsWithMemory text.now old.limits counts new.transcript.items)) }
     ensures session { Called handle.old.kept.behind handle.new.kept.behind (λ old new.
         (new.session ≡ old.session) × (new.limits ≡ old.limits)) }
     ensures others { result ≢ OK → (handle.new.kept.behind ≡ handle.old.kept.behind)

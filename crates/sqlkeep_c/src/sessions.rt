@@ -1,6 +1,5 @@
 //! A session is opened and closed.
 ghost use Rattle.std.specs.Prelude.{◌≡◌, ◌≢◌, None, Some, false, true, is_some, IfOk, IfSome};
-ghost use Rattle.iv_machine.specs.Machine.{empty_state};
 ghost use Rattle.sqlkeep_c.specs.Sessions.{IsNew};
 
 use crate::handle::{Handle, put, take};

@@ -1,5 +1,5 @@
 //! The texts of the last refusal: its cause, and the names that it speaks of.
-ghost use Rattle.std.specs.Prelude.{◌≡◌, length, None, Err, IfErr, IfSome};
+ghost use Rattle.std.specs.Prelude.{◌≡◌, None, Err, IfErr, IfSome};
 ghost use Rattle.iv_catalogue.specs.Catalogues.{trigger_numbered};
 ghost use Rattle.iv_print.specs.Lines.{body_statement, cause_words, signal_text};
 ghost use Rattle.sqlkeep_c.specs.Copying.{Copies};

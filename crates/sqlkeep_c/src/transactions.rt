@@ -1,7 +1,7 @@
 //! Transactions, by calls.
-ghost use Rattle.std.specs.Prelude.{◌≡◌, ◌≢◌, ◌^◌, ◌-◌, [], length, min, None, false, is_some, IfSome, MatchResult};
+ghost use Rattle.std.specs.Prelude.{◌≡◌, [], false, is_some, IfSome};
 ghost use Rattle.std.specs.Str.{IsUtf8};
-ghost use Rattle.iv_machine.specs.declared.database.Which.TheVariants.{All, Deferred};
+ghost use Rattle.iv_machine.specs.declared.database.Which.TheVariants.{All};
 ghost use Rattle.iv_machine.specs.Databases.{is_chosen, scan};
 ghost use Rattle.iv_machine.specs.Machine.{rollback_outcome};
 ghost use Rattle.sqlkeep_c.specs.Calls.{Called};

@@ -1,5 +1,5 @@
 //! The violations of deferred constraints: what COMMIT would find.
-ghost use Rattle.std.specs.Prelude.{◌≡◌, ◌≢◌, ◌^◌, ◌-◌, length, min, slice_get, None, Some, IfOk, IfSome, OnErr};
+ghost use Rattle.std.specs.Prelude.{◌≡◌, ◌≢◌, length, slice_get, None, Some, IfOk, IfSome, OnErr};
 ghost use Rattle.iv_machine.specs.declared.database.Which.TheVariants.{Deferred};
 ghost use Rattle.iv_machine.specs.Databases.{is_chosen, scan};
 ghost use Rattle.sqlkeep_c.specs.Calls.{Called};

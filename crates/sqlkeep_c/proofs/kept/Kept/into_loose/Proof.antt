@@ -11,14 +11,14 @@ use types.Part.{agg, sub, whole}
 use contract.Monad.{fact, fact_i}
 use contract.Running.{tables}
 use denote.Exit.{yes}
-use denote.RattleType.{RattleType, owns}
+use denote.RattleType.{owns}
 use denote.Signature.{types_at, plain}
 use denote.RawPtr.{block_ptr}
 use denote.Steps.{nothing, heard}
 use denote.Triple.Walked.{Stays, stay_dropped, walk_of, Goes-dropped}
 use Rattle.std.specs.contracts.impls.GlobalAllocator.TheImpl.{ghosts}
 use Rattle.std.proofs.raw_atomic.Walks.{proved_at, leaves}
-use Rattle.sqlkeep_c.proofs.Values.{both, Loose, loose_good, loose_in, Kept, kept_out, some_of, Inside, Heap, heap_own}
+use Rattle.sqlkeep_c.proofs.Values.{both, loose_good, loose_in, Kept, kept_out, some_of, Inside, Heap, heap_own}
 use Rattle.sqlkeep_c.specs.contracts.kept.Kept.into_loose.{ended, clauses}
 use Rattle.sqlkeep_c.specs.contracts.kept.Kept.into_loose.Key.{name as #self}
 use Rattle.sqlkeep_c.proofs.kept.Kept.into_loose.Statement.{statement}
