@@ -26,6 +26,27 @@ HERE = os.path.dirname(os.path.abspath(__file__))
 EXAMPLES = os.path.join(HERE, '..', 'examples')
 WARNINGS = ['-Wall', '-Wextra', '-Wpedantic', '-Werror']
 LIMITS = re.compile(r'(--(depth|changes) [0-9]{1,9} ?)*')
+# What the tests of a schema use of pytest, where that isn't there, and a run of them.
+STANDS_IN = """import contextlib, types
+
+def fixture(function):
+    return function
+
+@contextlib.contextmanager
+def raises(kind):
+    caught = types.SimpleNamespace(value=None)
+    try:
+        yield caught
+    except kind as error:
+        caught.value = error
+    assert caught.value is not None
+"""
+RUNS = """import test_schema
+for name, test in sorted(vars(test_schema).items()):
+    if name.startswith('test_'):
+        with test_schema.pytest.contextlib.contextmanager(test_schema.database)() as database:
+            test(database)
+"""
 # The script whose requests for memory are refused one after the other.
 REFUSED = 'savepoint_restores_modes'
 
@@ -121,6 +142,17 @@ def programs(room):
     yield 'Python', room.starter('python_script', 'env SQLKEEP_LIBRARY=%s %s %s' % (shared, sys.executable, example('python', 'script.py'))), []
 
 
+def schema(room, settings):
+    """The tests of a schema in Python, by pytest or by what stands in for it."""
+    words = [sys.executable, '-m', 'pytest', '-q', '-p', 'no:cacheprovider', example('python', 'test_schema.py')]
+    if not importlib.util.find_spec('pytest'):
+        with open(room.place('pytest.py'), 'w', encoding='ascii') as file:
+            file.write(STANDS_IN)
+        words = [sys.executable, '-c', RUNS]
+        settings = {**settings, 'PYTHONPATH': os.pathsep.join([room.folder, example('python', '')]), 'PYTHONDONTWRITEBYTECODE': '1'}
+    return told(words, env=settings)
+
+
 def firsts(room):
     """The first script of the README in each language: its refused COMMIT is shown with the constraint and the row."""
     program, why = room.c_program(example('c', 'first.c'), 'first')
@@ -131,8 +163,7 @@ def firsts(room):
         done = subprocess.run(words, capture_output=True, check=False, env=settings)
         wanted = all(word in done.stdout for word in (b'Persuasion', b'CommitRefused', b'WRITTEN_BY', b'6')) and done.returncode == 0
         yield 'the first script in ' + what, [] if wanted else ['status %d: %r' % (done.returncode, done.stdout + done.stderr)]
-    if importlib.util.find_spec('pytest'):
-        yield 'tests of a schema', told([sys.executable, '-m', 'pytest', '-q', '-p', 'no:cacheprovider', example('python', 'test_schema.py')], env=settings)
+    yield 'tests of a schema', schema(room, settings)
 
 
 def by_c(room, program):
