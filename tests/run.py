@@ -20,7 +20,8 @@ PARTS = ['scripts', 'options', 'pages', 'statements', 'prefixes', 'devices']
 
 
 def files(directory):
-    return sorted(os.listdir(os.path.join(HERE, directory)))
+    """The files of a folder; the folders in it are left out."""
+    return sorted(entry.name for entry in os.scandir(os.path.join(HERE, directory)) if entry.is_file())
 
 
 def read(*path):

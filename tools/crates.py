@@ -1,6 +1,8 @@
 """The crates of this repository, and how they are proved together.
 
     crates.py build                          proves the program and all below it, and builds it
+    crates.py build --library                so for the library for C, and puts it into out/ with its header
+    crates.py library                        the same over the libraries that `rt ci` left, in the time of its own proof
     crates.py check CRATE.. [--above] [--edits] [--jobs N]
                                              proves these crates, and with --above those that depend on them
     crates.py try [WORD..]                   runs the program with these words without any proof
@@ -9,6 +11,7 @@ Progress goes to standard error. A step that fails ends the work with status 1.
 """
 import os
 import re
+import shutil
 import subprocess
 import sys
 import tempfile
@@ -19,6 +22,7 @@ import rooms
 
 ROOT = os.path.dirname(os.path.dirname(os.path.realpath(__file__)))
 PROGRAM = "sqlkeep"
+LIBRARY = "sqlkeep_c"
 
 # What `rt try` adds to the program's own lines on standard error.
 ADDED = re.compile(r"^(checked: ended status=|run=ended status=)")
@@ -87,6 +91,76 @@ def build():
     return 0
 
 
+def kit(*names):
+    """A path in the kit."""
+    return os.path.join(os.path.dirname(os.path.dirname(os.path.realpath(shutil.which("rt")))), *names)
+
+
+def put_together(archive, to):
+    """Makes libsqlkeep.a and libsqlkeep.so in a folder of the archive that rt built and the kit's, with the header."""
+    compiler = os.environ.get("CC", "cc")
+    with tempfile.TemporaryDirectory() as room:
+        for each in (archive, kit("c", "liblibc_c.a")):
+            subprocess.run(["ar", "x", each], cwd=room, check=True)
+        objects = sorted(file for file in os.listdir(room) if file.endswith(".o"))
+        subprocess.run(["ar", "rcs", "libsqlkeep.a", *objects], cwd=room, check=True)
+        subprocess.run([compiler, "-shared", "-o", "libsqlkeep.so", "-Wl,-soname,libsqlkeep.so", *objects], cwd=room, check=True)
+        for file in ("libsqlkeep.a", "libsqlkeep.so"):
+            shutil.copy2(os.path.join(room, file), to)
+    shutil.copy2(os.path.join(ROOT, "include", "sqlkeep.h"), to)
+
+
+def listed(crate):
+    """All that the line of a crate in crates.txt names, of this repository and of the kit."""
+    with open(os.path.join(ROOT, "crates.txt"), encoding="utf-8") as lines:
+        return next(line.partition(":")[2].split() for line in lines if line.split(":")[0].split()[:1] == [crate])
+
+
+def library_over_gate():
+    """Proves the library for C and builds it over the libraries that `rt ci` left, which `rt lib` would build again."""
+    named, to = crates(), os.path.join(ROOT, "out")
+    rlib = {crate: os.path.join(folder(crate), "out", "rlib") for crate in below([LIBRARY], named) - {LIBRARY}}
+    missing = [crate for crate in sorted(rlib) if not os.path.isdir(os.path.join(rlib[crate], f"{crate}.rlib"))]
+    if missing:
+        say(f"rt ci left no library of {' '.join(missing)}")
+        return 1
+    os.makedirs(os.path.join(folder(LIBRARY), "out", "incremental"), exist_ok=True)
+    os.makedirs(to, exist_ok=True)
+    archive = os.path.join(folder(LIBRARY), "out", f"lib{LIBRARY}.a")
+    words = [kit("bin", "rattle"), "build", "--crate-name", LIBRARY, "src/lib.rt", "--crate-type", "staticlib"]
+    for name in ["std", *listed(LIBRARY)]:
+        words += ["--extern", f"{name}=" + os.path.join(rlib.get(name, kit("rlibs")), f"{name}.rlib")]
+    for place in [kit("rlibs"), *rlib.values()]:
+        words += ["-L", f"dependency={place}"]
+    words += ["--antt-project", kit("rattle", "logic", "antt-project.json"), "--logic-built", kit("logic_built"), "--links", f"{LIBRARY}="]
+    words += ["--incremental", "out/incremental", "--toolchain", kit("toolchain"), "--backend", "llvm", "--jobs", "2", "-o", archive]
+    done = subprocess.run(words, cwd=folder(LIBRARY), stdin=subprocess.DEVNULL, stdout=subprocess.PIPE, stderr=subprocess.STDOUT, text=True, errors="replace", check=False)
+    if done.returncode:
+        say(done.stdout)
+        say(f"{LIBRARY}: not built")
+        return 1
+    put_together(archive, to)
+    return 0
+
+
+def build_library():
+    began = time.monotonic()
+    named = crates()
+    if not prove(below([LIBRARY], named), named, os.cpu_count() or 1):
+        return 1
+    archive = os.path.join(folder(LIBRARY), "out", f"lib{LIBRARY}.a")
+    status, output, _ = run(LIBRARY, ["lib"])
+    if status or not os.path.exists(archive):
+        say(output)
+        say(f"{LIBRARY}: not built")
+        return status or 1
+    to = os.path.join(ROOT, "out")
+    os.makedirs(to, exist_ok=True)
+    put_together(archive, to)
+    say(f"libsqlkeep.a, libsqlkeep.so and sqlkeep.h are in {to}: proved and built in {time.monotonic() - began:.0f} s")
+    return 0
+
+
 def lay_out(crate):
     """Lays out the crate's files; whether they could be read."""
     status, output, _ = run(crate, ["fmt"])
@@ -152,8 +226,12 @@ def try_program(words):
 
 
 def main(words):
-    if words[:1] == ["build"] and len(words) == 1:
+    if words == ["build"]:
         return build()
+    if words == ["build", "--library"]:
+        return build_library()
+    if words == ["library"]:
+        return library_over_gate()
     if words[:1] == ["check"]:
         return check(words[1:])
     if words[:1] == ["try"]:

@@ -49,7 +49,8 @@ def furnish(room, crate, names):
     """Lays out a room for a crate and the crates below it, and gives the crate's folder there, which has no kept work."""
     os.makedirs(os.path.join(room, "crates"))
     with open(os.path.join(ROOT, "crates.txt"), encoding="utf-8") as lines:
-        kept = [line for line in lines if line.split(":")[0] in names]
+        # A static library has the word staticlib after its name.
+        kept = [line for line in lines if line.split(":")[0].removesuffix(" staticlib") in names]
     with open(os.path.join(room, "crates.txt"), "w", encoding="utf-8") as file:
         file.writelines(kept)
     shutil.copy2(os.path.join(ROOT, "HANDLES"), room)

@@ -1,0 +1,12 @@
+use Rattle.std.proofs.Common.{refl}
+use Rattle.sqlkeep_c.proofs.statements.execute_at.Goals as goal
+
+pub returns-in-Some-clause-executed : goal.returns-in-Some-clause-executed
+returns-in-Some-clause-executed c =
+    rw (← c.in-Some.ensures) (record {
+      step_is = c.execute.ensures.step;
+      sure = c.execute.ensures.sure;
+      sure_store = c.execute.ensures.sure_store refl;
+      work = c.execute.ensures.work;
+      bounded = c.execute.ensures.bounded;
+    })

@@ -1,0 +1,9 @@
+pub mod Behind
+pub mod Calls
+pub mod Copying
+pub mod Rows
+pub mod Scripts
+pub mod Sessions
+pub mod Statements
+pub mod Texts
+pub mod Transactions

@@ -1,0 +1,79 @@
+-- What statements that were read from a text answer to C.
+use Rattle.std.specs.Prelude.{◌≡◌, ℕ, true, false, List, length, Option, Some, None, Result, Ok, Err, MatchBool, option_map}
+use Rattle.iv_catalogue.specs.declared.cause.Cause.{Cause}
+use Rattle.iv_catalogue.specs.declared.cause.Cause.TheVariants as cause
+use Rattle.iv_catalogue.specs.declared.cause.Refusal.{Refusal}
+use Rattle.iv_catalogue.specs.Refusals.{is_memory}
+use Rattle.iv_laws_rows.specs.Changing.{UnlessMemory}
+use Rattle.iv_machine.specs.declared.answer.Answer.{Answer}
+use Rattle.iv_machine.specs.declared.answer.Answer.TheVariants.{Done, Changed, Rows}
+use Rattle.iv_parse.specs.Script.{IsScript}
+use Rattle.iv_parse.specs.declared.parser.SyntaxFault.{SyntaxFault}
+use Rattle.iv_session.specs.FewLookups.{FewLookups, defines_schema}
+use Rattle.iv_session.specs.Sure.{is_rollback_to}
+use Rattle.iv_state.specs.Kept.{Seen}
+use Rattle.iv_step.specs.Step.{Executes, step, takes_no_memory}
+use Rattle.iv_syntax.specs.declared.statement.Statement.{Statement}
+use Rattle.sqlkeep_c.specs.declared.outcomes.ShownOutcome.{ShownOutcome}
+use Rattle.sqlkeep_c.specs.declared.statements.ReadScript.{ReadScript}
+
+-- the place of a fault as two numbers: whether there is one, and where
+abbrev pub place_shown : Option SyntaxFault → ℕ → ℕ → Type 0
+place_shown None has_fault fault_at = (has_fault ≡ 0) × (fault_at ≡ 0)
+place_shown (Some fault) has_fault fault_at = (has_fault ≡ 1) × (fault_at ≡ fault.at)
+
+-- The statements are those of the text, and what C reads is how many they are and the place of the fault.
+pub record IsRead (text : List ℕ) (statements : List Statement) (shown : ReadScript) : Type 0 where
+  pub fault : Option SyntaxFault
+  pub script : IsScript text statements (option_map (λ f. f.at) fault)
+  pub count : shown.statements ≡ length statements
+  pub place : place_shown fault shown.has_fault shown.fault_at
+
+-- A session executed a statement, as the clauses of `Session::execute` say it.
+pub record Executed (old : Seen) (st : Statement) (r : Result Answer Refusal) (new : Seen) : Type 0 where
+  pub step_is : Executes old.state st r new.state
+  pub sure : takes_no_memory old.state st ≡ true → is_memory r ≡ false
+  pub sure_store : is_rollback_to st ≡ true → is_memory r ≡ false
+  pub work : MatchBool (is_memory r) (Unit {0}) (new.work ≡ (step old.state st).work)
+  pub bounded : defines_schema st ≡ false → UnlessMemory r (FewLookups old.state new)
+
+-- the number of a cause
+abbrev pub number_of : Cause → ℕ
+number_of cause.Unknown = 1
+number_of cause.Duplicate = 2
+number_of cause.SchemaFault = 3
+number_of cause.InTransaction = 4
+number_of cause.NoTransaction = 5
+number_of cause.ActiveTransaction = 6
+number_of cause.UnknownSavepoint = 7
+number_of (cause.NotDeferrable c) = 8
+number_of cause.WrongShape = 9
+number_of cause.NumberOutOfRange = 10
+number_of cause.TextTooLong = 11
+number_of (cause.Restrict f) = 12
+number_of (cause.Violation f) = 13
+number_of (cause.ActionConflict f) = 14
+number_of (cause.Signal t place) = 15
+number_of (cause.DepthLimit t) = 16
+number_of cause.TooManyChanges = 17
+number_of cause.TransactionTooLarge = 18
+number_of (cause.CommitRefused f) = 19
+number_of (cause.AddRefused row) = 20
+number_of cause.Limit = 21
+number_of cause.OutOfMemory = 22
+
+-- the row that a cause speaks of, 0 where it speaks of none
+abbrev pub row_of : Cause → ℕ
+row_of (cause.Restrict f) = f.row
+row_of (cause.Violation f) = f.row
+row_of (cause.ActionConflict f) = f.row
+row_of (cause.CommitRefused f) = f.row
+row_of (cause.AddRefused row) = row
+row_of _ = 0
+
+-- an outcome in the numbers that C reads
+abbrev pub outcome_shown : Result Answer Refusal → ShownOutcome
+outcome_shown (Ok Done) = record { kind = 0; cause = 0; count = 0; row = 0 }
+outcome_shown (Ok (Changed k)) = record { kind = 1; cause = 0; count = k; row = 0 }
+outcome_shown (Ok (Rows rows)) = record { kind = 2; cause = 0; count = length rows; row = 0 }
+outcome_shown (Err r) = record { kind = 3; cause = number_of r.cause; count = 0; row = row_of r.cause }

@@ -1,0 +1,39 @@
+-- The texts of a refusal.
+use Rattle.std.specs.Prelude.{ℕ, List, [], slice_get, Option, Some, None}
+use Rattle.iv_catalogue.specs.Catalogues.{Schema, trigger_numbered}
+use Rattle.iv_catalogue.specs.declared.cause.Cause.{Cause}
+use Rattle.iv_catalogue.specs.declared.cause.Cause.TheVariants as cause
+use Rattle.iv_print.specs.Lines.{body_statement, name_of, signal_text, trigger_name}
+
+-- the constraint that a cause speaks of
+abbrev pub constraint_of : Cause → Option ℕ
+constraint_of (cause.NotDeferrable c) = Some c
+constraint_of (cause.Restrict f) = Some f.constraint
+constraint_of (cause.Violation f) = Some f.constraint
+constraint_of (cause.ActionConflict f) = Some f.constraint
+constraint_of (cause.CommitRefused f) = Some f.constraint
+constraint_of _ = None
+
+-- the trigger that a cause speaks of
+abbrev pub trigger_of : Cause → Option ℕ
+trigger_of (cause.Signal t place) = Some t
+trigger_of (cause.DepthLimit t) = Some t
+trigger_of _ = None
+
+-- or else the innermost one that was running
+abbrev pub or_inside : Option ℕ → Option ℕ → Option ℕ
+or_inside (Some t) inside = Some t
+or_inside None inside = inside
+
+abbrev pub constraint_named : Schema → Option ℕ → List ℕ
+constraint_named s None = []
+constraint_named s (Some id) = name_of (slice_get s.constraints id)
+
+abbrev pub trigger_named : Schema → Option ℕ → List ℕ
+trigger_named s None = []
+trigger_named s (Some id) = trigger_name (trigger_numbered s id)
+
+-- the text of the SIGNAL that refused a statement
+abbrev pub signal_of : Schema → Cause → List ℕ
+signal_of s (cause.Signal t place) = signal_text (body_statement (trigger_numbered s t) place)
+signal_of s _ = []

@@ -1,0 +1,25 @@
+//! What is open behind a handle.
+use iv_catalogue::Fault;
+use iv_index_store::IndexStore;
+use iv_machine::Limits;
+use iv_session::{Outcome, Session};
+use iv_syntax::Statement;
+use sqlite_items::Items;
+
+/// A session over the store that finds rows by their keys.
+pub type Database = Session<IndexStore>;
+
+/// What is open behind a handle.
+#[derive(Drop)]
+pub struct Opened {
+    pub limits: Limits,
+    pub session: Database,
+    /// The statements that were read last.
+    pub statements: Items<Statement>,
+    /// What the last statement answered.
+    pub outcome: Outcome,
+    /// The violations that were found last.
+    pub pending: Vec<Fault>,
+    /// The transcript of the last script that was run, or the lines of an outcome.
+    pub transcript: Vec<u8>,
+}

@@ -1,0 +1,204 @@
+//! Statements, one after the other in the session.
+ghost use Rattle.std.specs.Prelude.{◌≡◌, ◌≢◌, ◌<◌, length, None, false, is_some, true, IfErr, IfOk, IfSome, OnOk, option_copied, option_map, slice_get};
+ghost use Rattle.std.specs.Str.{IsUtf8};
+ghost use Rattle.iv_parse.specs.Script.{IsScript};
+ghost use Rattle.iv_print.specs.Lines.{line};
+ghost use Rattle.sqlkeep_c.specs.Calls.{Called};
+ghost use Rattle.sqlkeep_c.specs.Statements.{Executed, IsRead, outcome_shown, place_shown};
+
+use crate::handle::{Handle, put, take};
+use crate::opened::{Database, Opened};
+use crate::outcomes::{ShownOutcome, outcome_shown};
+use crate::status::{CLOSED, NO_MEMORY, NOT_UTF8, NOTHING, OK};
+use iv_catalogue::Catalogue;
+use iv_parse::{Parsed, SyntaxFault, script};
+use iv_print::{DeviceFault, Std, write_outcome};
+use iv_session::Outcome;
+use iv_syntax::Statement;
+use std::alloc::Global;
+use std::str::from_utf8;
+
+/// How many statements were read from a text, and where it has its fault.
+#[repr(C)]
+#[derive(Drop)]
+pub struct ReadScript {
+    pub statements: u64,
+    /// 1 where the text has a fault, and otherwise 0.
+    pub has_fault: u64,
+    pub fault_at: u64,
+}
+
+fn shown(count: usize, fault: Option<SyntaxFault>) -> ReadScript
+    ensures count { result.statements ≡ count }
+    ensures place { place_shown fault result.has_fault result.fault_at }
+{
+    match fault {
+        Some(fault) => ReadScript {
+            statements: count as u64,
+            has_fault: 1,
+            fault_at: fault.at as u64,
+        },
+        None => ReadScript {
+            statements: count as u64,
+            has_fault: 0,
+            fault_at: 0,
+        },
+    }
+}
+
+// The statements of a text, or the status of the call that wanted them.
+fn parsed(alloc: Global, text: &[u8]) -> Result<Parsed, u32>
+    ensures script { IfOk result (λ p. IsScript text.now p.statements (option_map (λ f. f.at) p.fault)) }
+    ensures utf8 { OnOk result (IsUtf8 text.now) }
+    ensures not_utf8 { IfErr result (λ e. e ≡ NOT_UTF8 → ¬ (IsUtf8 text.now)) }
+    ensures kinds { IfErr result (λ e. (e ≢ OK) × (e ≢ CLOSED)) }
+{
+    let Ok(text) = from_utf8(text) else {
+        return Err(NOT_UTF8);
+    };
+    match script(alloc, text) {
+        Ok(parsed) => Ok(parsed),
+        Err(_) => Err(NO_MEMORY),
+    }
+}
+
+/// Reads the statements of a text, and keeps them.
+#[unsafe(no_mangle)]
+pub extern "C" fn sqlkeep_read(
+    alloc: Global,
+    handle: &mut Handle,
+    text: &[u8],
+    script: &mut ReadScript,
+) -> u32
+    ensures script { Called handle.old.kept.behind handle.new.kept.behind (λ old new.
+        result ≡ OK → IsRead text.now new.statements script.new) }
+    ensures session { Called handle.old.kept.behind handle.new.kept.behind (λ old new.
+        (new.session ≡ old.session) × (new.limits ≡ old.limits)) }
+    ensures others { result ≢ OK → handle.new.kept.behind ≡ handle.old.kept.behind }
+    ensures closed { handle.old.kept.behind ≡ None → result ≡ CLOSED }
+    ensures utf8 { result ≡ OK → IsUtf8 text.now }
+    ensures not_utf8 { result ≡ NOT_UTF8 → ¬ (IsUtf8 text.now) }
+{
+    let Some(mut opened) = take(handle, alloc) else {
+        return CLOSED;
+    };
+    match parsed(alloc, text) {
+        Ok(Parsed { statements, fault }) => {
+            *script = shown(statements.len(), fault);
+            opened.statements = statements;
+            put(handle, opened);
+            OK
+        }
+        Err(status) => {
+            put(handle, opened);
+            status
+        }
+    }
+}
+
+fn statement_at(statements: &[Statement], at: usize) -> Option<&Statement>
+    ensures { option_copied result ≡ slice_get statements.now at }
+{
+    statements.get(at)
+}
+
+// Executes the statement at this place of a list.
+fn execute_at(session: &mut Database, statements: &[Statement], at: usize) -> Option<Outcome>
+    ensures executed { IfSome result (λ r. IfSome (slice_get statements.now at) (λ st.
+        Executed session.old st r session.new)) }
+    ensures found { is_some result ≡ is_some (slice_get statements.now at) }
+    ensures none { result ≡ None → session.new ≡ session.old }
+{
+    match statement_at(statements, at) {
+        Some(statement) => Some(session.execute(statement)),
+        None => None,
+    }
+}
+
+// Executes the statement at this place of those that were read, and keeps its outcome.
+fn execute_kept(opened: &mut Opened, at: usize) -> bool
+    ensures executed { result ≡ true → IfSome (slice_get opened.old.statements at) (λ st.
+        Executed opened.old.session st opened.new.outcome opened.new.session) }
+    ensures found { result ≡ is_some (slice_get opened.old.statements at) }
+    ensures none { result ≡ false → opened.new ≡ opened.old }
+    ensures statements { opened.new.statements ≡ opened.old.statements }
+    ensures limits { opened.new.limits ≡ opened.old.limits }
+{
+    match execute_at(&mut opened.session, opened.statements.as_slice(), at) {
+        Some(outcome) => {
+            opened.outcome = outcome;
+            true
+        }
+        None => false,
+    }
+}
+
+/// Executes a statement of those that were read, and keeps its outcome.
+#[unsafe(no_mangle)]
+pub extern "C" fn sqlkeep_execute(
+    alloc: Global,
+    handle: &mut Handle,
+    at: usize,
+    outcome: &mut ShownOutcome,
+) -> u32
+    ensures executed { Called handle.old.kept.behind handle.new.kept.behind (λ old new.
+        result ≡ OK → IfSome (slice_get old.statements at) (λ st.
+        Executed old.session st new.outcome new.session)) }
+    ensures shown { Called handle.old.kept.behind handle.new.kept.behind (λ old new.
+        result ≡ OK → outcome.new ≡ outcome_shown new.outcome) }
+    ensures statements { Called handle.old.kept.behind handle.new.kept.behind (λ old new.
+        (new.statements ≡ old.statements) × (new.limits ≡ old.limits)) }
+    ensures closed { handle.old.kept.behind ≡ None → result ≡ CLOSED }
+    ensures nothing { result ≡ NOTHING → handle.new.kept.behind ≡ handle.old.kept.behind }
+    ensures found { IfSome handle.old.kept.behind (λ old. at < length old.statements → result ≡ OK) }
+{
+    let Some(mut opened) = take(handle, alloc) else {
+        return CLOSED;
+    };
+    if !execute_kept(&mut opened, at) {
+        put(handle, opened);
+        return NOTHING;
+    }
+    *outcome = outcome_shown(&opened.outcome);
+    put(handle, opened);
+    OK
+}
+
+// The lines of an outcome, as the program writes them.
+fn lines(
+    alloc: Global,
+    number: u64,
+    outcome: &Outcome,
+    catalogue: &Catalogue,
+) -> Result<Vec<u8>, DeviceFault>
+    ensures { IfOk result (λ t. t.items ≡ line number outcome.now catalogue.now) }
+{
+    let mut writer = Std::new(Vec::new(alloc));
+    write_outcome(&mut writer, number, outcome, catalogue)?;
+    Ok(writer.into_inner())
+}
+
+/// Writes the lines of the last outcome, and keeps them as a transcript.
+#[unsafe(no_mangle)]
+pub extern "C" fn sqlkeep_lines(alloc: Global, handle: &mut Handle, number: u64) -> u32
+    ensures lines { Called handle.old.kept.behind handle.new.kept.behind (λ old new.
+        result ≡ OK → new.transcript.items ≡ line number old.outcome old.session.state.schema) }
+    ensures session { Called handle.old.kept.behind handle.new.kept.behind (λ old new.
+        (new.session ≡ old.session) × (new.outcome ≡ old.outcome) × (new.statements ≡ old.statements)) }
+    ensures closed { handle.old.kept.behind ≡ None → result ≡ CLOSED }
+    ensures others { result ≢ OK → handle.new.kept.behind ≡ handle.old.kept.behind }
+{
+    let Some(mut opened) = take(handle, alloc) else {
+        return CLOSED;
+    };
+    let written = lines(alloc, number, &opened.outcome, opened.session.catalogue());
+    let status = match written {
+        Ok(bytes) => {
+            opened.transcript = bytes;
+            OK
+        }
+        Err(_) => NO_MEMORY,
+    };
+    put(handle, opened);
+    status
+}

@@ -1,0 +1,25 @@
+//! The statuses that calls answer.
+
+/// The call did what it is for.
+pub const OK: u32 = 0;
+
+/// The handle is empty.
+pub const CLOSED: u32 = 1;
+
+/// The handle is open already.
+pub const OPEN: u32 = 2;
+
+/// The limits of a session are not in their ranges.
+pub const LIMITS: u32 = 3;
+
+/// The bytes are not UTF-8.
+pub const NOT_UTF8: u32 = 4;
+
+/// The script is longer than 1,048,576 bytes.
+pub const TOO_LONG: u32 = 5;
+
+/// Memory was refused.
+pub const NO_MEMORY: u32 = 6;
+
+/// There is nothing at this place.
+pub const NOTHING: u32 = 7;

@@ -1,0 +1,34 @@
+//! What C reads of a run.
+ghost use Rattle.sqlkeep_c.specs.Scripts.{Shows};
+
+use iv_script::Summary;
+
+/// How many statements a run accepted and refused, how many of the refused had cause 22, and where the script has its
+/// fault.
+#[repr(C)]
+#[derive(Drop)]
+pub struct RunSummary {
+    pub accepted: u64,
+    pub refused: u64,
+    pub memory_refused: u64,
+    /// 1 where the script has a fault, and otherwise 0.
+    pub has_fault: u64,
+    pub fault_at: u64,
+}
+
+/// The numbers of a summary.
+pub(crate) fn shown(summary: &Summary) -> RunSummary
+    ensures { Shows summary.now result }
+{
+    let (has_fault, fault_at) = match summary.fault {
+        Some(fault) => (1, fault.at as u64),
+        None => (0, 0),
+    };
+    RunSummary {
+        accepted: summary.accepted,
+        refused: summary.refused,
+        memory_refused: summary.memory_refused,
+        has_fault,
+        fault_at,
+    }
+}

@@ -1,0 +1,163 @@
+//! Transactions, by calls.
+ghost use Rattle.std.specs.Prelude.{◌≡◌, [], false, is_some, IfSome};
+ghost use Rattle.std.specs.Str.{IsUtf8};
+ghost use Rattle.iv_machine.specs.declared.database.Which.TheVariants.{All};
+ghost use Rattle.iv_machine.specs.Databases.{is_chosen, scan};
+ghost use Rattle.iv_machine.specs.Machine.{rollback_outcome};
+ghost use Rattle.sqlkeep_c.specs.Calls.{Called};
+ghost use Rattle.sqlkeep_c.specs.Transactions.{Committed, RolledBackTo};
+ghost use Rattle.sqlkeep_c.specs.Statements.{outcome_shown};
+ghost use Rattle.iv_session.specs.FewLookups.{FewLookups};
+
+use crate::handle::{Handle, put, take};
+use crate::opened::{Database, Opened};
+use crate::outcomes::{ShownOutcome, outcome_shown};
+use crate::status::{CLOSED, NOT_UTF8, OK};
+use iv_catalogue::{Cause, Refusal};
+use iv_session::{Answer, Outcome};
+use std::alloc::Global;
+use std::str::from_utf8;
+
+/// What the last statement or call did: how many row changes it made and undid, and how many keys it looked up.
+#[repr(C)]
+#[derive(Drop)]
+pub struct ShownWork {
+    pub changes: u64,
+    pub undone: u64,
+    pub lookups: u64,
+}
+
+// COMMIT, with its answer as that of a statement.
+fn commit(session: &mut Database) -> Outcome
+    ensures { Committed session.old result session.new }
+{
+    match session.commit() {
+        Ok(()) => Ok(Answer::Done),
+        Err(fault) => Err(Refusal::of(Cause::CommitRefused(fault))),
+    }
+}
+
+// COMMIT, of which the outcome is kept.
+fn commit_kept(opened: &mut Opened)
+    ensures { Committed opened.old.session opened.new.outcome opened.new.session }
+{
+    opened.outcome = commit(&mut opened.session);
+}
+
+/// COMMIT: ends the transaction, and keeps the outcome. It takes no memory.
+#[unsafe(no_mangle)]
+pub extern "C" fn sqlkeep_commit(
+    alloc: Global,
+    handle: &mut Handle,
+    outcome: &mut ShownOutcome,
+) -> u32
+    ensures committed { Called handle.old.kept.behind handle.new.kept.behind (λ old new.
+        Committed old.session new.outcome new.session) }
+    ensures shown { Called handle.old.kept.behind handle.new.kept.behind (λ old new.
+        outcome.new ≡ outcome_shown new.outcome) }
+    ensures closed { is_some handle.old.kept.behind ≡ false → result ≡ CLOSED }
+{
+    let Some(mut opened) = take(handle, alloc) else {
+        return CLOSED;
+    };
+    commit_kept(&mut opened);
+    *outcome = outcome_shown(&opened.outcome);
+    put(handle, opened);
+    OK
+}
+
+/// ROLLBACK: ends the transaction. It takes no memory.
+#[unsafe(no_mangle)]
+pub extern "C" fn sqlkeep_rollback(alloc: Global, handle: &mut Handle) -> u32
+    ensures state { Called handle.old.kept.behind handle.new.kept.behind (λ old new.
+        new.session.state ≡ (rollback_outcome old.session.state).state) }
+    ensures work { Called handle.old.kept.behind handle.new.kept.behind (λ old new.
+        new.session.work ≡ (rollback_outcome old.session.state).work) }
+    ensures bounded { Called handle.old.kept.behind handle.new.kept.behind (λ old new.
+        FewLookups old.session.state new.session) }
+    ensures closed { is_some handle.old.kept.behind ≡ false → result ≡ CLOSED }
+{
+    let Some(mut opened) = take(handle, alloc) else {
+        return CLOSED;
+    };
+    opened.session.rollback();
+    put(handle, opened);
+    OK
+}
+
+/// ROLLBACK TO SAVEPOINT, and keeps the outcome. It takes no memory.
+#[unsafe(no_mangle)]
+pub extern "C" fn sqlkeep_rollback_to(
+    alloc: Global,
+    handle: &mut Handle,
+    name: &[u8],
+    outcome: &mut ShownOutcome,
+) -> u32
+    ensures performs { Called handle.old.kept.behind handle.new.kept.behind (λ old new. result ≡ OK
+        → RolledBackTo name.now old.session new.outcome new.session) }
+    ensures shown { Called handle.old.kept.behind handle.new.kept.behind (λ old new. result ≡ OK
+        → outcome.new ≡ outcome_shown new.outcome) }
+    ensures closed { is_some handle.old.kept.behind ≡ false → result ≡ CLOSED }
+    ensures utf8 { result ≡ OK → IsUtf8 name.now }
+    ensures not_utf8 { result ≡ NOT_UTF8
+        → ¬ (IsUtf8 name.now) × (handle.new.kept.behind ≡ handle.old.kept.behind) }
+{
+    let Some(mut opened) = take(handle, alloc) else {
+        return CLOSED;
+    };
+    let Ok(name) = from_utf8(name) else {
+        put(handle, opened);
+        return NOT_UTF8;
+    };
+    opened.outcome = opened.session.rollback_to(name);
+    *outcome = outcome_shown(&opened.outcome);
+    put(handle, opened);
+    OK
+}
+
+/// Whether a transaction is open.
+#[unsafe(no_mangle)]
+pub extern "C" fn sqlkeep_in_transaction(
+    alloc: Global,
+    handle: &mut Handle,
+    is_open: &mut bool,
+) -> u32
+    ensures open { IfSome handle.old.kept.behind (λ old.
+        is_open.new ≡ is_some old.session.state.start) }
+    // Outside a transaction no constraint is violated.
+    ensures unviolated { IfSome handle.old.kept.behind (λ old. is_open.new ≡ false
+        → scan old.session.state.database.rows old.session.state.schema.constraints
+        (is_chosen old.session.state.modes All) ≡ []) }
+    ensures kept { handle.new.kept.behind ≡ handle.old.kept.behind }
+    ensures closed { is_some handle.old.kept.behind ≡ false → result ≡ CLOSED }
+{
+    let Some(opened) = take(handle, alloc) else {
+        return CLOSED;
+    };
+    *is_open = opened.session.in_transaction();
+    put(handle, opened);
+    OK
+}
+
+/// What the last statement or call did.
+#[unsafe(no_mangle)]
+pub extern "C" fn sqlkeep_work(alloc: Global, handle: &mut Handle, work: &mut ShownWork) -> u32
+    ensures work { IfSome handle.old.kept.behind (λ old.
+        record { changes = work.new.changes; undone = work.new.undone } ≡ old.session.work) }
+    ensures lookups { IfSome handle.old.kept.behind (λ old.
+        work.new.lookups ≡ old.session.lookups) }
+    ensures kept { handle.new.kept.behind ≡ handle.old.kept.behind }
+    ensures closed { is_some handle.old.kept.behind ≡ false → result ≡ CLOSED }
+{
+    let Some(opened) = take(handle, alloc) else {
+        return CLOSED;
+    };
+    let done = opened.session.work();
+    *work = ShownWork {
+        changes: done.changes,
+        undone: done.undone,
+        lookups: done.lookups,
+    };
+    put(handle, opened);
+    OK
+}

@@ -1,0 +1,87 @@
+//! The violations of deferred constraints: what COMMIT would find.
+ghost use Rattle.std.specs.Prelude.{◌≡◌, ◌≢◌, length, slice_get, None, Some, IfOk, IfSome, OnErr};
+ghost use Rattle.iv_machine.specs.declared.database.Which.TheVariants.{Deferred};
+ghost use Rattle.iv_machine.specs.Databases.{is_chosen, scan};
+ghost use Rattle.sqlkeep_c.specs.Calls.{Called};
+ghost use Rattle.sqlkeep_c.specs.Copying.{Copies};
+ghost use Rattle.sqlkeep_c.specs.Texts.{constraint_named};
+
+use crate::copying::copied;
+use crate::handle::{Handle, put, take};
+use crate::opened::Opened;
+use crate::status::{CLOSED, NO_MEMORY, NOTHING, OK};
+use crate::texts::constraint_named;
+use std::alloc::{AllocError, Global};
+
+fn kept(opened: &mut Opened) -> Result<usize, AllocError>
+    ensures faults { IfOk result (λ _. opened.new.pending.items ≡
+        scan opened.old.session.state.database.rows opened.old.session.state.schema.constraints
+        (is_chosen opened.old.session.state.modes Deferred)) }
+    ensures count { IfOk result (λ n. n ≡ length opened.new.pending.items) }
+    ensures session { opened.new.session ≡ opened.old.session }
+    ensures limits { opened.new.limits ≡ opened.old.limits }
+    ensures others { OnErr result (opened.new ≡ opened.old) }
+{
+    opened.pending = opened.session.pending()?;
+    Ok(opened.pending.len())
+}
+
+/// Looks for the violations of deferred constraints, and keeps them, by the constraint's creation, then by row.
+#[unsafe(no_mangle)]
+pub extern "C" fn sqlkeep_pending(alloc: Global, handle: &mut Handle, count: &mut usize) -> u32
+    ensures faults { Called handle.old.kept.behind handle.new.kept.behind (λ old new. result ≡ OK
+        → new.pending.items ≡ scan old.session.state.database.rows old.session.state.schema.constraints
+        (is_chosen old.session.state.modes Deferred)) }
+    ensures count { Called handle.old.kept.behind handle.new.kept.behind (λ old new. result ≡ OK
+        → count.new ≡ length new.pending.items) }
+    ensures session { Called handle.old.kept.behind handle.new.kept.behind (λ old new.
+        (new.session ≡ old.session) × (new.limits ≡ old.limits)) }
+    ensures others { result ≢ OK → handle.new.kept.behind ≡ handle.old.kept.behind }
+    ensures closed { handle.old.kept.behind ≡ None → result ≡ CLOSED }
+{
+    let Some(mut opened) = take(handle, alloc) else {
+        return CLOSED;
+    };
+    let done = kept(&mut opened);
+    put(handle, opened);
+    match done {
+        Ok(found) => {
+            *count = found;
+            OK
+        }
+        Err(_) => NO_MEMORY,
+    }
+}
+
+/// The row of a violation of those that were found, and the name of its constraint.
+#[unsafe(no_mangle)]
+pub extern "C" fn sqlkeep_violation(
+    alloc: Global,
+    handle: &mut Handle,
+    at: usize,
+    row: &mut u64,
+    buffer: &mut [u8],
+    count: &mut usize,
+) -> u32
+    ensures row { IfSome handle.old.kept.behind (λ old. IfSome (slice_get old.pending.items at) (λ fault.
+        (result ≡ OK) × (row.new ≡ fault.row))) }
+    ensures constraint { IfSome handle.old.kept.behind (λ old. IfSome (slice_get old.pending.items at) (λ fault.
+        Copies 0 (constraint_named old.session.state.schema (Some fault.constraint)) buffer.old buffer.new count.new)) }
+    ensures kept { handle.new.kept.behind ≡ handle.old.kept.behind }
+    ensures closed { handle.old.kept.behind ≡ None → result ≡ CLOSED }
+{
+    let Some(opened) = take(handle, alloc) else {
+        return CLOSED;
+    };
+    let status = match opened.pending.get(at) {
+        Some(fault) => {
+            *row = fault.row;
+            let name = constraint_named(opened.session.catalogue(), Some(fault.constraint));
+            *count = copied(name, 0, buffer);
+            OK
+        }
+        None => NOTHING,
+    };
+    put(handle, opened);
+    status
+}

@@ -1,0 +1,242 @@
+/* sqlkeep: an in-memory SQL engine for integrity constraints, for C11, C++17 and later.
+
+   A session is a database in memory with its transaction. A caller holds it by a handle, a struct sqlkeep that the
+   caller owns, and that is empty until sqlkeep_open opens it:
+
+       sqlkeep session = SQLKEEP_EMPTY;
+       if (sqlkeep_open(&session, 16, 65536) == SQLKEEP_OK) {
+           ...
+           sqlkeep_close(&session);
+       }
+
+   Every function answers a status, one of enum sqlkeep_status. Where it isn't SQLKEEP_OK, nothing was changed and no
+   result was written, unless the comment of the function says otherwise. A statement that the database refuses is no
+   failed call: the call answers SQLKEEP_OK, and the outcome says why the statement was refused.
+
+   The library is proved for callers that keep these rules. Nothing checks that a C program keeps them.
+
+   - No pointer is null, also where a length or a size is 0. A pointer to a handle or to a result leads to an object of
+     its type; `text` and `name` lead to `length` bytes that can be read, `buffer` to `size` bytes that can be written. A length or
+     a size is less than 2 to the power of 63.
+   - A handle is SQLKEEP_EMPTY, or what the functions of this library left in it. It may be moved to another place in
+     memory, but it isn't copied and used twice, and its members are neither read nor written.
+   - The handle, the results and the buffer of one call don't overlap. The library reads and writes them during the
+     call alone, and keeps no pointer to them: all that a caller passes stays the caller's own.
+   - All memory that the library takes belongs to an open handle. sqlkeep_close frees it; a handle that is dropped
+     without that leaks it.
+   - All calls for one handle are made on the thread that opened it. Different threads may use different handles at the same
+     time, and no call for one handle changes another.
+   - No function is called from a signal handler, nor in a child that was forked from a process with threads.
+   - The library takes memory by malloc and realloc, and frees it by free. These three belong together, and the memory
+     is aligned as the C standard says.
+
+   No function ends the process, and none writes to a file. */
+#ifndef SQLKEEP_H
+#define SQLKEEP_H
+
+#include <stdbool.h>
+#include <stddef.h>
+#include <stdint.h>
+
+#ifdef __cplusplus
+extern "C" {
+#endif
+
+/* What a call answers. */
+enum sqlkeep_status {
+    SQLKEEP_OK = 0,
+    /* The handle is empty. */
+    SQLKEEP_CLOSED = 1,
+    /* The handle is open already. */
+    SQLKEEP_OPEN = 2,
+    /* A limit of the session isn't in its range. */
+    SQLKEEP_LIMITS = 3,
+    /* The text or the name isn't UTF-8. */
+    SQLKEEP_NOT_UTF8 = 4,
+    /* The script is longer than 1,048,576 bytes. */
+    SQLKEEP_TOO_LONG = 5,
+    /* The library wanted memory and got none. */
+    SQLKEEP_NO_MEMORY = 6,
+    /* There is nothing at this place. */
+    SQLKEEP_NOTHING = 7
+};
+
+/* A handle of a session. */
+typedef struct sqlkeep {
+    bool is_open;
+    void *inside;
+} sqlkeep;
+
+/* An empty handle. */
+#define SQLKEEP_EMPTY {false, NULL}
+
+/* What a script did. */
+typedef struct sqlkeep_summary {
+    /* How many statements were accepted, and how many were refused. */
+    uint64_t accepted;
+    uint64_t refused;
+    /* How many of the refused had cause 22: memory was refused. */
+    uint64_t memory_refused;
+    /* 1 where something is left of the text that is no statement, else 0; and the byte, from 0, where that begins. */
+    uint64_t has_fault;
+    uint64_t fault_at;
+} sqlkeep_summary;
+
+/* What was read of a text. */
+typedef struct sqlkeep_script {
+    /* How many statements there are. */
+    uint64_t statements;
+    /* 1 where something is left of the text that is no statement, else 0; and the byte, from 0, where that begins. */
+    uint64_t has_fault;
+    uint64_t fault_at;
+} sqlkeep_script;
+
+/* What a statement answered. */
+enum sqlkeep_kind {
+    SQLKEEP_DONE = 0,
+    /* It inserted, updated or deleted rows. */
+    SQLKEEP_CHANGED = 1,
+    /* It was a query, and gave rows. */
+    SQLKEEP_ROWS = 2,
+    SQLKEEP_REFUSED = 3
+};
+
+/* The outcome of a statement. */
+typedef struct sqlkeep_outcome {
+    /* One of enum sqlkeep_kind. */
+    uint32_t kind;
+    /* The number of the cause of a refusal, 1 to 22, as docs/language/refusals.md has them; otherwise 0. */
+    uint32_t cause;
+    /* How many rows were changed, or how many a query gave; otherwise 0. */
+    uint64_t count;
+    /* The row that the cause of a refusal speaks of; 0 where it speaks of none. */
+    uint64_t row;
+} sqlkeep_outcome;
+
+/* The kind of a value. */
+enum sqlkeep_value_kind {
+    SQLKEEP_NULL = 0,
+    SQLKEEP_INTEGER = 1,
+    SQLKEEP_TEXT = 2
+};
+
+/* A value of a row. */
+typedef struct sqlkeep_cell {
+    /* One of enum sqlkeep_value_kind. */
+    uint64_t kind;
+    /* The integer; 0 where it is none. */
+    int64_t integer;
+    /* How many bytes the text has; 0 where it is none. */
+    uint64_t length;
+} sqlkeep_cell;
+
+/* What the last statement or call did. */
+typedef struct sqlkeep_done {
+    /* How many row changes it made, those of triggers and actions too, and how many it undid. */
+    uint64_t changes;
+    uint64_t undone;
+    /* How many keys it looked up. */
+    uint64_t lookups;
+} sqlkeep_done;
+
+/* Opens a session over a database without tables. Triggers may nest `depth` deep, 1 to 32, and a statement may make
+   `changes` row changes, 1 to 65,536; the program has 16 and 65,536.
+   SQLKEEP_OPEN: the handle is open. SQLKEEP_LIMITS: a limit isn't in its range. SQLKEEP_NO_MEMORY. */
+uint32_t sqlkeep_open(sqlkeep *handle, uint8_t depth, uint32_t changes);
+
+/* Closes the session, frees all that it holds, and leaves the handle empty. An open transaction is lost with the
+   database. SQLKEEP_CLOSED: the handle was empty. */
+uint32_t sqlkeep_close(sqlkeep *handle);
+
+/* Runs a whole script as the program does: in a new database of its own, with the limits of this session. The
+   transcript is kept in the handle for sqlkeep_transcript, in place of the last one. The database of the session is neither
+   read nor changed. A statement for which there is no memory is refused with cause 22.
+   SQLKEEP_CLOSED, SQLKEEP_NOT_UTF8, SQLKEEP_TOO_LONG, SQLKEEP_NO_MEMORY: the last transcript stays. */
+uint32_t sqlkeep_run(sqlkeep *handle, const uint8_t *text, size_t length, sqlkeep_summary *summary);
+
+/* Copies bytes of the transcript to the buffer, from byte `from` on: as many as there are and as fit. Their number is
+   written to `copied`, 0 at the end. The bytes are UTF-8, and no zero byte is added. SQLKEEP_CLOSED. */
+uint32_t sqlkeep_transcript(sqlkeep *handle, size_t from, uint8_t *buffer, size_t size, size_t *copied);
+
+/* ---- statements, one after the other in the session
+
+   A text is read into statements first, and then each of them is executed by its place, as often as is wanted. The
+   statements stay until the next text is read, and the outcome of a statement until the next statement or COMMIT. */
+
+/* Reads the statements of a text and keeps them, in place of those before. Nothing is executed.
+   SQLKEEP_CLOSED, SQLKEEP_NOT_UTF8, SQLKEEP_NO_MEMORY. */
+uint32_t sqlkeep_read(sqlkeep *handle, const uint8_t *text, size_t length, sqlkeep_script *script);
+
+/* Executes the statement at this place, from 0, of those that were read. SQLKEEP_OK says that it was executed, also where it
+   was refused: then `outcome->kind` is SQLKEEP_REFUSED. Where memory was refused, the cause is 22, the database is as
+   before, and the statement may be executed again.
+   SQLKEEP_CLOSED; SQLKEEP_NOTHING: there are fewer statements. */
+uint32_t sqlkeep_execute(sqlkeep *handle, size_t at, sqlkeep_outcome *outcome);
+
+/* Writes the lines of the last outcome as the program does, with this number in front, and keeps them for
+   sqlkeep_transcript. It is to be called before the next statement. SQLKEEP_CLOSED, SQLKEEP_NO_MEMORY. */
+uint32_t sqlkeep_lines(sqlkeep *handle, uint64_t number);
+
+/* ---- the rows of a query
+
+   These read the last outcome, as long as it is there. Rows and columns count from 0. */
+
+/* How many values a row has. SQLKEEP_CLOSED; SQLKEEP_NOTHING: there is no such row. */
+uint32_t sqlkeep_columns(sqlkeep *handle, size_t row, size_t *count);
+
+/* The value in a row and a column. SQLKEEP_CLOSED; SQLKEEP_NOTHING: there is no such value. */
+uint32_t sqlkeep_value(sqlkeep *handle, size_t row, size_t column, sqlkeep_cell *value);
+
+/* Copies bytes of a text to the buffer, from byte `from` on, as sqlkeep_transcript does.
+   SQLKEEP_CLOSED; SQLKEEP_NOTHING: there is no such value. */
+uint32_t sqlkeep_value_text(sqlkeep *handle, size_t row, size_t column, size_t from, uint8_t *buffer, size_t size, size_t *copied);
+
+/* ---- why the last statement was refused
+
+   Each copies bytes of a text to the buffer, from byte `from` on, as sqlkeep_transcript does. Where the cause speaks of no
+   constraint, no trigger or no SIGNAL, the text is empty.
+   SQLKEEP_CLOSED; SQLKEEP_NOTHING: the last outcome is no refusal. */
+
+/* The number of the cause and its name, as "13 Violation". */
+uint32_t sqlkeep_cause(sqlkeep *handle, size_t from, uint8_t *buffer, size_t size, size_t *copied);
+
+/* The name of the constraint. */
+uint32_t sqlkeep_constraint(sqlkeep *handle, size_t from, uint8_t *buffer, size_t size, size_t *copied);
+
+/* The name of the trigger that the cause speaks of, or else of the innermost one that was running. */
+uint32_t sqlkeep_trigger(sqlkeep *handle, size_t from, uint8_t *buffer, size_t size, size_t *copied);
+
+/* The text of the SIGNAL. */
+uint32_t sqlkeep_signal(sqlkeep *handle, size_t from, uint8_t *buffer, size_t size, size_t *copied);
+
+/* ---- transactions */
+
+/* COMMIT, with the outcome of the statement. It takes no memory. SQLKEEP_CLOSED. */
+uint32_t sqlkeep_commit(sqlkeep *handle, sqlkeep_outcome *outcome);
+
+/* ROLLBACK. It takes no memory. SQLKEEP_CLOSED. */
+uint32_t sqlkeep_rollback(sqlkeep *handle);
+
+/* ROLLBACK TO SAVEPOINT, with the outcome of the statement; the name as it is folded, in upper case. It takes no memory.
+   SQLKEEP_CLOSED, SQLKEEP_NOT_UTF8. */
+uint32_t sqlkeep_rollback_to(sqlkeep *handle, const uint8_t *name, size_t length, sqlkeep_outcome *outcome);
+
+/* Whether a transaction is open. SQLKEEP_CLOSED. */
+uint32_t sqlkeep_in_transaction(sqlkeep *handle, bool *is_open);
+
+/* What the last statement or call did. SQLKEEP_CLOSED. */
+uint32_t sqlkeep_work(sqlkeep *handle, sqlkeep_done *work);
+
+/* Looks for the rows that violate deferred constraints, what COMMIT would find first at place 0, and keeps them until the
+   next look. Their number is written to `count`. SQLKEEP_CLOSED, SQLKEEP_NO_MEMORY. */
+uint32_t sqlkeep_pending(sqlkeep *handle, size_t *count);
+
+/* The number of the row of a violation that was found, and the name of its constraint as far as it fits. It is to be called
+   before the next statement. SQLKEEP_CLOSED; SQLKEEP_NOTHING: there is no violation at this place. */
+uint32_t sqlkeep_violation(sqlkeep *handle, size_t at, uint64_t *row, uint8_t *buffer, size_t size, size_t *copied);
+
+#ifdef __cplusplus
+}
+#endif
+
+#endif
