@@ -30,7 +30,7 @@ sys.path.insert(0, os.path.join(ROOT, "tools"))
 import crates as repository
 import rooms
 
-FUNCTION = re.compile(r"^( *)(?:pub(?:\([a-z]+\))? )?(?:const )?fn (\w+)", re.M)
+FUNCTION = re.compile(r"^( *)(?:pub(?:\([a-z]+\))? )?(?:const )?(?:extern \"C\" )?fn (\w+)", re.M)
 # The body of a function that has clauses: the layout has its braces on lines of their own.
 BODY = re.compile(r"^( *)\{\n.*?^\1\}\n", re.M | re.S)
 # A function outside of every `impl` that no other crate can call, and how a function is to be proved.
