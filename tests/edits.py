@@ -9,11 +9,13 @@ that calls another edited one isn't judged in the same round: a line `round: N` 
 one. A round is made on a copy of the crate, over the work that a check kept, and one `rt check` has to name every
 edited function as refused. The last line is `N passed, N failed`.
 
-The file tests/edits/DIGESTS has a digest for each crate whose edits were all refused: of the edits, of the crate and of
-the modules that it names in the crates below, and they in turn, without tests, comments and the breaks of lines of code;
-of the crates below also without private functions, tactics and the bodies of functions that have a contract, and without
-imports for these, since a proof above sees the contracts of public functions alone. Where it is still the same the edits aren't tried again, except with --all; where they are tried and all
-are refused it is written anew. A crate that is tried is proved first where its kept work is missing or old."""
+The file tests/edits/DIGESTS has a digest for each crate whose edits were all refused: of the edits, of the crate, and of
+what it names in the crates below, and that in turn: modules of proofs and definitions, and of code the files that define
+a name or have an `impl` of it. Tests, comments and the breaks of lines of code are no part of it; of the crates below
+neither are private functions, tactics, the bodies of functions that have a contract, and imports for these, since a proof
+above sees the contracts of public functions alone. Where it is still the same the edits aren't tried again, except with
+--all; where they are tried and all are refused it is written anew. A crate that is tried is proved first where its kept
+work is missing or old."""
 import argparse
 import functools
 import hashlib
