@@ -544,7 +544,7 @@ def cases():
     yield Case('32,000 such keys with a child each', colliding_children)
     yield Case('256 triggers on one table, and 200 statements', lambda: row_triggers(200))
     yield Case('256 BEFORE triggers over 20,000 rows', before_triggers)
-    yield Case('255 triggers of another table, beside 630,000 nested statements', lambda: triggers_of_another(30))
+    yield Case('255 triggers of another table, beside 1,260,000 nested statements', lambda: triggers_of_another(60))
     yield Case('a chain of 64 tables of 1,023 rows', chain)
     yield Case('a chain of 64 tables of one row, 2,000 times', lambda: chain_of_one(2_000))
     yield Case('triggers that fire each other to the depth', to_the_depth)
