@@ -469,6 +469,18 @@ def one_parent(rows):
     return ';'.join(texts) + ';', answered(*answers, 'refused 13 Violation C_C1 row %d' % (half + 3), 'end rolled back')
 
 
+def few_left(rows):
+    """So many rows, of which all but each 4,000th are deleted; statements that look through those that are left, in the same transaction; then all come
+    back."""
+    left = rows // 4_000
+    texts = ['CREATE TABLE t (a INT)', 'INSERT INTO t VALUES ' + ','.join('(%d)' % (n % 4_000 == 0) for n in range(1, rows + 1)), 'COMMIT']
+    texts += ['DELETE FROM t WHERE a = 0']
+    pair, last = ['SELECT COUNT(*) FROM t WHERE a = 1', 'UPDATE t SET a = 1 WHERE a = 1'], ['ROLLBACK', 'SELECT COUNT(*) FROM t WHERE a = 0']
+    times = (SIZE - sum(len(text) + 1 for text in texts + last)) // sum(len(text) + 1 for text in pair)
+    answers = ['ok', 'ok %d' % rows, 'ok', 'ok %d' % (rows - left), *['rows 1', '| %d' % left, 'ok %d' % left] * times]
+    return ';'.join(texts + pair * times + last) + ';', answered(*answers, 'ok', 'rows 1', '| %d' % (rows - left))
+
+
 def mended(rows):
     """So many rows that violate a deferred CHECK, of which the later half is mended before the earlier."""
     half = rows // 2
@@ -557,6 +569,7 @@ def cases():
     yield Case('expressions and conditions of depth 64', deepest_expressions)
     yield Case('8,000 rows that violate 64 constraints each', many_violations)
     yield Case('10,000 children of one parent', lambda: one_parent(10_000))
+    yield Case('60,000 rows of which 15 are left, looked through 24,000 times', lambda: few_left(60_000))
     yield Case('30,000 rows that violate one constraint, the later half mended', lambda: mended(30_000))
     yield Case('4,096 constraints', many_constraints)
     yield Case('4,032 foreign keys to one table', many_foreign_keys)

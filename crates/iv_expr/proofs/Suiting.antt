@@ -44,7 +44,7 @@ variable_sorted None row c h = tt
 variable_sorted (Some kinds) None c h = absurd h
 variable_sorted (Some kinds) (Some row) c h = column_sorted kinds row c h
 
-range_suits : (kinds : List (List Kind)) (rows : List (List Value)) (n : ℕ) → RangesSuit kinds rows → VariableSuits (slice_get kinds n) (slice_get rows n)
+pub range_suits : (kinds : List (List Kind)) (rows : List (List Value)) (n : ℕ) → RangesSuit kinds rows → VariableSuits (slice_get kinds n) (slice_get rows n)
 range_suits [] rows n h = tt
 range_suits (k ∷ ks) [] n h = absurd h
 range_suits (k ∷ ks) (r ∷ rs) zero h = h.0

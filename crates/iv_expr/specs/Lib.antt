@@ -4,5 +4,8 @@ pub mod Scopes
 pub mod Evaluation
 pub mod References
 pub mod Suiting
+pub mod Searches
+pub mod Asking
+pub mod Found
 pub mod Changes
 pub mod Worked

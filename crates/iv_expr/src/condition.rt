@@ -14,8 +14,8 @@ use crate::scope::{Frame, Rows, Scope};
 use crate::tree::{Cond, ExprFault, Range, Side};
 use iv_value::{Truth, Value};
 
-/// The truth of a condition in a scope. Both sides of every operator are evaluated, and all rows of every EXISTS.
-/// It takes no memory.
+/// The truth of a condition in a scope. Both sides of every operator are evaluated, and all rows of every EXISTS,
+/// but those that another key than the one asked for leaves out. It takes memory only to search by a key.
 pub fn truth<R: Rows>(cond: &Cond, scope: &Scope<'_, R>) -> Result<Truth, ExprFault>
     ensures value { result ≡ truth_at scope.now cond.now }
     ensures suited { Suits scope.now cond.now → result ≢ Err fault.IllTyped }
@@ -54,7 +54,7 @@ fn truth_in<R: Rows>(cond: &Cond, scope: &Scope<'_, R>) -> Result<Truth, ExprFau
     }
 }
 
-// Whether a condition is true at a row of a table.
+// Whether a condition is true at a row of a table. It looks only at the rows of a key that the condition asks for.
 #[cycle(truth_in)]
 fn exists_in_table<R: Rows>(
     table: TableId,
@@ -66,8 +66,9 @@ fn exists_in_table<R: Rows>(
 {
     let mut found = false;
     let mut after = 0;
-    (&*scope).known();
-    while let Some((number, row)) = (&*scope).scan(table, after) {
+    let search = (&*scope).search(table, &*cond);
+    search.known();
+    while let Some((number, row)) = search.next(after) {
         after = number;
         let ranges = (&*scope).ranges_with(row);
         match truth_in(&*cond, &(&*scope).over(&ranges)) {

@@ -1,14 +1,17 @@
 //! What names mean where an expression is evaluated.
-ghost use Rattle.std.specs.Prelude.{◌≡◌, ℕ, List, Option, [], ◌∷◌, slice_get};
+ghost use Rattle.std.specs.Prelude.{◌≡◌, ℕ, List, Option, [], ◌∷◌, slice_get, IfSome};
 ghost use Rattle.std.specs.Option.{option_map, option_copied};
 ghost use Rattle.iv_expr.specs.References.{outer};
 ghost use Rattle.iv_expr.specs.Scopes.{Rises, no_frame, numbered, row_above, scope_of, table_rows, variable_of};
+ghost use Rattle.iv_expr.specs.Searches.{AllFit, AreHolders};
 ghost use Rattle.iv_expr.specs.declared.row.StoredRow.{StoredRow};
 
 use crate::number::TableId;
 use crate::row::Change;
 use crate::tree::Side;
-use iv_value::Value;
+use iv_numbers::HeldRows;
+use iv_value::{Kind, Value};
+use std::alloc::Global;
 use std::marker::Model;
 
 /// Tables whose rows are read one after another.
@@ -23,6 +26,28 @@ pub trait Rows {
     fn scan(&self, table: TableId, after: u64) -> Option<(u64, &[Value])>
         ensures { option_map (λ r. (r.0, r.1.now)) result
             ≡ option_map numbered (row_above after (table_rows (rows self.now) table)) };
+
+    /// The kinds of a table's columns, where each of its rows is known to be of them.
+    fn known_kinds(&self, table: TableId) -> Option<TableKinds<'_>>
+        ensures { IfSome result (λ known. AllFit known.kinds.now (table_rows (rows self.now) table)) }
+    {
+        None
+    }
+
+    /// The rows of a table among which are all that have these values, column by column; null stands for any. Nothing
+    /// where no key is kept that leads to them.
+    fn holders(&self, table: TableId, asked: &[Value]) -> Option<HeldRows<'_>>
+        ensures { IfSome result (λ numbers. AreHolders asked.now (table_rows (rows self.now) table) numbers) }
+    {
+        None
+    }
+}
+
+/// The kinds of a table's columns, and where a search takes its memory from.
+#[derive(Drop)]
+pub struct TableKinds<'a> {
+    pub kinds: &'a [Kind],
+    pub alloc: Global,
 }
 
 /// What the body of a trigger sees: the row variables, and the changes of its transition tables.
@@ -131,7 +156,7 @@ impl<'a> Ranges<'a> {
 /// What names mean, lent without copies.
 #[derive(Drop)]
 pub struct Scope<'a, R: Rows> {
-    rows: &'a R,
+    pub(crate) rows: &'a R,
     frame: &'a Frame<'a>,
     ranges: Option<&'a Ranges<'a>>,
 }
@@ -175,6 +200,13 @@ impl<'a, R: Rows> Scope<'a, R> {
             ≡ option_map numbered (row_above after (table_rows self.now.rows table)) }
     {
         self.rows.scan(table, after)
+    }
+
+    /// The kinds of a table's columns, where each of its rows is known to be of them.
+    pub fn known_kinds(&self, table: TableId) -> Option<TableKinds<'_>>
+        ensures { IfSome result (λ known. AllFit known.kinds.now (table_rows self.now.rows table)) }
+    {
+        self.rows.known_kinds(table)
     }
 
     /// The changes of the transition tables.

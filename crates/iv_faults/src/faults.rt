@@ -155,6 +155,16 @@ impl Faults {
         self.constraints.as_slice()
     }
 
+    /// The numbers of the constraints on a table that are no foreign keys. No clause tells which they are.
+    pub fn on_table(&self, table: TableId) -> &[u32] {
+        keys_of(self.tables.as_slice(), table)
+    }
+
+    /// The numbers of the foreign keys that are on a table or refer to it. No clause tells which they are.
+    pub fn foreign_keys_of(&self, table: TableId) -> &[u32] {
+        foreign_keys_of(self.tables.as_slice(), table)
+    }
+
     /// Fills the groups of a constraint that is to be watched next with the rows of its table, and finds the first row
     /// that violates it. It looks at each row of the table twice, and counts the look-ups.
     pub fn fill<R: Rows>(

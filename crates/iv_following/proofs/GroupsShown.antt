@@ -7,7 +7,7 @@ use Rattle.iv_following.specs.Words.{Value}
 use Rattle.iv_value.specs.Values.{all_same}
 use Rattle.iv_laws_levels.proofs.RowNumbers.{some_none, some_same}
 use Rattle.iv_laws_levels.proofs.Keys.{all_same_is, all_same_itself, all_same_swap}
-use Rattle.iv_index.specs.Rows.{Rows, IsRising, added, has_row, put, removed, roomy, with_row, without_row}
+use Rattle.iv_numbers.specs.Rows.{Rows, IsRising, added, has_row, put, removed, roomy, with_row, without_row}
 use Rattle.iv_index.specs.Groups.{GroupOf, EachIsApart, EachRises, held_at, rows_of, room_of, place_in, with_held, with_row_put, with_room_under, without_row_under, with_groups, groups_of, counted}
 use Rattle.iv_index.specs.Laws.{size_of}
 use Rattle.iv_index.specs.Groups as index

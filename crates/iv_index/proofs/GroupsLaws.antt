@@ -6,13 +6,13 @@ use Rattle.std.proofs.lemmas.Bool.Decides.{Decides-eqb}
 use Rattle.std.proofs.lemmas.List.{get_or-set_other, get_or-set_same, get_or_append_left, length-set}
 use Rattle.iv_value.specs.declared.value.Value.{Value}
 use Rattle.iv_value.specs.Values.{all_same}
-use Rattle.iv_index.specs.Rows.{Rows, added, has_row, put, removed, roomy}
+use Rattle.iv_numbers.specs.Rows.{Rows, added, has_row, put, removed, roomy}
 use Rattle.iv_index.specs.Groups.{GroupOf, groups_of, held_at, rows_of, place_in, with_groups, with_held}
 use Rattle.iv_index.specs.Laws.{AddedAndRemoved, ConstraintsStay, GroupAtPlace, GroupsAfter, HeldAfter, IsFiniteMap, OtherPlacesStay, PlaceStays, PutIsAdded, RemovedAndPutBack, SameIsEqual, SizeGrows, SizeStays}
 use Rattle.iv_index.proofs.KeysLemmas.{all_same-Decides, all_same_sound, all_same_refl}
 use Rattle.iv_index.proofs.GroupsLemmas.{held_here, held_later, missing, placed, with_here, with_later}
-use Rattle.iv_index.proofs.RowsUndone.{absent_without, with_without, without_with, length_with, length_without}
-use Rattle.iv_index.proofs.RowsLemmas.{eq_false}
+use Rattle.iv_numbers.proofs.RowsUndone.{absent_without, with_without, without_with, length_with, length_without}
+use Rattle.iv_numbers.proofs.RowsLemmas.{eq_false}
 
 pub same_is_equal : SameIsEqual
 same_is_equal = all_same-Decides

@@ -6,9 +6,9 @@ use Rattle.std.proofs.lemmas.List.{length-set, get_or-set_same, get_or-set_other
 use Rattle.iv_value.specs.declared.value.Value.{Value}
 use Rattle.iv_value.specs.Values.{all_same}
 use Rattle.iv_key.specs.Hashes.{hash_of}
-use Rattle.iv_index.specs.Rows.{Rows, IsRising, no_rows}
+use Rattle.iv_numbers.specs.Rows.{Rows, IsRising, no_rows}
 use Rattle.iv_index.specs.Groups.{EachIsApart, EachIsFound, EachRises, GroupOf, IsIndexed, IsSound, changed, held_at, place_in, with_held}
-use Rattle.iv_index.proofs.RowsKept.{rising_none}
+use Rattle.iv_numbers.proofs.RowsKept.{rising_none}
 use Rattle.iv_index.proofs.KeysLemmas.{all_same_sound, all_same_refl}
 
 -- ---- one step of a look: the key is that of the first group, or it isn't

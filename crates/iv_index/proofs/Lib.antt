@@ -1,8 +1,3 @@
-pub mod PartsLemmas
-pub mod RowsLemmas
-pub mod RowsFound
-pub mod RowsKept
-pub mod RowsUndone
 pub mod LinkedLemmas
 pub mod KeysLemmas
 pub mod GroupsLemmas

@@ -2,16 +2,10 @@
 use Rattle.std.specs.Prelude.{◌≡◌, ⊤}
 use Rattle.std.specs.Borrow.{follows_so, MutBor, Fml}
 use mathlib.Core.Option.{none}
-use Rattle.iv_index.specs.declared.row_numbers.RowNumbers.{RowNumbers}
-use Rattle.iv_index.specs.contracts.row_numbers.RowNumbers as numbers
 use Rattle.iv_index.specs.declared.group.Group.{Group}
 use Rattle.iv_index.specs.contracts.group.Group as group
 use Rattle.iv_index.specs.declared.key_index.KeyIndex.{KeyIndex}
 use Rattle.iv_index.specs.contracts.key_index.KeyIndex as index
-
--- The numbers end as they were.
-abbrev pub NumbersStay : MutBor RowNumbers → Fml
-NumbersStay s = follows_so numbers.the_row numbers.the_row s.ghost_name none (λ _ _. ⊤) (λ v. v ≡ s.now)
 
 -- A group ends as it was.
 abbrev pub GroupStays : MutBor Group → Fml

@@ -3,7 +3,7 @@ use Rattle.std.specs.Prelude.{◌≡◌, ℕ, ◌+◌, ◌-◌, ◌^◌, ◌<◌
 use Rattle.iv_value.specs.declared.value.Value.{Value}
 use Rattle.iv_value.specs.Values.{all_same}
 use Rattle.iv_key.specs.Hashes.{hash_of}
-use Rattle.iv_index.specs.Rows.{Rows, IsRising, added, no_rows, put, removed, roomy}
+use Rattle.iv_numbers.specs.Rows.{Rows, IsRising, added, no_rows, put, removed, roomy}
 
 -- A key, and the rows that hold it with its room.
 pub record GroupOf : Type 0 where

@@ -2,7 +2,7 @@
 use Rattle.std.specs.Prelude.{◌≡◌, ℕ, ◌+◌, ◌<◌, ◌≤◌, ◌==◌, ◌&&◌, List, length, Some, true, false, if◌then◌else◌, slice_index_or}
 use Rattle.iv_value.specs.declared.value.Value.{Value}
 use Rattle.iv_value.specs.Values.{all_same}
-use Rattle.iv_index.specs.Rows.{Rows, IsRising, has_row}
+use Rattle.iv_numbers.specs.Rows.{Rows, IsRising, has_row}
 use Rattle.iv_index.specs.Groups.{GroupOf, groups_of, held_at, place_in, rows_of, room_of, with_groups, with_held, with_room_under, with_row_put, with_row_under, without_row_under}
 
 -- Two keys are the same exactly where they are equal.

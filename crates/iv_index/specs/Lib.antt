@@ -1,7 +1,3 @@
-pub mod Rows
-pub mod Parts
-pub mod Search
-pub mod Kept
 pub mod Linked
 pub mod Groups
 pub mod Laws

@@ -1,14 +1,13 @@
 //! One group: a key and the rows that hold it.
 ghost use Rattle.std.specs.Prelude.{◌≡◌, ◌<◌, true, false, IfOk, OnOk, OnErr};
-ghost use Rattle.iv_index.specs.Rows.{IsRising, added, has_row, no_rows, put, removed, roomy};
+ghost use Rattle.iv_numbers.specs.Rows.{IsRising, added, has_row, no_rows, put, removed, roomy};
 ghost use Rattle.std.specs.Borrow.{sem};
 ghost use Rattle.iv_index.specs.Groups.{changed};
 ghost use Rattle.iv_index.specs.Closing.{GroupStays};
 ghost use Rattle.iv_value.specs.Values.{all_same};
 
-use crate::held_rows::HeldRows;
-use crate::row_numbers::RowNumbers;
 use iv_key::Key;
+use iv_numbers::{HeldRows, RowNumbers};
 use iv_value::Value;
 use std::alloc::{AllocError, Global};
 use std::marker::Model;

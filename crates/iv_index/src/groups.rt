@@ -1,13 +1,13 @@
 //! The groups of all constraints.
 ghost use Rattle.std.specs.Prelude.{◌≡◌, ℕ, ◌<◌, ◌≤◌, ◌^◌, [], length, min, max, true, false, IfOk, OnOk, OnErr, Some};
 ghost use Rattle.std.specs.Borrow.{sem};
-ghost use Rattle.iv_index.specs.Rows.{IsRising, has_row};
+ghost use Rattle.iv_numbers.specs.Rows.{IsRising, has_row};
 ghost use Rattle.iv_index.specs.Groups.{AreSound, EachIsApart, EachIsFound, EachRises, counted, groups_of, place_in, room_of, rows_at, rows_of, with_groups, with_room_under, with_row_put, with_row_under, without_row_under};
 ghost use Rattle.iv_index.specs.Lending.{Looked};
 
-use crate::held_rows::HeldRows;
 use crate::key_index::KeyIndex;
 use iv_key::Key;
+use iv_numbers::HeldRows;
 use std::alloc::{AllocError, Global};
 use std::marker::Model;
 

@@ -3,13 +3,13 @@ ghost use Rattle.std.specs.Prelude.{◌≡◌, ◌<◌, ◌^◌, [], ◌∷◌, 
 ghost use Rattle.iv_key.specs.Hashes.{hash_of};
 ghost use Rattle.std.specs.Borrow.{sem};
 ghost use Rattle.iv_index.specs.Closing.{IndexStays};
-ghost use Rattle.iv_index.specs.Rows.{IsRising, added, has_row, put, removed, roomy};
+ghost use Rattle.iv_numbers.specs.Rows.{IsRising, added, has_row, put, removed, roomy};
 ghost use Rattle.iv_index.specs.Groups.{GroupOf, IsIndexed, IsSound, changed, place_in, room_of, rows_at, rows_of, with_room_under, with_row_put, with_row_under, without_row_under};
 
 use crate::group::Group;
 use crate::hash_index::HashIndex;
-use crate::held_rows::HeldRows;
 use iv_key::Key;
+use iv_numbers::HeldRows;
 use std::alloc::{AllocError, Global};
 use std::marker::Model;
 

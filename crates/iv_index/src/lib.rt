@@ -4,12 +4,8 @@
 mod group;
 mod groups;
 mod hash_index;
-mod held_rows;
 mod key_index;
 mod laws;
-mod parts;
-mod row_numbers;
 
 pub use groups::Groups;
-pub use held_rows::HeldRows;
 pub use laws::{groups_are_a_map, groups_are_undone};

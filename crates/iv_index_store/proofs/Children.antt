@@ -21,7 +21,7 @@ use Rattle.iv_store.specs.Stores.{RisingNumbers, numbers_by, numbers_of}
 
 -- ---- tests of rows
 
-both_filters : (p q : StoredRow → Bool) (rows : List StoredRow) → filter q (filter p rows) ≡ filter (λ r. p r && q r) rows
+pub both_filters : (p q : StoredRow → Bool) (rows : List StoredRow) → filter q (filter p rows) ≡ filter (λ r. p r && q r) rows
 both_filters p q [] = refl
 both_filters p q (r ∷ rows) = by (p r) (both_filters p q rows)
   where

@@ -121,7 +121,7 @@ tables_same tables h new rows journal t = record {
   journal = subst (λ (l : List Change). OfTables tables l) (sym journal) t.journal;
 }
 
-abbrev or_base : Database → Option Database → Database
+abbrev pub or_base : Database → Option Database → Database
 or_base base o = elim o [ Some db ↦ db | None ↦ base ]
 
 pub tables_back : (tables place : ℕ) (h new : History) → place < length h.marks → marked_of new ≡ at_mark (marked_of h) place → new.journal ≡ take (noted_at h.marks place) h.journal → HasTables tables h

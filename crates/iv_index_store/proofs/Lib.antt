@@ -6,3 +6,5 @@ pub mod Changes
 pub mod Children
 pub mod Clearing
 pub mod Keeping
+pub mod Known
+pub mod KeysFound

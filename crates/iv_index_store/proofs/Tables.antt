@@ -18,7 +18,7 @@ use Rattle.iv_faults.specs.Watching.{NoneViolates}
 abbrev pub of_tables : ℕ → StoredRow → Type 0
 of_tables tables r = r.table < tables
 
-every_with : (P : StoredRow → Type 0) (x : StoredRow) (rows : List StoredRow) → P x → Every P rows → Every P (rows_with x rows)
+pub every_with : (P : StoredRow → Type 0) (x : StoredRow) (rows : List StoredRow) → P x → Every P rows → Every P (rows_with x rows)
 every_with P x [] p h = (p, tt)
 every_with P x (r ∷ rows) p h = by (nat_lt x.number r.number) (x.number == r.number) (every_with P x rows p h.1)
   where
@@ -27,7 +27,7 @@ every_with P x (r ∷ rows) p h = by (nat_lt x.number r.number) (x.number == r.n
     by false true more = (p, h.1)
     by false false more = (h.0, more)
 
-every_filter : (P : StoredRow → Type 0) (p : StoredRow → Bool) (rows : List StoredRow) → Every P rows → Every P (filter p rows)
+pub every_filter : (P : StoredRow → Type 0) (p : StoredRow → Bool) (rows : List StoredRow) → Every P rows → Every P (filter p rows)
 every_filter P p [] h = tt
 every_filter P p (r ∷ rows) h = by (p r) (every_filter P p rows h.1)
   where

@@ -1,2 +1,4 @@
 pub mod Words
 pub mod Kept
+pub mod Keys
+pub mod Known

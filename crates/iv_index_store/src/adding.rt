@@ -1,5 +1,5 @@
 //! Tables and constraints that are added.
-ghost use Rattle.std.specs.Prelude.{◌≡◌, ◌≢◌, ℕ, ◌+◌, ◌*◌, ◌<◌, ◌≤◌, ◌++◌, ◌∷◌, [], length, find, option_map, IfErr, OnOk, OnErr};
+ghost use Rattle.std.specs.Prelude.{◌≡◌, ◌≢◌, ℕ, ◌+◌, ◌*◌, ◌<◌, ◌≤◌, ◌++◌, ◌∷◌, [], length, find, option_map, slice_get, IfErr, OnOk, OnErr};
 ghost use Rattle.iv_catalogue.specs.Catalogues.{AllOn};
 ghost use Rattle.iv_catalogue.specs.declared.limits.TheConstants.{MOST_CONSTRAINTS, MOST_TABLES};
 ghost use Rattle.iv_index.specs.Groups.{groups_of};
@@ -9,6 +9,7 @@ ghost use Rattle.iv_machine.specs.Databases.{violates};
 ghost use Rattle.iv_store.specs.Stores.{AnswersAdding};
 ghost use Rattle.iv_index_store.specs.Kept.{HasTables, IsKept};
 
+use crate::kinds::{ColumnKinds, column_kinds};
 use iv_catalogue::{Constraint, Table};
 use iv_copies::copy_table;
 use iv_faults::Faults;
@@ -35,6 +36,7 @@ fn clear(groups: &mut Groups, first: usize, end: usize)
 pub fn add_table(
     alloc: Global,
     tables: &mut Vec<Table>,
+    known: &mut Vec<ColumnKinds>,
     groups: &mut Groups,
     faults: &mut Faults,
     table: &Table,
@@ -45,6 +47,9 @@ pub fn add_table(
     requires few { length faults.old.constraints + length constraints.now ≤ MOST_TABLES * MOST_CONSTRAINTS }
     ensures ok { OnOk result (tables.new.items ≡ tables.old.items ++ table.now ∷ []) }
     ensures err { OnErr result (tables.new.items ≡ tables.old.items) }
+    ensures longer { OnOk result (length known.new.items ≡ length known.old.items + 1) }
+    ensures as_long { OnErr result (length known.new.items ≡ length known.old.items) }
+    ensures known { (t : ℕ) → t < length known.old.items → slice_get known.new.items t ≡ slice_get known.old.items t }
     ensures added { OnOk result (faults.new.constraints ≡ faults.old.constraints ++ constraints.now) }
     ensures still { OnErr result (faults.new.constraints ≡ faults.old.constraints) }
     ensures kept { (h : History) → h.marks ≡ [] → HasTables (length tables.old.items) h
@@ -53,12 +58,15 @@ pub fn add_table(
 {
     let first = faults.constraints().len();
     let end = first + constraints.len();
+    let kinds = column_kinds(alloc, table)?;
     let table = copy_table(alloc, table)?;
     tables.reserve(1)?;
+    known.reserve(1)?;
     groups.cover(end)?;
     clear(groups, first, end);
     faults.watch(groups, constraints)?;
     tables.push_reserved(table);
+    known.push_reserved(kinds);
     Ok(())
 }
 

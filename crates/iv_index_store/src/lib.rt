@@ -3,7 +3,9 @@
 
 mod adding;
 mod changing;
+mod kinds;
 mod referencing;
+mod searching;
 mod store;
 
 pub use store::IndexStore;

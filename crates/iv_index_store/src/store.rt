@@ -3,14 +3,17 @@ ghost use Rattle.std.specs.Prelude.{◌≡◌, length};
 
 use crate::adding;
 use crate::changing::{go_back, make};
+use crate::kinds::{ColumnKinds, known_kinds, note};
 use crate::referencing::children;
+use crate::searching::holders;
 use iv_catalogue::{Constraint, ConstraintId, Fault, Table};
-use iv_expr::{Change, Rows, StoredRow, TableId};
+use iv_expr::{Change, Rows, StoredRow, TableId, TableKinds};
 use iv_faults::Faults;
 use iv_index::Groups;
 use iv_key::Key;
 use iv_machine::Which;
 use iv_modes::Modes;
+use iv_numbers::HeldRows;
 use iv_rows::Versions;
 use iv_store::{AddFault, ChangeableRows, Keeper, Mark, ReferencingRows};
 use iv_value::Value;
@@ -23,16 +26,18 @@ use std::marker::Model;
 pub struct IndexStore {
     alloc: Global,
     tables: Vec<Table>,
+    known: Vec<ColumnKinds>,
     versions: Versions,
     groups: Groups,
     faults: Faults,
 }
 
 impl Model for IndexStore {
-    ghost use Rattle.std.specs.Prelude.{length};
+    ghost use Rattle.std.specs.Prelude.{◌≡◌, length};
     ghost use Rattle.std.specs.Coded.{codes};
     ghost use Rattle.iv_expr.specs.contracts.tree.Cond as cond;
     ghost use Rattle.iv_index_store.specs.Kept.{HasTables, IsKept, Store, state_of};
+    ghost use Rattle.iv_index_store.specs.Known.{AreKnown};
 
     ghost Value = { Store };
 
@@ -43,7 +48,8 @@ impl Model for IndexStore {
       looked_up = s.groups.looked_up;
     } };
 
-    ghost invariant = { λ s. IsKept s.versions s.faults s.groups × HasTables (length s.tables.items) s.versions };
+    ghost invariant = { λ s. IsKept s.versions s.faults s.groups × HasTables (length s.tables.items) s.versions
+        × AreKnown s.known.items s.versions × (length s.known.items ≡ length s.tables.items) };
 }
 
 impl Rows for IndexStore {
@@ -55,6 +61,14 @@ impl Rows for IndexStore {
 
     fn scan(&self, table: TableId, after: u64) -> Option<(u64, &[Value])> {
         self.versions.scan(table, after)
+    }
+
+    fn known_kinds(&self, table: TableId) -> Option<TableKinds<'_>> {
+        known_kinds(self.alloc, self.known.as_slice(), table)
+    }
+
+    fn holders(&self, table: TableId, asked: &[Value]) -> Option<HeldRows<'_>> {
+        holders(&self.groups, &self.faults, table, asked)
     }
 }
 
@@ -109,6 +123,7 @@ impl ChangeableRows for IndexStore {
     }
 
     fn change(&mut self, change: Change) -> Result<(), AllocError> {
+        note(&mut self.known, &change);
         make(
             &mut self.versions,
             &mut self.groups,
@@ -131,6 +146,7 @@ impl Keeper for IndexStore {
         IndexStore {
             alloc,
             tables: Vec::new(alloc),
+            known: Vec::new(alloc),
             versions: Versions::new(alloc),
             groups: Groups::new(alloc),
             faults: Faults::new(alloc),
@@ -141,6 +157,7 @@ impl Keeper for IndexStore {
         adding::add_table(
             self.alloc,
             &mut self.tables,
+            &mut self.known,
             &mut self.groups,
             &mut self.faults,
             table,

@@ -7,7 +7,7 @@ use Rattle.iv_value.specs.Values.{all_same}
 use Rattle.std.proofs.lemmas.List.{length-map}
 use Rattle.iv_laws_levels.proofs.Keys.{all_same_is, all_same_swap}
 use Rattle.iv_laws_levels.proofs.RowNumbers.{some_none, some_same}
-use Rattle.iv_index.specs.Rows.{IsRising}
+use Rattle.iv_numbers.specs.Rows.{IsRising}
 use Rattle.iv_index.specs.Groups.{GroupOf, EachIsApart, EachIsFound, EachRises, held_at, place_in, rows_of}
 use Rattle.iv_index.specs.Groups as index
 use Rattle.iv_laws_kept.specs.Numbers.{Rise}

@@ -8,7 +8,8 @@ ghost use Rattle.iv_laws_kept.specs.Numbers.{has, in_rising_order, Rise};
 ghost use Rattle.iv_marks.specs.Answers.{lesser};
 ghost use Rattle.iv_marks.specs.Shown.{shown};
 
-use iv_index::{Groups, HeldRows};
+use iv_index::Groups;
+use iv_numbers::HeldRows;
 use std::alloc::{AllocError, Global};
 
 // The rows of the group at a place of a constraint.

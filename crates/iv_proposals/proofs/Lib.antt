@@ -5,3 +5,4 @@ pub mod Numbered
 pub mod Placing
 pub mod SelectedRows
 pub mod Steps
+pub mod LeftOut

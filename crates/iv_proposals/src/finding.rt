@@ -51,7 +51,8 @@ fn take_number<R: Rows>(
     }
 }
 
-/// The numbers of the rows of a table where a condition is true.
+/// The numbers of the rows of a table where a condition is true. Where the condition asks for a key, it looks only at the
+/// rows of that key.
 pub fn numbers_where<R: Rows>(
     alloc: Global,
     scope: &Scope<'_, R>,
@@ -63,8 +64,9 @@ pub fn numbers_where<R: Rows>(
 {
     let mut found = Vec::new(alloc);
     let mut after = 0;
-    (&*scope).known();
-    while let Some((number, row)) = (&*scope).scan(table, after) {
+    let search = (&*scope).search(table, filter);
+    search.known();
+    while let Some((number, row)) = search.next(after) {
         after = number;
         take_number(&*scope, filter, number, row, &mut found)?;
     }
@@ -88,7 +90,8 @@ fn count_row<R: Rows>(
     }
 }
 
-/// How many rows of a table there are where a condition is true. It takes no memory.
+/// How many rows of a table there are where a condition is true. Where the condition asks for a key, it looks only at the
+/// rows of that key. It takes memory only to search by a key.
 pub fn count_where<R: Rows>(
     scope: &Scope<'_, R>,
     table: TableId,
@@ -100,8 +103,9 @@ pub fn count_where<R: Rows>(
 {
     let mut found = 0;
     let mut after = 0;
-    (&*scope).known();
-    while let Some((number, row)) = (&*scope).scan(table, after) {
+    let search = (&*scope).search(table, filter);
+    search.known();
+    while let Some((number, row)) = search.next(after) {
         after = number;
         found = count_row(&*scope, filter, row, found)?;
     }

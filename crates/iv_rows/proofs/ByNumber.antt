@@ -1,12 +1,12 @@
 -- Lists in rising number: what two numbers tell, an item among the others, and the place of a number.
-use Rattle.std.proofs.Common.{◌≡◌, ℕ, zero, suc, ◌+◌, ◌-◌, ◌^◌, ◌<◌, ◌≤◌, ◌⊎◌, inl, inr, min, Bool, true, false, ◌||◌, if◌then◌else◌, ◌==◌, cond, Some, None, option_map, List, [], ◌∷◌, filter, length, take, drop, get_or, slice_set, arith, refl, ap, sym, subst, ◌∙◌}
-use Rattle.std.proofs.lemmas.Bool.{cases_Bool, or_left, or_right, or_cases}
+use Rattle.std.proofs.Common.{◌≡◌, ℕ, zero, suc, ◌+◌, ◌-◌, ◌^◌, ◌<◌, ◌≤◌, ◌⊎◌, inl, inr, Bool, true, false, ◌||◌, if◌then◌else◌, ◌==◌, cond, Some, option_map, List, [], ◌∷◌, filter, length, get_or, slice_set, arith, refl, ap, sym, subst, ◌∙◌}
+use Rattle.std.proofs.lemmas.Bool.{or_left, or_right, or_cases}
 use Rattle.std.specs.Prelude.{nat_lt, slice_get, unwrap_or}
 use Rattle.std.specs.List.{insert}
 use Rattle.std.proofs.lemmas.Bool.Decides.{nat_tests}
 use Rattle.std.specs.List.Sorted.{IsPartitionPoint}
-use Rattle.std.proofs.lemmas.List.Sums.{prefix_len_is, prefix_len-le-length}
-use Rattle.std.proofs.lemmas.Option.{get_or_from_slice_get, slice_get_within}
+use Rattle.std.proofs.lemmas.List.Sums.{prefix_len_is}
+use Rattle.std.proofs.lemmas.Option.{get_or_from_slice_get}
 use Rattle.iv_rows.specs.ByNumber.{RiseBy, with_item, has_number, place_by}
 
 -- ---- two numbers
@@ -65,16 +65,6 @@ part_rises number low p (x ∷ xs) h = by (p x) (part_rises number (number x) p 
     by : (b : Bool) → RiseBy number (number x) (filter p xs) → RiseBy number low (if b then x ∷ filter p xs else filter p xs)
     by true rest = (h.0, h.1, rest)
     by false rest = lower number low (number x) (filter p xs) (omega (arith, h.0)) rest
-
-pub rest_rises : {A : Type 0} (number : A → ℕ) (low k : ℕ) (xs : List A) → RiseBy number low xs → RiseBy number low (drop k xs)
-rest_rises number low zero xs h = h
-rest_rises number low (suc k) [] h = tt
-rest_rises number low (suc k) (x ∷ xs) h = lower number low (number x) (drop k xs) (omega (arith, h.0)) (rest_rises number (number x) k xs h.2)
-
-pub front_rises : {A : Type 0} (number : A → ℕ) (low k : ℕ) (xs : List A) → RiseBy number low xs → RiseBy number low (take k xs)
-front_rises number low zero xs h = tt
-front_rises number low (suc k) [] h = tt
-front_rises number low (suc k) (x ∷ xs) h = (h.0, h.1, front_rises number (number x) k xs h.2)
 
 -- ---- an item among the others: in front, in the place of the first, and further back
 
@@ -136,19 +126,6 @@ has_still number x n (y ∷ ys) e = by (tells (number x) (number y)) (or_cases (
   by (inr (inr f)) (inr b) more =
       ap (λ zs. has_number number zs n) (further number x y ys f.1 f.3) ∙ or_right (number y == n) (has_number number (with_item number x ys) n) (more b)
 
--- what is among the items that pass a test has to pass it
-pub has_passed : {A : Type 0} (number : A → ℕ) (p : A → Bool) (n : ℕ) (xs : List A) → ((x : A) → number x ≡ n → p x ≡ true) → has_number number xs n ≡ true
-    → has_number number (filter p xs) n ≡ true
-has_passed number p n [] all e = e
-has_passed number p n (x ∷ xs) all e = by (p x) refl (same_tells (number x) n) (has_passed number p n xs all) where
-  by : (b : Bool) → p x ≡ b → (((number x == n) ≡ true) × (number x ≡ n)) ⊎ (((number x == n) ≡ false) × (number x ≡ n → ⊥))
-      → (has_number number xs n ≡ true → has_number number (filter p xs) n ≡ true)
-      → has_number number (if b then x ∷ filter p xs else filter p xs) n ≡ true
-  by true f (inl q) more = or_left (number x == n) (has_number number (filter p xs) n) q.0
-  by true f (inr d) more = or_right (number x == n) (has_number number (filter p xs) n) (more (sym (ap (λ b. b || has_number number xs n) d.0) ∙ e))
-  by false f (inl q) more = absurd (impossible (sym (all x q.1) ∙ f))
-  by false f (inr d) more = more (sym (ap (λ b. b || has_number number xs n) d.0) ∙ e)
-
 -- ---- places
 
 pub place_further : {A : Type 0} (number : A → ℕ) (n : ℕ) (x : A) (xs : List A) → nat_lt (number x) n ≡ true
@@ -189,21 +166,6 @@ pub by_point : {A : Type 0} (number : A → ℕ) (n i : ℕ) (xs : List A) (d : 
     → IsPartitionPoint (λ x. nat_lt (number x) n ≡ true) (λ x. nat_lt (number x) n ≡ false) xs i → i ≡ place_by number n xs
 by_point number n i xs d le point =
     sym (prefix_len_is (λ x. nat_lt (number x) n) xs i d le (λ k l. point.0 k d (omega arith) l) (λ l. point.1 i d (omega arith) l))
-
--- the place of a greater number isn't before
-pub place_rises : {A : Type 0} (number : A → ℕ) (n m : ℕ) (xs : List A) → n ≤ m → place_by number n xs ≤ place_by number m xs
-place_rises number n m [] le = omega arith
-place_rises number n m (x ∷ xs) le = by (below_tells (number x) n) (place_rises number n m xs le) where
-  still : number x < n → n ≤ m → number x < m
-  still l k = omega (arith, l, k)
-
-  by : ((nat_lt (number x) n ≡ true) × (number x < n)) ⊎ ((nat_lt (number x) n ≡ false) × (n ≤ number x)) → place_by number n xs ≤ place_by number m xs
-      → place_by number n (x ∷ xs) ≤ place_by number m (x ∷ xs)
-  by (inl t) more =
-      let a : place_by number n (x ∷ xs) ≡ suc (place_by number n xs) = place_further number n x xs t.0 in
-      let b : place_by number m (x ∷ xs) ≡ suc (place_by number m xs) = place_further number m x xs (less (number x) m (still t.1 le)).0 in
-      omega (arith, a, b, more)
-  by (inr f) more = let a : place_by number n (x ∷ xs) ≡ 0 = place_here number n x xs f.0 in omega (arith, a)
 
 -- ---- the item at the place
 
@@ -254,89 +216,3 @@ has_at_place number low n (x ∷ xs) h = by (tells (number x) n) (has_at_place n
   by (inr (inr f)) more =
       ap (λ k. has_at number (x ∷ xs) k n) (place_here number n x xs f.1) ∙ f.3
       ∙ sym (ap (λ b. b || has_number number xs n) f.3 ∙ none_above number (number x) n xs h.2 (omega (arith, f.4)))
-
--- ---- a place found from another
-
-pub slice_dropped : {A : Type 0} (m k : ℕ) (xs : List A) → slice_get (drop m xs) k ≡ slice_get xs (m + k)
-slice_dropped zero k xs = ap (slice_get xs) (none_more k) where
-  none_more : (k : ℕ) → k ≡ 0 + k
-  none_more k = omega arith
-slice_dropped (suc m) k [] = refl
-slice_dropped (suc m) k (x ∷ xs) = slice_dropped m k xs ∙ ap (slice_get (x ∷ xs)) (one_up m k) where
-  one_up : (m k : ℕ) → suc (m + k) ≡ suc m + k
-  one_up m k = omega arith
-
--- an item that is below a number is before its place
-pub before_place : {A : Type 0} (number : A → ℕ) (low n : ℕ) (xs : List A) (k : ℕ) (x : A) → RiseBy number low xs → slice_get xs k ≡ Some x → number x < n
-    → k < place_by number n xs
-before_place number low n [] k x h e l = cc
-before_place number low n (y ∷ ys) k x h e l = by k e (λ j f. before_place number (number y) n ys j x h.2 f l) where
-  up_to : (j : ℕ) → slice_get ys j ≡ Some x → number y < number x
-  up_to j f = subst (λ z. number y < number z) (get_or_from_slice_get ys j x x f) (above_low number (number y) ys j x h.2 (slice_get_within ys j x f))
-
-  by : (k : ℕ) → slice_get (y ∷ ys) k ≡ Some x → ((j : ℕ) → slice_get ys j ≡ Some x → j < place_by number n ys) → k < place_by number n (y ∷ ys)
-  by zero f more =
-      let it : y ≡ x = cc in
-      let s : place_by number n (y ∷ ys) ≡ suc (place_by number n ys) =
-      place_further number n y ys (less (number y) n (subst (λ z. number z < n) (sym it) l)).0 in
-      omega (arith, s)
-  by (suc j) f more =
-      let u : number y < number x = up_to j f in
-      let s : place_by number n (y ∷ ys) ≡ suc (place_by number n ys) = place_further number n y ys (less (number y) n (omega (arith, u, l))).0 in
-      let m : j < place_by number n ys = more j f in
-      omega (arith, s, m)
-
--- an item that isn't below a number is not before its place
-pub from_place : {A : Type 0} (number : A → ℕ) (n : ℕ) (xs : List A) (k : ℕ) (x : A) → slice_get xs k ≡ Some x → nat_lt (number x) n ≡ false
-    → place_by number n xs ≤ k
-from_place number n [] k x e f = cc
-from_place number n (y ∷ ys) zero x e f =
-    let it : y ≡ x = cc in
-    let s : place_by number n (y ∷ ys) ≡ 0 = place_here number n y ys (subst (λ z. nat_lt (number z) n ≡ false) (sym it) f) in
-    omega (arith, s)
-from_place number n (y ∷ ys) (suc k) x e f = by (cases_Bool (nat_lt (number y) n)) (from_place number n ys k x e f) where
-  by : (nat_lt (number y) n ≡ true) ⊎ (nat_lt (number y) n ≡ false) → place_by number n ys ≤ k → place_by number n (y ∷ ys) ≤ suc k
-  by (inl t) more = let s : place_by number n (y ∷ ys) ≡ suc (place_by number n ys) = place_further number n y ys t in omega (arith, s, more)
-  by (inr g) more = let s : place_by number n (y ∷ ys) ≡ 0 = place_here number n y ys g in omega (arith, s)
-
-pub place_in_rest : {A : Type 0} (number : A → ℕ) (n k : ℕ) (xs : List A) → k ≤ place_by number n xs → place_by number n xs ≡ k + place_by number n (drop k xs)
-place_in_rest number n zero xs le = omega arith
-place_in_rest number n (suc k) [] le = absurd (omega (arith, le))
-place_in_rest number n (suc k) (x ∷ xs) le = by (cases_Bool (nat_lt (number x) n)) (place_in_rest number n k xs) where
-  by : (nat_lt (number x) n ≡ true) ⊎ (nat_lt (number x) n ≡ false) → (k ≤ place_by number n xs → place_by number n xs ≡ k + place_by number n (drop k xs))
-      → place_by number n (x ∷ xs) ≡ suc k + place_by number n (drop k xs)
-  by (inl t) more =
-      let s : place_by number n (x ∷ xs) ≡ suc (place_by number n xs) = place_further number n x xs t in
-      let m : place_by number n xs ≡ k + place_by number n (drop k xs) = more (omega (arith, s, le)) in
-      omega (arith, s, m)
-  by (inr f) more = let s : place_by number n (x ∷ xs) ≡ 0 = place_here number n x xs f in absurd (omega (arith, s, le))
-
-pub place_in_front : {A : Type 0} (number : A → ℕ) (n k : ℕ) (xs : List A) → place_by number n xs ≤ k → place_by number n (take k xs) ≡ place_by number n xs
-place_in_front number n zero [] le = refl
-place_in_front number n zero (x ∷ xs) le = omega (arith, le)
-place_in_front number n (suc k) [] le = refl
-place_in_front number n (suc k) (x ∷ xs) le = by (cases_Bool (nat_lt (number x) n)) (place_in_front number n k xs) where
-  by : (nat_lt (number x) n ≡ true) ⊎ (nat_lt (number x) n ≡ false) → (place_by number n xs ≤ k → place_by number n (take k xs) ≡ place_by number n xs)
-      → place_by number n (x ∷ take k xs) ≡ place_by number n (x ∷ xs)
-  by (inl t) more =
-      let s : place_by number n (x ∷ xs) ≡ suc (place_by number n xs) = place_further number n x xs t in
-      place_further number n x (take k xs) t ∙ ap suc (more (omega (arith, s, le))) ∙ sym s
-  by (inr f) more = place_here number n x (take k xs) f ∙ sym (place_here number n x xs f)
-
--- past the end there is no item before
-pub past_place : {A : Type 0} (number : A → ℕ) (n : ℕ) (xs : List A) (k : ℕ) → slice_get xs k ≡ None → place_by number n xs ≤ k
-past_place number n [] k e = omega arith
-past_place number n (x ∷ xs) zero e = cc
-past_place number n (x ∷ xs) (suc k) e = by (cases_Bool (nat_lt (number x) n)) (past_place number n xs k e) where
-  by : (nat_lt (number x) n ≡ true) ⊎ (nat_lt (number x) n ≡ false) → place_by number n xs ≤ k → place_by number n (x ∷ xs) ≤ suc k
-  by (inl t) more = let s : place_by number n (x ∷ xs) ≡ suc (place_by number n xs) = place_further number n x xs t in omega (arith, s, more)
-  by (inr f) more = let s : place_by number n (x ∷ xs) ≡ 0 = place_here number n x xs f in omega (arith, s)
-
--- the place in a part of the items
-pub place_in_part : {A : Type 0} (number : A → ℕ) (n from ahead k : ℕ) (xs : List A) → from ≤ place_by number n xs → place_by number n xs ≤ from + ahead
-    → k ≡ min ahead (length (drop from xs))
-    → from + place_by number n (take k (drop from xs)) ≡ place_by number n xs
-place_in_part number n from ahead k xs least most e =
-    let r : place_by number n xs ≡ from + place_by number n (drop from xs) = place_in_rest number n from xs least in
-    let w : place_by number n (drop from xs) ≤ length (drop from xs) = prefix_len-le-length (λ x. nat_lt (number x) n) (drop from xs) in
-    ap (λ p. from + p) (place_in_front number n k (drop from xs) (omega (arith, r, w, most, e))) ∙ sym r

@@ -3,8 +3,7 @@ pub mod Rows
 pub mod SlotLaws
 pub mod FilingLaws
 pub mod Looking
-pub mod Passing
-pub mod Thinning
 pub mod Marks
 pub mod Histories
+pub mod Rooms
 pub mod Keeping

@@ -1,6 +1,8 @@
 -- A database with the changes that can be undone, and the marked databases that they lead back to.
-use Rattle.std.specs.Prelude.{◌≡◌, ℕ, ◌+◌, ◌-◌, ◌<◌, ◌≤◌, max, true, List, [], ◌∷◌, map, take, drop, length, ◌++◌, slice_get, Option, Some, None}
+use Rattle.std.specs.Prelude.{◌≡◌, ℕ, ◌+◌, ◌-◌, ◌<◌, ◌≤◌, max, true, if◌then◌else◌, ◌==◌, List, [], ◌∷◌, map, take, drop, length, ◌++◌, slice_get, Option, Some, None}
 use Rattle.std.specs.List.{remove}
+use Rattle.iv_value.specs.declared.value.Value.{Value}
+use Rattle.iv_numbers.specs.Rows.{Rows}
 use Rattle.iv_expr.specs.declared.row.StoredRow.{StoredRow}
 use Rattle.iv_expr.specs.declared.row.Change.{Change}
 use Rattle.iv_expr.specs.Changes.{wave_of}
@@ -10,7 +12,7 @@ use Rattle.iv_rows.specs.declared.saved.Saved.{Saved}
 use Rattle.iv_rows.specs.declared.slot.Slot.{Slot}
 use Rattle.iv_laws_changes.specs.SetRows.{InBounds, set_row}
 use Rattle.iv_rows.specs.InSlots.{live_rows, has_slot_for}
-use Rattle.iv_rows.specs.Filing.{is_filed_for}
+use Rattle.iv_rows.specs.Filing.{held_for}
 
 -- The rows and the next number; the changes that were made since no mark was there, in their order; and what each mark keeps.
 pub record History : Type 0 where
@@ -154,20 +156,34 @@ pub record Sound (h : History) : Type 0 where
   pub below : AllBelow h.next h.journal
   pub before : EachBelow h.journal h.marks
 
--- A change can be undone in these slots: no slot and no number is added.
-pub record CanUndo (slots : List Slot) (numbers : List (List ℕ)) (c : Change) : Type 0 where
-  pub slot : has_slot_for c.old slots c.row ≡ true
-  pub filed : is_filed_for c.old numbers c.table c.row ≡ true
+-- each row that comes back when these changes are undone has a slot
+abbrev pub HaveSlots : List Slot → List Change → Type 0
+HaveSlots slots [] = Unit {0}
+HaveSlots slots (c ∷ cs) = (has_slot_for c.old slots c.row ≡ true) × HaveSlots slots cs
 
-abbrev pub CanUndoAll : List Slot → List (List ℕ) → List Change → Type 0
-CanUndoAll slots numbers [] = Unit {0}
-CanUndoAll slots numbers (c ∷ cs) = CanUndo slots numbers c × CanUndoAll slots numbers cs
+-- How much room the numbers of a table want so that a row goes back from the later values to the earlier ones, and then
+-- so much is left: a row that comes back takes room for its number, and one that goes gives it.
+abbrev pub room_before : Option (List Value) → Option (List Value) → ℕ → ℕ
+room_before (Some earlier) None room = room + 1
+room_before None (Some later) room = room - 1
+room_before (Some earlier) (Some later) room = room
+room_before None None room = room
+
+-- how much they want so that these changes are undone, the last one first, and then so much is left
+abbrev pub room_wanted : ℕ → List Change → ℕ → ℕ
+room_wanted t [] room = room
+room_wanted t (c ∷ cs) room = room_wanted t cs (if c.table == t then room_before c.old c.new room else room)
+
+-- the numbers of each table have room for those of the rows that come back
+abbrev pub EnoughRoom : List Rows → List Change → Type 0
+EnoughRoom numbers journal = (t : ℕ) → room_wanted t journal 0 ≤ (held_for numbers t).room
 
 -- the history whose rows are in these slots
 abbrev pub history_of : List Slot → ℕ → List Change → List Saved → History
 history_of slots next journal marks = record { rows = live_rows slots; next = next; journal = journal; marks = marks }
 
--- What holds of a history whose rows are in slots.
-pub record Kept (slots : List Slot) (numbers : List (List ℕ)) (next : ℕ) (journal : List Change) (marks : List Saved) : Type 0 where
+-- What holds of a history whose rows are in slots: it can be undone, and no slot and no place for a number is added.
+pub record Kept (slots : List Slot) (numbers : List Rows) (next : ℕ) (journal : List Change) (marks : List Saved) : Type 0 where
   pub sound : Sound (history_of slots next journal marks)
-  pub undo : CanUndoAll slots numbers journal
+  pub undo : HaveSlots slots journal
+  pub room : EnoughRoom numbers journal

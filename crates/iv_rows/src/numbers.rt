@@ -1,142 +1,111 @@
-//! The numbers under which the rows of one table are looked for.
-ghost use Rattle.std.specs.Prelude.{◌≡◌, ◌<◌, ◌≤◌, ◌^◌, ◌==◌, ℕ, true, false, [], filter, length, slice_get, unwrap_or, option_map, OnOk, OnErr};
-ghost use Rattle.iv_rows.specs.ByNumber.{place_by};
-ghost use Rattle.iv_rows.specs.InSlots.{SlotsRise, has_slot};
-ghost use Rattle.iv_rows.specs.Filing.{NumbersRise, itself, is_number, numbers_above, with_number};
+//! For each table the numbers under which its rows are looked for, by rising number.
+ghost use Rattle.std.specs.Prelude.{◌≡◌, ◌<◌, ◌≤◌, ℕ, true, length, slice_index_or, slice_set, OnOk, OnErr};
+ghost use Rattle.iv_numbers.specs.Rows.{IsRising, has_row, no_rows, number_above, put, removed, roomy};
+ghost use Rattle.iv_rows.specs.Filing.{OneChanged, can_put, dropped, held_for, is_filed, ready};
 
-use crate::place::has_number;
-use crate::slot::Slot;
-use crate::walk::place_from;
+use iv_expr::TableId;
+use iv_numbers::RowNumbers;
 use sqlite_items::at;
-use std::alloc::{AllocError, Global};
-use std::marker::Model;
+use std::alloc::AllocError;
 
-// How many of these numbers are below one. Where it is above the last, the others aren't looked at.
-fn place(numbers: &[u64], number: u64) -> usize
-    requires { NumbersRise 0 numbers.now }
-    ensures value { result ≡ place_by itself number numbers.now }
-    ensures within { result ≤ length numbers.now }
+/// The first number of a table above one. It halves.
+pub fn next_above(numbers: &[RowNumbers], table: TableId, number: u64) -> Option<u64>
+    ensures next { result ≡ number_above number (held_for numbers.now table).rows }
+    ensures rising { IsRising (held_for numbers.now table).rows }
 {
-    match numbers.last() {
-        Some(last) if *last < number => numbers.len(),
-        _ => numbers.partition_point(|other| *other < number),
+    match at(numbers, table.place() as usize) {
+        Some(held) => held.held().next_above(number),
+        None => None,
     }
 }
 
-// Whether the number at a place is this one.
-fn is_at(numbers: &[u64], place: usize, number: u64) -> bool
-    ensures { result ≡
-        unwrap_or (option_map (λ m. m == number) (slice_get numbers.now place)) false }
+// Whether a number is one of a table's.
+fn is_filed(numbers: &[RowNumbers], table: TableId, number: u64) -> bool
+    ensures { result ≡ is_filed numbers.now table number }
 {
-    match at(numbers, place) {
-        Some(other) => *other == number,
+    match at(numbers, table.place() as usize) {
+        Some(held) => held.held().has(number),
         None => false,
     }
 }
 
-// Takes the numbers out that have no slot. It walks along both.
-fn keep(numbers: &mut Vec<u64>, slots: &[Slot])
-    requires slots { SlotsRise 0 slots.now }
-    requires numbers { NumbersRise 0 numbers.old.items }
-    ensures { numbers.new.items ≡ filter (has_slot slots.now) numbers.old.items }
+// Makes numbers for so many tables.
+fn grow(numbers: &mut Vec<RowNumbers>, tables: usize) -> Result<(), AllocError>
+    ensures ok { OnOk result (tables ≤ length numbers.new.items) }
+    ensures same { (t : ℕ) → held_for numbers.new.items t ≡ held_for numbers.old.items t }
 {
-    let mut place = 0usize;
-    let mut kept = 0usize;
-    let mut at = 0usize;
-    while at < numbers.len() {
-        let number = numbers[at];
-        place = place_from(slots, place, number);
-        if has_number(slots, place, number) {
-            numbers[kept] = number;
-            kept += 1;
-        }
-        at += 1;
+    while numbers.len() < tables {
+        let more = RowNumbers::new(*numbers.allocator());
+        numbers.push(more)?;
     }
-    numbers.truncate(kept);
+    Ok(())
 }
 
-/// Numbers that rise. Contracts see them as their list.
-#[derive(Drop)]
-pub struct Numbers {
-    numbers: Vec<u64>,
+// Sees that the numbers at a place have room for one more.
+fn make_room_at(numbers: &mut Vec<RowNumbers>, place: usize) -> Result<(), AllocError>
+    requires { place < length numbers.old.items }
+    ensures ok { OnOk result (numbers.new.items ≡ slice_set numbers.old.items place
+        (roomy (slice_index_or numbers.old.items place no_rows))) }
+    ensures err { OnErr result (numbers.new.items ≡ numbers.old.items) }
+{
+    numbers[place].make_room()
 }
 
-impl Model for Numbers {
-    ghost use Rattle.std.specs.Prelude.{ℕ, List};
-    ghost use Rattle.iv_rows.specs.Filing.{NumbersRise};
-
-    ghost Value = { List ℕ };
-
-    ghost view = { λ n. n.numbers.items };
-
-    ghost invariant = { λ n. NumbersRise 0 n.numbers.items };
+// Puts a number among those at a place.
+fn put_at(numbers: &mut Vec<RowNumbers>, place: usize, number: u64)
+    requires there { place < length numbers.old.items }
+    requires room { 0 < (slice_index_or numbers.old.items place no_rows).room }
+    ensures { numbers.new.items ≡ slice_set numbers.old.items place
+        (put number (slice_index_or numbers.old.items place no_rows)) }
+{
+    numbers[place].put(number);
 }
 
-impl Numbers {
-    /// No number. It takes no memory.
-    pub fn new(alloc: Global) -> Numbers
-        ensures { result ≡ [] }
-    {
-        Numbers {
-            numbers: Vec::new(alloc),
-        }
-    }
+// Removes a number from those at a place.
+fn remove_at(numbers: &mut Vec<RowNumbers>, place: usize, number: u64)
+    requires there { place < length numbers.old.items }
+    requires has { has_row number (slice_index_or numbers.old.items place no_rows).rows ≡ true }
+    ensures { numbers.new.items ≡ slice_set numbers.old.items place
+        (removed number (slice_index_or numbers.old.items place no_rows)) }
+{
+    numbers[place].remove(number);
+}
 
-    /// The numbers above one.
-    pub fn above(&self, after: u64) -> &[u64]
-        ensures numbers { result.now ≡ numbers_above after self.now }
-        ensures rise { NumbersRise 0 self.now }
-    {
-        let from = place(self.numbers.as_slice(), after.saturating_add(1));
-        &self.numbers[from..]
+/// Sees that a number can be put among those of a table without memory.
+pub fn make_room(
+    numbers: &mut Vec<RowNumbers>,
+    table: TableId,
+    number: u64,
+) -> Result<(), AllocError>
+    ensures ok { OnOk result (OneChanged numbers.old.items numbers.new.items table
+        (ready number (held_for numbers.old.items table))) }
+    ensures err { OnErr result ((t : ℕ) → held_for numbers.new.items t ≡ held_for numbers.old.items t) }
+{
+    let place = table.place() as usize;
+    grow(numbers, place + 1)?;
+    if is_filed(numbers.as_slice(), table, number) {
+        return Ok(());
     }
+    make_room_at(numbers, place)
+}
 
-    /// The last number below one, or 0.
-    pub fn below(&self, before: u64) -> u64
-        ensures { (n : ℕ) → is_number n self.now ≡ true → n < before → n ≤ result }
-    {
-        let numbers = self.numbers.as_slice();
-        let place = place(numbers, before);
-        if place == 0 {
-            return 0;
-        }
-        match at(numbers, place - 1) {
-            Some(number) => *number,
-            None => 0,
-        }
+/// Puts a number among those of a table, where it isn't. It takes one of the room, and no memory.
+pub fn file(numbers: &mut Vec<RowNumbers>, table: TableId, number: u64)
+    requires { can_put number (held_for numbers.old.items table) ≡ true }
+    ensures { OneChanged numbers.old.items numbers.new.items table
+        (put number (held_for numbers.old.items table)) }
+{
+    if !is_filed(numbers.as_slice(), table, number) {
+        put_at(numbers, table.place() as usize, number);
     }
+}
 
-    /// The first number above one, or the greatest there is.
-    pub fn next(&self, after: u64) -> u64
-        ensures { (n : ℕ) → is_number n self.now ≡ true → after < n → result ≤ n }
-    {
-        match at(self.above(after), 0) {
-            Some(number) => *number,
-            None => u64::MAX,
-        }
-    }
-
-    /// Adds a number, unless it is there.
-    pub fn add(&mut self, number: u64) -> Result<(), AllocError>
-        requires positive { 0 < number }
-        requires small { number < 2 ^ 63 }
-        ensures ok { OnOk result (self.new ≡ with_number number self.old) }
-        ensures err { OnErr result (self.new ≡ self.old) }
-    {
-        let place = place(self.numbers.as_slice(), number);
-        if is_at(self.numbers.as_slice(), place, number) {
-            Ok(())
-        } else {
-            self.numbers.insert(place, number)?;
-            Ok(())
-        }
-    }
-
-    /// Takes the numbers out that have no slot. It takes no memory.
-    pub fn keep(&mut self, slots: &[Slot])
-        requires { SlotsRise 0 slots.now }
-        ensures { self.new ≡ filter (has_slot slots.now) self.old }
-    {
-        keep(&mut self.numbers, slots);
+/// Removes a number from those of a table, where it is one of them. Its place is kept as room.
+pub fn drop_number(numbers: &mut Vec<RowNumbers>, table: TableId, number: u64)
+    ensures { OneChanged numbers.old.items numbers.new.items table
+        (dropped number (held_for numbers.old.items table)) }
+{
+    if is_filed(numbers.as_slice(), table, number) {
+        remove_at(numbers, table.place() as usize, number);
     }
 }

@@ -241,7 +241,7 @@ fn six_and_a_mark(alloc: Global, versions: &mut Versions) -> Result<(), AllocErr
 
 // Three rows are taken out after the first, one of them comes back, and one comes in between. What is there after the
 // first two, after the third, with the one that is back and with the new one, and back at the mark.
-fn in_a_gap(alloc: Global, versions: &mut Versions) -> Result<[[u64; 3]; 5], AllocError> {
+fn after_the_first(alloc: Global, versions: &mut Versions) -> Result<[[u64; 3]; 5], AllocError> {
     six_and_a_mark(alloc, versions)?;
     set(versions, 0, 4, None)?;
     set(versions, 0, 6, None)?;
@@ -263,9 +263,9 @@ fn in_a_gap(alloc: Global, versions: &mut Versions) -> Result<[[u64; 3]; 5], All
 }
 
 #[test]
-fn a_look_passes_a_gap(rt: HostRuntime) -> Result<(), Fail> {
+fn a_look_passes_rows_that_went(rt: HostRuntime) -> Result<(), Fail> {
     let mut versions = Versions::new(rt.alloc());
-    let seen = in_a_gap(rt.alloc(), &mut versions);
+    let seen = after_the_first(rt.alloc(), &mut versions);
     drop(versions);
     let rows = seen?;
     assert_eq!(rt; rows[0], [2, 8, 10]);
@@ -273,5 +273,34 @@ fn a_look_passes_a_gap(rt: HostRuntime) -> Result<(), Fail> {
     assert_eq!(rt; rows[2], [2, 6, 10]);
     assert_eq!(rt; rows[3], [2, 5, 6]);
     assert_eq!(rt; rows[4], [2, 4, 6]);
+    Ok(())
+}
+
+// Every other of six rows is taken out, one of them comes back, and the first goes. What is there after each, and back
+// at the mark.
+fn here_and_there(alloc: Global, versions: &mut Versions) -> Result<[[u64; 3]; 4], AllocError> {
+    six_and_a_mark(alloc, versions)?;
+    set(versions, 0, 4, None)?;
+    set(versions, 0, 8, None)?;
+    set(versions, 0, 12, None)?;
+    let three_gone = numbers(versions, 0);
+    put(alloc, versions, 0, 8, 8)?;
+    let one_back = numbers(versions, 0);
+    set(versions, 0, 2, None)?;
+    let first_gone = numbers(versions, 0);
+    versions.undo_to(0);
+    Ok([three_gone, one_back, first_gone, numbers(versions, 0)])
+}
+
+#[test]
+fn rows_go_here_and_there(rt: HostRuntime) -> Result<(), Fail> {
+    let mut versions = Versions::new(rt.alloc());
+    let seen = here_and_there(rt.alloc(), &mut versions);
+    drop(versions);
+    let rows = seen?;
+    assert_eq!(rt; rows[0], [2, 6, 10]);
+    assert_eq!(rt; rows[1], [2, 6, 8]);
+    assert_eq!(rt; rows[2], [6, 8, 10]);
+    assert_eq!(rt; rows[3], [2, 4, 6]);
     Ok(())
 }

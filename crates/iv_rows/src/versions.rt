@@ -8,8 +8,8 @@ ghost use Rattle.iv_machine.specs.Databases.{row_at, rows_after};
 ghost use Rattle.iv_machine.specs.Invariants.{Rising};
 ghost use Rattle.iv_machine.specs.Waves.{values_at};
 ghost use Rattle.iv_rows.specs.InSlots.{live_rows, slots_after};
-ghost use Rattle.iv_rows.specs.Filing.{StaysFiled};
-ghost use Rattle.iv_rows.specs.Histories.{marked_databases, marked_of, after_change, with_mark, at_mark, before_mark, without_mark, settled, history_after, saved_of, last_change, noted_at, rows_before, rows_before_last, stepped_back, AllBelow, CanUndoAll};
+ghost use Rattle.iv_rows.specs.Filing.{OneChanged, RoomStays, held_after, held_for};
+ghost use Rattle.iv_rows.specs.Histories.{marked_databases, marked_of, after_change, with_mark, at_mark, before_mark, without_mark, settled, history_after, saved_of, last_change, noted_at, rows_before, rows_before_last, stepped_back, AllBelow, AllMade, EnoughRoom, HaveSlots};
 
 use crate::saved::Saved;
 use crate::slots::Slots;
@@ -64,7 +64,9 @@ fn make(slots: &mut Slots, journal: &mut Journal, change: &Change) -> Result<(),
     ensures journal { OnOk result (journal.new ≡ journal.old ++ change.now ∷ []) }
     ensures kept_slots { OnErr result (slots.new.slots ≡ slots.old.slots) }
     ensures kept_journal { OnErr result (journal.new ≡ journal.old) }
-    ensures stays { StaysFiled slots.old.numbers slots.new.numbers }
+    ensures numbers { OnOk result (OneChanged slots.old.numbers slots.new.numbers change.now.table
+        (held_after change.now.row change.now.new (held_for slots.old.numbers change.now.table))) }
+    ensures room { OnErr result (RoomStays slots.old.numbers slots.new.numbers) }
 {
     let new = change.new.clone()?;
     journal.note(change.clone()?)?;
@@ -79,12 +81,15 @@ fn make(slots: &mut Slots, journal: &mut Journal, change: &Change) -> Result<(),
 
 // Undoes the last change.
 fn undo_last(slots: &mut Slots, journal: &mut Journal)
-    requires undo { CanUndoAll slots.old.slots slots.old.numbers journal.old }
+    requires slots { HaveSlots slots.old.slots journal.old }
+    requires room { EnoughRoom slots.old.numbers journal.old }
+    requires made { AllMade journal.old (live_rows slots.old.slots) }
     requires small { AllBelow (2 ^ 63) journal.old }
     ensures rows { live_rows slots.new.slots ≡
         rows_before_last journal.old (live_rows slots.old.slots) }
     ensures journal { journal.new ≡ take (length journal.old - 1) journal.old }
-    ensures undo { CanUndoAll slots.new.slots slots.new.numbers journal.new }
+    ensures slots { HaveSlots slots.new.slots journal.new }
+    ensures room { EnoughRoom slots.new.numbers journal.new }
 {
     slots.known();
     if let Some(change) = journal.pop() {

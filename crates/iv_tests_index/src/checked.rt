@@ -1,10 +1,11 @@
 //! Calls of groups whose conditions are tested first, by calls that aren't counted.
 ghost use Rattle.std.specs.Prelude.{◌≡◌, ◌<◌, length, true, false};
-ghost use Rattle.iv_index.specs.Rows.{has_row};
+ghost use Rattle.iv_numbers.specs.Rows.{has_row};
 ghost use Rattle.iv_index.specs.Groups.{groups_of, rows_of};
 
-use iv_index::{Groups, HeldRows};
+use iv_index::Groups;
 use iv_key::Key;
+use iv_numbers::HeldRows;
 use std::alloc::{AllocError, Global};
 
 // Whether a row is under a key.

@@ -4,7 +4,7 @@ use Rattle.std.proofs.lemmas.Bool.{true≢false}
 use Rattle.std.proofs.lemmas.List.{get_or-set_other}
 use Rattle.iv_value.specs.declared.value.Value.{Value}
 use Rattle.iv_value.specs.Values.{all_same}
-use Rattle.iv_index.specs.Rows.{Rows, added}
+use Rattle.iv_numbers.specs.Rows.{Rows, added}
 use Rattle.iv_index.specs.Groups.{GroupOf, held_at, with_groups, with_held, with_row_under}
 use Rattle.iv_index.specs.Groups as index
 use Rattle.iv_laws_kept.specs.Kept.{Groups, groups_of}

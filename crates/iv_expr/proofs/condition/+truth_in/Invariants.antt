@@ -14,8 +14,7 @@ invariant-exists_in_transition-loop-change g l =
 abbrev pub invariant-exists_in_table-loop-number : goal.invariant-exists_in_table-loop-number
 invariant-exists_in_table-loop-number g l =
     let at = λ (row : List Value). truth (within l.scope row) l.cond in
-    let rows = table_rows l.scope.rows l.table in
-    any_from l.found (map at (contents (rows_above l.after rows))) ≡ any_true (map at (contents rows))
+    any_from l.found (map at (contents (rows_above l.after l.search))) ≡ any_true (map at (contents (table_rows l.scope.rows l.fn.table)))
 
 abbrev pub decreases-exists_in_table-loop-number : goal.decreases-exists_in_table-loop-number
 decreases-exists_in_table-loop-number g l = 2 ^ 64 - l.after

@@ -1,7 +1,7 @@
 use Rattle.std.proofs.Common.{◌≡◌, [], false, refl}
-use Rattle.iv_index.specs.Rows.{Rows, added, has_row}
+use Rattle.iv_numbers.specs.Rows.{Rows, added, has_row}
 use Rattle.iv_index.proofs.GroupsLemmas.{edited, grown, missing_in, of_group, placed_in}
-use Rattle.iv_index.proofs.RowsKept.{rising_none, rising_with}
+use Rattle.iv_numbers.proofs.RowsKept.{rising_none, rising_with}
 use Rattle.iv_index.proofs.key_index.add_under.Goals as goal
 
 pub add_at-requires-clause-absent : goal.add_at-requires-clause-absent

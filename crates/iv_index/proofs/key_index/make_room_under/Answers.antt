@@ -1,6 +1,6 @@
-use Rattle.iv_index.specs.Rows.{no_rows, roomy}
+use Rattle.iv_numbers.specs.Rows.{no_rows, roomy}
 use Rattle.iv_index.proofs.GroupsLemmas.{edited, grown, missing_in, placed_in}
-use Rattle.iv_index.proofs.RowsKept.{rising_none, rising_roomy}
+use Rattle.iv_numbers.proofs.RowsKept.{rising_none, rising_roomy}
 use Rattle.iv_index.proofs.key_index.make_room_under.Goals as goal
 
 pub returns-in_ok-make_room_at-in-Some : goal.returns-in_ok-make_room_at-in-Some

@@ -1,7 +1,7 @@
 use Rattle.std.proofs.Common.{◌<◌, ap, arith}
-use Rattle.iv_index.specs.Rows.{Rows, put}
+use Rattle.iv_numbers.specs.Rows.{Rows, put}
 use Rattle.iv_index.proofs.GroupsLemmas.{edited, found_in, missing_in, of_group, placed_in}
-use Rattle.iv_index.proofs.RowsKept.{rising_put}
+use Rattle.iv_numbers.proofs.RowsKept.{rising_put}
 use Rattle.iv_index.proofs.key_index.put_under.Goals as goal
 
 pub put_at-requires-clause-room : goal.put_at-requires-clause-room

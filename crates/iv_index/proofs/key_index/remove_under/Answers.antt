@@ -1,8 +1,8 @@
 use Rattle.std.proofs.lemmas.Bool.{false≢true}
 use Rattle.std.proofs.Common.{◌≡◌, true, ap, sym, ◌∙◌}
-use Rattle.iv_index.specs.Rows.{Rows, has_row, removed}
+use Rattle.iv_numbers.specs.Rows.{Rows, has_row, removed}
 use Rattle.iv_index.proofs.GroupsLemmas.{edited, found_in, missing_in, of_group, placed_in}
-use Rattle.iv_index.proofs.RowsKept.{rising_without}
+use Rattle.iv_numbers.proofs.RowsKept.{rising_without}
 use Rattle.iv_index.proofs.key_index.remove_under.Goals as goal
 
 pub remove_at-requires-clause-present : goal.remove_at-requires-clause-present

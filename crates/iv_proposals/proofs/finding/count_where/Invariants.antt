@@ -9,8 +9,8 @@ abbrev pub invariant-loop-number : goal.invariant-loop-number
 invariant-loop-number g l = record {
   within : l.found ≤ l.after;
   small : l.after < 2 ^ 63;
-  rest : along (λ n row. row_counted l.scope l.filter row) (rows_above l.after (table_rows l.scope.rows l.table)) l.found
-      ≡ rows_counted l.scope l.filter (table_rows l.scope.rows l.table);
+  rest : along (λ n row. row_counted l.scope l.filter row) (rows_above l.after l.search) l.found
+      ≡ rows_counted l.scope l.filter (table_rows l.scope.rows l.fn.table);
 }
 
 abbrev pub decreases-loop-number : goal.decreases-loop-number

@@ -7,8 +7,8 @@ use Rattle.iv_proposals.proofs.finding.numbers_where.Given as goal
 
 abbrev pub invariant-loop-number : goal.invariant-loop-number
 invariant-loop-number g l =
-    along (number_taken l.scope l.filter) (rows_above l.after (table_rows l.scope.rows l.table)) l.found.items
-    ≡ numbers_taken l.scope l.filter (table_rows l.scope.rows l.table)
+    along (number_taken l.scope l.filter) (rows_above l.after l.search) l.found.items
+    ≡ numbers_taken l.scope l.filter (table_rows l.scope.rows l.fn.table)
 
 abbrev pub decreases-loop-number : goal.decreases-loop-number
 decreases-loop-number g l = 2 ^ 64 - l.after

@@ -1,7 +1,7 @@
 use Rattle.std.proofs.Common.{[], refl, sym, ap, ◌∙◌, subst}
 use Rattle.iv_index.specs.Groups.{GroupOf}
-use Rattle.iv_index.specs.Rows.{IsRising, no_rows}
-use Rattle.iv_index.proofs.RowsKept.{rising_none}
+use Rattle.iv_numbers.specs.Rows.{IsRising, no_rows}
+use Rattle.iv_numbers.proofs.RowsKept.{rising_none}
 use Rattle.iv_index.proofs.GroupsLemmas.{Placed, placed, missing}
 use Rattle.iv_index.proofs.key_index.KeyIndex.rows_closed.Goals as goal
 

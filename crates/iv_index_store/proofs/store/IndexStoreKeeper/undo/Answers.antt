@@ -3,6 +3,7 @@ use Rattle.iv_rows.specs.Histories.{History, marked_databases}
 use Rattle.iv_rows.proofs.Histories.{marked_length}
 use Rattle.iv_index_store.specs.Kept.{Store}
 use Rattle.iv_index_store.proofs.Keeping.{kept_forgotten, tables_back, tables_same}
+use Rattle.iv_index_store.proofs.Known.{known_back, known_same}
 use Rattle.iv_index_store.proofs.store.IndexStoreKeeper.undo.Goals as goal
 
 pub invariant_of-self : goal.invariant_of-self
@@ -13,4 +14,7 @@ invariant_of-self c =
       kept_forgotten c.go_back.new.versions c.forget.new.self c.place-2.result c.go_back.new.faults c.go_back.new.groups c.forget.ensures.dropped c.go_back.ensures.kept,
       tables_same _ c.go_back.new.versions c.forget.new.self (ap (λ (h : History). h.rows) c.forget.ensures.dropped) (ap (λ (h : History). h.journal) c.forget.ensures.dropped)
           (tables_back _ c.place.result s.versions c.go_back.new.versions less c.go_back.ensures.marked c.go_back.ensures.journal c.self.invariant.1),
+      known_same _ c.go_back.new.versions c.forget.new.self (ap (λ (h : History). h.rows) c.forget.ensures.dropped) (ap (λ (h : History). h.journal) c.forget.ensures.dropped)
+          (known_back _ c.place.result s.versions c.go_back.new.versions less c.go_back.ensures.marked c.go_back.ensures.journal c.self.invariant.2),
+      c.self.invariant.3,
     )

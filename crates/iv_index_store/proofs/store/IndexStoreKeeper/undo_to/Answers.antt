@@ -3,6 +3,7 @@ use Rattle.iv_rows.specs.Histories.{marked_databases}
 use Rattle.iv_rows.proofs.Histories.{marked_length}
 use Rattle.iv_index_store.specs.Kept.{Store}
 use Rattle.iv_index_store.proofs.Keeping.{tables_back}
+use Rattle.iv_index_store.proofs.Known.{known_back}
 use Rattle.iv_index_store.proofs.store.IndexStoreKeeper.undo_to.Goals as goal
 
 pub invariant_of-self : goal.invariant_of-self
@@ -12,4 +13,6 @@ invariant_of-self c =
     let less : c.place.result < length s.versions.marks = subst (λ n. n < length s.versions.marks) (sym c.place.ensures) (subst (λ n. c.args.mark < n) (marked_length s.versions) marked) in (
       c.go_back.ensures.kept,
       tables_back _ c.place.result s.versions c.go_back.new.versions less c.go_back.ensures.marked c.go_back.ensures.journal c.self.invariant.1,
+      known_back _ c.place.result s.versions c.go_back.new.versions less c.go_back.ensures.marked c.go_back.ensures.journal c.self.invariant.2,
+      c.self.invariant.3,
     )

@@ -1,14 +1,14 @@
 use Rattle.std.proofs.Common.{◌∙◌, sym, ap, subst}
 use Rattle.iv_rows.specs.Histories.{History, history_of, history_after, marked_of, after_change, rows_before}
 use Rattle.iv_rows.proofs.Histories.{Fits, back, marked_after}
-use Rattle.iv_rows.proofs.Keeping.{Made, changed_view, kept_changed, kept_filed}
+use Rattle.iv_rows.proofs.Keeping.{Made, changed_view, kept_changed, kept_refused}
 use Rattle.iv_rows.proofs.versions.Versions.change.Goals as goal
 
 pub invariant_of-self : goal.invariant_of-self
 invariant_of-self c =
     let s = c.self.inside in
-    kept_filed s.slots.slots c.make.new.slots.slots s.slots.numbers c.make.new.slots.numbers s.next s.journal c.make.new.journal s.marks.items
-    c.in_err-make.ensures.kept_slots c.in_err-make.ensures.kept_journal c.make.ensures.stays c.self.invariant
+    kept_refused s.slots.slots c.make.new.slots.slots s.slots.numbers c.make.new.slots.numbers s.next s.journal c.make.new.journal s.marks.items
+    c.in_err-make.ensures.kept_slots c.in_err-make.ensures.kept_journal c.in_err-make.ensures.room c.self.invariant
 
 pub invariant_of-self-2 : goal.invariant_of-self-2
 invariant_of-self-2 c =
@@ -20,7 +20,7 @@ invariant_of-self-2 c =
     subst (λ (h : History). Fits h c.args.change.now) (sym c.self.view_is)
     (record { current = r.current; own = r.own; positive = r.positive; small = r.small; room = r.room }) in
     kept_changed s.slots.slots c.make.new.slots.slots s.slots.numbers c.make.new.slots.numbers s.next c.max-self-inside.result s.journal c.make.new.journal
-    s.marks.items c.args.change.now c.known.ensures.files c.in_ok-make.ensures.stays made fits c.self.invariant
+    s.marks.items c.args.change.now c.known.ensures.files c.in_ok-make.ensures.numbers made fits c.self.invariant
 
 pub returns-clause-ok : goal.returns-clause-ok
 returns-clause-ok c =

@@ -19,7 +19,7 @@ invariant_of-self c =
     subst (λ (l : List Saved). Kept c.undo_last.new.slots.slots c.undo_last.new.slots.numbers s.next c.undo_last.new.journal l) (sym c.truncate.ensures.items)
     (kept_stepped s.slots.slots c.undo_last.new.slots.slots s.slots.numbers c.undo_last.new.slots.numbers s.next s.journal
     c.undo_last.new.journal s.marks.items c.args.place
-    c.undo_last.ensures.rows c.undo_last.ensures.journal c.undo_last.ensures.undo there above c.self.invariant)
+    c.undo_last.ensures.rows c.undo_last.ensures.journal c.undo_last.ensures.slots c.undo_last.ensures.room there above c.self.invariant)
 
 pub returns-clause-marked : goal.returns-clause-marked
 returns-clause-marked c =

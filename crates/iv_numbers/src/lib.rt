@@ -1,0 +1,9 @@
+//! Row numbers in rising order, with room for more.
+#![tactic(auto)]
+
+mod held_rows;
+mod parts;
+mod row_numbers;
+
+pub use held_rows::HeldRows;
+pub use row_numbers::RowNumbers;
