@@ -139,7 +139,7 @@ typedef struct sqlkeep_done {
     uint64_t lookups;
 } sqlkeep_done;
 
-/* Opens a session over a database without tables. Triggers may nest `depth` deep, 1 to 32, and a statement may make
+/* Opens a session over a database without tables. Triggers may nest `depth` deep, 1 to 64, and a statement may make
    `changes` row changes, 1 to 65,536; the program has 16 and 65,536.
    SQLKEEP_OPEN: the handle is open. SQLKEEP_LIMITS: a limit isn't in its range. SQLKEEP_NO_MEMORY. */
 uint32_t sqlkeep_open(sqlkeep *handle, uint8_t depth, uint32_t changes);

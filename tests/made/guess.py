@@ -3,6 +3,7 @@
 It knows keys, CHECKs, foreign keys with their actions, modes, transactions and savepoints, and nothing of triggers. Nothing is
 expected of a program because of it: where it is wrong, a script has one refusal more."""
 from made.pieces import Refused
+from made.tables import KEYS, NULLS_NOT_DISTINCT
 
 # More rows than this are not wanted in a table.
 MANY = 40
@@ -24,7 +25,7 @@ def lost_keys(key, before, after):
 
 def violates_key(constraint, rows):
     keys = [key_of(row, constraint.places) for row in rows.values()]
-    whole = [key for key in keys if None not in key]
+    whole = [key for key in keys if None not in key or constraint.kind == NULLS_NOT_DISTINCT]
     return len(set(whole)) < len(whole) or constraint.kind == 'PRIMARY KEY' and len(whole) < len(keys)
 
 
@@ -60,7 +61,7 @@ class Guess:
 
     def is_violated(self, constraint, rows):
         own = rows[constraint.table]
-        if constraint.kind in ('UNIQUE', 'PRIMARY KEY'):
+        if constraint.kind in KEYS:
             return violates_key(constraint, own)
         if constraint.kind == 'CHECK':
             return violates_check(constraint, own)

@@ -416,13 +416,13 @@ def nested(levels, condition, table):
 
 
 def deepest():
-    """All depths at once, with `--depth 32`: 32 statements nested by triggers, and at each of them a WHEN of depth 64, which are 62 EXISTS over one row. A
-    statement that inserts 32 is at depth 1, and that which inserts 1 at depth 32."""
+    """All depths at once, with `--depth 64`: 64 statements nested by triggers, and at each of them a WHEN of depth 64, which are 62 EXISTS over one row. A
+    statement that inserts 64 is at depth 1, and that which inserts 1 at depth 64."""
     when = nested(62, 'n.a > 1', 'one')
     texts = ['CREATE TABLE one (k INT)', 'INSERT INTO one VALUES (1)', 'COMMIT', 'CREATE TABLE t (a INT)']
     texts += ['CREATE TRIGGER r AFTER INSERT ON t REFERENCING NEW AS n FOR EACH ROW WHEN (%s) INSERT INTO t VALUES (n.a - 1)' % when]
-    texts += ['INSERT INTO t VALUES (32)', 'SELECT COUNT(*) FROM t', 'INSERT INTO t VALUES (33)', 'ROLLBACK']
-    return ';'.join(texts) + ';', answered('ok', 'ok 1', 'ok', 'ok', 'ok', 'ok 1', 'rows 1', '| 32', 'refused 16 DepthLimit R', 'ok')
+    texts += ['INSERT INTO t VALUES (64)', 'SELECT COUNT(*) FROM t', 'INSERT INTO t VALUES (65)', 'ROLLBACK']
+    return ';'.join(texts) + ';', answered('ok', 'ok 1', 'ok', 'ok', 'ok', 'ok 1', 'rows 1', '| 64', 'refused 16 DepthLimit R', 'ok')
 
 
 def deepest_expressions():
@@ -565,7 +565,7 @@ def cases():
     yield Case('an EXISTS in an EXISTS for each of 150 rows', lambda: exists_thrice(150))
     yield Case('EXISTS in EXISTS over two rows, 18 deep', lambda: exists_over_two_rows(18))
     yield Case('a condition of 1 MB over 100 rows', lambda: condition_over(100))
-    yield Case('all depths at once', deepest, words=['--depth', '32'])
+    yield Case('all depths at once', deepest, words=['--depth', '64'])
     yield Case('expressions and conditions of depth 64', deepest_expressions)
     yield Case('8,000 rows that violate 64 constraints each', many_violations)
     yield Case('10,000 children of one parent', lambda: one_parent(10_000))

@@ -107,14 +107,14 @@ class Sentences:
         return text
 
     def of_column(self, table):
-        rules = (2, 'NOT NULL' + self.time()), (2, 'UNIQUE' + self.key_time()), (3, self.check(table) + self.time()), (3, self.reference() + self.time())
+        rules = (2, 'NOT NULL' + self.time()), (2, self.unique() + self.key_time()), (3, self.check(table) + self.time()), (3, self.reference() + self.time())
         rule = self.chance.weighed(*rules)
         return ' ' + self.named() + rule
 
     def of_table(self, table):
         listed = ', '.join(self.columns(2))
         foreign = 'FOREIGN KEY (%s) %s%s' % (listed, self.reference(self.maybe(0.5, ' (%s)' % listed)), self.time())
-        return self.named() + self.chance.weighed((3, 'UNIQUE (%s)%s' % (listed, self.key_time())), (2, self.check(table) + self.time()), (3, foreign))
+        return self.named() + self.chance.weighed((3, '%s (%s)%s' % (self.unique(), listed, self.key_time())), (2, self.check(table) + self.time()), (3, foreign))
 
     def create_table(self, name=None):
         table, parts = name or self.table(), []
@@ -134,6 +134,15 @@ class Sentences:
             return self.chance.weighed((4, set_row), (1, "SIGNAL 'no'")) if level == ' FOR EACH ROW' else "SIGNAL 'no'"
         return self.chance.weighed((4, self.insert()), (2, self.update()), (2, self.delete()), (1, "SIGNAL 'no'"))
 
+    def unique(self):
+        return 'UNIQUE' + self.maybe(0.3, ' NULLS NOT DISTINCT')
+
+    def event(self, event):
+        """An event as it is written: some UPDATEs with a list of columns, and few other events."""
+        if event != 'UPDATE' and not self.is_wrong():
+            return event
+        return event + self.maybe(0.4, ' OF ' + ', '.join(self.columns()))
+
     def create_trigger(self):
         time, event, level = self.one('BEFORE', 'AFTER', 'AFTER'), self.one('INSERT', 'UPDATE', 'DELETE'), self.one('', ' FOR EACH ROW', ' FOR EACH ROW')
         sides = {'INSERT': ['NEW'], 'UPDATE': ['NEW', 'OLD'], 'DELETE': ['OLD']}[self.one('INSERT', 'DELETE') if self.is_wrong() else event]
@@ -147,7 +156,7 @@ class Sentences:
         when = self.maybe(0.5, ' WHEN (%s)' % (self.condition(1) if self.rows else 'EXISTS (SELECT * %s)' % self.range(1)[1]))
         self.rows, self.transitions = [], []
         return 'CREATE TRIGGER %s %s %s ON %s%s%s%s %s' % (
-            self.chance.one(TRIGGERS), time, event, self.table(), ' REFERENCING ' + ' '.join(items) if items else '', level, when, body)
+            self.chance.one(TRIGGERS), time, self.event(event), self.table(), ' REFERENCING ' + ' '.join(items) if items else '', level, when, body)
 
     # Rows.
 

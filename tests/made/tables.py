@@ -4,7 +4,9 @@ from typing import Optional
 
 from made.pieces import Piece, column, compared, connected, is_null, joined, literal, negated, some_text, written
 
-KEYS = ('UNIQUE', 'PRIMARY KEY')
+NULLS_NOT_DISTINCT = 'UNIQUE NULLS NOT DISTINCT'
+UNIQUES = ('UNIQUE', NULLS_NOT_DISTINCT)
+KEYS = (*UNIQUES, 'PRIMARY KEY')
 ACTIONS = ['NO ACTION', 'CASCADE', 'CASCADE', 'CASCADE', 'SET NULL', 'SET NULL', 'SET DEFAULT', 'RESTRICT']
 
 
@@ -144,7 +146,7 @@ def new_constraints(chance, tables, table):
     if chance.happens(0.6):
         table.constraints.append(Constraint('PRIMARY KEY', some_places(chance, table, 3), some_time(chance, True)))
     uniques = chance.weighed((5, 0), (4, 1), (1, 2))
-    table.constraints += [Constraint('UNIQUE', some_places(chance, table, 3), some_time(chance, True)) for _ in range(uniques)]
+    table.constraints += [Constraint(chance.one(UNIQUES), some_places(chance, table, 3), some_time(chance, True)) for _ in range(uniques)]
     nulls = [place for place in range(len(table.columns)) if chance.happens(0.12)]
     table.constraints += [Constraint('NOT NULL', [place], some_time(chance, False)) for place in nulls]
     checks = chance.weighed((6, 0), (3, 1), (1, 2))
@@ -187,7 +189,7 @@ def laid_out(chance, table, elements, names):
 
 def new_addition(chance, tables, table, names):
     """A constraint for ALTER TABLE ADD, and its statement."""
-    kind = chance.weighed((3, 'UNIQUE'), (0 if table.key() else 2, 'PRIMARY KEY'), (3, 'CHECK'), (5, 'FOREIGN KEY'))
+    kind = chance.weighed((3, chance.one(UNIQUES)), (0 if table.key() else 2, 'PRIMARY KEY'), (3, 'CHECK'), (5, 'FOREIGN KEY'))
     one = some_reference(chance, tables, table) if kind == 'FOREIGN KEY' else None
     if kind in KEYS:
         one = Constraint(kind, some_places(chance, table, 3), some_time(chance, True))

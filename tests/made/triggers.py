@@ -12,6 +12,14 @@ def new_log(texts):
     return Table('log', columns, []), 'CREATE TABLE log (what INT, a INT, b %s)' % texts
 
 
+def listed(chance, event, table):
+    """An event as it is written: some UPDATEs with a list of columns."""
+    if event != 'UPDATE' or chance.happens(0.6):
+        return event
+    names = [one.name for one in table.columns if chance.happens(0.5)] or [table.columns[0].name]
+    return 'UPDATE OF ' + ', '.join(names)
+
+
 def rows_of(chance, event):
     """The row variables of an event, and the one whose values are used."""
     items = {'INSERT': ['NEW AS n'], 'DELETE': ['OLD ROW AS o'], 'UPDATE': ['OLD AS o', 'NEW ROW n']}[event]
@@ -35,7 +43,7 @@ def logging(chance, guess, table):
     event = chance.one(EVENTS)
     items, used = rows_of(chance, event)
     values = ', '.join([str(chance.number(1, 9)), of_kind(table, 'INT', used), of_kind(table, guess.tables['log'].columns[2].kind, used)])
-    head = 'AFTER %s ON %s REFERENCING %s FOR EACH ROW%s' % (event, table.name, items, when(chance, guess, table, used, 0.3))
+    head = 'AFTER %s ON %s REFERENCING %s FOR EACH ROW%s' % (listed(chance, event, table), table.name, items, when(chance, guess, table, used, 0.3))
     return '%s INSERT INTO log VALUES (%s)' % (head, values)
 
 
@@ -45,7 +53,7 @@ def logging_all(chance, guess, table):
     side = {'INSERT': 'NEW', 'DELETE': 'OLD', 'UPDATE': chance.one(['OLD', 'NEW'])}[event]
     values = ', '.join([str(chance.number(1, 9)), of_kind(table, 'INT', None), of_kind(table, guess.tables['log'].columns[2].kind, None)])
     where = after_where(test(chance, guess, table)) if chance.happens(0.3) else ''
-    return 'AFTER %s ON %s REFERENCING %s TABLE AS changed INSERT INTO log SELECT %s FROM changed%s' % (event, table.name, side, values, where)
+    return 'AFTER %s ON %s REFERENCING %s TABLE AS changed INSERT INTO log SELECT %s FROM changed%s' % (listed(chance, event, table), table.name, side, values, where)
 
 
 def setting(chance, guess, table):
@@ -55,7 +63,7 @@ def setting(chance, guess, table):
     items = rows_of(chance, event)[0]
     asked = is_null(one, False) if chance.happens(0.7) else test(chance, guess, table, 'n')
     value = expression(chance, guess, table, kind, 'n') if chance.happens(0.5) else literal(some_value(chance, kind, 0))
-    head = 'BEFORE %s ON %s REFERENCING %s FOR EACH ROW WHEN (%s)' % (event, table.name, items, asked.text)
+    head = 'BEFORE %s ON %s REFERENCING %s FOR EACH ROW WHEN (%s)' % (listed(chance, event, table), table.name, items, asked.text)
     one_act = 'SET %s = %s' % (one.text, value.text)
     return '%s %s' % (head, chance.weighed((3, one_act), (1, 'BEGIN ATOMIC %s; %s; END' % (one_act, one_act))))
 
@@ -67,7 +75,7 @@ def signalling(chance, guess, table):
     ints = [place for place, one in enumerate(table.columns) if one.kind == 'INT']
     rare = compared(column(table, chance.one(ints), used), '>', literal(chance.number(2, 5))) if ints else test(chance, guess, table, used)
     time, text = chance.one(['BEFORE', 'AFTER']), written(chance.one(['no', "it's not allowed", '']))
-    return '%s %s ON %s REFERENCING %s FOR EACH ROW WHEN (%s) SIGNAL %s' % (time, event, table.name, items, rare.text, text)
+    return '%s %s ON %s REFERENCING %s FOR EACH ROW WHEN (%s) SIGNAL %s' % (time, listed(chance, event, table), table.name, items, rare.text, text)
 
 
 def guarding(chance, guess, table):
@@ -75,7 +83,7 @@ def guarding(chance, guess, table):
     other = chance.one(list(guess.tables.values()))
     asked = compared(column(other, 0, other.name), '=', literal(some_value(chance, other.columns[0].kind, 0)))
     event = chance.one(EVENTS)
-    return "BEFORE %s ON %s WHEN (EXISTS (SELECT * FROM %s WHERE %s)) SIGNAL 'closed'" % (event, table.name, other.name, asked.text)
+    return "BEFORE %s ON %s WHEN (EXISTS (SELECT * FROM %s WHERE %s)) SIGNAL 'closed'" % (listed(chance, event, table), table.name, other.name, asked.text)
 
 
 def following(chance, guess, table):
@@ -88,7 +96,7 @@ def following(chance, guess, table):
     value = of_kind(table, kind, used)
     asked = '%s = %s' % (other.columns[place].name, written(some_value(chance, kind, 0)) if value == 'NULL' else value)
     acts = ['DELETE FROM %s WHERE %s' % (other.name, asked), 'UPDATE %s SET %s = NULL WHERE %s' % (other.name, other.columns[-1].name, asked)]
-    head = 'AFTER %s ON %s REFERENCING %s FOR EACH ROW%s' % (event, table.name, items, when(chance, guess, table, used, 0.6))
+    head = 'AFTER %s ON %s REFERENCING %s FOR EACH ROW%s' % (listed(chance, event, table), table.name, items, when(chance, guess, table, used, 0.6))
     return '%s %s' % (head, chance.one(acts))
 
 
@@ -98,7 +106,7 @@ def repeating(chance, guess, table):
     name = table.columns[0].name
     act = 'UPDATE %s SET %s = %s' % (table.name, name, name) if event == 'UPDATE' else 'DELETE FROM %s' % table.name
     row = '%s WHERE %s IS NULL' % (table.name, name)
-    return 'AFTER %s ON %s WHEN (EXISTS (SELECT * FROM %s)) %s WHERE %s IS NOT NULL' % (event, table.name, row, act, name)
+    return 'AFTER %s ON %s WHEN (EXISTS (SELECT * FROM %s)) %s WHERE %s IS NOT NULL' % (listed(chance, event, table), table.name, row, act, name)
 
 
 def new_trigger(chance, guess, name):

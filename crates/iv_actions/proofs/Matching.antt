@@ -1,7 +1,7 @@
 -- What the foreign keys do that were made for a wave is what the definitions say of it.
 use Rattle.std.proofs.Common.{◌≡◌, refl, ℕ, ◌+◌, Bool, true, false, ◌&&◌, if◌then◌else◌, List, [], ◌∷◌, ◌++◌, map, filter, filter_map, flat_map, find, Option, Some, None, Result, Ok, sym, ap, ◌∙◌}
 use Rattle.std.specs.Bool.{◌==◌}
-use Rattle.std.specs.List.{cons_option, enumerate_from}
+use Rattle.std.specs.List.{list_any, cons_option, enumerate_from}
 use Rattle.std.specs.Option.{option_map}
 use Rattle.iv_value.specs.declared.value.Value.{Value}
 use Rattle.iv_expr.specs.declared.row.StoredRow.{StoredRow}
@@ -17,11 +17,11 @@ use Rattle.iv_machine.specs.declared.effect.Effect.{Effect}
 use Rattle.iv_machine.specs.Context.{Failure, fails}
 use Rattle.iv_key.specs.Keys.{key_of, none_null}
 use Rattle.iv_machine.specs.Databases.{row_at, fault_at}
-use Rattle.iv_machine.specs.ReferentialActions.{Reference, reference, Loss, LostKeys, lost_reference, action_on, is_restrict, effects_of_loss, keeps_reference, change_by}
+use Rattle.iv_machine.specs.ReferentialActions.{Reference, reference, Loss, LostKeys, lost_reference, action_on, is_restrict, effects_of_loss, keeps_reference, change_by, sets_values, referencing_columns}
 use Rattle.iv_laws_levels.specs.Holders.{loss_of_new, loses_key, keys_lost_by, row_before}
 use Rattle.iv_laws_actions.specs.RowByRow as laws
 use Rattle.iv_actions.specs.AffectedForeignKey.{AffectedForeignKey, under_wave, acts_in, affected_where, affected_from, change_losing, action_for}
-use Rattle.iv_actions.specs.Following.{restricts, restricted_fault, effects_for, effects_by, effects_among, restricted_at, effects_at, conflict_at, change_at, answer_among}
+use Rattle.iv_actions.specs.Following.{restricts, restricted_fault, effects_for, effects_by, effects_among, restricted_at, effects_at, conflict_at, change_at, sets_at, columns_where, columns_at, answer_among}
 
 -- ---- one foreign key
 
@@ -166,6 +166,34 @@ module _ (changes : List Change) where
       by None = refl
       by (Some after) = ap (change_by after) (effects_at_is schema ks later after)
 
+  sets_at_is : (schema : Schema) (ks : List Reference) (later : List StoredRow) (id number : ℕ)
+      → sets_at schema (under ks) changes later id number ≡ laws.sets_at schema ks lost changes later id number
+  sets_at_is schema ks later id number = by (row_at later number)
+    where
+      by : (o : Option StoredRow)
+          → ◌≡◌ {A = Bool}
+          (elim o [ Some after ↦ sets_values id (effects_at schema (under ks) changes later after) | None ↦ false ])
+          (elim o [ Some after ↦ sets_values id (laws.effects_at schema ks lost changes later after) | None ↦ false ])
+      by None = refl
+      by (Some after) = ap (sets_values id) (effects_at_is schema ks later after)
+
+  columns_under : (sets : ℕ → Bool) (ks : List Reference) → columns_where sets (under ks) ≡ flat_map referencing_columns (filter (λ k. sets k.id) ks)
+  columns_under sets [] = refl
+  columns_under sets (k ∷ ks) = by (sets k.id) (columns_under sets ks)
+    where
+      by : (b : Bool) → columns_where sets (under ks) ≡ flat_map referencing_columns (filter (λ j. sets j.id) ks)
+          → flat_map (λ x. referencing_columns x.reference)
+          (if b then under_wave changes k ∷ filter (λ x. sets x.reference.id) (under ks) else filter (λ x. sets x.reference.id) (under ks))
+          ≡ flat_map referencing_columns (if b then k ∷ filter (λ j. sets j.id) ks else filter (λ j. sets j.id) ks)
+      by true rest = ap (λ l. referencing_columns k ++ l) rest
+      by false rest = rest
+
+  columns_at_is : (schema : Schema) (ks : List Reference) (later : List StoredRow) (numbers : List ℕ)
+      → columns_at schema (under ks) changes later numbers ≡ laws.columns_at schema ks lost changes later numbers
+  columns_at_is schema ks later numbers =
+      ap (λ (sets : ℕ → Bool). columns_where sets (under ks)) (λ i id. list_any (λ n. sets_at_is schema ks later id n i) numbers)
+      ∙ columns_under (λ id. list_any (laws.sets_at schema ks lost changes later id) numbers) ks
+
   -- What follows among rows is the same.
   pub answer_is : (schema : Schema) (ks : List Reference) (later : Database) (numbers : List ℕ)
       → answer_among schema (under ks) changes later numbers ≡ laws.answer_at schema ks lost changes later numbers
@@ -175,6 +203,9 @@ module _ (changes : List Change) where
         | None ↦
             elim (laws.least (λ n. conflict_at_is schema ks later.rows n i) numbers) as (λ _. Result Wave Failure) [
               | Some fault ↦ fails later (ActionConflict fault)
-              | None ↦ Ok (wave_of (filter_map (λ n. change_at_is schema ks later.rows n i) numbers))
+              | None ↦ Ok (record {
+                changes = filter_map (λ n. change_at_is schema ks later.rows n i) numbers;
+                columns = columns_at_is schema ks later.rows numbers i;
+              })
             ]
       ]

@@ -97,3 +97,20 @@ pub made_next : {B : Type 0} (f : ℕ → Option B) (next : List B) (numbers : L
 made_next f next numbers i h =
     rw add-one
     (joined next (filter_map f (drop (suc i) numbers)) (f (get_or numbers i 0)) ∙ ap (λ l. next ++ filter_map f l) (sym (drop-cons numbers i 0 h)))
+
+-- ---- flags that are set by rising numbers
+
+or_turned : (a b c : Bool) → (a || (b || c)) ≡ ((b || a) || c)
+or_turned true true c = refl
+or_turned true false c = refl
+or_turned false true c = refl
+or_turned false false c = refl
+
+-- a flag after one number more
+pub flagged_next : (p : ℕ → Bool) (before after : Bool) (numbers : List ℕ) (i : ℕ) → i < length numbers → after ≡ (p (get_or numbers i 0) || before)
+    → (list_any p (drop (i + 1) numbers) || after) ≡ (list_any p (drop i numbers) || before)
+flagged_next p before after numbers i h e =
+    rw add-one
+    (ap (λ b. list_any p (drop (suc i) numbers) || b) e
+    ∙ or_turned (list_any p (drop (suc i) numbers)) (p (get_or numbers i 0)) before
+    ∙ ap (λ l. list_any p l || before) (sym (drop-cons numbers i 0 h)))

@@ -1,8 +1,10 @@
 -- What foreign keys do to a row, from the changes that took keys away.
 use Rattle.std.specs.Prelude.{ℕ, Bool, false, ◌&&◌, ◌==◌, List, [], ◌∷◌, map, filter, filter_map, flat_map, find, Option, Some, None, Result, Ok}
+use Rattle.std.specs.List.{list_any}
 use Rattle.std.specs.Option.{option_map}
 use Rattle.iv_expr.specs.declared.row.StoredRow.{StoredRow}
 use Rattle.iv_expr.specs.declared.row.Change.{Change}
+use Rattle.iv_expr.specs.declared.wave.TableColumn.{TableColumn}
 use Rattle.iv_expr.specs.Changes.{Wave, wave_of}
 use Rattle.iv_catalogue.specs.Catalogues.{Schema}
 use Rattle.iv_catalogue.specs.declared.cause.Cause.TheVariants.{Restrict, ActionConflict}
@@ -11,7 +13,7 @@ use Rattle.iv_machine.specs.declared.database.Database.{Database}
 use Rattle.iv_machine.specs.declared.effect.Effect.{Effect}
 use Rattle.iv_machine.specs.Context.{Failure, fails}
 use Rattle.iv_machine.specs.Databases.{row_at, fault_at}
-use Rattle.iv_machine.specs.ReferentialActions.{is_restrict, effects_of_action, keeps_reference, change_by}
+use Rattle.iv_machine.specs.ReferentialActions.{is_restrict, effects_of_action, keeps_reference, change_by, sets_values, referencing_columns}
 use Rattle.iv_laws_levels.specs.Holders.{loss_of_new, row_before}
 use Rattle.iv_laws_actions.specs.RowByRow.{first_conflict, least}
 use Rattle.iv_actions.specs.AffectedForeignKey.{AffectedForeignKey, action_for, change_losing}
@@ -67,6 +69,26 @@ abbrev pub change_at : Schema → List AffectedForeignKey → List Change → Li
 change_at schema xs changes later number =
     elim (row_at later number) [ Some after ↦ change_by after (effects_at schema xs changes later after) | None ↦ None ]
 
+-- a foreign key sets values of the row of this number
+abbrev pub sets_at : Schema → List AffectedForeignKey → List Change → List StoredRow → ℕ → ℕ → Bool
+sets_at schema xs changes later id number =
+    elim (row_at later number) [ Some after ↦ sets_values id (effects_at schema xs changes later after) | None ↦ false ]
+
+-- the columns of those of these foreign keys whose numbers pass, by creation
+abbrev pub columns_where : (ℕ → Bool) → List AffectedForeignKey → List TableColumn
+columns_where sets xs = flat_map (λ x. referencing_columns x.reference) (filter (λ x. sets x.reference.id) xs)
+
+-- those of the foreign keys that set values of some of the rows of these numbers
+abbrev pub columns_at : Schema → List AffectedForeignKey → List Change → List StoredRow → List ℕ → List TableColumn
+columns_at schema xs changes later numbers = columns_where (λ id. list_any (sets_at schema xs changes later id) numbers) xs
+
+-- The next wave, from the rows of these numbers.
+abbrev pub next_at : Schema → List AffectedForeignKey → List Change → List StoredRow → List ℕ → Wave
+next_at schema xs changes later numbers = record {
+  changes = filter_map (change_at schema xs changes later) numbers;
+  columns = columns_at schema xs changes later numbers;
+}
+
 -- What follows a wave, from the rows of these numbers.
 abbrev pub answer_among : Schema → List AffectedForeignKey → List Change → Database → List ℕ → Result Wave Failure
 answer_among schema xs changes later numbers =
@@ -75,6 +97,6 @@ answer_among schema xs changes later numbers =
       | None ↦
           elim (least (conflict_at schema xs changes later.rows) numbers) [
             | Some f ↦ fails later (ActionConflict f)
-            | None ↦ Ok (wave_of (filter_map (change_at schema xs changes later.rows) numbers))
+            | None ↦ Ok (next_at schema xs changes later.rows numbers)
           ]
     ]

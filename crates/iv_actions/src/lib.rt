@@ -10,5 +10,6 @@ mod finding;
 mod next;
 mod restrict;
 mod row;
+mod setting;
 
 pub use next::next_wave;

@@ -1,6 +1,6 @@
 //! The wave that follows from a wave.
-ghost use Rattle.std.specs.Prelude.{◌≡◌, ◌<◌, ◌≤◌, ◌+◌, ◌*◌, ◌++◌, [], None, length, filter_map, IfOk, OnOk};
-ghost use Rattle.std.specs.List.{cons_option};
+ghost use Rattle.std.specs.Prelude.{◌≡◌, ◌<◌, ◌≤◌, ◌+◌, ◌*◌, ◌++◌, ◌||◌, [], None, ℕ, false, get_or, length, filter_map, IfOk, OnOk};
+ghost use Rattle.std.specs.List.{cons_option, list_any};
 ghost use Rattle.iv_expr.specs.Changes.{RisingChanges, last_row};
 ghost use Rattle.iv_machine.specs.declared.database.Database.{Database};
 ghost use Rattle.iv_machine.specs.Context.{Context};
@@ -8,7 +8,7 @@ ghost use Rattle.iv_machine.specs.ReferentialActions.{following_wave};
 ghost use Rattle.iv_store.specs.Lookups.{foreign_keys};
 ghost use Rattle.iv_store.specs.Stores.{RisingNumbers};
 ghost use Rattle.iv_laws_actions.specs.RowByRow.{earlier, least, LedTo};
-ghost use Rattle.iv_actions.specs.Following.{restricted_at, effects_at, conflict_at, change_at, answer_among};
+ghost use Rattle.iv_actions.specs.Following.{restricted_at, effects_at, conflict_at, change_at, sets_at, next_at, answer_among};
 ghost use Rattle.iv_actions.specs.Answers.{AnswersWave};
 
 use crate::by_table::{ByTable, affected_by_table};
@@ -18,8 +18,9 @@ use crate::effect::effects_among;
 use crate::finding::found;
 use crate::restrict::restricted_fault;
 use crate::row::{LentRow, row_before};
+use crate::setting::{columns_where, flag_setting};
 use iv_catalogue::{Catalogue, Cause, ConstraintId, Fault, Refusal};
-use iv_expr::{Change, StoredRow, Wave};
+use iv_expr::{Change, StoredRow, TableColumn, Wave};
 use iv_machine::Effect;
 use iv_store::ReferencingRows;
 use std::alloc::{AllocError, Global};
@@ -153,21 +154,27 @@ fn first_disagreement<K: ReferencingRows>(
     Ok(first)
 }
 
+// The change of the row of a number, where there is one. The foreign keys that set values of the row are flagged.
 fn change_at<K: ReferencingRows>(
     store: &K,
+    flags: &mut Vec<bool>,
     catalogue: &Catalogue,
     affected_keys: &ByTable<'_>,
     changes: &[Change],
     number: u64,
 ) -> Result<Option<Change>, AllocError>
     requires { RisingChanges changes.now }
-    ensures { IfOk result (λ c. c ≡ change_at
+    ensures change { IfOk result (λ c. c ≡ change_at
         catalogue.now affected_keys.now changes.now (K.view store.now).base.rows number) }
+    ensures flagged { OnOk result ((id : ℕ) → get_or flags.new.items id false ≡ (sets_at
+        catalogue.now affected_keys.now changes.now (K.view store.now).base.rows id number
+        || get_or flags.old.items id false)) }
 {
     let Some(row) = store.row(number) else {
         return Ok(None);
     };
     let effects = effects_at(store, catalogue, affected_keys, changes, row)?;
+    flag_setting(flags, effects.as_slice())?;
     change_by(store.allocator(), row, effects.as_slice())
 }
 
@@ -175,6 +182,7 @@ fn change_at<K: ReferencingRows>(
 fn push_change<K: ReferencingRows>(
     store: &K,
     next: &mut Wave,
+    flags: &mut Vec<bool>,
     catalogue: &Catalogue,
     affected_keys: &ByTable<'_>,
     changes: &[Change],
@@ -185,15 +193,59 @@ fn push_change<K: ReferencingRows>(
     ensures pushed { OnOk result (next.new.changes ≡ next.old.changes ++ cons_option (change_at
         catalogue.now affected_keys.now changes.now (K.view store.now).base.rows number) []) }
     ensures last { OnOk result (last_row next.new.changes ≤ number) }
+    ensures flagged { OnOk result ((id : ℕ) → get_or flags.new.items id false ≡ (sets_at
+        catalogue.now affected_keys.now changes.now (K.view store.now).base.rows id number
+        || get_or flags.old.items id false)) }
 {
-    match change_at(store, catalogue, affected_keys, changes, number)? {
+    match change_at(store, flags, catalogue, affected_keys, changes, number)? {
         None => Ok(()),
         Some(change) => next.push(change),
     }
 }
 
-// The changes of the rows of these numbers.
+// The changes of the rows of these numbers. The foreign keys that set values of some of them are flagged.
 fn next_changes<K: ReferencingRows>(
+    store: &K,
+    flags: &mut Vec<bool>,
+    catalogue: &Catalogue,
+    affected_keys: &ByTable<'_>,
+    changes: &[Change],
+    numbers: &[u64],
+) -> Result<Wave, AllocError>
+    requires rising { RisingChanges changes.now }
+    requires numbers { RisingNumbers 0 numbers.now }
+    ensures changes { IfOk result (λ w. w.changes ≡ filter_map (change_at
+        catalogue.now affected_keys.now changes.now (K.view store.now).base.rows) numbers.now) }
+    ensures flagged { OnOk result ((id : ℕ) → get_or flags.new.items id false ≡ (list_any (sets_at
+        catalogue.now affected_keys.now changes.now (K.view store.now).base.rows id) numbers.now
+        || get_or flags.old.items id false)) }
+{
+    let mut next = Wave::new(store.allocator());
+    for number in numbers {
+        push_change(
+            store,
+            &mut next,
+            flags,
+            catalogue,
+            affected_keys,
+            changes,
+            *number,
+        )?;
+    }
+    Ok(next)
+}
+
+// The changes with these columns. A wave tells of its changes that they are by rising row number.
+fn with_columns(next: Wave, columns: Vec<TableColumn>) -> Wave
+    ensures { result ≡ record { changes = next.changes; columns = columns.items } }
+{
+    let _ = next.changes();
+    let (changes, _) = next.into_parts();
+    Wave::from_parts(changes, columns)
+}
+
+// The changes of the rows of these numbers, with the columns of the foreign keys that set values of some of them.
+fn next_at<K: ReferencingRows>(
     store: &K,
     catalogue: &Catalogue,
     affected_keys: &ByTable<'_>,
@@ -202,14 +254,21 @@ fn next_changes<K: ReferencingRows>(
 ) -> Result<Wave, AllocError>
     requires rising { RisingChanges changes.now }
     requires numbers { RisingNumbers 0 numbers.now }
-    ensures { IfOk result (λ w. w.changes ≡ filter_map (change_at
-        catalogue.now affected_keys.now changes.now (K.view store.now).base.rows) numbers.now) }
+    ensures { IfOk result (λ w. w ≡ next_at
+        catalogue.now affected_keys.now changes.now (K.view store.now).base.rows numbers.now) }
 {
-    let mut next = Wave::new(store.allocator());
-    for number in numbers {
-        push_change(store, &mut next, catalogue, affected_keys, changes, *number)?;
-    }
-    Ok(next)
+    let alloc = store.allocator();
+    let mut flags = Vec::new(alloc);
+    let next = next_changes(
+        store,
+        &mut flags,
+        catalogue,
+        affected_keys,
+        changes,
+        numbers,
+    )?;
+    let columns = columns_where(alloc, affected_keys.as_slice(), flags.as_slice())?;
+    Ok(with_columns(next, columns))
 }
 
 fn refusal(cause: Cause) -> Refusal
@@ -243,7 +302,7 @@ fn answer_among<K: ReferencingRows>(
     if let Some(fault) = first_disagreement(store, catalogue, affected_keys, changes, numbers)? {
         return Err(refusal(Cause::ActionConflict(fault)));
     }
-    Ok(next_changes(store, catalogue, affected_keys, changes, numbers)?)
+    Ok(next_at(store, catalogue, affected_keys, changes, numbers)?)
 }
 
 /// The wave that follows from a wave by referential actions, in a store that is as after the wave: the first row

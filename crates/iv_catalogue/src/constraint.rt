@@ -2,7 +2,7 @@
 ghost use Rattle.std.specs.Prelude.{◌≡◌};
 
 use iv_expr::{Cond, TableId};
-use iv_syntax::{ConstraintMode, MatchType, Name, ReferentialAction};
+use iv_syntax::{ConstraintMode, MatchType, Name, NullTreatment, ReferentialAction};
 use sqlite_items::Items;
 use std::marker::Model;
 
@@ -27,7 +27,7 @@ pub enum Rule {
     /// CHECK ("Check constraint definition").
     Check(Cond),
     /// UNIQUE ("Unique constraint definition").
-    Unique(Items<u32>),
+    Unique(NullTreatment, Items<u32>),
     PrimaryKey(Items<u32>),
     ForeignKey(ForeignKey),
 }

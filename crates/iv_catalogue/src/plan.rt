@@ -82,6 +82,8 @@ pub struct Trigger {
     pub table: TableId,
     pub time: ActionTime,
     pub event: TriggerEvent,
+    /// The columns of UPDATE OF, as places in the table from 0; empty where there is no list.
+    pub columns: Items<u32>,
     pub granularity: Granularity,
     /// The condition of WHEN; `Always` where there is none.
     pub when: Cond,

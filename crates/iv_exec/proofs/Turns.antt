@@ -1,6 +1,7 @@
 -- Triggers that fire one after another.
 use Rattle.std.proofs.Common.{◌≡◌, refl, ℕ, ◌+◌, Bool, List, [], ◌∷◌, ◌++◌, map, drop, slice_get, Some, Result, Ok, Err, MatchBool, ap, sym, ◌∙◌}
 use Rattle.iv_expr.specs.declared.row.Change.{Change}
+use Rattle.iv_expr.specs.declared.wave.TableColumn.{TableColumn}
 use Rattle.iv_expr.specs.Scopes.{Frame}
 use Rattle.iv_catalogue.specs.declared.plan.BodyStatement.{BodyStatement}
 use Rattle.iv_catalogue.specs.declared.plan.DataStatement.{DataStatement}
@@ -51,21 +52,21 @@ one_refused run x at r f h =
 -- ---- the loops
 
 -- one more trigger of the list
-pub triggers_so_far : (run : Runs) (d : DataStatement) (parts : List (List Change)) (ts : List Trigger) (i : ℕ) (t : Trigger) (at mid : Progress) (all : Result Progress Failure)
-    → slice_get ts i ≡ Some t → firings_run run (after_firings d parts t) at ≡ Ok mid → firings_run run (all_firings d parts (drop i ts)) at ≡ all
-    → firings_run run (all_firings d parts (drop (i + 1) ts)) mid ≡ all
-triggers_so_far run d parts ts i t at mid all e fired so_far =
-    sym (both_fired run (after_firings d parts t) (all_firings d parts (drop (i + 1) ts)) at mid _ fired refl)
-    ∙ ap (λ l. firings_run run (all_firings d parts l) at) (sym (from_place ts i t e)) ∙ so_far
+pub triggers_so_far : (run : Runs) (d : DataStatement) (columns : List TableColumn) (parts : List (List Change)) (ts : List Trigger) (i : ℕ) (t : Trigger) (at mid : Progress) (all : Result Progress Failure)
+    → slice_get ts i ≡ Some t → firings_run run (after_firings d columns parts t) at ≡ Ok mid → firings_run run (all_firings d columns parts (drop i ts)) at ≡ all
+    → firings_run run (all_firings d columns parts (drop (i + 1) ts)) mid ≡ all
+triggers_so_far run d columns parts ts i t at mid all e fired so_far =
+    sym (both_fired run (after_firings d columns parts t) (all_firings d columns parts (drop (i + 1) ts)) at mid _ fired refl)
+    ∙ ap (λ l. firings_run run (all_firings d columns parts l) at) (sym (from_place ts i t e)) ∙ so_far
 
-pub triggers_refused : (memory : Bool) (run : Runs) (d : DataStatement) (parts : List (List Change)) (ts : List Trigger) (i : ℕ) (t : Trigger) (at : Progress) (f : Failure) (all : Result Progress Failure)
-    → slice_get ts i ≡ Some t → firings_run run (all_firings d parts (drop i ts)) at ≡ all
-    → MatchBool memory (Unit {0}) (firings_run run (after_firings d parts t) at ≡ Err f) → MatchBool memory (Unit {0}) (all ≡ Err f)
-triggers_refused memory run d parts ts i t at f all e so_far h =
-    unless_memory memory (firings_run run (after_firings d parts t) at ≡ Err f) (all ≡ Err f)
-    (λ x. sym so_far ∙ ap (λ l. firings_run run (all_firings d parts l) at) (from_place ts i t e)
-    ∙ both_in_turn (firing_run run) (after_firings d parts t) (all_firings d parts (drop (i + 1) ts)) at
-    ∙ ap (λ y. and_then y (firings_run run (all_firings d parts (drop (i + 1) ts)))) x) h
+pub triggers_refused : (memory : Bool) (run : Runs) (d : DataStatement) (columns : List TableColumn) (parts : List (List Change)) (ts : List Trigger) (i : ℕ) (t : Trigger) (at : Progress) (f : Failure) (all : Result Progress Failure)
+    → slice_get ts i ≡ Some t → firings_run run (all_firings d columns parts (drop i ts)) at ≡ all
+    → MatchBool memory (Unit {0}) (firings_run run (after_firings d columns parts t) at ≡ Err f) → MatchBool memory (Unit {0}) (all ≡ Err f)
+triggers_refused memory run d columns parts ts i t at f all e so_far h =
+    unless_memory memory (firings_run run (after_firings d columns parts t) at ≡ Err f) (all ≡ Err f)
+    (λ x. sym so_far ∙ ap (λ l. firings_run run (all_firings d columns parts l) at) (from_place ts i t e)
+    ∙ both_in_turn (firing_run run) (after_firings d columns parts t) (all_firings d columns parts (drop (i + 1) ts)) at
+    ∙ ap (λ y. and_then y (firings_run run (all_firings d columns parts (drop (i + 1) ts)))) x) h
 
 -- one more transition of a row trigger
 pub rows_so_far : (run : Runs) (t : Trigger) (transitions : List Change) (i : ℕ) (frame : Frame) (at mid : Progress) (all : Result Progress Failure)

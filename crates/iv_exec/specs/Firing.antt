@@ -14,6 +14,7 @@ use Rattle.iv_catalogue.specs.declared.plan.Trigger.{Trigger}
 use Rattle.iv_machine.specs.BeforeTriggers.{event_of_change, is_on}
 use Rattle.iv_laws_rows.specs.RowFits.{StatementFits, changes_fit, wave_fits}
 use Rattle.iv_transitions.specs.ByTable.{ByTableAndEvent}
+use Rattle.iv_exec.specs.declared.start.LevelChanges.{LevelChanges}
 
 -- these are changes of a trigger's table and event, which fit
 pub record AreTransitions (tables : List Table) (t : Trigger) (changes : List Change) : Type 0 where
@@ -27,9 +28,9 @@ pub record AreParts (tables : List Table) (parts : List (List Change)) : Type 0 
   pub by_table : ByTableAndEvent parts net.changes
 
 -- so, where there are any
-abbrev pub MayBeParts : List Table → Option (List (List Change)) → Type 0
+abbrev pub MayBeParts : List Table → Option LevelChanges → Type 0
 MayBeParts tables None = Unit {0}
-MayBeParts tables (Some parts) = AreParts tables parts
+MayBeParts tables (Some x) = AreParts tables x.transitions
 
 -- a trigger of the schema, with no more statements than a body may have
 pub record CanFire (tables : List Table) (t : Trigger) : Type 0 where

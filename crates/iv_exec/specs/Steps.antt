@@ -1,5 +1,6 @@
 -- The steps of a level as the calls are cut ("Execution of triggers").
-use Rattle.std.specs.Prelude.{ℕ, if◌then◌else◌, Option, Some, is_none, Result, Ok}
+use Rattle.std.specs.Prelude.{ℕ, if◌then◌else◌, List, Option, Some, is_none, Result, Ok}
+use Rattle.iv_expr.specs.declared.wave.TableColumn.{TableColumn}
 use Rattle.iv_expr.specs.Changes.{Wave}
 use Rattle.iv_expr.specs.Evaluation.{and_then}
 use Rattle.iv_expr.specs.Scopes.{Frame, scope_of}
@@ -8,8 +9,8 @@ use Rattle.iv_machine.specs.declared.database.Database.{Database}
 use Rattle.iv_machine.specs.BeforeTriggers.{before_statement, placed_statements}
 use Rattle.iv_machine.specs.Context.{Context, Failure, over, with_count}
 use Rattle.iv_machine.specs.Databases.{size}
-use Rattle.iv_machine.specs.Levels.{Finished, Firing, Runs, Progress, body_run, firings, firings_run, immediate_check}
-use Rattle.iv_machine.specs.Proposals.{event_of, holds, proposed_wave, table_of}
+use Rattle.iv_machine.specs.Levels.{Finished, Firing, Runs, Progress, body_run, firings, firings_run, immediate_check, level_columns}
+use Rattle.iv_machine.specs.Proposals.{holds, proposed_wave}
 use Rattle.iv_machine.specs.Waves.{net_wave, settled_waves}
 
 abbrev pub progress : Database → ℕ → Progress
@@ -25,20 +26,21 @@ body_run_where_true run x at =
 abbrev pub allowed_wave : Context → DataStatement → Frame → Database → Result Wave Failure
 allowed_wave context statement frame db =
     and_then (over db (proposed_wave context db frame statement)) (λ wave.
-    and_then (with_count db (before_statement context db.rows (table_of statement) (event_of statement))) (λ _. Ok wave))
+    and_then (with_count db (before_statement context db.rows statement)) (λ _. Ok wave))
 
 -- the innermost trigger of a refusal that comes while this one runs
 abbrev pub innermost : ℕ → Option ℕ → Option ℕ
 innermost trigger inner = if is_none inner then Some trigger else inner
 
--- the check of the immediate constraints, and the AFTER triggers that these net changes fire
-abbrev pub finished : Runs → Context → DataStatement → Wave → Progress → Result Progress Failure
-finished run context statement net at =
-    and_then (immediate_check context at.database) (λ _. firings_run run (firings context statement net) at)
+-- the check of the immediate constraints, and the AFTER triggers that these columns and net changes fire
+abbrev pub finished : Runs → Context → DataStatement → List TableColumn → Wave → Progress → Result Progress Failure
+finished run context statement columns net at =
+    and_then (immediate_check context at.database) (λ _. firings_run run (firings context statement columns net) at)
 
 -- a level after its proposal
 abbrev pub waves_and_after : Runs → Context → DataStatement → Database → ℕ → Wave → Result Finished Failure
 waves_and_after run context statement db budget wave =
     and_then (settled_waves context db budget wave) (λ s.
-    and_then (finished run context statement (net_wave db.rows s.last.rows s.waves) (progress s.last s.rest)) (λ at.
+    and_then
+    (finished run context statement (level_columns statement s.waves) (net_wave db.rows s.last.rows s.waves) (progress s.last s.rest)) (λ at.
     Ok (record { database = at.database; rest = at.budget; size = size wave })))

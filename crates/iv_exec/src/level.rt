@@ -1,11 +1,12 @@
 //! A level: one data statement, the waves that follow from it, and the triggers that it fires.
-ghost use Rattle.std.specs.Prelude.{◌≡◌, ◌-◌, ◌≤◌, ◌<◌, ◌∷◌, [], length, map, true, false, OnOk};
+ghost use Rattle.std.specs.Prelude.{◌≡◌, ◌-◌, ◌≤◌, ◌<◌, ◌∷◌, [], List, length, map, true, false, OnOk};
 ghost use Rattle.std.specs.List.{list_all};
 ghost use Rattle.iv_catalogue.specs.Catalogues.{BodiesWithinLimit};
 ghost use Rattle.iv_catalogue.specs.declared.limits.TheConstants.{MOST_BODY_STATEMENTS};
 ghost use Rattle.iv_expr.specs.Scopes.{no_frame};
 ghost use Rattle.iv_laws_fitting.specs.PlanShapes.{data_suits, plain_shape, trigger_suits};
-ghost use Rattle.iv_expr.specs.Changes.{Wave as Changes, wave_of};
+ghost use Rattle.iv_expr.specs.Changes.{Wave as Changes};
+ghost use Rattle.iv_expr.specs.declared.wave.TableColumn.{TableColumn as Column};
 ghost use Rattle.iv_machine.specs.BeforeTriggers.{for_each_row, placed_statements};
 ghost use Rattle.iv_machine.specs.Levels.{body_run, firing_run, firings_run, level, nested_level, row_firing, statement_firing, statement_run};
 ghost use Rattle.iv_laws_rows.specs.RowFits.{BodyFits, StatementFits, changes_fit};
@@ -15,13 +16,15 @@ ghost use Rattle.iv_waves.specs.Applying.{Proposes};
 ghost use Rattle.iv_waves.specs.Running.{LeavesStore};
 ghost use Rattle.iv_store.specs.Lookups.{LooksUp};
 ghost use Rattle.iv_exec.specs.Firing.{ActionFits, AreParts, AreTransitions, CanFire, MayBeParts};
-ghost use Rattle.iv_exec.specs.Settled.{NetParts};
+ghost use Rattle.iv_exec.specs.Settled.{Tells};
+ghost use Rattle.iv_waves.specs.Steps.{wave_with};
+ghost use Rattle.iv_machine.specs.Proposals.{set_columns};
 ghost use Rattle.iv_exec.specs.Steps.{body_run_where_true, finished, innermost, progress, waves_and_after};
 
 use crate::lent::{are_transitions, row_frame, statement_at, statement_frame, trigger_at};
-use crate::start::{allowed, check, settle_waves, takes_effect};
+use crate::start::{LevelChanges, allowed, check, settle_waves, takes_effect};
 use iv_catalogue::{BodyStatement, Catalogue, Cause, DataStatement, Refusal, Trigger, TriggerId};
-use iv_expr::{Change, Frame};
+use iv_expr::{Change, Frame, TableColumn};
 use iv_machine::Limits;
 use iv_modes::Modes;
 use iv_store::ChangeableRows;
@@ -254,6 +257,7 @@ fn fire_trigger<K: ChangeableRows>(
     context: &Context<'_>,
     statement: &DataStatement,
     trigger: &Trigger,
+    columns: &[TableColumn],
     transitions: &Transitions,
     deeper: u8,
     budget: &mut u64,
@@ -264,12 +268,12 @@ fn fire_trigger<K: ChangeableRows>(
     ensures answer { AnswersAt (λ _. progress (K.view store.new).base budget.new)
         (K.view store.new).base.count result
         (firings_run (nested_level deeper context.now)
-        (after_firings statement.now transitions.now trigger.now)
+        (after_firings statement.now columns.now transitions.now trigger.now)
         (progress (K.view store.old).base budget.old)) }
     ensures store { LeavesStore context.now.schema result
         (K.view store.old) (K.lookups store.old) (K.view store.new) (K.lookups store.new) }
 {
-    match firings(statement, trigger, &*transitions) {
+    match firings(statement, trigger, columns, &*transitions) {
         Fires::Never => Ok(()),
         Fires::Once(changes) => {
             are_transitions(&*context, trigger, &*transitions, changes);
@@ -289,6 +293,7 @@ fn fire_all<K: ChangeableRows>(
     context: &Context<'_>,
     statement: &DataStatement,
     triggers: &[Trigger],
+    columns: &[TableColumn],
     transitions: &Transitions,
     deeper: u8,
     budget: &mut u64,
@@ -300,7 +305,7 @@ fn fire_all<K: ChangeableRows>(
     ensures answer { AnswersAt (λ _. progress (K.view store.new).base budget.new)
         (K.view store.new).base.count result
         (firings_run (nested_level deeper context.now)
-        (all_firings statement.now transitions.now triggers.now)
+        (all_firings statement.now columns.now transitions.now triggers.now)
         (progress (K.view store.old).base budget.old)) }
     ensures store { LeavesStore context.now.schema result
         (K.view store.old) (K.lookups store.old) (K.view store.new) (K.lookups store.new) }
@@ -313,6 +318,7 @@ fn fire_all<K: ChangeableRows>(
             &*context,
             statement,
             trigger,
+            columns,
             &*transitions,
             deeper,
             budget,
@@ -328,29 +334,31 @@ fn finish<K: ChangeableRows>(
     store: &mut K,
     context: &Context<'_>,
     statement: &DataStatement,
-    transitions: &Option<Transitions>,
+    told: &Option<LevelChanges>,
     deeper: u8,
     budget: &mut u64,
 ) -> Result<(), Refusal>
     requires store { StoreFits context.now.schema (K.view store.old) }
-    requires parts { MayBeParts context.now.schema.tables transitions.now }
-    ensures answer { (net : Changes) → NetParts context.now statement.now net transitions.now
+    requires parts { MayBeParts context.now.schema.tables told.now }
+    ensures answer { (columns : List Column) (net : Changes)
+        → Tells context.now statement.now columns net told.now
         → AnswersAt (λ _. progress (K.view store.new).base budget.new)
         (K.view store.new).base.count result
-        (finished (nested_level deeper context.now) context.now statement.now net
+        (finished (nested_level deeper context.now) context.now statement.now columns net
         (progress (K.view store.old).base budget.old)) }
     ensures store { LeavesStore context.now.schema result
         (K.view store.old) (K.lookups store.old) (K.view store.new) (K.lookups store.new) }
 {
     check(&*store, &*context)?;
-    match transitions {
+    match told {
         None => Ok(()),
-        Some(transitions) => fire_all(
+        Some(changes) => fire_all(
             store,
             &*context,
             statement,
             context.catalogue().triggers(),
-            transitions,
+            &changes.columns,
+            &changes.transitions,
             deeper,
             budget,
         ),
@@ -374,13 +382,13 @@ fn run_waves<K: ChangeableRows>(
         (λ size. record { database = (K.view store.new).base; rest = budget.new; size = size })
         (K.view store.new).base.count result
         (waves_and_after (nested_level deeper context.now) context.now statement.now
-        (K.view store.old).base budget.old (wave_of changes.items)) }
+        (K.view store.old).base budget.old (wave_with (set_columns statement.now) changes.items)) }
     ensures store { LeavesStore context.now.schema result
         (K.view store.old) (K.lookups store.old) (K.view store.new) (K.lookups store.new) }
 {
     let size = changes.len() as u64;
-    let transitions = settle_waves(store, &*context, statement, budget, changes)?;
-    finish(store, &*context, statement, &transitions, deeper, budget)?;
+    let told = settle_waves(store, &*context, statement, budget, changes)?;
+    finish(store, &*context, statement, &told, deeper, budget)?;
     Ok(size)
 }
 

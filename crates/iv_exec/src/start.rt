@@ -1,27 +1,27 @@
 //! What comes before and after the waves of a level.
 ghost use Rattle.std.specs.Prelude.{◌≡◌, true, IfOk, OnOk};
-ghost use Rattle.iv_expr.specs.Changes.{wave_of};
 ghost use Rattle.iv_expr.specs.Scopes.{scope_of};
 ghost use Rattle.iv_laws_levels.specs.FittingWaves.{Chain};
 ghost use Rattle.iv_machine.specs.declared.database.Database.{Database};
-ghost use Rattle.iv_machine.specs.Levels.{immediate_check};
-ghost use Rattle.iv_machine.specs.Proposals.{holds};
+ghost use Rattle.iv_machine.specs.Levels.{immediate_check, level_columns};
+ghost use Rattle.iv_machine.specs.Proposals.{holds, set_columns};
 ghost use Rattle.iv_machine.specs.Waves.{net_wave};
 ghost use Rattle.iv_laws_rows.specs.RowFits.{StatementFits, changes_fit};
 ghost use Rattle.iv_laws_rows.specs.Changing.{AnswersAt, StoreFits};
 ghost use Rattle.iv_waves.specs.Applying.{Proposes};
 ghost use Rattle.iv_waves.specs.Running.{LeavesStore};
 ghost use Rattle.iv_exec.specs.Firing.{MayBeParts};
-ghost use Rattle.iv_exec.specs.Settled.{NetParts, Settles};
+ghost use Rattle.iv_waves.specs.Steps.{wave_with};
+ghost use Rattle.iv_exec.specs.Settled.{Settles, Tells};
 ghost use Rattle.iv_exec.specs.Steps.{allowed_wave};
 
 use iv_catalogue::{Cause, DataStatement, Refusal, Trigger};
-use iv_expr::{Change, Frame, Scope, Wave};
+use iv_expr::{Change, Frame, Scope, TableColumn, Wave};
 use iv_machine::Which;
 use iv_proposals::proposed;
 use iv_store::ChangeableRows;
-use iv_transitions::{Transitions, may_fire, transitions, transitions_of};
-use iv_triggers::{Context, before_statement, event_of, holds, table_of};
+use iv_transitions::{Transitions, level_columns, may_fire, transitions, transitions_of};
+use iv_triggers::{Context, before_statement, holds, set_columns};
 use iv_waves::settle;
 use std::alloc::{AllocError, Global};
 
@@ -34,7 +34,7 @@ pub fn allowed<'x, K: ChangeableRows>(
 ) -> Result<Vec<Change>, Refusal>
     requires store { StoreFits context.now.schema (K.view store.now) }
     requires statement { StatementFits context.now.schema.tables frame.now statement.now }
-    ensures answer { AnswersAt (λ changes. wave_of changes.items)
+    ensures answer { AnswersAt (λ changes. wave_with (set_columns statement.now) changes.items)
         (K.view store.now).base.count result
         (allowed_wave context.now statement.now frame.now (K.view store.now).base) }
     ensures fit { IfOk result (λ changes. changes_fit context.now.schema.tables changes.items
@@ -44,7 +44,7 @@ pub fn allowed<'x, K: ChangeableRows>(
 {
     match proposed(store, context, frame, statement) {
         Ok(changes) => {
-            before_statement(context, store, table_of(statement), event_of(statement))?;
+            before_statement(context, store, statement)?;
             Ok(changes)
         }
         Err(cause) => Err(Refusal::of(cause)),
@@ -63,44 +63,58 @@ pub fn check<K: ChangeableRows>(store: &K, context: &Context<'_>) -> Result<(), 
     }
 }
 
-// The net changes of the waves by table and event; none where no trigger may fire on them.
-fn net_changes(
+/// What the waves of a level tell its AFTER triggers: the net changes by table and event, and the columns that the
+/// statement and its waves name.
+#[derive(Drop)]
+pub struct LevelChanges {
+    pub transitions: Transitions,
+    pub columns: Vec<TableColumn>,
+}
+
+// What these waves tell; none where no trigger may fire on them.
+fn level_changes(
     alloc: Global,
     context: &Context<'_>,
     statement: &DataStatement,
     waves: &[Wave],
-) -> Result<Option<Transitions>, AllocError>
-    ensures { IfOk result (λ parts. (db last : Database) → Chain db waves.now last
-        → NetParts context.now statement.now (net_wave db.rows last.rows waves.now) parts) }
+) -> Result<Option<LevelChanges>, AllocError>
+    ensures { IfOk result (λ told. (db last : Database) → Chain db waves.now last
+        → Tells context.now statement.now (level_columns statement.now waves.now)
+        (net_wave db.rows last.rows waves.now) told) }
 {
     if !may_fire(context, statement, waves) {
         return Ok(None);
     }
     let net = transitions(alloc, waves)?;
-    let parts = transitions_of(alloc, &net)?;
-    Ok(Some(parts))
+    let transitions = transitions_of(alloc, &net)?;
+    let columns = level_columns(alloc, statement, waves)?;
+    Ok(Some(LevelChanges {
+        transitions,
+        columns,
+    }))
 }
 
-/// Applies the changes that a statement proposes and what follows from them, and answers their net changes by
-/// table and event. Where no trigger may fire on these, none are made.
+/// Applies the changes that a statement proposes and what follows from them, and answers what that tells the AFTER
+/// triggers. Where no trigger may fire on it, nothing is made for them.
 pub fn settle_waves<K: ChangeableRows>(
     store: &mut K,
     context: &Context<'_>,
     statement: &DataStatement,
     budget: &mut u64,
     changes: Vec<Change>,
-) -> Result<Option<Transitions>, Refusal>
+) -> Result<Option<LevelChanges>, Refusal>
     requires store { StoreFits context.now.schema (K.view store.old) }
     requires fit { changes_fit context.now.schema.tables changes.items ≡ true }
     requires proposed { Proposes context.now (K.view store.old).base changes.items }
     ensures answer { Settles context.now statement.now (K.view store.old).base budget.old
         changes.items (K.view store.new).base budget.new result }
-    ensures parts { IfOk result (λ parts. MayBeParts context.now.schema.tables parts) }
+    ensures parts { IfOk result (λ told. MayBeParts context.now.schema.tables told) }
     ensures store { LeavesStore context.now.schema result
         (K.view store.old) (K.lookups store.old) (K.view store.new) (K.lookups store.new) }
 {
-    let waves = settle(store, context, budget, changes)?;
-    Ok(net_changes(store.allocator(), context, statement, waves.as_slice())?)
+    let columns = set_columns(store.allocator(), statement)?;
+    let waves = settle(store, context, budget, changes, columns)?;
+    Ok(level_changes(store.allocator(), context, statement, waves.as_slice())?)
 }
 
 /// Whether the WHEN of a trigger takes effect.

@@ -1,14 +1,21 @@
 -- Waves of row changes, and when changes are by rising row number.
-use Rattle.std.specs.Prelude.{ℕ, ◌<◌, List, [], ◌∷◌}
-use Rattle.iv_expr.specs.Words.{Change}
+use Rattle.std.specs.Prelude.{ℕ, ◌<◌, Bool, ◌&&◌, ◌==◌, List, [], ◌∷◌}
+use Rattle.std.specs.List.{list_any}
+use Rattle.iv_expr.specs.Words.{Change, TableColumn}
 
--- A wave: row changes that are made together.
+-- A wave: row changes that are made together, and the columns that what asks for them names: those of the SET list of an UPDATE,
+-- and in a later wave the referencing columns of the foreign keys whose actions set values.
 pub record Wave : Type 0 where
   pub changes : List Change
+  pub columns : List TableColumn
 
--- the wave of these changes
+-- the wave of these changes, which names no column
 abbrev pub wave_of : List Change → Wave
-wave_of changes = record { changes = changes }
+wave_of changes = record { changes = changes; columns = [] }
+
+-- the column of a table is among these
+abbrev pub names_column : List TableColumn → ℕ → ℕ → Bool
+names_column columns table column = list_any (λ c. (c.table == table) && (c.column == column)) columns
 
 -- The row numbers rise, from above `low`.
 abbrev pub RisingChangesFrom : ℕ → List Change → Type 0

@@ -26,5 +26,5 @@ pub use scope::{Frame, Ranges, Rows, Scope, TableKinds};
 pub use search::Search;
 pub use tree::{Comparison, Cond, Expr, ExprFault, Range, Side};
 pub use two_trees::boxes;
-pub use wave::Wave;
+pub use wave::{TableColumn, Wave, names_column};
 pub use worked::worked_values;

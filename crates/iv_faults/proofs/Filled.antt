@@ -237,7 +237,7 @@ told_violating constraints gs id c reference values key count referenced said al
     by_rule : (k : Rule) → c.rule ≡ k → said ≡ violates_by constraints (shown gs) id c (Some key)
     by_rule (rule.NotNull column) f = plain (rule.NotNull column) f refl
     by_rule (rule.Check condition) f = plain (rule.Check condition) f refl
-    by_rule (rule.Unique columns) f = plain (rule.Unique columns) f refl
+    by_rule (rule.Unique nulls columns) f = plain (rule.Unique nulls columns) f refl
     by_rule (rule.PrimaryKey columns) f = plain (rule.PrimaryKey columns) f refl
     by_rule (rule.ForeignKey fk) f =
         let r = is.there fk f in

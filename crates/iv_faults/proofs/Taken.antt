@@ -51,7 +51,7 @@ same_violating olds more groups id c g all at =
     by_rule : (k : Rule) → c.rule ≡ k → violate (olds ++ more) groups c.rule g.key g.rows ≡ violate olds groups c.rule g.key g.rows
     by_rule (rule.NotNull column) e = (λ i. violate (olds ++ more) groups (e i) g.key g.rows) ∙ (λ i. violate olds groups (sym e i) g.key g.rows)
     by_rule (rule.Check condition) e = (λ i. violate (olds ++ more) groups (e i) g.key g.rows) ∙ (λ i. violate olds groups (sym e i) g.key g.rows)
-    by_rule (rule.Unique columns) e = (λ i. violate (olds ++ more) groups (e i) g.key g.rows) ∙ (λ i. violate olds groups (sym e i) g.key g.rows)
+    by_rule (rule.Unique nulls columns) e = (λ i. violate (olds ++ more) groups (e i) g.key g.rows) ∙ (λ i. violate olds groups (sym e i) g.key g.rows)
     by_rule (rule.PrimaryKey columns) e = (λ i. violate (olds ++ more) groups (e i) g.key g.rows) ∙ (λ i. violate olds groups (sym e i) g.key g.rows)
     by_rule (rule.ForeignKey fk) e =
         let n : Named olds fk = named_of olds id c fk all at e in

@@ -138,9 +138,9 @@ module _ (constraints : List Constraint) where
       nothing : (o : Option Reference) → o ≡ Some r → IsReferenceOf constraints (rule.Check condition) o → ⊥
       nothing None f is = some_none r (sym f)
       nothing (Some s) f is = is
-  its_reference c (rule.Unique columns) o r e f is = absurd (nothing o f is)
+  its_reference c (rule.Unique nulls columns) o r e f is = absurd (nothing o f is)
     where
-      nothing : (o : Option Reference) → o ≡ Some r → IsReferenceOf constraints (rule.Unique columns) o → ⊥
+      nothing : (o : Option Reference) → o ≡ Some r → IsReferenceOf constraints (rule.Unique nulls columns) o → ⊥
       nothing None f is = some_none r (sym f)
       nothing (Some s) f is = is
   its_reference c (rule.PrimaryKey columns) o r e f is = absurd (nothing o f is)
@@ -154,7 +154,7 @@ module _ (constraints : List Constraint) where
   has_reference (rule.ForeignKey gk) fk None e is = absurd is
   has_reference (rule.NotNull column) fk o e is = absurd (false_true (ap is_reference e))
   has_reference (rule.Check condition) fk o e is = absurd (false_true (ap is_reference e))
-  has_reference (rule.Unique columns) fk o e is = absurd (false_true (ap is_reference e))
+  has_reference (rule.Unique nulls columns) fk o e is = absurd (false_true (ap is_reference e))
   has_reference (rule.PrimaryKey columns) fk o e is = absurd (false_true (ap is_reference e))
 
   -- the constraints of these references, and the references of these constraints

@@ -124,7 +124,7 @@ module _ (olds : List Constraint) (c : Constraint) (t : ℕ) where
   met_more : (r : Rule) → c.rule ≡ r → (x : TableConstraints) → AreMet olds t x.keys x.foreign_keys → Meet (with_constraint r c.table (length olds) t x)
   met_more (rule.NotNull column) e x m = no_reference x (ap is_reference e) (ap (λ r. meets r c.table t) e) m
   met_more (rule.Check condition) e x m = no_reference x (ap is_reference e) (ap (λ r. meets r c.table t) e) m
-  met_more (rule.Unique columns) e x m = no_reference x (ap is_reference e) (ap (λ r. meets r c.table t) e) m
+  met_more (rule.Unique nulls columns) e x m = no_reference x (ap is_reference e) (ap (λ r. meets r c.table t) e) m
   met_more (rule.PrimaryKey columns) e x m = no_reference x (ap is_reference e) (ap (λ r. meets r c.table t) e) m
   met_more (rule.ForeignKey fk) e x m =
       of_reference ((t == c.table) || (t == fk.referenced)) x

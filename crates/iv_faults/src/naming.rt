@@ -60,7 +60,7 @@ fn is_named_key(fk: &ForeignKey, constraint: &Constraint) -> bool
         return false;
     }
     match &constraint.rule {
-        Rule::Unique(columns) => are_same_columns(columns.as_slice(), fk.key.as_slice()),
+        Rule::Unique(_, columns) => are_same_columns(columns.as_slice(), fk.key.as_slice()),
         Rule::PrimaryKey(columns) => are_same_columns(columns.as_slice(), fk.key.as_slice()),
         _ => false,
     }
@@ -94,7 +94,7 @@ fn named_by(
 {
     let named = is_named_key(fk, constraint);
     match &constraint.rule {
-        Rule::Unique(columns) => key_where(alloc, named, id, columns.as_slice()),
+        Rule::Unique(_, columns) => key_where(alloc, named, id, columns.as_slice()),
         Rule::PrimaryKey(columns) => key_where(alloc, named, id, columns.as_slice()),
         _ => Ok(None),
     }

@@ -49,14 +49,14 @@ reference_rule k fk e = ap is_reference e
 not_unique : (k : Rule) (columns : List ℕ) → unique_columns k ≡ Some columns → is_reference k ≡ false
 not_unique (rule.NotNull column) columns e = refl
 not_unique (rule.Check condition) columns e = refl
-not_unique (rule.Unique own) columns e = refl
+not_unique (rule.Unique nulls own) columns e = refl
 not_unique (rule.PrimaryKey own) columns e = refl
 not_unique (rule.ForeignKey fk) columns e = absurd (some_none columns (sym e))
 
 no_meeting : (k : Rule) (own table : ℕ) → is_reference k ≡ false → meets k own table ≡ false
 no_meeting (rule.NotNull column) own table e = refl
 no_meeting (rule.Check condition) own table e = refl
-no_meeting (rule.Unique columns) own table e = refl
+no_meeting (rule.Unique nulls columns) own table e = refl
 no_meeting (rule.PrimaryKey columns) own table e = refl
 no_meeting (rule.ForeignKey fk) own table e = absurd (true≢false e)
 
@@ -64,7 +64,7 @@ no_meeting (rule.ForeignKey fk) own table e = absurd (true≢false e)
 fk_of : (k : Rule) → is_reference k ≡ true → (fk : ForeignKey) × (k ≡ rule.ForeignKey fk)
 fk_of (rule.NotNull column) e = absurd (false_true e)
 fk_of (rule.Check condition) e = absurd (false_true e)
-fk_of (rule.Unique columns) e = absurd (false_true e)
+fk_of (rule.Unique nulls columns) e = absurd (false_true e)
 fk_of (rule.PrimaryKey columns) e = absurd (false_true e)
 fk_of (rule.ForeignKey fk) e = (fk, refl)
 
@@ -83,7 +83,7 @@ second_of false b e = e
 not_met : (k : Rule) (own table : ℕ) → is_reference k ≡ true → meets k own table ≡ false → (table == own) ≡ false
 not_met (rule.NotNull column) own table e h = absurd (false_true e)
 not_met (rule.Check condition) own table e h = absurd (false_true e)
-not_met (rule.Unique columns) own table e h = absurd (false_true e)
+not_met (rule.Unique nulls columns) own table e h = absurd (false_true e)
 not_met (rule.PrimaryKey columns) own table e h = absurd (false_true e)
 not_met (rule.ForeignKey fk) own table e h = first_of (table == own) (table == fk.referenced) h
 
@@ -116,7 +116,7 @@ met_either constraints table keys foreign_keys met k c at t missing =
     on_table : (k : Rule) → not (is_reference k) ≡ false → meets k c.table table ≡ true
     on_table (rule.NotNull column) e = absurd (true≢false e)
     on_table (rule.Check condition) e = absurd (true≢false e)
-    on_table (rule.Unique columns) e = absurd (true≢false e)
+    on_table (rule.Unique nulls columns) e = absurd (true≢false e)
     on_table (rule.PrimaryKey columns) e = absurd (true≢false e)
     on_table (rule.ForeignKey fk) e = ap (λ b. b || (table == fk.referenced)) t
 

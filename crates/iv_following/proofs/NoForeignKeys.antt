@@ -12,7 +12,7 @@ use Rattle.iv_following.specs.Steps.{is_reference}
 same_without : (some others : List Value → Bool) (k : Rule) (g : Group) → is_reference k ≡ false → group_violates some k g ≡ group_violates others k g
 same_without some others (rule.NotNull column) g e = refl
 same_without some others (rule.Check condition) g e = refl
-same_without some others (rule.Unique columns) g e = refl
+same_without some others (rule.Unique nulls columns) g e = refl
 same_without some others (rule.PrimaryKey columns) g e = refl
 same_without some others (rule.ForeignKey fk) g e = absurd (true≢false e)
 
@@ -26,6 +26,6 @@ marked_without some others k groups marks e right place = right place ∙ ap (λ
 pub not_reference : (k : Rule) → ((fk : ForeignKey) → k ≡ rule.ForeignKey fk → ⊥) → is_reference k ≡ false
 not_reference (rule.NotNull column) h = refl
 not_reference (rule.Check condition) h = refl
-not_reference (rule.Unique columns) h = refl
+not_reference (rule.Unique nulls columns) h = refl
 not_reference (rule.PrimaryKey columns) h = refl
 not_reference (rule.ForeignKey fk) h = absurd (h fk refl)

@@ -5,6 +5,7 @@ use Rattle.std.proofs.lemmas.Bool.{eqb-true, eq-eqb}
 use Rattle.std.proofs.lemmas.List.{length-map}
 use Rattle.iv_following.specs.Words.{Value, Rule, Change, Constraint, ForeignKey}
 use Rattle.iv_following.specs.Words.rule
+use Rattle.iv_following.specs.Words.nulls.{Distinct, NotDistinct}
 use Rattle.iv_value.specs.Values.{all_same}
 use Rattle.iv_key.specs.Keys.{key_of, value_at, none_null}
 use Rattle.iv_store.specs.Stores.{unique_columns, are_same_columns, all_among}
@@ -27,7 +28,8 @@ use Rattle.iv_following.specs.References.{paired, paired_with}
 kept_unique : (r : Rule) (columns : List ℕ) (values : List Value) → unique_columns r ≡ Some columns → none_null (key_of columns values) ≡ true → kept_key r values ≡ Some (key_of columns values)
 kept_unique (rule.NotNull column) columns values e h = absurd (some_none columns (sym e))
 kept_unique (rule.Check condition) columns values e h = absurd (some_none columns (sym e))
-kept_unique (rule.Unique own) columns values e h = ap (λ cs. key_or (key_of cs values) None) (some_same own columns e) ∙ ap (λ b. if b then Some (key_of columns values) else None) h
+kept_unique (rule.Unique Distinct own) columns values e h = ap (λ cs. key_or (key_of cs values) None) (some_same own columns e) ∙ ap (λ b. if b then Some (key_of columns values) else None) h
+kept_unique (rule.Unique NotDistinct own) columns values e h = ap (λ cs. Some (key_of cs values)) (some_same own columns e)
 kept_unique (rule.PrimaryKey own) columns values e h = ap (λ cs. key_or (key_of cs values) (Some null_key)) (some_same own columns e) ∙ ap (λ b. if b then Some (key_of columns values) else Some null_key) h
 kept_unique (rule.ForeignKey fk) columns values e h = absurd (some_none columns (sym e))
 

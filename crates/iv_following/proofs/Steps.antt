@@ -73,7 +73,7 @@ pub mark_tells : (referenced : List Value → Bool) (rule : Rule) (key : List Va
     → violate_by (λ _. not mark) rule key later ≡ violate_by referenced rule key later
 mark_tells referenced (rule.NotNull column) key count later mark some is = refl
 mark_tells referenced (rule.Check condition) key count later mark some is = refl
-mark_tells referenced (rule.Unique columns) key count later mark some is = refl
+mark_tells referenced (rule.Unique nulls columns) key count later mark some is = refl
 mark_tells referenced (rule.PrimaryKey columns) key count later mark some is = refl
 mark_tells referenced (rule.ForeignKey fk) key count later mark some is =
     ap (λ m. nat_lt 0 later && (not (none_null key) || not (is_free fk.matching key || not m))) (is ∙ ap (λ b. b && (not (none_null key) || not (is_free fk.matching key || referenced key))) some)
@@ -102,7 +102,7 @@ mark_at_tells referenced rule groups marks key place row later mark e there m h 
 same_group : (before after : List Value → Bool) (k : Rule) (g : Group) → (none_null g.key ≡ true → before g.key ≡ after g.key) → group_violates before k g ≡ group_violates after k g
 same_group before after (rule.NotNull column) g e = refl
 same_group before after (rule.Check condition) g e = refl
-same_group before after (rule.Unique columns) g e = refl
+same_group before after (rule.Unique nulls columns) g e = refl
 same_group before after (rule.PrimaryKey columns) g e = refl
 same_group before after (rule.ForeignKey fk) g e = ap (λ b. nat_lt 0 (length g.rows) && b) (by_null (none_null g.key) e)
   where

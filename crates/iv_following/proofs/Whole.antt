@@ -3,7 +3,7 @@ use Rattle.std.proofs.Common.{◌≡◌, refl, ℕ, Bool, false, ◌&&◌, ◌||
 use Rattle.iv_following.specs.Words.{Value, Rule, Constraint, ForeignKey}
 use Rattle.iv_following.specs.Words.rule
 use Rattle.iv_key.specs.Keys.{none_null}
-use Rattle.iv_laws_kept.specs.Kept.{Group, Groups, groups_of, is_referenced, is_violating, violate, break_rule}
+use Rattle.iv_laws_kept.specs.Kept.{Group, Groups, groups_of, is_referenced, is_violating, violate, violates_alone, break_rule}
 use Rattle.iv_laws_kept.specs.Marks.{Marks, marks_of, AreMarked}
 use Rattle.iv_marks.specs.Marking.{flag}
 use Rattle.iv_following.specs.KeyGroups.{group_violates, Marked}
@@ -14,7 +14,7 @@ use Rattle.iv_following.proofs.Steps.{some_rows}
 abbrev pub referenced_by : List Constraint → Groups → Rule → List Value → Bool
 referenced_by constraints groups (rule.NotNull column) key = false
 referenced_by constraints groups (rule.Check condition) key = false
-referenced_by constraints groups (rule.Unique columns) key = false
+referenced_by constraints groups (rule.Unique nulls columns) key = false
 referenced_by constraints groups (rule.PrimaryKey columns) key = false
 referenced_by constraints groups (rule.ForeignKey fk) key = is_referenced constraints groups fk key
 
@@ -26,7 +26,7 @@ same_violating constraints groups c k g is = ap (λ r. violate constraints group
     by_rule : (k : Rule) → violate constraints groups k g.key g.rows ≡ group_violates (referenced_by constraints groups k) k g
     by_rule (rule.NotNull column) = ap (λ b. b && (not (none_null g.key) || false)) (sym (some_rows g.rows))
     by_rule (rule.Check condition) = ap (λ b. b && (not (none_null g.key) || false)) (sym (some_rows g.rows))
-    by_rule (rule.Unique columns) = ap (λ b. b && (not (none_null g.key) || break_rule constraints groups (rule.Unique columns) g.key g.rows)) (sym (some_rows g.rows))
+    by_rule (rule.Unique nulls columns) = ap (λ b. b && (violates_alone (rule.Unique nulls columns) g.key || break_rule constraints groups (rule.Unique nulls columns) g.key g.rows)) (sym (some_rows g.rows))
     by_rule (rule.PrimaryKey columns) = ap (λ b. b && (not (none_null g.key) || break_rule constraints groups (rule.PrimaryKey columns) g.key g.rows)) (sym (some_rows g.rows))
     by_rule (rule.ForeignKey fk) = ap (λ b. b && (not (none_null g.key) || break_rule constraints groups (rule.ForeignKey fk) g.key g.rows)) (sym (some_rows g.rows))
 
@@ -69,7 +69,7 @@ parts_make_the_whole constraints groups after marks later keys references right 
     by_rule : (k : Rule) → c.rule ≡ k → flag (marks_of later id) place ≡ flag (map (is_violating constraints after c) (groups_of after id)) place
     by_rule (rule.NotNull column) is = key_part (rule.NotNull column) is refl (λ key. refl)
     by_rule (rule.Check condition) is = key_part (rule.Check condition) is refl (λ key. refl)
-    by_rule (rule.Unique columns) is = key_part (rule.Unique columns) is refl (λ key. refl)
+    by_rule (rule.Unique nulls columns) is = key_part (rule.Unique nulls columns) is refl (λ key. refl)
     by_rule (rule.PrimaryKey columns) is = key_part (rule.PrimaryKey columns) is refl (λ key. refl)
     by_rule (rule.ForeignKey fk) is =
         from_marked constraints after c (rule.ForeignKey fk) (groups_of after id) (marks_of later id) is

@@ -3,11 +3,10 @@ use Rattle.std.specs.Prelude.{◌≡◌, ℕ, zero, suc, Bool, false, ◌&&◌, 
 use Rattle.iv_following.specs.Words.{Value, Rule}
 use Rattle.iv_following.specs.Words.rule
 use Rattle.iv_value.specs.Values.{all_same}
-use Rattle.iv_key.specs.Keys.{none_null}
 use Rattle.iv_marks.specs.Marking.{flag}
 use Rattle.iv_laws_kept.specs.Numbers.{with_number, without}
 use Rattle.iv_laws_kept.specs.Marks.{rows_at}
-use Rattle.iv_laws_kept.specs.Kept.{Group, is_free}
+use Rattle.iv_laws_kept.specs.Kept.{Group, is_free, violates_alone}
 
 -- the place of a key's group
 abbrev pub place_of : List Group → List Value → Option ℕ
@@ -28,13 +27,13 @@ empty_group key = record { key = key; rows = [] }
 abbrev pub break_by : (List Value → Bool) → Rule → List Value → ℕ → Bool
 break_by referenced (rule.NotNull column) key count = false
 break_by referenced (rule.Check condition) key count = false
-break_by referenced (rule.Unique columns) key count = nat_lt 1 count
+break_by referenced (rule.Unique nulls columns) key count = nat_lt 1 count
 break_by referenced (rule.PrimaryKey columns) key count = nat_lt 1 count
 break_by referenced (rule.ForeignKey fk) key count = not (is_free fk.matching key || referenced key)
 
 -- Whether so many rows under a key violate the rule.
 abbrev pub violate_by : (List Value → Bool) → Rule → List Value → ℕ → Bool
-violate_by referenced rule key count = nat_lt 0 count && (not (none_null key) || break_by referenced rule key count)
+violate_by referenced rule key count = nat_lt 0 count && (violates_alone rule key || break_by referenced rule key count)
 
 abbrev pub group_violates : (List Value → Bool) → Rule → Group → Bool
 group_violates referenced rule g = violate_by referenced rule g.key (length g.rows)

@@ -3,14 +3,14 @@ ghost use Rattle.std.specs.Prelude.{◌≡◌, not};
 ghost use Rattle.iv_value.specs.Truths.{is_false};
 ghost use Rattle.iv_value.specs.Values.{is_null};
 ghost use Rattle.iv_key.specs.Keys.{key_of, value_at};
-ghost use Rattle.iv_laws_kept.specs.Kept.{null_key, null_key_where, is_free, kept_key, key_or};
+ghost use Rattle.iv_laws_kept.specs.Kept.{null_key, null_key_where, is_free, kept_key, key_or, unique_key};
 ghost use Rattle.iv_following.specs.Sides.{is_one_key, referenced_key, side_key};
 
 use crate::sides::Sides;
 use iv_catalogue::{Constraint, ForeignKey, Rule};
 use iv_expr::{Row, TableId, check_truth};
 use iv_key::{Key, value_at};
-use iv_syntax::MatchType;
+use iv_syntax::{MatchType, NullTreatment};
 use iv_value::{Truth, Value};
 
 const FIRST: [u32; 1] = [0];
@@ -47,6 +47,17 @@ fn referencing_key<'a>(fk: &'a ForeignKey, row: &'a [Value]) -> Option<Key<'a>>
     }
 }
 
+// The key under which a UNIQUE keeps a row: where nulls are not distinct, a key with nulls is kept like others.
+fn unique_key<'a>(nulls: NullTreatment, columns: &'a [u32], row: &'a [Value]) -> Option<Key<'a>>
+    ensures { result ≡ unique_key nulls (key_of columns.entry.now row.entry.now) }
+{
+    let key = Key::new(columns, row);
+    match nulls {
+        NullTreatment::Distinct => { if key.none_null() { Some(key) } else { None } }
+        NullTreatment::NotDistinct => Some(key),
+    }
+}
+
 /// The key under which a rule keeps a row, if it keeps it.
 pub fn kept_key<'a>(rule: &'a Rule, row: &'a [Value]) -> Option<Key<'a>>
     ensures { result ≡ kept_key rule.entry.now row.entry.now }
@@ -66,10 +77,7 @@ pub fn kept_key<'a>(rule: &'a Rule, row: &'a [Value]) -> Option<Key<'a>>
                 None
             }
         }
-        Rule::Unique(columns) => {
-            let key = Key::new(columns.as_slice(), row);
-            if key.none_null() { Some(key) } else { None }
-        }
+        Rule::Unique(nulls, columns) => unique_key(*nulls, columns.as_slice(), row),
         Rule::PrimaryKey(columns) => {
             let key = Key::new(columns.as_slice(), row);
             if key.none_null() {

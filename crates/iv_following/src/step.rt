@@ -5,7 +5,7 @@ ghost use Rattle.iv_value.specs.Values.{all_same};
 ghost use Rattle.iv_key.specs.Keys.{none_null};
 ghost use Rattle.iv_index.specs.Groups.{groups_of, room_of};
 ghost use Rattle.iv_marks.specs.Shown.{shown_of};
-ghost use Rattle.iv_laws_kept.specs.Kept.{rows_in};
+ghost use Rattle.iv_laws_kept.specs.Kept.{keeps_nulls, rows_in, violates_alone};
 ghost use Rattle.iv_laws_kept.specs.Marks.{marks_of};
 ghost use Rattle.iv_laws_kept.specs.Moves.{left};
 ghost use Rattle.iv_laws_kept.specs.Numbers.{has, with_number, without};
@@ -20,17 +20,42 @@ use iv_catalogue::{Constraint, Rule};
 use iv_index::Groups;
 use iv_key::Key;
 use iv_marks::ViolatingGroups;
+use iv_syntax::NullTreatment;
 use std::alloc::AllocError;
 
-// Whether so many rows that have a key break a rule.
+// Whether a rule keeps keys with nulls like others.
+fn keeps_nulls(rule: &Rule) -> bool
+    ensures { result ≡ keeps_nulls rule.now }
+{
+    match rule {
+        Rule::NotNull(_) => false,
+        Rule::Check(_) => false,
+        Rule::Unique(nulls, _) => match nulls {
+            NullTreatment::Distinct => false,
+            NullTreatment::NotDistinct => true,
+        },
+        Rule::PrimaryKey(_) => false,
+        Rule::ForeignKey(_) => false,
+    }
+}
+
+// Whether each row under a key violates a rule by itself.
+fn violates_alone(rule: &Rule, key: &Key<'_>) -> bool
+    ensures { result ≡ violates_alone rule.now key.now }
+{
+    !keeps_nulls(rule) && !key.none_null()
+}
+
+// Whether so many rows that have a key break a rule. Whether the key is referenced matters for a foreign key alone.
 fn breaks(rule: &Rule, key: &Key<'_>, count: usize, referenced: bool) -> bool
-    ensures { (is_referenced : List Value → Bool) → is_referenced key.now ≡ referenced
+    ensures { (is_referenced : List Value → Bool)
+        → (keeps_nulls rule.now ≡ false → is_referenced key.now ≡ referenced)
         → result ≡ break_by is_referenced rule.now key.now count }
 {
     match rule {
         Rule::NotNull(_) => false,
         Rule::Check(_) => false,
-        Rule::Unique(_) => count > 1,
+        Rule::Unique(_, _) => count > 1,
         Rule::PrimaryKey(_) => count > 1,
         Rule::ForeignKey(fk) => !(is_free(fk.matching, key) || referenced),
     }
@@ -42,7 +67,7 @@ pub fn violate(rule: &Rule, key: &Key<'_>, count: usize, referenced: bool) -> bo
         → (none_null key.now ≡ true → is_referenced key.now ≡ referenced)
         → result ≡ violate_by is_referenced rule.now key.now count }
 {
-    count > 0 && (!key.none_null() || breaks(rule, key, count, referenced))
+    count > 0 && (violates_alone(rule, key) || breaks(rule, key, count, referenced))
 }
 
 // Adds a row under a key that has room, and marks the key's group where it violates the rule. Whether the key is

@@ -7,6 +7,7 @@ use Rattle.iv_index_store.specs.Words.{Value, StoredRow, Constraint}
 use Rattle.iv_value.specs.declared.value.Value.TheVariants.{Null, Int, Text}
 use Rattle.iv_catalogue.specs.declared.constraint.Rule.{Rule}
 use Rattle.iv_catalogue.specs.declared.constraint.Rule.TheVariants as rule
+use Rattle.iv_laws_kept.specs.Words.nulls.{Distinct, NotDistinct}
 use Rattle.iv_value.specs.Values.{is_null, is_same, all_same}
 use Rattle.iv_expr.specs.Scopes.{table_rows}
 use Rattle.iv_expr.specs.Searches.{AreHolders, has_all}
@@ -80,7 +81,9 @@ kept_own columns key row other e n =
     ∙ itself key
 
 under_key : (r : Rule) (columns : List ℕ) (key row : List Value) → key_columns r ≡ Some columns → key_of columns row ≡ key → none_null key ≡ true → is_under r key row ≡ true
-under_key (rule.Unique own) columns key row e k n = kept_own own key row None (ap (λ (c : List ℕ). key_of c row) (some_list own columns e) ∙ k) n
+under_key (rule.Unique Distinct own) columns key row e k n = kept_own own key row None (ap (λ (c : List ℕ). key_of c row) (some_list own columns e) ∙ k) n
+under_key (rule.Unique NotDistinct own) columns key row e k n =
+    ap (λ (x : List Value). all_same x key) (ap (λ (c : List ℕ). key_of c row) (some_list own columns e) ∙ k) ∙ itself key
 under_key (rule.PrimaryKey own) columns key row e k n = kept_own own key row (Some null_key) (ap (λ (c : List ℕ). key_of c row) (some_list own columns e) ∙ k) n
 under_key (rule.ForeignKey fk) columns key row e k n =
     kept_own fk.columns key row (null_key_where (not (is_free fk.matching (key_of fk.columns row)))) (ap (λ (c : List ℕ). key_of c row) (some_list fk.columns columns e) ∙ k) n

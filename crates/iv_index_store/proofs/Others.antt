@@ -36,7 +36,7 @@ same_violating constraints groups after id c g all at same = by_rule c.rule refl
     by_rule : (k : Rule) → c.rule ≡ k → violate constraints after c.rule g.key g.rows ≡ violate constraints groups c.rule g.key g.rows
     by_rule (rule.NotNull column) e = (λ i. violate constraints after (e i) g.key g.rows) ∙ (λ i. violate constraints groups (sym e i) g.key g.rows)
     by_rule (rule.Check condition) e = (λ i. violate constraints after (e i) g.key g.rows) ∙ (λ i. violate constraints groups (sym e i) g.key g.rows)
-    by_rule (rule.Unique columns) e = (λ i. violate constraints after (e i) g.key g.rows) ∙ (λ i. violate constraints groups (sym e i) g.key g.rows)
+    by_rule (rule.Unique nulls columns) e = (λ i. violate constraints after (e i) g.key g.rows) ∙ (λ i. violate constraints groups (sym e i) g.key g.rows)
     by_rule (rule.PrimaryKey columns) e = (λ i. violate constraints after (e i) g.key g.rows) ∙ (λ i. violate constraints groups (sym e i) g.key g.rows)
     by_rule (rule.ForeignKey fk) e =
         let n : Named constraints fk = named_of constraints id c fk all at e in

@@ -24,7 +24,7 @@ fn key_columns(rule: &Rule) -> Option<&[u32]>
 {
     match rule {
         Rule::PrimaryKey(columns) => Some(columns.as_slice()),
-        Rule::Unique(columns) => Some(columns.as_slice()),
+        Rule::Unique(_, columns) => Some(columns.as_slice()),
         Rule::ForeignKey(key) => Some(key.columns.as_slice()),
         _ => None,
     }

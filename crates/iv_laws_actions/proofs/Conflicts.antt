@@ -10,7 +10,7 @@ use Rattle.iv_machine.specs.ReferentialActions.{Reference, have_deletion, disagr
 use Rattle.iv_laws_actions.specs.RowByRow.{clashes, first_conflict}
 use Rattle.iv_laws_actions.proofs.FirstPairs.{RisingReferences}
 
-any_append : {A : Type 0} (p : A → Bool) (xs ys : List A) → list_any p (xs ++ ys) ≡ (list_any p xs || list_any p ys)
+pub any_append : {A : Type 0} (p : A → Bool) (xs ys : List A) → list_any p (xs ++ ys) ≡ (list_any p xs || list_any p ys)
 any_append p [] ys = refl
 any_append p (x ∷ xs) ys = elim (p x) as (λ b. (b || list_any p (xs ++ ys)) ≡ ((b || list_any p xs) || list_any p ys)) [ true ↦ refl | false ↦ any_append p xs ys ]
 

@@ -1,7 +1,7 @@
 -- What follows a wave, row by row.
 use Rattle.std.proofs.Common.{◌≡◌, refl, ℕ, Bool, true, false, if◌then◌else◌, List, [], ◌∷◌, ◌++◌, filter, filter_map, map, Option, Some, None, Result, Ok, sym, ap, subst, ◌∙◌}
 use Rattle.std.specs.Bool.{◌==◌}
-use Rattle.std.specs.List.{find, flat_map, cons_option}
+use Rattle.std.specs.List.{list_any, find, flat_map, cons_option}
 use Rattle.std.specs.Option.{option_map}
 use Rattle.std.proofs.lemmas.Bool.{true≢false}
 use Rattle.iv_expr.specs.declared.row.StoredRow.{StoredRow}
@@ -15,18 +15,19 @@ use Rattle.iv_machine.specs.declared.database.Database.{Database}
 use Rattle.iv_machine.specs.declared.effect.Effect.{Effect}
 use Rattle.iv_machine.specs.Databases.{row_at, fault_at, first, has_change, database_after}
 use Rattle.iv_machine.specs.Context.{Context, Failure, fails, unless_first}
-use Rattle.iv_machine.specs.ReferentialActions.{Reference, references, LostKeys, lost_keys, is_restricted, restricted_rows, keeps_reference, effects_on, change_by, next_wave, has_conflict, conflicts, following_wave}
+use Rattle.iv_machine.specs.ReferentialActions.{Reference, references, LostKeys, lost_keys, is_restricted, restricted_rows, keeps_reference, effects_on, change_by, sets_values, referencing_columns, next_wave, has_conflict, conflicts, following_wave}
 use Rattle.iv_laws_levels.specs.RisingRows.{InOrder}
 use Rattle.iv_laws_levels.specs.Holders.{row_before, keys_lost_by}
 use Rattle.iv_laws_levels.proofs.AppliedRows.{news, row_at_rows_after, rows_after_in_order}
-use Rattle.iv_laws_levels.proofs.Filters.{filter_both}
+use Rattle.iv_laws_levels.proofs.Filters.{filter_both, any_of_filter}
 use Rattle.iv_laws_levels.proofs.Holders.{rows_before}
 use Rattle.iv_laws_levels.proofs.LosingWaves.{lost_by_wave}
-use Rattle.iv_laws_actions.specs.RowByRow.{protects, restricted_at, effects_of, effects_at, first_conflict, conflict_at, change_at, least, answer_at, is_among, EachReference, IsIdle, IsIdleElsewhere, LedTo, FindsRows}
+use Rattle.iv_laws_actions.specs.RowByRow.{protects, restricted_at, effects_of, effects_at, first_conflict, conflict_at, change_at, sets_at, columns_at, least, answer_at, is_among, EachReference, IsIdle, IsIdleElsewhere, LedTo, FindsRows}
 use Rattle.iv_laws_actions.proofs.PickedRows.{picked, made_of_picked, filter_of_picked}
 use Rattle.iv_laws_actions.proofs.FirstPairs.{RisingReferences, references_rise, rising_filter, pairs, pair_of, first_of_picked}
 use Rattle.iv_laws_actions.proofs.Conflicts.{AllOf, first_conflict_is}
 use Rattle.iv_laws_actions.proofs.Idle.{each_of_all, idle_elsewhere, not_protected, pairs_of_acting, effects_with, effects_of_acting, no_effects}
+use Rattle.iv_laws_actions.proofs.SetColumns.{none_of_all, any_of_numbers, filter_acting, has_id, are_apart, sets_none, each_reference}
 
 -- ---- lists
 
@@ -223,14 +224,60 @@ module _ (context : Context) (before : Database) (changes : List Change) (later 
 
   -- the next wave
 
-  next_is : next_wave context.schema (lost_keys before.rows later.rows) before.rows later.rows
-      ≡ wave_of (filter_map (change_at context.schema (filter acts all) lost changes later.rows) numbers)
-  next_is =
-      ap wave_of
-      (ap (λ (f : StoredRow → List (ℕ × Effect)). filter_map (λ after. change_by after (f after)) later.rows) (λ i after. effects_here after i)
+  changes_are : (next_wave context.schema (lost_keys before.rows later.rows) before.rows later.rows).changes
+      ≡ filter_map (change_at context.schema (filter acts all) lost changes later.rows) numbers
+  changes_are =
+      ap (λ (f : StoredRow → List (ℕ × Effect)). filter_map (λ after. change_by after (f after)) later.rows) (λ i after. effects_here after i)
       ∙ made_of_picked (λ after. change_by after (effects_on_row after)) later.rows (row_at later.rows) numbers later_in_order (λ n. refl) finds.rising
       (λ r there apart. ap (change_by r) (none_elsewhere r there apart))
-      ∙ made_of_numbers (λ after. change_by after (effects_on_row after)) (row_at later.rows) numbers)
+      ∙ made_of_numbers (λ after. change_by after (effects_on_row after)) (row_at later.rows) numbers
+
+  -- a foreign key sets values of some row of these numbers
+  abbrev sets : Reference → Bool
+  sets k = list_any (sets_at context.schema (filter acts all) lost changes later.rows k.id) numbers
+
+  sets_same : (k : Reference)
+      → list_any (λ after. sets_values k.id (effects_on context.schema (lost_keys before.rows later.rows) (row_at before.rows after.number) after)) later.rows
+      ≡ sets k
+  sets_same k =
+      ap (λ (f : StoredRow → List (ℕ × Effect)). list_any (λ after. sets_values k.id (f after)) later.rows) (λ i after. effects_here after i)
+      ∙ any_of_filter (λ after. sets_values k.id (effects_on_row after)) later.rows
+      ∙ ap (list_any (λ _. true))
+      (filter_of_picked (λ after. sets_values k.id (effects_on_row after)) later.rows (row_at later.rows) numbers later_in_order (λ n. refl) finds.rising
+      (λ r there apart. ap (sets_values k.id) (none_elsewhere r there apart)))
+      ∙ sym (any_of_filter (λ after. sets_values k.id (effects_on_row after)) (picked (row_at later.rows) numbers))
+      ∙ any_of_numbers (λ after. sets_values k.id (effects_on_row after)) (row_at later.rows) numbers
+
+  -- an idle foreign key sets none
+  idle_sets_none : (k : Reference) → has_id (filter acts all) k.id ≡ false → sets k ≡ false
+  idle_sets_none k apart = none_of_all (sets_at context.schema (filter acts all) lost changes later.rows k.id) numbers (λ n. where_row (row_at later.rows n))
+    where
+      where_before : (after : StoredRow) (o : Option StoredRow)
+          → sets_values k.id (elim o [ Some r ↦ effects_of context.schema (filter acts all) lost r after | None ↦ [] ]) ≡ false
+      where_before after None = refl
+      where_before after (Some r) = sets_none context.schema (filter acts all) lost r after k.id apart
+
+      where_row : (o : Option StoredRow) → ◌≡◌ {A = Bool} (elim o [ Some after ↦ sets_values k.id (effects_on_row after) | None ↦ false ]) false
+      where_row None = refl
+      where_row (Some after) = where_before after (row_earlier after.number)
+
+  columns_are : (next_wave context.schema (lost_keys before.rows later.rows) before.rows later.rows).columns
+      ≡ columns_at context.schema (filter acts all) lost changes later.rows numbers
+  columns_are =
+      ap (λ (q : Reference → Bool). flat_map referencing_columns (filter q all)) (λ i k. sets_same k i)
+      ∙ ap (flat_map referencing_columns)
+      (filter_acting sets acts all
+      (each_reference all (λ k apart e. idle_sets_none k (apart e)) (are_apart acts 0 all (references_rise context.schema.constraints))))
+
+  -- the next wave by row number
+  abbrev next_at : Wave
+  next_at = record {
+    changes = filter_map (change_at context.schema (filter acts all) lost changes later.rows) numbers;
+    columns = columns_at context.schema (filter acts all) lost changes later.rows numbers;
+  }
+
+  next_is : next_wave context.schema (lost_keys before.rows later.rows) before.rows later.rows ≡ next_at
+  next_is = λ i. record { changes = changes_are i; columns = columns_are i }
 
   pub waves_follow_row_by_row : following_wave context before later
       ≡ answer_at context.schema (filter acts (references context.schema.constraints)) (keys_lost_by (wave_of changes)) changes later numbers
@@ -245,7 +292,7 @@ module _ (context : Context) (before : Database) (changes : List Change) (later 
 
       conflicts_told : after_restrict ≡ (elim (least (conflict_at context.schema (filter acts all) lost changes later.rows) numbers) [
         | Some fault ↦ fails later (ActionConflict fault)
-        | None ↦ Ok (wave_of (filter_map (change_at context.schema (filter acts all) lost changes later.rows) numbers))
+        | None ↦ Ok next_at
       ])
       conflicts_told =
           unless_first_is later ActionConflict (conflicts context.schema (lost_keys before.rows later.rows) before.rows later.rows)

@@ -6,6 +6,7 @@ use Rattle.std.specs.Option.{option_map}
 use Rattle.iv_value.specs.declared.value.Value.{Value}
 use Rattle.iv_expr.specs.declared.row.StoredRow.{StoredRow}
 use Rattle.iv_expr.specs.declared.row.Change.{Change}
+use Rattle.iv_expr.specs.declared.wave.TableColumn.{TableColumn}
 use Rattle.iv_expr.specs.Changes.{Wave, wave_of, RisingChanges}
 use Rattle.iv_syntax.specs.declared.table.ReferentialAction.TheVariants as action
 use Rattle.iv_catalogue.specs.Catalogues.{Schema}
@@ -15,7 +16,7 @@ use Rattle.iv_machine.specs.declared.database.Database.{Database}
 use Rattle.iv_machine.specs.declared.effect.Effect.{Effect}
 use Rattle.iv_machine.specs.Databases.{row_at, fault_at, has_change, database_after}
 use Rattle.iv_machine.specs.Context.{Context, Failure, fails}
-use Rattle.iv_machine.specs.ReferentialActions.{Reference, references, Loss, LostKeys, lost_reference, action_on, is_restricted, effects_of_loss, keeps_reference, have_deletion, disagree, change_by, following_wave}
+use Rattle.iv_machine.specs.ReferentialActions.{Reference, references, Loss, LostKeys, lost_reference, action_on, is_restricted, effects_of_loss, keeps_reference, have_deletion, disagree, change_by, sets_values, referencing_columns, following_wave}
 use Rattle.iv_store.specs.Stores.{RisingNumbers}
 use Rattle.iv_laws_levels.specs.RisingRows.{InOrder}
 use Rattle.iv_laws_levels.specs.FittingWaves.{Current}
@@ -65,7 +66,17 @@ abbrev pub change_at : Schema → List Reference → LostKeys → List Change �
 change_at schema ks lost changes later number =
     elim (row_at later number) [ Some after ↦ change_by after (effects_at schema ks lost changes later after) | None ↦ None ]
 
+-- a foreign key sets values of the row of this number
+abbrev pub sets_at : Schema → List Reference → LostKeys → List Change → List StoredRow → ℕ → ℕ → Bool
+sets_at schema ks lost changes later id number =
+    elim (row_at later number) [ Some after ↦ sets_values id (effects_at schema ks lost changes later after) | None ↦ false ]
+
 -- ---- rows of these numbers
+
+-- the columns of those of the foreign keys that set values of some of these rows
+abbrev pub columns_at : Schema → List Reference → LostKeys → List Change → List StoredRow → List ℕ → List TableColumn
+columns_at schema ks lost changes later numbers =
+    flat_map referencing_columns (filter (λ k. list_any (sets_at schema ks lost changes later k.id) numbers) ks)
 
 -- the fault of the lower constraint; of two of one constraint, the one given first
 abbrev pub earlier : Option Fault → Option Fault → Option Fault
@@ -84,7 +95,10 @@ answer_at schema ks lost changes later numbers = elim (least (restricted_at ks l
   | Some fault ↦ fails later (Restrict fault)
   | None ↦ elim (least (conflict_at schema ks lost changes later.rows) numbers) [
     | Some fault ↦ fails later (ActionConflict fault)
-    | None ↦ Ok (wave_of (filter_map (change_at schema ks lost changes later.rows) numbers))
+    | None ↦ Ok (record {
+      changes = filter_map (change_at schema ks lost changes later.rows) numbers;
+      columns = columns_at schema ks lost changes later.rows numbers;
+    })
   ]
 ]
 

@@ -10,11 +10,11 @@ use Rattle.iv_machine.specs.declared.database.Which.TheVariants.{Immediate}
 use Rattle.iv_machine.specs.Bounds.{most_changes_in_a_transaction}
 use Rattle.iv_machine.specs.Databases.{scan, is_chosen, size, database_after}
 use Rattle.iv_machine.specs.Context.{Context, fails, over, with_count}
-use Rattle.iv_machine.specs.Proposals.{holds, proposed_wave, table_of, event_of}
+use Rattle.iv_machine.specs.Proposals.{holds, proposed_wave}
 use Rattle.iv_machine.specs.BeforeTriggers.{placed_statements, before_statement, wave_after_triggers}
 use Rattle.iv_machine.specs.ReferentialActions.{lost_keys, restricted_rows, conflicts, following_wave}
 use Rattle.iv_machine.specs.Waves.{numbered_wave, is_beyond_last_row, wave_as_applied, one_wave, is_empty, Settles, none_settled, settled_by, settled_within, settled_waves, net_wave}
-use Rattle.iv_machine.specs.Levels.{Firing, Progress, Runs, statement_run, body_run, firing_run, firings_run, firings, immediate_check, level_steps, nested_level, level}
+use Rattle.iv_machine.specs.Levels.{Firing, Progress, Runs, statement_run, body_run, firing_run, firings_run, firings, level_columns, immediate_check, level_steps, nested_level, level}
 use Rattle.iv_laws_levels.proofs.Settling.{nothing_settled, then_next, then_settled}
 use Rattle.iv_laws_answers.specs.Memory.{WavesWantNoMemory, LevelsWantNoMemory, NestedLevelsWantNoMemory}
 use Rattle.iv_laws_answers.proofs.Spared.{SparedFailure, then_spared, in_turn_spared, counted_spared, over_spared, inside_spared, unless_spared, spared_refused}
@@ -104,13 +104,13 @@ module _ (run : Runs) (spared : RunsSpared run) where
   steps_spared : (w : Context) (d : DataStatement) (f : Frame) (db : Database) (budget : ℕ) → SparedFailure (level_steps run w d f db budget)
   steps_spared w d f db budget =
       then_spared (λ x. x.cause) (over db (proposed_wave w db f d)) _ (over_spared db (proposed_wave w db f d) (proposed_spared w db f d)) (λ wave.
-      then_spared (λ x. x.cause) (with_count db (before_statement w db.rows (table_of d) (event_of d))) _
-      (counted_spared db (before_statement w db.rows (table_of d) (event_of d)) (statement_triggers_spared w db.rows (table_of d) (event_of d))) (λ _.
+      then_spared (λ x. x.cause) (with_count db (before_statement w db.rows d)) _
+      (counted_spared db (before_statement w db.rows d) (statement_triggers_spared w db.rows d)) (λ _.
       then_spared (λ x. x.cause) (settled_waves w db budget wave) _ (settled_spared w db budget wave) (λ s.
       then_spared (λ x. x.cause) (immediate_check w s.last) _
       (unless_spared s.last Violation (scan s.last.rows w.schema.constraints (is_chosen w.modes Immediate)) (Ok tt) (λ fault. refl) tt) (λ _.
-      then_spared (λ x. x.cause) (firings_run run (firings w d (net_wave db.rows s.last.rows s.waves)) (record { database = s.last; budget = s.rest })) _
-      (firings_spared (firings w d (net_wave db.rows s.last.rows s.waves)) (record { database = s.last; budget = s.rest })) (λ at. tt)))))
+      then_spared (λ x. x.cause) (firings_run run (firings w d (level_columns d s.waves) (net_wave db.rows s.last.rows s.waves)) (record { database = s.last; budget = s.rest })) _
+      (firings_spared (firings w d (level_columns d s.waves) (net_wave db.rows s.last.rows s.waves)) (record { database = s.last; budget = s.rest })) (λ at. tt)))))
 
 nested_spared : (depth : ℕ) (w : Context) (trigger : ℕ) (d : DataStatement) (f : Frame) (db : Database) (budget : ℕ)
     → SparedFailure (nested_level depth w trigger d f db budget)

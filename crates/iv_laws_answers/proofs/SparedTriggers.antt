@@ -1,6 +1,6 @@
 -- BEFORE triggers aren't refused for want of memory.
 use Rattle.std.proofs.Common.{refl, ℕ, Bool, true, false, ◌&&◌, if◌then◌else◌, List, Option, Some, None, Result, Ok, Err, find, filter}
-use Rattle.iv_laws_answers.specs.Words.{StoredRow, Change, TriggerEvent, Cause, Refusal, BodyStatement, Trigger}
+use Rattle.iv_laws_answers.specs.Words.{StoredRow, Change, Cause, Refusal, BodyStatement, DataStatement, Trigger}
 use Rattle.iv_laws_answers.specs.Words.cause.{Signal}
 use Rattle.iv_laws_answers.specs.Words.body
 use Rattle.iv_expr.specs.Changes.{Wave}
@@ -8,7 +8,7 @@ use Rattle.iv_expr.specs.Scopes.{no_frame, scope_of}
 use Rattle.iv_expr.specs.Evaluation.{value}
 use Rattle.iv_machine.specs.Context.{Context, while_running, each, in_turn}
 use Rattle.iv_machine.specs.Proposals.{holds, stored_value}
-use Rattle.iv_machine.specs.BeforeTriggers.{is_before_row, is_before_statement, is_on, event_of_change, placed_statements, is_signal, unless_signal, before_statement_run, before_statement, change_frame, with_new_value, change_after_statement, before_row_run, change_after_trigger, changes_after_triggers, wave_after_triggers}
+use Rattle.iv_machine.specs.BeforeTriggers.{is_before_row_on, is_before_this, is_on, event_of_change, placed_statements, is_signal, unless_signal, before_statement_run, before_statement, change_frame, with_new_value, change_after_statement, before_row_run, change_after_trigger, changes_after_triggers, wave_after_triggers}
 use Rattle.iv_laws_answers.specs.Memory.{RowTriggersWantNoMemory, StatementTriggersWantNoMemory}
 use Rattle.iv_laws_answers.proofs.Spared.{SparedCause, SparedRefusal, then_spared, each_spared, in_turn_spared, running_spared, spared_refused}
 use Rattle.iv_laws_answers.proofs.SparedValues.{value_spared, holds_spared, stored_spared}
@@ -31,15 +31,15 @@ run_spared rows t =
     by true = signal_spared t
     by false = tt
 
-pub statement_triggers_spared : (w : Context) (rows : List StoredRow) (table : ℕ) (e : TriggerEvent) → SparedRefusal (before_statement w rows table e)
-statement_triggers_spared w rows table e =
+pub statement_triggers_spared : (w : Context) (rows : List StoredRow) (d : DataStatement) → SparedRefusal (before_statement w rows d)
+statement_triggers_spared w rows d =
     in_turn_spared (λ (x : Refusal). x.cause) (λ t _. while_running t.id (before_statement_run rows t))
     (λ t _. running_spared t.id (before_statement_run rows t) (run_spared rows t))
-    (filter (λ t. is_before_statement t && is_on table e t) w.schema.triggers) tt
+    (filter (is_before_this d) w.schema.triggers) tt
 
 pub statement_triggers_want_no_memory : StatementTriggersWantNoMemory
-statement_triggers_want_no_memory w rows table e refusal is =
-    spared_refused (λ (x : Refusal). x.cause) (before_statement w rows table e) refusal (statement_triggers_spared w rows table e) is
+statement_triggers_want_no_memory w rows d refusal is =
+    spared_refused (λ (x : Refusal). x.cause) (before_statement w rows d) refusal (statement_triggers_spared w rows d) is
 
 -- ---- those of rows
 
@@ -80,6 +80,6 @@ row_triggers_want_no_memory w rows ts changes refusal e =
 
 pub wave_triggers_spared : (w : Context) (rows : List StoredRow) (wave : Wave) → SparedRefusal (wave_after_triggers w rows wave)
 wave_triggers_spared w rows wave =
-    then_spared (λ (x : Refusal). x.cause) (changes_after_triggers w rows (filter is_before_row w.schema.triggers) wave.changes)
+    then_spared (λ (x : Refusal). x.cause) (changes_after_triggers w rows (filter (is_before_row_on wave.columns) w.schema.triggers) wave.changes)
     (λ changes. Ok (record wave { changes = changes }))
-    (row_triggers_spared w rows (filter is_before_row w.schema.triggers) wave.changes) (λ changes. tt)
+    (row_triggers_spared w rows (filter (is_before_row_on wave.columns) w.schema.triggers) wave.changes) (λ changes. tt)

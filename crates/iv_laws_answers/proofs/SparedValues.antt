@@ -15,7 +15,6 @@ use Rattle.iv_expr.specs.declared.tree.Comparison.{Comparison}
 use Rattle.iv_expr.specs.declared.tree.Expr.TheVariants.{Literal, Column, Variable}
 use Rattle.iv_expr.specs.declared.tree.Cond.TheVariants.{Always, Compare, IsNull}
 use Rattle.iv_expr.specs.Trees.{plus, minus, times, not_c, and_c, or_c, exists_c}
-use Rattle.iv_expr.specs.Changes.{wave_of}
 use Rattle.iv_expr.specs.Scopes.{Scope, Frame, scope_of, within, range_rows, table_rows, variable_of}
 use Rattle.iv_expr.specs.Evaluation.{and_then, column_of, number_of, arithmetic, value, accepts, comparison_of, all_results, truth}
 use Rattle.iv_catalogue.specs.declared.catalogue.Column.{Column as TableColumn}
@@ -29,7 +28,7 @@ use Rattle.iv_catalogue.specs.declared.plan.Setting.{Setting}
 use Rattle.iv_catalogue.specs.declared.plan.DataStatement.TheVariants as data_statement
 use Rattle.iv_catalogue.specs.Refusals.{cause_of}
 use Rattle.iv_machine.specs.Context.{Context, each}
-use Rattle.iv_machine.specs.Proposals.{with_cause, holds, column_at, value_for_column, stored_value, stored_values, with_columns, element_where_true, where_true, matching_rows, outputs_of, values_by_column, row_of_values, insertion, insertion_of, proposed_insertions, update_of, deletion, proposed_changes, proposed_wave}
+use Rattle.iv_machine.specs.Proposals.{set_columns, with_cause, holds, column_at, value_for_column, stored_value, stored_values, with_columns, element_where_true, where_true, matching_rows, outputs_of, values_by_column, row_of_values, insertion, insertion_of, proposed_insertions, update_of, deletion, proposed_changes, proposed_wave}
 use Rattle.iv_laws_answers.specs.Words.{StoredRow, Expr, Cond, ExprFault, Cause, DataStatement, Database}
 use Rattle.iv_laws_answers.specs.Words.expr_fault.{IllTyped, NoMemory}
 use Rattle.iv_laws_answers.specs.Words.cause.{WrongShape, TextTooLong}
@@ -232,7 +231,7 @@ changes_spared w db f (data_statement.Delete table filter) =
 
 pub proposed_spared : (w : Context) (db : Database) (f : Frame) (d : DataStatement) → SparedCause (proposed_wave w db f d)
 proposed_spared w db f d =
-    then_spared (λ c. c) (proposed_changes w db f d) (λ changes. Ok (wave_of changes)) (changes_spared w db f d) (λ changes. tt)
+    then_spared (λ c. c) (proposed_changes w db f d) (λ changes. Ok (record { changes = changes; columns = set_columns d })) (changes_spared w db f d) (λ changes. tt)
 
 pub proposals_want_no_memory : ProposalsWantNoMemory
 proposals_want_no_memory w db f d cause e = spared_refused (λ c. c) (proposed_wave w db f d) cause (proposed_spared w db f d) e

@@ -1,7 +1,7 @@
 -- The definitions have memory enough: no tree has the fault of refused memory, and no statement is refused for it. So an answer that is such
 -- a refusal is always the program's own.
 use Rattle.std.specs.Prelude.{◌≡◌, ◌≢◌, ℕ, false, List, Err}
-use Rattle.iv_laws_answers.specs.Words.{StoredRow, Change, Expr, Cond, TriggerEvent, Cause, Refusal, DataStatement, Trigger, Database}
+use Rattle.iv_laws_answers.specs.Words.{StoredRow, Change, Expr, Cond, Cause, Refusal, DataStatement, Trigger, Database}
 use Rattle.iv_laws_answers.specs.Words.expr_fault.{NoMemory}
 use Rattle.iv_expr.specs.Changes.{Wave}
 use Rattle.iv_expr.specs.Scopes.{Scope, Frame}
@@ -37,8 +37,8 @@ RowTriggersWantNoMemory =
 
 abbrev pub StatementTriggersWantNoMemory : Type 0
 StatementTriggersWantNoMemory =
-    (context : Context) (rows : List StoredRow) (table : ℕ) (event : TriggerEvent) (refusal : Refusal)
-    → before_statement context rows table event ≡ Err refusal → is_memory_cause refusal.cause ≡ false
+    (context : Context) (rows : List StoredRow) (d : DataStatement) (refusal : Refusal)
+    → before_statement context rows d ≡ Err refusal → is_memory_cause refusal.cause ≡ false
 
 -- So are all waves.
 abbrev pub WavesWantNoMemory : Type 0

@@ -134,14 +134,14 @@ earlier_there (z ∷ zs) ys (suc i) x h = earlier_there zs ys i x h
 -- the places of a rule that is a key
 rule_places : (columns : List NamedColumn) (deferrable : Bool) (r : Rule) (k : Key) → key_of_rule columns deferrable r ≡ Some k
     → (unique_columns r ≡ Some k.places) × (k.columns ≡ map (name_at columns) k.places)
-rule_places columns d (rule.Unique places) k h = let e = same_Some _ k h in (ap (λ (x : Key). Some x.places) e, sym (ap (λ (x : Key). x.columns) e) ∙ ap (λ (x : Key). map (name_at columns) x.places) e)
+rule_places columns d (rule.Unique nulls places) k h = let e = same_Some _ k h in (ap (λ (x : Key). Some x.places) e, sym (ap (λ (x : Key). x.columns) e) ∙ ap (λ (x : Key). map (name_at columns) x.places) e)
 rule_places columns d (rule.PrimaryKey places) k h = let e = same_Some _ k h in (ap (λ (x : Key). Some x.places) e, sym (ap (λ (x : Key). x.columns) e) ∙ ap (λ (x : Key). map (name_at columns) x.places) e)
 rule_places columns d (rule.NotNull c) k h = cc
 rule_places columns d (rule.Check c) k h = cc
 rule_places columns d (rule.ForeignKey fk) k h = cc
 
 in_range : (tables : List Table) (kinds : List Kind) (r : Rule) (places : List ℕ) → unique_columns r ≡ Some places → rule_suits tables kinds r ≡ true → list_all (is_place kinds) places ≡ true
-in_range tables kinds (rule.Unique ps) places h g = ap (list_all (is_place kinds)) (sym (same_Some ps places h)) ∙ g
+in_range tables kinds (rule.Unique nulls ps) places h g = ap (list_all (is_place kinds)) (sym (same_Some ps places h)) ∙ g
 in_range tables kinds (rule.PrimaryKey ps) places h g = ap (list_all (is_place kinds)) (sym (same_Some ps places h)) ∙ g
 in_range tables kinds (rule.NotNull c) places h g = cc
 in_range tables kinds (rule.Check c) places h g = cc
@@ -188,7 +188,7 @@ numbered_at from (y ∷ ys) (suc i) x h =
 
 written_places : (schema : Schema) (names : Names) (own : Altered) (time : ConstraintTime) (r : WrittenRule) (k : Key) → key_of_written own.columns time r ≡ Some k
     → (unique_columns (bound_rule schema names own r) ≡ Some k.places) × (k.places ≡ places_of own.columns k.columns)
-written_places schema names own time (unique columns) k h =
+written_places schema names own time (unique nulls columns) k h =
     let e = same_Some _ k h in (ap (λ (x : Key). Some x.places) e, sym (ap (λ (x : Key). x.places) e) ∙ ap (λ (x : Key). places_of own.columns x.columns) e)
 written_places schema names own time (primary_key columns) k h =
     let e = same_Some _ k h in (ap (λ (x : Key). Some x.places) e, sym (ap (λ (x : Key). x.places) e) ∙ ap (λ (x : Key). places_of own.columns x.columns) e)
@@ -300,7 +300,7 @@ referred_key schema own all n columns r (Some t) e u w = reference_key own all t
 pub key_of_rule_there : (schema : Schema) (names : Names) (own : Altered) (all : List Constraint) → AllNamed schema own all → (r : WrittenRule)
     → unknown_rule schema names own r ≡ false → faulty_rule schema own r ≡ false → has_key all (foreign_key (bound_rule schema names own r)) ≡ true
 key_of_rule_there schema names own all n (not_null column) u f = refl
-key_of_rule_there schema names own all n (unique columns) u f = refl
+key_of_rule_there schema names own all n (unique nulls columns) u f = refl
 key_of_rule_there schema names own all n (primary_key columns) u f = refl
 key_of_rule_there schema names own all n (check c) u f = refl
 key_of_rule_there schema names own all n (written.foreign_key columns r) u f =

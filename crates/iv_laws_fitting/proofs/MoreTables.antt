@@ -281,7 +281,7 @@ trigger_still tables new t h =
 
 rule_still : (tables : List Table) (new : Table) (kinds : List Kind) (r : Rule) → rule_suits tables kinds r ≡ true → rule_suits (tables ++ new ∷ []) kinds r ≡ true
 rule_still tables new kinds (rule.NotNull c) h = h
-rule_still tables new kinds (rule.Unique cs) h = h
+rule_still tables new kinds (rule.Unique treatment cs) h = h
 rule_still tables new kinds (rule.PrimaryKey cs) h = h
 rule_still tables new kinds (rule.Check c) h = h
 rule_still tables new kinds (rule.ForeignKey fk) h =

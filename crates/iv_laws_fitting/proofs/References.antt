@@ -102,7 +102,7 @@ KeysMatch columns kinds keys = (j : ℕ) (k : Key) → slice_get keys j ≡ Some
 
 of_rule : (tables : List Table) (t : Table) → table_suits t ≡ true → (deferrable : Bool) (r : Rule) (k : Key) → key_of_rule (named_columns t.columns) deferrable r ≡ Some k
     → rule_suits tables (kinds_of t) r ≡ true → KeyMatches (named_columns t.columns) (kinds_of t) k
-of_rule tables t s d (rule.Unique places) k h g = subst (KeyMatches (named_columns t.columns) (kinds_of t)) (same_Some _ k h) (key_of_places t s places g false d)
+of_rule tables t s d (rule.Unique nulls places) k h g = subst (KeyMatches (named_columns t.columns) (kinds_of t)) (same_Some _ k h) (key_of_places t s places g false d)
 of_rule tables t s d (rule.PrimaryKey places) k h g = subst (KeyMatches (named_columns t.columns) (kinds_of t)) (same_Some _ k h) (key_of_places t s places g true d)
 of_rule tables t s d (rule.NotNull c) k h g = cc
 of_rule tables t s d (rule.Check c) k h g = cc

@@ -132,7 +132,7 @@ pub rule_of_written_suits : (schema : Schema) (names : Names) (own : Altered) (t
     → (r : WrittenRule) → unknown_rule schema names own r ≡ false → faulty_rule schema own r ≡ false → misshaped_rule names own r ≡ false
     → rule_suits tables kinds (bound_rule schema names own r) ≡ true
 rule_of_written_suits schema names own tables kinds o (not_null column) u f w = named_place own.columns kinds o.columns column u
-rule_of_written_suits schema names own tables kinds o (unique columns) u f w = named_places own.columns kinds o.columns columns u
+rule_of_written_suits schema names own tables kinds o (unique nulls columns) u f w = named_places own.columns kinds o.columns columns u
 rule_of_written_suits schema names own tables kinds o (primary_key columns) u f w = named_places own.columns kinds o.columns columns u
 rule_of_written_suits schema names own tables kinds o (check c) u f w =
     plain_condition_suits names (check_ranges own) (check_shape kinds) (check_matches own.name own.columns kinds o.columns) (omega arith) c f u w

@@ -80,7 +80,7 @@ kinds_at tables place t h = ap (λ (o : Option Table). elim o as (λ x. List Kin
 
 key_written : (schema : Schema) (own : Altered) (kinds : List Kind) → ColumnsMatch own.columns kinds → (time : ConstraintTime) (r : WrittenRule)
     → unknown_rule schema (creating schema own) own r ≡ false → (k : Key) → key_of_written own.columns time r ≡ Some k → KeyMatches own.columns kinds k
-key_written schema own kinds m time (unique names) u k h = subst (KeyMatches own.columns kinds) (same_Some _ k h) (key_of_names own.columns kinds m names u false _)
+key_written schema own kinds m time (unique nulls names) u k h = subst (KeyMatches own.columns kinds) (same_Some _ k h) (key_of_names own.columns kinds m names u false _)
 key_written schema own kinds m time (primary_key names) u k h = subst (KeyMatches own.columns kinds) (same_Some _ k h) (key_of_names own.columns kinds m names u true _)
 key_written schema own kinds m time (not_null column) u k h = cc
 key_written schema own kinds m time (check c) u k h = cc

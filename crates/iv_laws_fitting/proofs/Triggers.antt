@@ -26,10 +26,10 @@ use Rattle.iv_resolution.specs.Scopes.{NamedColumn, NamedRange, Names, Source, n
 use Rattle.iv_resolution.specs.Terms.{unknown_expression, unknown_filter, misshaped_expression, misshaped_filter, bound_expression, bound_filter}
 use Rattle.iv_resolution.specs.Constraints.{WrittenConstraint, table_constraint}
 use Rattle.iv_resolution.specs.Tables.{table_names}
-use Rattle.iv_resolution.specs.Changes.{is_table, target_columns, clashes_with}
+use Rattle.iv_resolution.specs.Changes.{is_table, target_columns, unknown_names, clashes_with}
 use Rattle.iv_resolution.specs.Triggers.{names_row, row_variables, transition_tables, subject_of, trigger_names, trigger_variables, variable_named, unknown_set, unknown_action, for_each_row, is_before, has_side, is_allowed_item, is_side, items_of, item_twice, some_item_twice, misshaped_action}
 use Rattle.iv_resolution.specs.Bound.{table_id, bound_action, bound_trigger}
-use Rattle.iv_resolution.specs.Writable.{is_name, is_filter, is_action}
+use Rattle.iv_resolution.specs.Writable.{is_name, is_filter, is_action, are_event_columns}
 use Rattle.iv_laws_naming.specs.Naming.{NamesSource, transition, created, stored}
 use Rattle.iv_laws_naming.proofs.Firsts.{first_there}
 use Rattle.iv_laws_naming.proofs.NamesFound.{sources}
@@ -210,7 +210,9 @@ trigger_fits schema d t a = by (target_of (table_names schema) t.table parts.0)
         || list_any (misshaped_action (names_of schema t.referencing s) (row_variables s t.referencing)) t.body
 
     parts : (not (is_table (table_names schema) t.table) ≡ false) × (unknown (target_columns (table_names schema) t.table) ≡ false)
-    parts = or_parts _ _ a.known
+    parts =
+        let first = or_parts (not (is_table (table_names schema) t.table)) _ a.known in
+        (first.0, (or_parts (unknown_names (target_columns (table_names schema) t.table) t.columns) _ first.1).1)
 
     faults : (some_item_twice t.referencing ≡ false) × (list_any (λ i. not (is_allowed_item t i)) t.referencing ≡ false)
     faults =
@@ -221,7 +223,8 @@ trigger_fits schema d t a = by (target_of (table_names schema) t.table parts.0)
     writable =
         let named = and_parts (is_name t.name) _ a.writable in
         let tabled = and_parts (is_name t.table) _ named.1 in
-        let listed = and_parts (list_all (λ i. is_name i.name) t.referencing) _ tabled.1 in
+        let evented = and_parts (are_event_columns t.event t.columns) _ tabled.1 in
+        let listed = and_parts (list_all (λ i. is_name i.name) t.referencing) _ evented.1 in
         let filtered = and_parts (is_filter t.when) _ listed.1 in
         (filtered.0, (and_parts (not (length t.body == 0)) (list_all is_action t.body) filtered.1).1)
 

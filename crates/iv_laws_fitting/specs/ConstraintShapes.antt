@@ -36,7 +36,7 @@ pairs_suit kinds others fk = (length fk.columns == length fk.key) && list_all (p
 
 abbrev pub rule_suits : List Table → List Kind → Rule → Bool
 rule_suits tables kinds (rule.NotNull column) = is_place kinds column
-rule_suits tables kinds (rule.Unique columns) = list_all (is_place kinds) columns
+rule_suits tables kinds (rule.Unique nulls columns) = list_all (is_place kinds) columns
 rule_suits tables kinds (rule.PrimaryKey columns) = list_all (is_place kinds) columns
 rule_suits tables kinds (rule.Check c) = suits (check_shape kinds) c
 rule_suits tables kinds (rule.ForeignKey fk) = is_there tables fk.referenced && pairs_suit kinds (table_kinds tables fk.referenced) fk

@@ -1,12 +1,12 @@
 -- Keys that a change doesn't concern.
 use Rattle.std.proofs.Common.{◌≡◌, refl, ℕ, Bool, true, false, ◌&&◌, ◌||◌, not, List, length, slice_get, Option, Some, None, sym, ap, ◌∙◌}
 use Rattle.std.specs.Bool.{◌==◌, nat_lt}
-use Rattle.std.proofs.lemmas.Bool.{or_parts}
+use Rattle.std.proofs.lemmas.Bool.{true≢false, or_parts}
 use Rattle.iv_laws_kept.specs.Words.{Value, StoredRow, Change, Constraint, Rule, ForeignKey}
 use Rattle.iv_laws_kept.specs.Words.rule
 use Rattle.iv_key.specs.Keys.{none_null}
 use Rattle.iv_store.specs.Stores.{unique_columns}
-use Rattle.iv_laws_kept.specs.Kept.{Groups, rows_under, AllNamed, is_kept_under, in_order_of, can_be_key, is_empty, is_free, is_referenced, break_rule, violate}
+use Rattle.iv_laws_kept.specs.Kept.{Groups, rows_under, AllNamed, is_kept_under, in_order_of, can_be_key, is_empty, is_free, is_referenced, violates_alone, break_rule, violate}
 use Rattle.iv_laws_kept.specs.Moves.{side_under, moved, rows_moved, Follow}
 use Rattle.iv_laws_kept.specs.Marks.{referenced_side, is_referenced_by, concerns_key}
 use Rattle.iv_laws_levels.proofs.Keys.{and_first, and_second}
@@ -57,6 +57,11 @@ still_referenced constraints change groups after fk key named follow given old n
         (not_kept_there fk constraints named key change change.old given e old) (not_kept_there fk constraints named key change change.new given e new))
     by_can false e = (λ i. e i && not (is_empty (rows_under after named.key.id other))) ∙ (λ i. sym e i && not (is_empty (rows_under groups named.key.id other)))
 
+-- a key under which no row of a foreign key violates it alone
+without_null : (b : Bool) → not b ≡ false → b ≡ true
+without_null true e = refl
+without_null false e = absurd (true≢false e)
+
 -- Rows that are as empty and as many as before, under a key that neither side is what it refers to.
 pub status_stays : (constraints : List Constraint) (change : Change) (groups after : Groups) (id : ℕ) (c : Constraint) (key : List Value) (numbers later : List ℕ)
     → AllNamed constraints → Follow constraints change groups after → slice_get constraints id ≡ Some c → is_referenced_by c.rule key change ≡ false
@@ -64,24 +69,24 @@ pub status_stays : (constraints : List Constraint) (change : Change) (groups aft
     → violate constraints after c.rule key later ≡ violate constraints groups c.rule key numbers
 status_stays constraints change groups after id c key numbers later all follow at e empty more = by_rule c.rule refl e
   where
-    joined : (k : Rule) → (none_null key ≡ true → break_rule constraints after k key later ≡ break_rule constraints groups k key numbers)
+    joined : (k : Rule) → (violates_alone k key ≡ false → break_rule constraints after k key later ≡ break_rule constraints groups k key numbers)
         → violate constraints after k key later ≡ violate constraints groups k key numbers
-    joined k h = (λ i. not (empty i) && (not (none_null key) || break_rule constraints after k key later)) ∙ ap (λ b. not (is_empty numbers) && b) (by_null (none_null key) h)
+    joined k h = (λ i. not (empty i) && (violates_alone k key || break_rule constraints after k key later)) ∙ ap (λ b. not (is_empty numbers) && b) (by_alone (violates_alone k key) h)
       where
-        by_null : (b : Bool) → (b ≡ true → break_rule constraints after k key later ≡ break_rule constraints groups k key numbers)
-            → (not b || break_rule constraints after k key later) ≡ (not b || break_rule constraints groups k key numbers)
-        by_null true h = h refl
-        by_null false h = refl
+        by_alone : (b : Bool) → (b ≡ false → break_rule constraints after k key later ≡ break_rule constraints groups k key numbers)
+            → (b || break_rule constraints after k key later) ≡ (b || break_rule constraints groups k key numbers)
+        by_alone true h = refl
+        by_alone false h = h refl
 
     by_rule : (k : Rule) → c.rule ≡ k → is_referenced_by k key change ≡ false → violate constraints after k key later ≡ violate constraints groups k key numbers
     by_rule (rule.NotNull column) is e = joined (rule.NotNull column) (λ _. refl)
     by_rule (rule.Check condition) is e = joined (rule.Check condition) (λ _. refl)
-    by_rule (rule.Unique columns) is e = joined (rule.Unique columns) (λ _. more)
+    by_rule (rule.Unique nulls columns) is e = joined (rule.Unique nulls columns) (λ _. more)
     by_rule (rule.PrimaryKey columns) is e = joined (rule.PrimaryKey columns) (λ _. more)
     by_rule (rule.ForeignKey fk) is e =
         let parts = or_parts (referenced_side fk key change change.old) (referenced_side fk key change change.new) e in
-        joined (rule.ForeignKey fk) (λ given. ap (λ b. not (is_free fk.matching key || b))
-        (still_referenced constraints change groups after fk key (named_of constraints id c fk all at is) follow given parts.0 parts.1))
+        joined (rule.ForeignKey fk) (λ alone. ap (λ b. not (is_free fk.matching key || b))
+        (still_referenced constraints change groups after fk key (named_of constraints id c fk all at is) follow (without_null (none_null key) alone) parts.0 parts.1))
 
 pub other_keys_stay : (constraints : List Constraint) (change : Change) (groups after : Groups) (id : ℕ) (c : Constraint) (key : List Value)
     → AllNamed constraints → Follow constraints change groups after → slice_get constraints id ≡ Some c → concerns_key c key change ≡ false

@@ -4,19 +4,20 @@ use mathlib.Core.Bool.{and-false}
 use Rattle.std.specs.Bool.{◌==◌, nat_lt}
 use Rattle.std.specs.List.{list_any}
 use Rattle.std.proofs.lemmas.Bool.{eqb-true}
-use Rattle.iv_laws_kept.specs.Words.{Value, StoredRow, Constraint, Rule, ForeignKey, MatchType}
+use Rattle.iv_laws_kept.specs.Words.{Value, StoredRow, Constraint, Rule, ForeignKey, MatchType, NullTreatment}
 use Rattle.iv_laws_kept.specs.Words.rule
 use Rattle.iv_laws_kept.specs.Words.matching.{Simple, Full}
+use Rattle.iv_laws_kept.specs.Words.nulls.{Distinct, NotDistinct}
 use Rattle.iv_value.specs.Values.{is_null, all_same}
 use Rattle.iv_value.specs.Truths.{is_false}
 use Rattle.iv_expr.specs.Evaluation.{check_truth}
 use Rattle.iv_key.specs.Keys.{key_of, value_at, none_null, holds_key}
-use Rattle.iv_machine.specs.Databases.{shares_key, is_unique, has_referenced, matches, obeys, satisfies, violates, row_at}
+use Rattle.iv_machine.specs.Databases.{holds_key_with, shares_key, is_unique, has_referenced, matches, obeys, satisfies, violates, row_at}
 use Rattle.iv_expr.specs.Scopes.{table_rows}
 use Rattle.iv_store.specs.Stores.{numbers_of, unique_columns, all_among, are_same_columns}
 use Rattle.iv_laws_levels.specs.RisingRows.{InOrder}
 use Rattle.iv_laws_kept.specs.Numbers.{has, Rise}
-use Rattle.iv_laws_kept.specs.Kept.{Groups, rows_under, Show, null_key, null_key_where, key_or, is_free, kept_key, is_kept_under, in_order_of, can_be_key, value_in, is_empty, is_referenced, break_rule, violate, AllNamed}
+use Rattle.iv_laws_kept.specs.Kept.{Groups, rows_under, Show, null_key, null_key_where, key_or, is_free, kept_key, is_kept_under, in_order_of, can_be_key, value_in, is_empty, is_referenced, keeps_nulls, violates_alone, break_rule, violate, AllNamed}
 use Rattle.iv_laws_levels.proofs.Keys.{false_true, and_first, and_second, all_same_itself, all_same_is, same_test}
 use Rattle.iv_laws_kept.proofs.Rows.{passes, has_filtered, filtered_rise}
 use Rattle.iv_laws_levels.proofs.RowNumbers.{some_none, some_same, number_of_row_at}
@@ -80,7 +81,7 @@ pub kept_is_held : (r : Rule) (columns : List ℕ) (key values : List Value) →
     → elim (kept_key r values) [ Some k ↦ all_same k key | None ↦ false ] ≡ holds_key columns key values
 kept_is_held (rule.NotNull column) columns key values e h = absurd (some_none columns (sym e))
 kept_is_held (rule.Check condition) columns key values e h = absurd (some_none columns (sym e))
-kept_is_held (rule.Unique own) columns key values e h = held (some_same own columns e)
+kept_is_held (rule.Unique Distinct own) columns key values e h = held (some_same own columns e)
   where
     by_nulls : (b : Bool) → elim (if b then Some (key_of own values) else None) [ Some k ↦ all_same k key | None ↦ false ] ≡ (b && all_same (key_of own values) key)
     by_nulls true = refl
@@ -88,6 +89,12 @@ kept_is_held (rule.Unique own) columns key values e h = held (some_same own colu
 
     held : own ≡ columns → elim (key_or (key_of own values) None) [ Some k ↦ all_same k key | None ↦ false ] ≡ holds_key columns key values
     held is = by_nulls (none_null (key_of own values)) ∙ ap (λ c. holds_key c key values) is
+kept_is_held (rule.Unique NotDistinct own) columns key values e h = held ∙ ap (λ c. holds_key c key values) (some_same own columns e)
+  where
+    held : all_same (key_of own values) key ≡ holds_key own key values
+    held = same_test (all_same (key_of own values) key) (holds_key own key values)
+        (λ same. (λ i. none_null (all_same_is (key_of own values) key same i) && same i) ∙ ap (λ b. b && true) h)
+        (λ holds. and_second (none_null (key_of own values)) (all_same (key_of own values) key) holds)
 kept_is_held (rule.PrimaryKey own) columns key values e h = held (some_same own columns e)
   where
     by_nulls : (b : Bool) → elim (if b then Some (key_of own values) else Some null_key) [ Some k ↦ all_same k key | None ↦ false ] ≡ (b && all_same (key_of own values) key)
@@ -107,16 +114,16 @@ null_not_held columns key values e =
 
 -- ---- UNIQUE
 
--- the rows that share a row's key, where it is without nulls
-shared : (rows : List StoredRow) (c : Constraint) (columns : List ℕ) (numbers : List ℕ) (r : StoredRow)
-    → unique_columns c.rule ≡ Some columns → none_null (key_of columns r.values) ≡ true
+-- the rows that share a row's key, where the rows that have it are kept under it
+shared : (rows : List StoredRow) (c : Constraint) (nulls : NullTreatment) (columns : List ℕ) (numbers : List ℕ) (r : StoredRow)
+    → ((values : List Value) → elim (kept_key c.rule values) [ Some k ↦ all_same k (key_of columns r.values) | None ↦ false ] ≡ holds_key_with nulls columns (key_of columns r.values) values)
     → numbers ≡ numbers_of (filter (is_kept_under c (key_of columns r.values)) rows)
     → Rise numbers → has r.number numbers ≡ true
-    → list_any (shares_key columns r) (table_rows rows c.table) ≡ nat_lt 1 (length numbers)
-shared rows c columns numbers r e given is rise there =
-    any_filter (shares_key columns r) (λ x. x.table == c.table) rows
-    ∙ any_same (λ x. (x.table == c.table) && shares_key columns r x) (λ x. is_kept_under c key x && not (x.number == r.number)) rows
-    (λ x. ap (λ b. (x.table == c.table) && (not (x.number == r.number) && b)) (sym (kept_is_held c.rule columns key x.values e given))
+    → list_any (shares_key nulls columns r) (table_rows rows c.table) ≡ nat_lt 1 (length numbers)
+shared rows c nulls columns numbers r held is rise there =
+    any_filter (shares_key nulls columns r) (λ x. x.table == c.table) rows
+    ∙ any_same (λ x. (x.table == c.table) && shares_key nulls columns r x) (λ x. is_kept_under c key x && not (x.number == r.number)) rows
+    (λ x. ap (λ b. (x.table == c.table) && (not (x.number == r.number) && b)) (sym (held x.values))
     ∙ turned (x.table == c.table) (not (x.number == r.number)) (elim (kept_key c.rule x.values) [ Some k ↦ all_same k key | None ↦ false ]))
     ∙ sym (any_filter (λ x. not (x.number == r.number)) (is_kept_under c key) rows)
     ∙ any_number (λ m. not (m == r.number)) (filter (is_kept_under c key) rows)
@@ -133,11 +140,11 @@ shared rows c columns numbers r e given is rise there =
     turned true false false = refl
     turned false b c = refl
 
--- a key with a null is shared by no row
+-- where nulls are distinct, a key with a null is shared by no row
 not_shared : (rows : List StoredRow) (t : ℕ) (columns : List ℕ) (r : StoredRow) → none_null (key_of columns r.values) ≡ false
-    → list_any (shares_key columns r) (table_rows rows t) ≡ false
+    → list_any (shares_key Distinct columns r) (table_rows rows t) ≡ false
 not_shared rows t columns r e =
-    any_same (shares_key columns r) (λ _. false) (table_rows rows t) (λ x.
+    any_same (shares_key Distinct columns r) (λ _. false) (table_rows rows t) (λ x.
     ap (λ b. not (x.number == r.number) && b) (null_not_held columns (key_of columns r.values) x.values e) ∙ and-false (not (x.number == r.number)))
     ∙ none (table_rows rows t)
   where
@@ -261,51 +268,64 @@ row_violates rows constraints groups id c r h all show at here table = by_rule
         ∙ (λ i. table i && elim (kept_key (is i) r.values) [ Some k ↦ all_same k key | None ↦ false ])
         ∙ ap (λ o. elim o [ Some k ↦ all_same k key | None ↦ false ]) e ∙ all_same_itself key
 
-    alone_violates : (k : Rule) → c.rule ≡ k → kept_key k r.values ≡ Some null_key → violate constraints groups k null_key (rows_under groups id null_key) ≡ true
-    alone_violates k is e = ap (λ b. not b && true) (not_empty r.number (rows_under groups id null_key) (there k is null_key e))
+    alone_violates : (k : Rule) → c.rule ≡ k → keeps_nulls k ≡ false → kept_key k r.values ≡ Some null_key
+        → violate constraints groups k null_key (rows_under groups id null_key) ≡ true
+    alone_violates k is keeps e =
+        (λ i. not (not_empty r.number (rows_under groups id null_key) (there k is null_key e) i)
+        && ((not (keeps i) && not (none_null null_key)) || break_rule constraints groups k null_key (rows_under groups id null_key)))
 
-    -- a key without nulls violates by its rule null_key
-    by_key : (k : Rule) → c.rule ≡ k → (key : List Value) → kept_key k r.values ≡ Some key → none_null key ≡ true
+    -- a key under which no row violates alone violates by its rule
+    by_key : (k : Rule) → c.rule ≡ k → (key : List Value) → kept_key k r.values ≡ Some key → violates_alone k key ≡ false
         → violate constraints groups k key (rows_under groups id key) ≡ break_rule constraints groups k key (rows_under groups id key)
     by_key k is key e given =
-        (λ i. not (not_empty r.number (rows_under groups id key) (there k is key e) i) && (not (given i) || break_rule constraints groups k key (rows_under groups id key)))
+        (λ i. not (not_empty r.number (rows_under groups id key) (there k is key e) i) && (given i || break_rule constraints groups k key (rows_under groups id key)))
 
-    by_unique : (k : Rule) (columns : List ℕ) → c.rule ≡ k → unique_columns k ≡ Some columns → none_null (key_of columns r.values) ≡ true
+    by_unique : (k : Rule) (nulls : NullTreatment) (columns : List ℕ) → c.rule ≡ k
+        → ((values : List Value) → elim (kept_key k values) [ Some x ↦ all_same x (key_of columns r.values) | None ↦ false ] ≡ holds_key_with nulls columns (key_of columns r.values) values)
         → kept_key k r.values ≡ Some (key_of columns r.values)
-        → list_any (shares_key columns r) (table_rows rows c.table) ≡ nat_lt 1 (length (rows_under groups id (key_of columns r.values)))
-    by_unique k columns is e given f =
-        shared rows c columns (rows_under groups id (key_of columns r.values)) r (ap unique_columns is ∙ e) given (show id c (key_of columns r.values) at)
+        → list_any (shares_key nulls columns r) (table_rows rows c.table) ≡ nat_lt 1 (length (rows_under groups id (key_of columns r.values)))
+    by_unique k nulls columns is held f =
+        shared rows c nulls columns (rows_under groups id (key_of columns r.values)) r
+        (λ values. ap (λ q. elim (kept_key q values) [ Some x ↦ all_same x (key_of columns r.values) | None ↦ false ]) is ∙ held values)
+        (show id c (key_of columns r.values) at)
         (subst Rise (sym (show id c (key_of columns r.values) at)) (filtered_rise (is_kept_under c (key_of columns r.values)) rows h))
         (there k is (key_of columns r.values) f)
 
-    by_null : (k : Rule) → c.rule ≡ k → (b : Bool) → kept_key k r.values ≡ null_key_where b → b ≡ by_kept constraints groups id k (null_key_where b)
-    by_null k is true e = sym (alone_violates k is e)
-    by_null k is false e = refl
+    by_null : (k : Rule) → c.rule ≡ k → keeps_nulls k ≡ false → (b : Bool) → kept_key k r.values ≡ null_key_where b
+        → b ≡ by_kept constraints groups id k (null_key_where b)
+    by_null k is keeps true e = sym (alone_violates k is keeps e)
+    by_null k is keeps false e = refl
 
     by_rule : (k : Rule) → c.rule ≡ k → not (obeys rows c.table k r) ≡ by_kept constraints groups id k (kept_key k r.values)
-    by_rule (rule.NotNull column) is = not_not (is_null (value_at r.values column)) ∙ by_null (rule.NotNull column) is (is_null (value_at r.values column)) refl
+    by_rule (rule.NotNull column) is = not_not (is_null (value_at r.values column)) ∙ by_null (rule.NotNull column) is refl (is_null (value_at r.values column)) refl
     by_rule (rule.Check condition) is =
-        not_not (is_false (check_truth condition r.values)) ∙ by_null (rule.Check condition) is (is_false (check_truth condition r.values)) refl
-    by_rule (rule.Unique columns) is = not_not (list_any (shares_key columns r) (table_rows rows c.table)) ∙ by_nulls (none_null (key_of columns r.values)) refl
+        not_not (is_false (check_truth condition r.values)) ∙ by_null (rule.Check condition) is refl (is_false (check_truth condition r.values)) refl
+    by_rule (rule.Unique Distinct columns) is = not_not (list_any (shares_key Distinct columns r) (table_rows rows c.table)) ∙ by_nulls (none_null (key_of columns r.values)) refl
       where
         by_nulls : (b : Bool) → none_null (key_of columns r.values) ≡ b
-            → list_any (shares_key columns r) (table_rows rows c.table) ≡ by_kept constraints groups id (rule.Unique columns) (if b then Some (key_of columns r.values) else None)
+            → list_any (shares_key Distinct columns r) (table_rows rows c.table) ≡ by_kept constraints groups id (rule.Unique Distinct columns) (if b then Some (key_of columns r.values) else None)
         by_nulls true e =
-            let k : kept_key (rule.Unique columns) r.values ≡ Some (key_of columns r.values) = ap (λ b. if b then Some (key_of columns r.values) else None) e in
-            by_unique (rule.Unique columns) columns is refl e k ∙ sym (by_key (rule.Unique columns) is (key_of columns r.values) k e)
+            let k : kept_key (rule.Unique Distinct columns) r.values ≡ Some (key_of columns r.values) = ap (λ b. if b then Some (key_of columns r.values) else None) e in
+            by_unique (rule.Unique Distinct columns) Distinct columns is (λ values. kept_is_held (rule.Unique Distinct columns) columns (key_of columns r.values) values refl e) k
+            ∙ sym (by_key (rule.Unique Distinct columns) is (key_of columns r.values) k (ap not e))
         by_nulls false e = not_shared rows c.table columns r e
+    by_rule (rule.Unique NotDistinct columns) is =
+        not_not (list_any (shares_key NotDistinct columns r) (table_rows rows c.table))
+        ∙ by_unique (rule.Unique NotDistinct columns) NotDistinct columns is (λ values. refl) refl
+        ∙ sym (by_key (rule.Unique NotDistinct columns) is (key_of columns r.values) refl refl)
     by_rule (rule.PrimaryKey columns) is = by_nulls (none_null (key_of columns r.values)) refl
       where
         by_nulls : (b : Bool) → none_null (key_of columns r.values) ≡ b
-            → not (none_null (key_of columns r.values) && is_unique rows c.table columns r)
+            → not (none_null (key_of columns r.values) && is_unique rows c.table Distinct columns r)
             ≡ by_kept constraints groups id (rule.PrimaryKey columns) (if b then Some (key_of columns r.values) else Some null_key)
         by_nulls true e =
             let k : kept_key (rule.PrimaryKey columns) r.values ≡ Some (key_of columns r.values) = ap (λ b. if b then Some (key_of columns r.values) else Some null_key) e in
-            ap (λ b. not (b && is_unique rows c.table columns r)) e ∙ not_not (list_any (shares_key columns r) (table_rows rows c.table))
-            ∙ by_unique (rule.PrimaryKey columns) columns is refl e k ∙ sym (by_key (rule.PrimaryKey columns) is (key_of columns r.values) k e)
+            ap (λ b. not (b && is_unique rows c.table Distinct columns r)) e ∙ not_not (list_any (shares_key Distinct columns r) (table_rows rows c.table))
+            ∙ by_unique (rule.PrimaryKey columns) Distinct columns is (λ values. kept_is_held (rule.PrimaryKey columns) columns (key_of columns r.values) values refl e) k
+            ∙ sym (by_key (rule.PrimaryKey columns) is (key_of columns r.values) k (ap not e))
         by_nulls false e =
-            ap (λ b. not (b && is_unique rows c.table columns r)) e
-            ∙ sym (alone_violates (rule.PrimaryKey columns) is (ap (λ b. if b then Some (key_of columns r.values) else Some null_key) e))
+            ap (λ b. not (b && is_unique rows c.table Distinct columns r)) e
+            ∙ sym (alone_violates (rule.PrimaryKey columns) is refl (ap (λ b. if b then Some (key_of columns r.values) else Some null_key) e))
     by_rule (rule.ForeignKey fk) is = ap not (free_or fk.matching rows fk key) ∙ by_nulls (none_null key) refl
       where
         key : List Value
@@ -316,7 +336,7 @@ row_violates rows constraints groups id c r h all show at here table = by_rule
         by_free true g e = ap (λ f. not (f || (none_null key && has_referenced rows fk key))) g
         by_free false g e =
             (λ i. not (g i || (e i && has_referenced rows fk key)))
-            ∙ sym (alone_violates (rule.ForeignKey fk) is ((λ i. if e i then Some key else null_key_where (not (g i)))))
+            ∙ sym (alone_violates (rule.ForeignKey fk) is refl ((λ i. if e i then Some key else null_key_where (not (g i)))))
 
         by_nulls : (b : Bool) → none_null key ≡ b
             → not (is_free fk.matching key || (none_null key && has_referenced rows fk key))
@@ -324,7 +344,7 @@ row_violates rows constraints groups id c r h all show at here table = by_rule
         by_nulls true e =
             (λ i. not (is_free fk.matching key || (e i && has_referenced rows fk key)))
             ∙ ap (λ b. not (is_free fk.matching key || b)) (sym (referenced_is rows constraints groups fk key (named_of constraints id c fk all at is) show e))
-            ∙ sym (by_key (rule.ForeignKey fk) is key (ap (λ b. if b then Some key else null_key_where (not (is_free fk.matching key))) e) e)
+            ∙ sym (by_key (rule.ForeignKey fk) is key (ap (λ b. if b then Some key else null_key_where (not (is_free fk.matching key))) e) (ap not e))
         by_nulls false e = by_free (is_free fk.matching key) refl e
 
 pub violates_is : (rows : List StoredRow) (constraints : List Constraint) (groups : Groups) (id : ℕ) (c : Constraint) (n : ℕ)

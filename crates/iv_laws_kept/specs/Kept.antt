@@ -1,9 +1,10 @@
 -- Kept violations: the rows of each key, by their numbers, and which keys violate a constraint as a whole.
 use Rattle.std.specs.Prelude.{◌≡◌, ℕ, Bool, true, false, ◌&&◌, ◌||◌, not, if◌then◌else◌, ◌==◌, nat_lt, List, [], ◌∷◌, length, map, filter, filter_map, flat_map, find, slice_get, Option, Some, None}
 use Rattle.std.specs.List.{list_any, list_all, enumerate_from}
-use Rattle.iv_laws_kept.specs.Words.{Value, StoredRow, MatchType, Constraint, Rule, ForeignKey, Fault}
+use Rattle.iv_laws_kept.specs.Words.{Value, StoredRow, MatchType, NullTreatment, Constraint, Rule, ForeignKey, Fault}
 use Rattle.iv_laws_kept.specs.Words.value.{Null}
 use Rattle.iv_laws_kept.specs.Words.matching.{Simple, Full}
+use Rattle.iv_laws_kept.specs.Words.nulls.{Distinct, NotDistinct}
 use Rattle.iv_laws_kept.specs.Words.rule
 use Rattle.iv_value.specs.Values.{is_null, all_same}
 use Rattle.iv_value.specs.Truths.{is_false}
@@ -16,8 +17,8 @@ use Rattle.iv_laws_kept.specs.Numbers.{in_rising_order}
 
 -- ---- the key under which a row is kept
 
--- the key of one null: under it are the rows that violate a constraint by themselves. No row has it as a key, since keys with a
--- null aren't kept.
+-- the key of one null: under it are the rows that violate a constraint by themselves. No row has it as a key, since a constraint
+-- that has such rows keeps no key with a null.
 abbrev pub null_key : List Value
 null_key = Null ∷ []
 
@@ -34,11 +35,16 @@ abbrev pub is_free : MatchType → List Value → Bool
 is_free Simple key = not (none_null key)
 is_free Full key = all_null key
 
+-- the key under which a UNIQUE keeps a row that has this key: where nulls are not distinct, keys with nulls are kept too
+abbrev pub unique_key : NullTreatment → List Value → Option (List Value)
+unique_key Distinct key = key_or key None
+unique_key NotDistinct key = Some key
+
 -- The key under which a rule keeps a row, if it keeps it.
 abbrev pub kept_key : Rule → List Value → Option (List Value)
 kept_key (rule.NotNull column) row = null_key_where (is_null (value_at row column))
 kept_key (rule.Check condition) row = null_key_where (is_false (check_truth condition row))
-kept_key (rule.Unique columns) row = key_or (key_of columns row) None
+kept_key (rule.Unique nulls columns) row = unique_key nulls (key_of columns row)
 kept_key (rule.PrimaryKey columns) row = key_or (key_of columns row) (Some null_key)
 kept_key (rule.ForeignKey fk) row = key_or (key_of fk.columns row) (null_key_where (not (is_free fk.matching (key_of fk.columns row))))
 
@@ -128,17 +134,26 @@ is_referenced constraints groups fk key = elim (named_key constraints fk) [
 
 -- ---- violations
 
+-- a rule that keeps keys with nulls like others
+abbrev pub keeps_nulls : Rule → Bool
+keeps_nulls (rule.Unique NotDistinct columns) = true
+keeps_nulls _ = false
+
+-- each row under this key violates the rule by itself: the key has a null, and the rule doesn't keep such keys like others
+abbrev pub violates_alone : Rule → List Value → Bool
+violates_alone rule key = not (keeps_nulls rule) && not (none_null key)
+
 -- whether rows that have this key violate the rule: more than one of a UNIQUE or PRIMARY KEY, any that refer to no row
 abbrev pub break_rule : List Constraint → Groups → Rule → List Value → List ℕ → Bool
 break_rule constraints groups (rule.NotNull column) key rows = false
 break_rule constraints groups (rule.Check condition) key rows = false
-break_rule constraints groups (rule.Unique columns) key rows = nat_lt 1 (length rows)
+break_rule constraints groups (rule.Unique nulls columns) key rows = nat_lt 1 (length rows)
 break_rule constraints groups (rule.PrimaryKey columns) key rows = nat_lt 1 (length rows)
 break_rule constraints groups (rule.ForeignKey fk) key rows = not (is_free fk.matching key || is_referenced constraints groups fk key)
 
 -- Whether the rows of a group, all of them, violate the rule of its constraint.
 abbrev pub violate : List Constraint → Groups → Rule → List Value → List ℕ → Bool
-violate constraints groups rule key rows = not (is_empty rows) && (not (none_null key) || break_rule constraints groups rule key rows)
+violate constraints groups rule key rows = not (is_empty rows) && (violates_alone rule key || break_rule constraints groups rule key rows)
 
 -- so of a group
 abbrev pub is_violating : List Constraint → Groups → Constraint → Group → Bool

@@ -10,7 +10,7 @@ use Rattle.iv_catalogue.specs.declared.plan.Trigger.{Trigger}
 use Rattle.iv_machine.specs.Databases.{row_at, has_change}
 use Rattle.iv_machine.specs.Context.{Context, while_running, each, in_turn}
 use Rattle.iv_machine.specs.Proposals.{holds, stored_value}
-use Rattle.iv_machine.specs.BeforeTriggers.{is_on, event_of_change, placed_statements, change_frame, with_new_value, change_after_statement, before_row_run, change_after_trigger, changes_after_triggers, is_before_row}
+use Rattle.iv_machine.specs.BeforeTriggers.{is_on, event_of_change, placed_statements, change_frame, with_new_value, change_after_statement, before_row_run, change_after_trigger, changes_after_triggers, is_before_row_on}
 use Rattle.iv_machine.specs.Waves.{with_numbers, wave_as_applied}
 use Rattle.iv_laws_levels.specs.FittingWaves.{old_row, Current}
 use Rattle.iv_laws_levels.specs.Reorderings.{Distinct}
@@ -106,7 +106,7 @@ triggers_alike w rows (t ∷ ts) changes out e =
 pub applied_alike : (w : Context) (db : Database) (budget : ℕ) (wave out : Wave) → wave_as_applied w db budget wave ≡ Ok out
     → AllAlike (with_numbers db.next wave.changes) out.changes
 applied_alike w db budget wave out e =
-    triggers_alike w db.rows (filter is_before_row w.schema.triggers) (with_numbers db.next wave.changes) out.changes
+    triggers_alike w db.rows (filter (is_before_row_on wave.columns) w.schema.triggers) (with_numbers db.next wave.changes) out.changes
     (applied_is w db budget wave out e).after_triggers
 
 pub has_change_alike : (wave other : List Change) (n : ℕ) → AllAlike wave other → has_change wave n ≡ has_change other n

@@ -9,7 +9,7 @@ use Rattle.iv_machine.specs.Context.{Context, Failure, over, in_turn}
 use Rattle.iv_machine.specs.Proposals.{holds}
 use Rattle.iv_machine.specs.BeforeTriggers.{placed_statements}
 use Rattle.iv_machine.specs.Waves.{SettledWaves, settled_waves, net_wave}
-use Rattle.iv_machine.specs.Levels.{Firing, Finished, Progress, Runs, statement_run, firing_run, firings_run, firings, nested_level, level}
+use Rattle.iv_machine.specs.Levels.{Firing, Finished, Progress, Runs, statement_run, firing_run, firings_run, level_columns, firings, nested_level, level}
 use Rattle.iv_laws_levels.specs.Budgets.{total_in_turn, Counts, statement_total, firing_total, level_total, nested_total, total, sizes, one_statement}
 use Rattle.iv_laws_levels.proofs.Chains.{not_ok, ok_same, step_of, ok_inside, ok_over}
 use Rattle.iv_laws_levels.proofs.Settling.{applied_is, size_applied, every_settled}
@@ -127,7 +127,7 @@ module _ (run : Runs) (statements changes : Counts) (took : RunsTook run stateme
 module _ (run : Runs) (count : Counts) (own : List Wave → ℕ) where
   abbrev fired_total : Context → DataStatement → Database → SettledWaves → ℕ
   fired_total w d db s =
-      total_in_turn (firing_run run) (firing_total run count) (firings w d (net_wave db.rows s.last.rows s.waves)) (record { database = s.last; budget = s.rest })
+      total_in_turn (firing_run run) (firing_total run count) (firings w d (level_columns d s.waves) (net_wave db.rows s.last.rows s.waves)) (record { database = s.last; budget = s.rest })
 
   -- the total of an accepted level
   level_total_is : (w : Context) (d : DataStatement) (f : Frame) (db : Database) (budget : ℕ) (done : Finished) (s : Steps run w d f db budget done)
@@ -141,7 +141,7 @@ steps_took : (run : Runs) (statements changes : Counts) (w : Context) (d : DataS
     → Took (level_total one_statement run statements w d f db (suc budget)) (level_total sizes run changes w d f db (suc budget)) (suc budget) db.count done.rest done.database.count
 steps_took run statements changes w d f db budget done took s =
     let waves = waves_took w db budget s.wave s.waves s.is_settled in
-    let fired = firings_took run statements changes took (firings w d (net_wave db.rows s.waves.last.rows s.waves.waves))
+    let fired = firings_took run statements changes took (firings w d (level_columns d s.waves.waves) (net_wave db.rows s.waves.last.rows s.waves.waves))
     (record { database = s.waves.last; budget = s.waves.rest }) s.progress s.is_fired in
     let all_statements = level_total_is run statements one_statement w d f db budget done s in
     let all_changes = level_total_is run changes sizes w d f db budget done s in

@@ -7,7 +7,7 @@ use Rattle.iv_laws_levels.specs.Words.which.{Immediate}
 use Rattle.iv_machine.specs.Context.{Context}
 use Rattle.iv_machine.specs.Databases.{scan, is_chosen}
 use Rattle.iv_machine.specs.Waves.{net_wave}
-use Rattle.iv_machine.specs.Levels.{Finished, Runs, firings, nested_level, level}
+use Rattle.iv_machine.specs.Levels.{Finished, Runs, level_columns, firings, nested_level, level}
 use Rattle.iv_laws_levels.proofs.Chains.{not_ok, none_first}
 use Rattle.iv_laws_levels.proofs.Firings.{Keeps, Steps, steps_of, all_fired_keeps}
 
@@ -20,7 +20,7 @@ steps_check : (run : Runs) (w : Context) (d : DataStatement) (f : Frame) (db : D
 steps_check run w d f db budget done keeps s =
     let clean = none_first s.waves.last Violation (scan s.waves.last.rows w.schema.constraints (is_chosen w.modes Immediate)) (Ok (tt {0})) (tt {0}) s.is_checked in
     let kept = all_fired_keeps (Checked w) run keeps
-    (firings w d (net_wave db.rows s.waves.last.rows s.waves.waves)) (record { database = s.waves.last; budget = s.waves.rest }) s.progress s.is_fired clean.0 in
+    (firings w d (level_columns d s.waves.waves) (net_wave db.rows s.waves.last.rows s.waves.waves)) (record { database = s.waves.last; budget = s.waves.rest }) s.progress s.is_fired clean.0 in
     rw (← s.is_done) kept
 
 pub nested_checks : (depth : ℕ) (w : Context) (trigger : ℕ) (d : DataStatement) (f : Frame) (db : Database) (budget : ℕ) (done : Finished)

@@ -13,11 +13,11 @@ use Rattle.iv_catalogue.specs.declared.cause.Refusal.{Refusal}
 use Rattle.iv_machine.specs.Bounds.{most_changes_in_a_transaction}
 use Rattle.iv_machine.specs.Databases.{scan, is_chosen, size, database_after}
 use Rattle.iv_machine.specs.Context.{Context, Failure, fails, over, unless_first, with_count, inside_trigger, in_turn}
-use Rattle.iv_machine.specs.Proposals.{holds, proposed_wave, table_of, event_of}
+use Rattle.iv_machine.specs.Proposals.{holds, proposed_wave}
 use Rattle.iv_machine.specs.BeforeTriggers.{placed_statements, before_statement, wave_after_triggers}
 use Rattle.iv_machine.specs.ReferentialActions.{lost_keys, restricted_rows, conflicts, following_wave}
 use Rattle.iv_machine.specs.Waves.{numbered_wave, is_beyond_last_row, wave_as_applied, one_wave, is_empty, SettledWaves, Settles, none_settled, settled_by, settled_within, settled_waves, net_wave}
-use Rattle.iv_machine.specs.Levels.{Firing, Finished, Progress, Runs, statement_run, body_run, firing_run, firings_run, firings, immediate_check, level_steps, nested_level, level}
+use Rattle.iv_machine.specs.Levels.{Firing, Finished, Progress, Runs, statement_run, body_run, firing_run, firings_run, level_columns, firings, immediate_check, level_steps, nested_level, level}
 use Rattle.iv_laws_levels.proofs.Settling.{nothing_settled, then_settled, then_next}
 
 -- the row changes are at least so many: after an accepted step as it is counted, and after a refused one
@@ -147,7 +147,7 @@ module _ (run : Runs) (counts : RunsCount run) where
 
   abbrev after_firings : DataStatement → Context → Database → Wave → SettledWaves → Result Finished Failure
   after_firings d w db wave s =
-      and_then (firings_run run (firings w d (net_wave db.rows s.last.rows s.waves)) (record { database = s.last; budget = s.rest })) (λ at.
+      and_then (firings_run run (firings w d (level_columns d s.waves) (net_wave db.rows s.last.rows s.waves)) (record { database = s.last; budget = s.rest })) (λ at.
       Ok (record { database = at.database; rest = at.budget; size = size wave }))
 
   abbrev after_waves : DataStatement → Context → Database → Wave → SettledWaves → Result Finished Failure
@@ -155,7 +155,7 @@ module _ (run : Runs) (counts : RunsCount run) where
 
   abbrev after_proposal : DataStatement → Context → Database → ℕ → Wave → Result Finished Failure
   after_proposal d w db budget wave =
-      and_then (with_count db (before_statement w db.rows (table_of d) (event_of d))) (λ _. and_then (settled_waves w db budget wave) (after_waves d w db wave))
+      and_then (with_count db (before_statement w db.rows d)) (λ _. and_then (settled_waves w db budget wave) (after_waves d w db wave))
 
   after_waves_counts : (d : DataStatement) (w : Context) (db : Database) (wave : Wave) (s : SettledWaves)
       → NoFewer s.last.count (λ done. done.database.count) (after_waves d w db wave s)
@@ -163,17 +163,17 @@ module _ (run : Runs) (counts : RunsCount run) where
       then_no_fewer s.last.count (λ _. s.last.count) (λ done. done.database.count) (immediate_check w s.last) (λ _. after_firings d w db wave s)
       (first_counts s.last Violation (scan s.last.rows w.schema.constraints (is_chosen w.modes Immediate)) (Ok tt) (omega arith)) (λ _ le.
       then_no_fewer s.last.count progress_count (λ done. done.database.count)
-      (firings_run run (firings w d (net_wave db.rows s.last.rows s.waves)) (record { database = s.last; budget = s.rest }))
+      (firings_run run (firings w d (level_columns d s.waves) (net_wave db.rows s.last.rows s.waves)) (record { database = s.last; budget = s.rest }))
       (λ at. Ok (record { database = at.database; rest = at.budget; size = size wave }))
-      (turns_count progress_count (firing_run run) firing_counts (firings w d (net_wave db.rows s.last.rows s.waves)) (record { database = s.last; budget = s.rest }))
+      (turns_count progress_count (firing_run run) firing_counts (firings w d (level_columns d s.waves) (net_wave db.rows s.last.rows s.waves)) (record { database = s.last; budget = s.rest }))
       (λ at le2. le2))
 
   after_proposal_counts : (d : DataStatement) (w : Context) (db : Database) (budget : ℕ) (wave : Wave)
       → NoFewer db.count (λ done. done.database.count) (after_proposal d w db budget wave)
   after_proposal_counts d w db budget wave =
-      then_no_fewer db.count (λ _. db.count) (λ done. done.database.count) (with_count db (before_statement w db.rows (table_of d) (event_of d)))
+      then_no_fewer db.count (λ _. db.count) (λ done. done.database.count) (with_count db (before_statement w db.rows d))
       (λ _. and_then (settled_waves w db budget wave) (after_waves d w db wave))
-      (with_count_counts db (before_statement w db.rows (table_of d) (event_of d))) (λ _ le.
+      (with_count_counts db (before_statement w db.rows d)) (λ _ le.
       then_no_fewer db.count (λ s. s.last.count) (λ done. done.database.count) (settled_waves w db budget wave) (after_waves d w db wave)
       (settled_within_counts budget w db budget wave) (λ s above.
       lowered db.count s.last.count (λ done. done.database.count) (after_waves d w db wave s) above (after_waves_counts d w db wave s)))

@@ -6,10 +6,10 @@ use Rattle.iv_laws_levels.specs.Words.{BodyStatement, DataStatement, Database}
 use Rattle.iv_laws_levels.specs.Words.body
 use Rattle.iv_machine.specs.Databases.{size}
 use Rattle.iv_machine.specs.Context.{Context, over, with_count}
-use Rattle.iv_machine.specs.Proposals.{holds, proposed_wave, table_of, event_of}
+use Rattle.iv_machine.specs.Proposals.{holds, proposed_wave}
 use Rattle.iv_machine.specs.BeforeTriggers.{placed_statements, before_statement}
 use Rattle.iv_machine.specs.Waves.{SettledWaves, settled_waves, net_wave}
-use Rattle.iv_machine.specs.Levels.{Firing, Finished, Progress, Runs, statement_run, body_run, firing_run, firings_run, firings, immediate_check, level_steps}
+use Rattle.iv_machine.specs.Levels.{Firing, Finished, Progress, Runs, statement_run, body_run, firing_run, firings_run, level_columns, firings, immediate_check, level_steps}
 use Rattle.iv_laws_levels.proofs.Chains.{not_ok, ok_same, step_of, ok_inside, ok_over}
 
 -- of a database and a budget: what these data statements keep
@@ -57,17 +57,17 @@ pub record Steps (run : Runs) (w : Context) (d : DataStatement) (f : Frame) (db 
   pub is_proposed : proposed_wave w db f d ≡ Ok wave
   pub is_settled : settled_waves w db budget wave ≡ Ok waves
   pub is_checked : immediate_check w waves.last ≡ Ok (tt {0})
-  pub is_fired : firings_run run (firings w d (net_wave db.rows waves.last.rows waves.waves)) (record { database = waves.last; budget = waves.rest }) ≡ Ok progress
+  pub is_fired : firings_run run (firings w d (level_columns d waves.waves) (net_wave db.rows waves.last.rows waves.waves)) (record { database = waves.last; budget = waves.rest }) ≡ Ok progress
   pub is_done : record { database = progress.database; rest = progress.budget; size = size wave } ≡ done
 
 pub steps_of : (run : Runs) (w : Context) (d : DataStatement) (f : Frame) (db : Database) (budget : ℕ) (done : Finished)
     → level_steps run w d f db budget ≡ Ok done → Steps run w d f db budget done
 steps_of run w d f db budget done e =
     let wave = step_of (over db (proposed_wave w db f d)) _ done e in
-    let said = step_of (with_count db (before_statement w db.rows (table_of d) (event_of d))) _ done wave.2 in
+    let said = step_of (with_count db (before_statement w db.rows d)) _ done wave.2 in
     let settling = step_of (settled_waves w db budget wave.0) _ done said.2 in
     let checking = step_of (immediate_check w settling.0.last) _ done settling.2 in
-    let firing = step_of (firings_run run (firings w d (net_wave db.rows settling.0.last.rows settling.0.waves)) (record { database = settling.0.last; budget = settling.0.rest })) _ done checking.2 in
+    let firing = step_of (firings_run run (firings w d (level_columns d settling.0.waves) (net_wave db.rows settling.0.last.rows settling.0.waves)) (record { database = settling.0.last; budget = settling.0.rest })) _ done checking.2 in
     record {
       wave = wave.0;
       waves = settling.0;

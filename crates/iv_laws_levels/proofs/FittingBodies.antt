@@ -1,7 +1,7 @@
 -- What data statements that fit a catalogue keep, the triggers that fire keep, where their bodies fit it.
-use Rattle.std.proofs.Common.{◌≡◌, ℕ, ◌+◌, ◌≤◌, ◌||◌, Bool, true, false, not, if◌then◌else◌, nat_lt, List, [], ◌∷◌, ◌++◌, length, map, filter, flat_map, Ok, subst, arith}
+use Rattle.std.proofs.Common.{◌≡◌, ℕ, ◌+◌, ◌≤◌, ◌||◌, Bool, true, false, if◌then◌else◌, nat_lt, List, [], ◌∷◌, ◌++◌, length, map, filter, flat_map, Ok, subst, arith}
 use Rattle.std.specs.List.{enumerate_from}
-use Rattle.iv_laws_levels.specs.Words.{Change, BodyStatement, DataStatement, Database}
+use Rattle.iv_laws_levels.specs.Words.{Change, TableColumn, BodyStatement, DataStatement, Database}
 use Rattle.iv_laws_levels.specs.Words.body
 use Rattle.iv_expr.specs.Changes.{Wave}
 use Rattle.iv_expr.specs.Scopes.{Frame, scope_of}
@@ -9,8 +9,8 @@ use Rattle.iv_catalogue.specs.Catalogues.{Schema}
 use Rattle.iv_catalogue.specs.declared.plan.Trigger.{Trigger}
 use Rattle.iv_machine.specs.Context.{Context, over}
 use Rattle.iv_machine.specs.Proposals.{holds, table_of, event_of}
-use Rattle.iv_machine.specs.BeforeTriggers.{is_before, for_each_row, is_on, placed_statements}
-use Rattle.iv_machine.specs.Levels.{Firing, Finished, Progress, Runs, row_firing, statement_firing, firings_of, transitions_of, firings, statement_run, body_run, firing_run, firings_run}
+use Rattle.iv_machine.specs.BeforeTriggers.{for_each_row, is_on, placed_statements}
+use Rattle.iv_machine.specs.Levels.{Firing, Finished, Progress, Runs, row_firing, statement_firing, firings_of, transitions_of, is_after_on, firings, statement_run, body_run, firing_run, firings_run}
 use Rattle.iv_laws_levels.specs.Reached.{IsThere, BodyFits}
 use Rattle.iv_laws_levels.proofs.Chains.{not_ok, ok_same, step_of, ok_inside}
 
@@ -53,8 +53,10 @@ all_firings_fit c d net (t ∷ ts) h =
     (flat_map (λ t'. firings_of d t' (transitions_of t' net)) ts)
     (firings_of_fit c d t (transitions_of t net) h.0) (all_firings_fit c d net ts h.1)
 
-pub firings_fit : (w : Context) (d : DataStatement) (net : Wave) → TriggersFit w.schema w.schema.triggers → FiringsFit w.schema (firings w d net)
-firings_fit w d net h = all_firings_fit w.schema d net (filter (λ t. not (is_before t)) w.schema.triggers) (triggers_filter w.schema (λ t. not (is_before t)) w.schema.triggers h)
+pub firings_fit : (w : Context) (d : DataStatement) (columns : List TableColumn) (net : Wave)
+    → TriggersFit w.schema w.schema.triggers → FiringsFit w.schema (firings w d columns net)
+firings_fit w d columns net h =
+    all_firings_fit w.schema d net (filter (is_after_on columns) w.schema.triggers) (triggers_filter w.schema (is_after_on columns) w.schema.triggers h)
 
 -- ---- more tables
 

@@ -8,7 +8,7 @@ use Rattle.iv_machine.specs.Databases.{no_rows, row_at, has_change, database_aft
 use Rattle.iv_machine.specs.Context.{Context}
 use Rattle.iv_machine.specs.Proposals.{proposed_wave}
 use Rattle.iv_machine.specs.Waves.{with_numbers, wave_as_applied, SettledWaves, settled_waves, net_wave}
-use Rattle.iv_machine.specs.Levels.{Finished, Runs, firings, nested_level, level}
+use Rattle.iv_machine.specs.Levels.{Finished, Runs, level_columns, firings, nested_level, level}
 use Rattle.iv_laws_levels.specs.RisingRows.{Above, InOrder}
 use Rattle.iv_laws_levels.specs.Reorderings.{Distinct}
 use Rattle.iv_laws_levels.specs.FittingWaves.{old_row, Current, NumbersFrom, Numbered, FitsDatabase, Chain}
@@ -196,7 +196,7 @@ steps_number : (run : Runs) (w : Context) (d : DataStatement) (f : Frame) (db : 
 steps_number run w d f db budget done keeps h s =
     let last = chain_ends db s.waves.last s.waves.waves (waves_are_a_chain w d f db budget s.wave s.waves h s.is_proposed s.is_settled) in
     let kept = all_fired_keeps (λ x _. Numbered x) run keeps
-    (firings w d (net_wave db.rows s.waves.last.rows s.waves.waves)) (record { database = s.waves.last; budget = s.waves.rest }) s.progress s.is_fired last in
+    (firings w d (level_columns d s.waves.waves) (net_wave db.rows s.waves.last.rows s.waves.waves)) (record { database = s.waves.last; budget = s.waves.rest }) s.progress s.is_fired last in
     subst (λ x. Numbered x.database) s.is_done kept
 
 pub nested_numbers : (depth : ℕ) (w : Context) (trigger : ℕ) (d : DataStatement) (f : Frame) (db : Database) (budget : ℕ) (done : Finished)

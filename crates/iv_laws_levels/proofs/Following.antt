@@ -6,18 +6,19 @@ use Rattle.std.proofs.lemmas.Bool.{or_parts}
 use Rattle.iv_value.specs.Values.{all_same}
 use Rattle.iv_laws_levels.specs.Words.{StoredRow, Constraint, ForeignKey, Database, Effect}
 use Rattle.iv_laws_levels.specs.Words.cause.{Restrict, ActionConflict}
-use Rattle.iv_expr.specs.Changes.{Wave, wave_of, RisingChanges}
+use Rattle.iv_expr.specs.Changes.{Wave, RisingChanges}
 use Rattle.iv_catalogue.specs.Catalogues.{Schema}
 use Rattle.iv_key.specs.Keys.{key_of, none_null}
 use Rattle.iv_machine.specs.Databases.{row_at, fault_at, database_after}
 use Rattle.iv_machine.specs.Context.{Context, unless_first}
-use Rattle.iv_machine.specs.ReferentialActions.{Reference, references, LostKeys, lost_keys, lost_reference, is_restricted, restricted_rows, effects_of_loss, keeps_reference, effects_on, change_by, next_wave, has_conflict, conflicts, following_wave}
+use Rattle.iv_machine.specs.ReferentialActions.{Reference, references, LostKeys, lost_keys, lost_reference, is_restricted, restricted_rows, effects_of_loss, keeps_reference, effects_on, change_by, sets_values, referencing_columns, columns_set_next, next_wave, has_conflict, conflicts, following_wave}
 use Rattle.iv_laws_levels.specs.RisingRows.{InOrder}
 use Rattle.iv_laws_levels.specs.FittingWaves.{Current}
-use Rattle.iv_laws_levels.specs.Holders.{keys_lost_by, restricted_by, refers_to_lost, lost_holders, effects_by, conflicts_by, next_wave_by, wave_following}
+use Rattle.iv_laws_levels.specs.Holders.{keys_lost_by, restricted_by, refers_to_lost, lost_holders, effects_by, conflicts_by, columns_set_by, next_wave_by, wave_following}
 use Rattle.iv_laws_levels.proofs.AppliedRows.{rows_after_in_order}
 use Rattle.iv_laws_levels.proofs.FittingWaves.{Present, present_itself, rising_distinct}
 use Rattle.iv_laws_levels.proofs.Keys.{and_first, and_second, all_same_is}
+use Rattle.iv_laws_levels.proofs.Filters.{any_of_filter}
 use Rattle.iv_laws_levels.proofs.Holders.{table_rows_before, rows_before, same_table}
 use Rattle.iv_laws_levels.proofs.LosingWaves.{filter_map_part, lost_by_wave}
 
@@ -122,12 +123,29 @@ module _ (db : Database) (wave : Wave) (h : InOrder db.rows) (rising : RisingCha
 
   -- ---- the next wave
 
-  pub next_wave_follows : (schema : Schema) → next_wave schema (lost_keys db.rows later) db.rows later ≡ next_wave_by wave schema later
-  next_wave_follows schema =
-      ap wave_of
-      (ap (λ (f : StoredRow → List (ℕ × Effect)). filter_map (λ after. change_by after (f after)) later) (λ i after. effects_same schema after i)
+  changes_same : (schema : Schema) → (next_wave schema (lost_keys db.rows later) db.rows later).changes ≡ (next_wave_by wave schema later).changes
+  changes_same schema =
+      ap (λ (f : StoredRow → List (ℕ × Effect)). filter_map (λ after. change_by after (f after)) later) (λ i after. effects_same schema after i)
       ∙ filter_map_part (λ after. change_by after (effects_by wave schema later after)) (refers_to_lost schema.constraints (keys_lost_by wave)) later later all_present
-      (λ r there e. ap (change_by r) (no_effects schema r there e)))
+      (λ r there e. ap (change_by r) (no_effects schema r there e))
+
+  -- a foreign key sets values of some row, by the rows that refer to a lost key
+  sets_same : (schema : Schema) (k : Reference)
+      → list_any (λ after. sets_values k.id (effects_on schema (lost_keys db.rows later) (row_at db.rows after.number) after)) later
+      ≡ list_any (λ after. sets_values k.id (effects_by wave schema later after)) (lost_holders wave schema later)
+  sets_same schema k =
+      ap (λ (f : StoredRow → List (ℕ × Effect)). list_any (λ after. sets_values k.id (f after)) later) (λ i after. effects_same schema after i)
+      ∙ any_of_filter (λ after. sets_values k.id (effects_by wave schema later after)) later
+      ∙ ap (list_any (λ _. true)) (filter_part (λ after. sets_values k.id (effects_by wave schema later after)) (refers_to_lost schema.constraints (keys_lost_by wave)) later all_present
+      (λ r there e. ap (sets_values k.id) (no_effects schema r there e)))
+      ∙ sym (any_of_filter (λ after. sets_values k.id (effects_by wave schema later after)) (lost_holders wave schema later))
+
+  columns_same : (schema : Schema) → columns_set_next schema (lost_keys db.rows later) db.rows later ≡ columns_set_by wave schema later
+  columns_same schema =
+      ap (λ (q : Reference → Bool). flat_map referencing_columns (filter q (references schema.constraints))) (λ i k. sets_same schema k i)
+
+  pub next_wave_follows : (schema : Schema) → next_wave schema (lost_keys db.rows later) db.rows later ≡ next_wave_by wave schema later
+  next_wave_follows schema = λ i. record { changes = changes_same schema i; columns = columns_same schema i }
 
   pub wave_follows : (context : Context) → following_wave context db (database_after db wave) ≡ wave_following context wave (database_after db wave)
   wave_follows context =

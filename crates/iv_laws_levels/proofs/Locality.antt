@@ -8,10 +8,12 @@ use Rattle.iv_laws_levels.specs.Words.{Value, StoredRow, Change, Constraint, Rul
 use Rattle.iv_laws_levels.specs.Words.rule
 use Rattle.iv_value.specs.Values.{all_same}
 use Rattle.iv_expr.specs.Scopes.{table_rows}
+use Rattle.iv_syntax.specs.declared.table.NullTreatment.{NullTreatment}
+use Rattle.iv_syntax.specs.declared.table.NullTreatment.TheVariants.{Distinct, NotDistinct}
 use Rattle.iv_syntax.specs.declared.table.MatchType.{MatchType}
 use Rattle.iv_syntax.specs.declared.table.MatchType.TheVariants.{Simple, Full}
 use Rattle.iv_key.specs.Keys.{key_of, none_null, all_null, holds_key}
-use Rattle.iv_machine.specs.Databases.{row_at, is_unique, has_referenced, matches, obeys, satisfies}
+use Rattle.iv_machine.specs.Databases.{row_at, holds_key_with, is_unique, has_referenced, matches, obeys, satisfies}
 use Rattle.iv_laws_levels.specs.Reorderings.{after_changes}
 use Rattle.iv_laws_levels.specs.RisingRows.{InOrder}
 use Rattle.iv_laws_levels.specs.FittingWaves.{old_row}
@@ -60,18 +62,24 @@ held_swap key other = same_test (none_null key && all_same key other) (none_null
         let same = all_same_is a b (and_second (none_null a) (all_same a b) e) in
         (λ i. none_null (sym same i) && all_same (sym same i) (same i)) ∙ e
 
+-- so where nulls may not be distinct
+held_with_swap : (nulls : NullTreatment) (columns : List ℕ) (values other : List Value)
+    → holds_key_with nulls columns (key_of columns values) other ≡ holds_key_with nulls columns (key_of columns other) values
+held_with_swap Distinct columns values other = held_swap (key_of columns other) (key_of columns values)
+held_with_swap NotDistinct columns values other = all_same_swap (key_of columns other) (key_of columns values)
+
 -- the row of a change with these values
 abbrev row_with : Change → List Value → StoredRow
 row_with c values = record { table = c.table; number = c.row; values = values }
 
 -- where a side's key isn't held, the side passes no test of that key
-side_fails : (c : Change) (side : Option (List Value)) (t : ℕ) (columns key : List ℕ) (r : StoredRow) (p : StoredRow → Bool)
-    → ((values : List Value) → holds_key columns (key_of key values) r.values ≡ false → p (row_with c values) ≡ false)
-    → ((c.table == t) && holds_side columns key r side) ≡ false
+side_fails : (c : Change) (side : Option (List Value)) (t : ℕ) (nulls : NullTreatment) (columns key : List ℕ) (r : StoredRow) (p : StoredRow → Bool)
+    → ((values : List Value) → holds_key_with nulls columns (key_of key values) r.values ≡ false → p (row_with c values) ≡ false)
+    → ((c.table == t) && holds_side nulls columns key r side) ≡ false
     → passing (λ x. (x.table == t) && p x) (row_of c side) ≡ None
-side_fails c None t columns key r p h e = refl
-side_fails c (Some values) t columns key r p h e =
-    elim (c.table == t) as (λ b. (b && holds_key columns (key_of key values) r.values) ≡ false
+side_fails c None t nulls columns key r p h e = refl
+side_fails c (Some values) t nulls columns key r p h e =
+    elim (c.table == t) as (λ b. (b && holds_key_with nulls columns (key_of key values) r.values) ≡ false
     → (if b && p (row_with c values) then Some (row_with c values) else None) ≡ None) [
       | true ↦ λ f. ap (λ b. if b then Some (row_with c values) else None) (h values f)
       | false ↦ λ f. refl
@@ -84,31 +92,31 @@ parts_fail false x y e = (refl, refl)
 
 -- ---- the rules
 
-same_unique : (db : Database) (c : Change) (t : ℕ) (columns : List ℕ) (r : StoredRow) → InOrder db.rows → row_at db.rows c.row ≡ old_row c
-    → ((c.table == t) && holds_old_or_new columns columns r c) ≡ false
-    → is_unique (after_changes db (c ∷ [])).rows t columns r ≡ is_unique db.rows t columns r
-same_unique db c t columns r h current e =
-    let parts = parts_fail (c.table == t) (holds_side columns columns r c.old) (holds_side columns columns r c.new) e in
+same_unique : (db : Database) (c : Change) (t : ℕ) (nulls : NullTreatment) (columns : List ℕ) (r : StoredRow) → InOrder db.rows → row_at db.rows c.row ≡ old_row c
+    → ((c.table == t) && holds_old_or_new nulls columns columns r c) ≡ false
+    → is_unique (after_changes db (c ∷ [])).rows t nulls columns r ≡ is_unique db.rows t nulls columns r
+same_unique db c t nulls columns r h current e =
+    let parts = parts_fail (c.table == t) (holds_side nulls columns columns r c.old) (holds_side nulls columns columns r c.new) e in
     ap not (same_any db c t other h current
-    (side_fails c c.old t columns columns r other fails parts.0)
-    (side_fails c c.new t columns columns r other fails parts.1))
+    (side_fails c c.old t nulls columns columns r other fails parts.0)
+    (side_fails c c.new t nulls columns columns r other fails parts.1))
   where
     other : StoredRow → Bool
-    other x = not (x.number == r.number) && holds_key columns (key_of columns r.values) x.values
+    other x = not (x.number == r.number) && holds_key_with nulls columns (key_of columns r.values) x.values
 
-    fails : (values : List Value) → holds_key columns (key_of columns values) r.values ≡ false → other (row_with c values) ≡ false
+    fails : (values : List Value) → holds_key_with nulls columns (key_of columns values) r.values ≡ false → other (row_with c values) ≡ false
     fails values f =
-        ap (λ b. not (c.row == r.number) && b) (held_swap (key_of columns values) (key_of columns r.values) ∙ f)
+        ap (λ b. not (c.row == r.number) && b) (held_with_swap nulls columns r.values values ∙ f)
         ∙ and-false (not (c.row == r.number))
 
 same_referenced : (db : Database) (c : Change) (fk : ForeignKey) (r : StoredRow) → InOrder db.rows → row_at db.rows c.row ≡ old_row c
-    → ((c.table == fk.referenced) && holds_old_or_new fk.columns fk.key r c) ≡ false → none_null (key_of fk.columns r.values) ≡ true
+    → ((c.table == fk.referenced) && holds_old_or_new Distinct fk.columns fk.key r c) ≡ false → none_null (key_of fk.columns r.values) ≡ true
     → has_referenced (after_changes db (c ∷ [])).rows fk (key_of fk.columns r.values) ≡ has_referenced db.rows fk (key_of fk.columns r.values)
 same_referenced db c fk r h current e given =
-    let parts = parts_fail (c.table == fk.referenced) (holds_side fk.columns fk.key r c.old) (holds_side fk.columns fk.key r c.new) e in
+    let parts = parts_fail (c.table == fk.referenced) (holds_side Distinct fk.columns fk.key r c.old) (holds_side Distinct fk.columns fk.key r c.new) e in
     same_any db c fk.referenced has h current
-    (side_fails c c.old fk.referenced fk.columns fk.key r has fails parts.0)
-    (side_fails c c.new fk.referenced fk.columns fk.key r has fails parts.1)
+    (side_fails c c.old fk.referenced Distinct fk.columns fk.key r has fails parts.0)
+    (side_fails c c.new fk.referenced Distinct fk.columns fk.key r has fails parts.1)
   where
     has : StoredRow → Bool
     has x = all_same (key_of fk.key x.values) (key_of fk.columns r.values)
@@ -119,7 +127,7 @@ same_referenced db c fk r h current e given =
         ∙ ap (λ b. b && all_same (key_of fk.columns r.values) (key_of fk.key values)) (sym given) ∙ f
 
 same_matches : (db : Database) (c : Change) (fk : ForeignKey) (m : MatchType) (r : StoredRow) → InOrder db.rows → row_at db.rows c.row ≡ old_row c
-    → ((c.table == fk.referenced) && holds_old_or_new fk.columns fk.key r c) ≡ false
+    → ((c.table == fk.referenced) && holds_old_or_new Distinct fk.columns fk.key r c) ≡ false
     → matches m (after_changes db (c ∷ [])).rows fk (key_of fk.columns r.values) ≡ matches m db.rows fk (key_of fk.columns r.values)
 same_matches db c fk m r h current e = by_given (none_null (key_of fk.columns r.values)) refl
   where
@@ -144,8 +152,8 @@ same_obeys : (db : Database) (c : Change) (t : ℕ) (k : Rule) (r : StoredRow) �
     → concerns_by c t k r ≡ false → obeys (after_changes db (c ∷ [])).rows t k r ≡ obeys db.rows t k r
 same_obeys db c t (rule.NotNull column) r h current e = refl
 same_obeys db c t (rule.Check condition) r h current e = refl
-same_obeys db c t (rule.Unique columns) r h current e = same_unique db c t columns r h current e
-same_obeys db c t (rule.PrimaryKey columns) r h current e = ap (λ b. none_null (key_of columns r.values) && b) (same_unique db c t columns r h current e)
+same_obeys db c t (rule.Unique nulls columns) r h current e = same_unique db c t nulls columns r h current e
+same_obeys db c t (rule.PrimaryKey columns) r h current e = ap (λ b. none_null (key_of columns r.values) && b) (same_unique db c t Distinct columns r h current e)
 same_obeys db c t (rule.ForeignKey fk) r h current e = same_matches db c fk fk.matching r h current e
 
 pub change_is_local : (db : Database) (c : Change) (k : Constraint) (r : StoredRow) → InOrder db.rows → row_at db.rows c.row ≡ old_row c

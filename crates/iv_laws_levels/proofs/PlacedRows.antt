@@ -14,7 +14,7 @@ use Rattle.iv_machine.specs.Databases.{database_after}
 use Rattle.iv_machine.specs.Proposals.{where_true, stored_values, values_by_column, row_of_values, insertion, insertion_of, outputs_of, proposed_insertions, proposed_changes, table_of}
 use Rattle.iv_machine.specs.ReferentialActions.{lost_keys, following_wave, next_wave}
 use Rattle.iv_machine.specs.Waves.{with_numbers, wave_as_applied, SettledWaves, settled_waves, net_wave}
-use Rattle.iv_machine.specs.Levels.{Finished, Runs, firings, nested_level, level}
+use Rattle.iv_machine.specs.Levels.{Finished, Runs, level_columns, firings, nested_level, level}
 use Rattle.iv_machine.specs.Invariants.{Below}
 use Rattle.iv_laws_levels.specs.Reorderings.{after_changes}
 use Rattle.iv_laws_levels.specs.RisingRows.{Every}
@@ -136,8 +136,8 @@ steps_place run w d f db budget done keeps fit there h s =
     let proposes = placed_proposed (length w.schema.tables) w db f d s.wave.changes there h (changes_of_proposed w db f d s.wave s.is_proposed) in
     let settles = placed_settled (length w.schema.tables) w db budget s.wave s.waves s.is_settled h proposes in
     let kept = all_fired_keeps_where w.schema (IsPlaced w) run keeps
-    (firings w d (net_wave db.rows s.waves.last.rows s.waves.waves)) (record { database = s.waves.last; budget = s.waves.rest }) s.progress
-    (firings_fit w d (net_wave db.rows s.waves.last.rows s.waves.waves) fit) s.is_fired settles in
+    (firings w d (level_columns d s.waves.waves) (net_wave db.rows s.waves.last.rows s.waves.waves)) (record { database = s.waves.last; budget = s.waves.rest }) s.progress
+    (firings_fit w d (level_columns d s.waves.waves) (net_wave db.rows s.waves.last.rows s.waves.waves) fit) s.is_fired settles in
     subst (λ x. IsPlaced w x.database x.rest) s.is_done kept
 
 nested_places : (depth : ℕ) (w : Context) (trigger : ℕ) (d : DataStatement) (f : Frame) (db : Database) (budget : ℕ) (done : Finished)

@@ -3,7 +3,7 @@ use Rattle.std.proofs.Common.{◌≡◌, refl, ℕ, List, [], ◌∷◌, map, fi
 use Rattle.iv_laws_levels.specs.Words.{Value, StoredRow, Change, Cond, DataStatement, Database, Effect}
 use Rattle.iv_laws_levels.specs.Words.cause.{Restrict, ActionConflict}
 use Rattle.iv_laws_levels.specs.Words.data_statement
-use Rattle.iv_expr.specs.Changes.{Wave, wave_of}
+use Rattle.iv_expr.specs.Changes.{Wave}
 use Rattle.iv_expr.specs.declared.tree.ExprFault.{ExprFault}
 use Rattle.iv_expr.specs.Evaluation.{value}
 use Rattle.iv_expr.specs.Scopes.{Scope, Frame, scope_of, within, table_rows, range_rows}
@@ -13,7 +13,7 @@ use Rattle.iv_catalogue.specs.declared.plan.InsertColumns.{InsertColumns}
 use Rattle.iv_catalogue.specs.declared.plan.InsertRows.{InsertRows}
 use Rattle.iv_catalogue.specs.declared.plan.InsertRows.TheVariants as rows
 use Rattle.iv_machine.specs.Context.{Context, each}
-use Rattle.iv_machine.specs.Proposals.{matching_rows, where_true, stored_values, values_by_column, row_of_values, insertion, insertion_of, outputs_of, proposed_insertions, update_of, deletion, proposed_changes, proposed_wave, with_columns}
+use Rattle.iv_machine.specs.Proposals.{matching_rows, where_true, stored_values, values_by_column, row_of_values, insertion, insertion_of, outputs_of, proposed_insertions, update_of, deletion, proposed_changes, set_columns, proposed_wave, with_columns}
 use Rattle.iv_machine.specs.Databases.{row_at}
 use Rattle.iv_machine.specs.ReferentialActions.{LostKeys, lost_keys, effects_on, change_by, restricted_rows, conflicts, next_wave, following_wave}
 use Rattle.iv_laws_levels.proofs.Chains.{ok_same, step_of, none_first}
@@ -94,7 +94,7 @@ pub changes_of_proposed : (w : Context) (db : Database) (f : Frame) (d : DataSta
     → proposed_changes w db f d ≡ Ok wave.changes
 changes_of_proposed w db f d wave e =
     let made = step_of (proposed_changes w db f d) _ wave e in
-    made.1 ∙ ap Ok (ap (λ x. x.changes) (ok_same (wave_of made.0) wave made.2))
+    made.1 ∙ ap Ok (ap (λ x. x.changes) (ok_same (record { changes = made.0; columns = set_columns d }) wave made.2))
 
 pub proposed_ready : (w : Context) (db : Database) (f : Frame) (d : DataStatement) (wave : Wave) → proposed_wave w db f d ≡ Ok wave → Ready db.rows wave.changes
 proposed_ready w db f d wave e = proposed_changes_ready w db f d wave.changes (changes_of_proposed w db f d wave e)

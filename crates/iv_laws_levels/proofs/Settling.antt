@@ -3,13 +3,13 @@ use Rattle.std.proofs.Common.{◌≡◌, refl, ℕ, zero, suc, ◌+◌, ◌-◌,
 use Rattle.std.specs.Bool.{nat_lt}
 use Rattle.iv_laws_levels.specs.Words.{StoredRow, Change, Database}
 use Rattle.iv_laws_levels.specs.Words.cause.{TooManyChanges, TransactionTooLarge, Limit}
-use Rattle.iv_expr.specs.Changes.{Wave, wave_of}
+use Rattle.iv_expr.specs.Changes.{Wave}
 use Rattle.iv_expr.specs.Evaluation.{and_then}
 use Rattle.iv_catalogue.specs.declared.plan.Trigger.{Trigger}
 use Rattle.iv_machine.specs.Bounds.{most_changes_in_a_transaction}
 use Rattle.iv_machine.specs.Databases.{size, database_after}
 use Rattle.iv_machine.specs.Context.{Context, Failure, fails, with_count, each}
-use Rattle.iv_machine.specs.BeforeTriggers.{is_before_row, change_after_trigger, changes_after_triggers, wave_after_triggers}
+use Rattle.iv_machine.specs.BeforeTriggers.{is_before_row_on, change_after_trigger, changes_after_triggers, wave_after_triggers}
 use Rattle.iv_machine.specs.ReferentialActions.{following_wave}
 use Rattle.iv_machine.specs.Waves.{with_numbers, numbered_wave, is_beyond_last_row, wave_as_applied, AppliedWave, one_wave, is_empty, SettledWaves, Settles, none_settled, settled_within, settled_waves}
 use Rattle.iv_laws_levels.proofs.Chains.{not_ok, ok_same, step_of, ok_with_count, length_each}
@@ -32,14 +32,14 @@ length_numbered next (c ∷ changes) =
 -- a wave that is applied fits in the budget, and is what the BEFORE row triggers made of the wave with row numbers
 pub record Applied (w : Context) (db : Database) (budget : ℕ) (wave out : Wave) : Type 0 where
   pub fits : size wave ≤ budget
-  pub after_triggers : changes_after_triggers w db.rows (filter is_before_row w.schema.triggers) (with_numbers db.next wave.changes) ≡ Ok out.changes
+  pub after_triggers : changes_after_triggers w db.rows (filter (is_before_row_on wave.columns) w.schema.triggers) (with_numbers db.next wave.changes) ≡ Ok out.changes
 
 applied_from : (w : Context) (db : Database) (budget : ℕ) (wave out : Wave) → size wave ≤ budget
     → with_count db (wave_after_triggers w db.rows (numbered_wave db.next wave)) ≡ Ok out → Applied w db budget wave out
 applied_from w db budget wave out fits e =
-    let made = step_of (changes_after_triggers w db.rows (filter is_before_row w.schema.triggers) (with_numbers db.next wave.changes)) _ out
+    let made = step_of (changes_after_triggers w db.rows (filter (is_before_row_on wave.columns) w.schema.triggers) (with_numbers db.next wave.changes)) _ out
     (ok_with_count db _ out e) in
-    record { fits = fits; after_triggers = made.1 ∙ ap Ok (ap (λ x. x.changes) (ok_same (wave_of made.0) out made.2)) }
+    record { fits = fits; after_triggers = made.1 ∙ ap Ok (ap (λ x. x.changes) (ok_same (record wave { changes = made.0 }) out made.2)) }
 
 pub applied_is : (w : Context) (db : Database) (budget : ℕ) (wave out : Wave) → wave_as_applied w db budget wave ≡ Ok out → Applied w db budget wave out
 applied_is w db budget wave out e = small (nat_lt budget (size wave)) refl e

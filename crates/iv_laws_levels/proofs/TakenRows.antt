@@ -141,19 +141,19 @@ next_has db wave c r other h d there was inside refers =
 
 -- ---- what holds between two waves
 
-module _ (c : Schema) (only : no_column_is_set c.constraints ≡ true) (start : Database) (candidates : List Change) where
+module _ (c : Schema) (only : no_column_is_set c.constraints ≡ true) (start : Database) (candidates : Wave) where
   record Going (db : Database) (wave : List Change) : Type 0 where
     numbers : Numbered db
     drawn : Drawn OfRow db.rows wave
     deletes : Deletions wave
     kept : (r : StoredRow) → row_at db.rows r.number ≡ Some r → row_at start.rows r.number ≡ Some r
-    gone_is_taken : (r : StoredRow) → row_at start.rows r.number ≡ Some r → row_at db.rows r.number ≡ None → Taken c.constraints start.rows (wave_of candidates) r
-    wave_is_taken : (r : StoredRow) → row_at db.rows r.number ≡ Some r → has_change wave r.number ≡ true → Taken c.constraints start.rows (wave_of candidates) r
+    gone_is_taken : (r : StoredRow) → row_at start.rows r.number ≡ Some r → row_at db.rows r.number ≡ None → Taken c.constraints start.rows candidates r
+    wave_is_taken : (r : StoredRow) → row_at db.rows r.number ≡ Some r → has_change wave r.number ≡ true → Taken c.constraints start.rows candidates r
     closed : (r other : StoredRow) → row_at db.rows r.number ≡ Some r → row_at start.rows other.number ≡ Some other → row_at db.rows other.number ≡ None
         → follows c.constraints r other ≡ true → has_change wave r.number ≡ true
-    begun : (r : StoredRow) → row_at db.rows r.number ≡ Some r → has_change candidates r.number ≡ true → has_change wave r.number ≡ true
+    begun : (r : StoredRow) → row_at db.rows r.number ≡ Some r → has_change candidates.changes r.number ≡ true → has_change wave r.number ≡ true
 
-  going_at_first : Numbered start → Drawn OfRow start.rows candidates → Deletions candidates → Going start candidates
+  going_at_first : Numbered start → Drawn OfRow start.rows candidates.changes → Deletions candidates.changes → Going start candidates.changes
   going_at_first h drawn deletes = record {
     numbers = h;
     drawn = drawn;
@@ -182,16 +182,16 @@ module _ (c : Schema) (only : no_column_is_set c.constraints ≡ true) (start : 
     next = wave_then db out c
 
     -- a row that the wave took is taken
-    step_gone : (r : StoredRow) → row_at start.rows r.number ≡ Some r → row_at later.rows r.number ≡ None → Taken c.constraints start.rows (wave_of candidates) r
+    step_gone : (r : StoredRow) → row_at start.rows r.number ≡ Some r → row_at later.rows r.number ≡ None → Taken c.constraints start.rows candidates r
     step_gone r e f = by_row (row_at db.rows r.number) refl
       where
-        by_row : (o : Option StoredRow) → row_at db.rows r.number ≡ o → Taken c.constraints start.rows (wave_of candidates) r
+        by_row : (o : Option StoredRow) → row_at db.rows r.number ≡ o → Taken c.constraints start.rows candidates r
         by_row None is = g.gone_is_taken r e is
         by_row (Some found) is =
             let there = as_at_first db wave r found g e is in
             g.wave_is_taken r there (alike r.number ∙ was_taken db out r.number r d there f)
 
-    step_wave : (r : StoredRow) → row_at later.rows r.number ≡ Some r → has_change next r.number ≡ true → Taken c.constraints start.rows (wave_of candidates) r
+    step_wave : (r : StoredRow) → row_at later.rows r.number ≡ Some r → has_change next r.number ≡ true → Taken c.constraints start.rows candidates r
     step_wave r e f =
         let change = in_wave_of next r.number f in
         let from = next_is db out c change.element g.numbers d only change.is_in in
@@ -231,7 +231,7 @@ module _ (c : Schema) (only : no_column_is_set c.constraints ≡ true) (start : 
   -- ---- when nothing follows
 
   module _ (last : Database) (g : Going last []) where
-    taken_was_there : (x : StoredRow) → Taken c.constraints start.rows (wave_of candidates) x → row_at start.rows x.number ≡ Some x
+    taken_was_there : (x : StoredRow) → Taken c.constraints start.rows candidates x → row_at start.rows x.number ≡ Some x
     taken_was_there x (candidate r e f) = e
     taken_was_there x (referring r other e f t) = e
 
@@ -240,7 +240,7 @@ module _ (c : Schema) (only : no_column_is_set c.constraints ≡ true) (start : 
     not_there n None is never = is
     not_there n (Some found) is never = absurd (never found is)
 
-    taken_is_gone : (x : StoredRow) → Taken c.constraints start.rows (wave_of candidates) x → row_at last.rows x.number ≡ None
+    taken_is_gone : (x : StoredRow) → Taken c.constraints start.rows candidates x → row_at last.rows x.number ≡ None
     taken_is_gone x (candidate r e f) =
         not_there r.number (row_at last.rows r.number) refl (λ found is. true≢false (sym (g.begun r (as_at_first last [] r found g e is) f)))
     taken_is_gone x (referring r other e f t) =
@@ -248,7 +248,7 @@ module _ (c : Schema) (only : no_column_is_set c.constraints ≡ true) (start : 
         not_there r.number (row_at last.rows r.number) refl (λ found is.
         true≢false (sym (g.closed r other (as_at_first last [] r found g e is) (taken_was_there other t) gone f)))
 
-    gone_was_taken : (r : StoredRow) → row_at start.rows r.number ≡ Some r → row_at last.rows r.number ≡ None → Taken c.constraints start.rows (wave_of candidates) r
+    gone_was_taken : (r : StoredRow) → row_at start.rows r.number ≡ Some r → row_at last.rows r.number ≡ None → Taken c.constraints start.rows candidates r
     gone_was_taken r e f = g.gone_is_taken r e f
 
     others_stay : (r : StoredRow) → row_at last.rows r.number ≡ Some r → row_at start.rows r.number ≡ Some r
@@ -256,7 +256,7 @@ module _ (c : Schema) (only : no_column_is_set c.constraints ≡ true) (start : 
 
 -- ---- the waves of a DELETE
 
-settled_goes : (w : Context) (only : no_column_is_set w.schema.constraints ≡ true) (start : Database) (candidates : List Change)
+settled_goes : (w : Context) (only : no_column_is_set w.schema.constraints ≡ true) (start : Database) (candidates : Wave)
     (db : Database) (budget : ℕ) (wave : Wave) (s : SettledWaves)
     → settled_waves w db budget wave ≡ Ok s → Going w.schema only start candidates db wave.changes
     → Going w.schema only start candidates s.last []
@@ -273,7 +273,7 @@ settled_goes w only start candidates db budget wave s e =
         let as_numbered = applied_alike w db' budget' wave' one.wave is_applied in
         let alike : AllAlike wave'.changes one.wave.changes =
         subst (λ l. AllAlike l one.wave.changes) (numbered_drawn db'.next db'.rows wave'.changes g.drawn) as_numbered in
-        let fits = alike_fits db' wave' one.wave alike (drawn_fits db' wave'.changes g.numbers g.drawn) in
+        let fits = alike_fits db' (wave_of wave'.changes) one.wave alike (drawn_fits db' wave'.changes g.numbers g.drawn) in
         subst (λ x. Going w.schema only start candidates (database_after db' one.wave) x.changes) (followed_is w db' (database_after db' one.wave) one.next is_followed).1
         (going_on w.schema only start candidates db' wave'.changes one.wave.changes g (λ n. has_change_alike wave'.changes one.wave.changes n alike)
         (deletions_alike wave'.changes one.wave.changes alike g.deletes) (rising_positive one.wave.changes fits.rising))
@@ -289,21 +289,21 @@ delete_deletes w db f t filter changes e =
     subst Deletions (ok_same (map deletion found.0) changes found.2) (deletions_map found.0)
 
 delete_goes : (w : Context) (t : ℕ) (filter : Cond) (f : Frame) (db : Database) (budget : ℕ) (wave : Wave) (s : SettledWaves)
-    → (h : Deletes w t filter f db budget wave s) → Going w.schema h.1 db wave.changes s.last []
+    → (h : Deletes w t filter f db budget wave s) → Going w.schema h.1 db wave s.last []
 delete_goes w t filter f db budget wave s h =
     let proposes = changes_of_proposed w db f (Delete t filter) wave h.2 in
-    settled_goes w h.1 db wave.changes db budget wave s h.3
-    (going_at_first w.schema h.1 db wave.changes h.0 (delete_drawn w db f t filter wave.changes proposes) (delete_deletes w db f t filter wave.changes proposes))
+    settled_goes w h.1 db wave db budget wave s h.3
+    (going_at_first w.schema h.1 db wave h.0 (delete_drawn w db f t filter wave.changes proposes) (delete_deletes w db f t filter wave.changes proposes))
 
 pub taken_rows_are_gone : (w : Context) (t : ℕ) (filter : Cond) (f : Frame) (db : Database) (budget : ℕ) (wave : Wave) (s : SettledWaves)
     → Deletes w t filter f db budget wave s → (r : StoredRow) → Taken w.schema.constraints db.rows wave r → row_at s.last.rows r.number ≡ None
-taken_rows_are_gone w t filter f db budget wave s h r taken = taken_is_gone w.schema h.1 db wave.changes s.last (delete_goes w t filter f db budget wave s h) r taken
+taken_rows_are_gone w t filter f db budget wave s h r taken = taken_is_gone w.schema h.1 db wave s.last (delete_goes w t filter f db budget wave s h) r taken
 
 pub gone_rows_are_taken : (w : Context) (t : ℕ) (filter : Cond) (f : Frame) (db : Database) (budget : ℕ) (wave : Wave) (s : SettledWaves)
     → Deletes w t filter f db budget wave s
     → (r : StoredRow) → row_at db.rows r.number ≡ Some r → row_at s.last.rows r.number ≡ None → Taken w.schema.constraints db.rows wave r
-gone_rows_are_taken w t filter f db budget wave s h r there gone = gone_was_taken w.schema h.1 db wave.changes s.last (delete_goes w t filter f db budget wave s h) r there gone
+gone_rows_are_taken w t filter f db budget wave s h r there gone = gone_was_taken w.schema h.1 db wave s.last (delete_goes w t filter f db budget wave s h) r there gone
 
 pub other_rows_stay : (w : Context) (t : ℕ) (filter : Cond) (f : Frame) (db : Database) (budget : ℕ) (wave : Wave) (s : SettledWaves)
     → Deletes w t filter f db budget wave s → (r : StoredRow) → row_at s.last.rows r.number ≡ Some r → row_at db.rows r.number ≡ Some r
-other_rows_stay w t filter f db budget wave s h r there = others_stay w.schema h.1 db wave.changes s.last (delete_goes w t filter f db budget wave s h) r there
+other_rows_stay w t filter f db budget wave s h r there = others_stay w.schema h.1 db wave s.last (delete_goes w t filter f db budget wave s h) r there

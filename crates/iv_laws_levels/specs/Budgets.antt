@@ -11,7 +11,7 @@ use Rattle.iv_machine.specs.Context.{Context, Failure, over}
 use Rattle.iv_machine.specs.Proposals.{holds, proposed_wave}
 use Rattle.iv_machine.specs.BeforeTriggers.{placed_statements}
 use Rattle.iv_machine.specs.Waves.{SettledWaves, settled_waves, net_wave}
-use Rattle.iv_machine.specs.Levels.{Firing, Finished, Progress, Runs, statement_run, firing_run, firings, nested_level, level}
+use Rattle.iv_machine.specs.Levels.{Firing, Finished, Progress, Runs, statement_run, firing_run, level_columns, firings, nested_level, level}
 
 -- ---- totals over a level and all inside it
 
@@ -53,7 +53,7 @@ level_total own run count context statement frame db (suc budget) =
       | Ok s ↦
           own s.waves
           + total_in_turn (firing_run run) (firing_total run count)
-          (firings context statement (net_wave db.rows s.last.rows s.waves)) (record { database = s.last; budget = s.rest })
+          (firings context statement (level_columns statement s.waves) (net_wave db.rows s.last.rows s.waves)) (record { database = s.last; budget = s.rest })
       | Err failure ↦ 0
     ]
 

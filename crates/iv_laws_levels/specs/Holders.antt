@@ -3,16 +3,16 @@
 use Rattle.std.specs.Prelude.{◌≡◌, ℕ, Bool, true, false, ◌&&◌, not, ◌==◌, List, ◌++◌, map, filter, filter_map, flat_map, find, Option, Some, None, is_some, Result, Ok}
 use Rattle.std.specs.List.{list_any}
 use Rattle.std.specs.Option.{option_map}
-use Rattle.iv_laws_levels.specs.Words.{Value, StoredRow, Change, Fault, Constraint, ForeignKey, Database, Effect}
+use Rattle.iv_laws_levels.specs.Words.{Value, StoredRow, Change, TableColumn, Fault, Constraint, ForeignKey, Database, Effect}
 use Rattle.iv_laws_levels.specs.Words.cause.{Restrict, ActionConflict}
 use Rattle.iv_value.specs.Values.{all_same}
-use Rattle.iv_expr.specs.Changes.{Wave, wave_of, RisingChanges}
+use Rattle.iv_expr.specs.Changes.{Wave, RisingChanges}
 use Rattle.iv_expr.specs.Scopes.{table_rows}
 use Rattle.iv_catalogue.specs.Catalogues.{Schema}
 use Rattle.iv_key.specs.Keys.{key_of, holds_key}
 use Rattle.iv_machine.specs.Databases.{row_at, has_change, in_order, fault_at, database_after}
 use Rattle.iv_machine.specs.Context.{Context, Failure, unless_first}
-use Rattle.iv_machine.specs.ReferentialActions.{Reference, references, Loss, deleted, updated, LostKeys, lost_keys, lost_reference, is_restricted, restricted_rows, effects_on, change_by, next_wave, has_conflict, conflicts, following_wave}
+use Rattle.iv_machine.specs.ReferentialActions.{Reference, references, Loss, deleted, updated, LostKeys, lost_keys, lost_reference, is_restricted, restricted_rows, effects_on, change_by, sets_values, referencing_columns, next_wave, has_conflict, conflicts, following_wave}
 use Rattle.iv_laws_levels.specs.RisingRows.{InOrder}
 use Rattle.iv_laws_levels.specs.Reorderings.{Distinct}
 use Rattle.iv_laws_levels.specs.FittingWaves.{old_row, Current}
@@ -113,9 +113,18 @@ conflicts_by wave schema later =
     (λ k. map (fault_at k.id) (filter (λ after. has_conflict k.id (effects_by wave schema later after)) (lost_holders wave schema later)))
     (references schema.constraints)
 
+-- the columns of the foreign keys that set values of such rows
+abbrev pub columns_set_by : Wave → Schema → List StoredRow → List TableColumn
+columns_set_by wave schema later =
+    flat_map referencing_columns
+    (filter (λ k. list_any (λ after. sets_values k.id (effects_by wave schema later after)) (lost_holders wave schema later))
+    (references schema.constraints))
+
 abbrev pub next_wave_by : Wave → Schema → List StoredRow → Wave
-next_wave_by wave schema later =
-    wave_of (filter_map (λ after. change_by after (effects_by wave schema later after)) (lost_holders wave schema later))
+next_wave_by wave schema later = record {
+  changes = filter_map (λ after. change_by after (effects_by wave schema later after)) (lost_holders wave schema later);
+  columns = columns_set_by wave schema later;
+}
 
 -- RESTRICT protects rows that, after the wave or by the wave's old values, hold a key which the wave took away.
 abbrev pub RestrictedRowsFollow : Type 0

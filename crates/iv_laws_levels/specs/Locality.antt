@@ -2,29 +2,33 @@
 use Rattle.std.specs.Prelude.{◌≡◌, ℕ, Bool, false, ◌&&◌, ◌||◌, not, ◌==◌, List, [], ◌∷◌, filter, Option, Some, None}
 use Rattle.iv_laws_levels.specs.Words.{Value, StoredRow, Change, Constraint, Rule, Database}
 use Rattle.iv_laws_levels.specs.Words.rule
-use Rattle.iv_key.specs.Keys.{key_of, holds_key}
-use Rattle.iv_machine.specs.Databases.{row_at, satisfies, violates}
+use Rattle.iv_syntax.specs.declared.table.NullTreatment.{NullTreatment}
+use Rattle.iv_syntax.specs.declared.table.NullTreatment.TheVariants.{Distinct}
+use Rattle.iv_key.specs.Keys.{key_of}
+use Rattle.iv_machine.specs.Databases.{row_at, holds_key_with, satisfies, violates}
 use Rattle.iv_laws_levels.specs.RisingRows.{InOrder}
 use Rattle.iv_laws_levels.specs.Reorderings.{after_changes}
 use Rattle.iv_laws_levels.specs.FittingWaves.{old_row}
 
--- a row holds in these columns what one side of a change has in the columns of a key
-abbrev pub holds_side : List ℕ → List ℕ → StoredRow → Option (List Value) → Bool
-holds_side columns key row None = false
-holds_side columns key row (Some values) = holds_key columns (key_of key values) row.values
+-- a row holds in these columns what one side of a change has in the columns of a key; where nulls are not distinct, null is the
+-- same as null
+abbrev pub holds_side : NullTreatment → List ℕ → List ℕ → StoredRow → Option (List Value) → Bool
+holds_side nulls columns key row None = false
+holds_side nulls columns key row (Some values) = holds_key_with nulls columns (key_of key values) row.values
 
 -- so with the old or the new values of the change
-abbrev pub holds_old_or_new : List ℕ → List ℕ → StoredRow → Change → Bool
-holds_old_or_new columns key row change = holds_side columns key row change.old || holds_side columns key row change.new
+abbrev pub holds_old_or_new : NullTreatment → List ℕ → List ℕ → StoredRow → Change → Bool
+holds_old_or_new nulls columns key row change = holds_side nulls columns key row change.old || holds_side nulls columns key row change.new
 
 -- Whether a change of another row can alter that a row obeys a rule on this table. UNIQUE and PRIMARY KEY: a change in the table
--- whose old or new key the row holds. A foreign key: a change in the referenced table to whose old or new key the row refers.
+-- whose old or new key the row holds, keys with a null too where nulls are not distinct. A foreign key: a change in the referenced
+-- table to whose old or new key the row refers.
 abbrev pub concerns_by : Change → ℕ → Rule → StoredRow → Bool
 concerns_by change table (rule.NotNull column) row = false
 concerns_by change table (rule.Check condition) row = false
-concerns_by change table (rule.Unique columns) row = (change.table == table) && holds_old_or_new columns columns row change
-concerns_by change table (rule.PrimaryKey columns) row = (change.table == table) && holds_old_or_new columns columns row change
-concerns_by change table (rule.ForeignKey fk) row = (change.table == fk.referenced) && holds_old_or_new fk.columns fk.key row change
+concerns_by change table (rule.Unique nulls columns) row = (change.table == table) && holds_old_or_new nulls columns columns row change
+concerns_by change table (rule.PrimaryKey columns) row = (change.table == table) && holds_old_or_new Distinct columns columns row change
+concerns_by change table (rule.ForeignKey fk) row = (change.table == fk.referenced) && holds_old_or_new Distinct fk.columns fk.key row change
 
 abbrev pub concerns : Change → Constraint → StoredRow → Bool
 concerns change constraint row = concerns_by change constraint.table constraint.rule row

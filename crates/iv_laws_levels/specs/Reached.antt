@@ -1,7 +1,7 @@
 -- The states that resolved statements reach, whatever constraints, modes, savepoints and triggers there are.
-use Rattle.std.specs.Prelude.{◌≡◌, ℕ, ◌<◌, List, [], ◌∷◌, length}
+use Rattle.std.specs.Prelude.{ℕ, ◌<◌, List, [], ◌∷◌, length}
 use Rattle.iv_catalogue.specs.Catalogues.{AllOn, Schema}
-use Rattle.iv_laws_levels.specs.Words.{Constraint, BodyStatement, Plan, SchemaPlan}
+use Rattle.iv_laws_levels.specs.Words.{BodyStatement, Plan, SchemaPlan}
 use Rattle.iv_laws_levels.specs.Words.body
 use Rattle.iv_laws_levels.specs.Words.plan
 use Rattle.iv_laws_levels.specs.Words.schema

@@ -2,6 +2,7 @@
 pub use Rattle.iv_value.specs.declared.value.Value.{Value}
 pub use Rattle.iv_expr.specs.declared.row.StoredRow.{StoredRow}
 pub use Rattle.iv_expr.specs.declared.row.Change.{Change}
+pub use Rattle.iv_expr.specs.declared.wave.TableColumn.{TableColumn}
 pub use Rattle.iv_expr.specs.declared.tree.Cond.{Cond}
 pub use Rattle.iv_syntax.specs.declared.table.ReferentialAction.{ReferentialAction}
 pub use Rattle.iv_syntax.specs.declared.table.ReferentialAction.TheVariants as referential_action

@@ -10,7 +10,7 @@ use Rattle.iv_expr.specs.Scopes.{scope_of}
 use Rattle.iv_machine.specs.Databases.{database_after}
 use Rattle.iv_machine.specs.Context.{Context, while_running, each, in_turn}
 use Rattle.iv_machine.specs.Proposals.{holds, stored_value}
-use Rattle.iv_machine.specs.BeforeTriggers.{is_on, event_of_change, placed_statements, is_before_row, change_frame, with_new_value, change_after_statement, before_row_run, change_after_trigger}
+use Rattle.iv_machine.specs.BeforeTriggers.{is_on, event_of_change, placed_statements, is_before_row_on, change_frame, with_new_value, change_after_statement, before_row_run, change_after_trigger}
 use Rattle.iv_machine.specs.Waves.{with_numbers}
 use Rattle.iv_laws_levels.specs.RisingRows.{Every}
 use Rattle.iv_laws_levels.proofs.Chains.{not_ok, ok_same, step_of, ok_running}
@@ -111,7 +111,7 @@ triggered_changes_fit w rows (t ∷ ts) changes out h e =
 
 pub applied_waves_fit : AppliedWavesFit
 applied_waves_fit w db budget wave out h e =
-    triggered_changes_fit w db.rows (filter is_before_row w.schema.triggers) (with_numbers db.next wave.changes) out.changes
+    triggered_changes_fit w db.rows (filter (is_before_row_on wave.columns) w.schema.triggers) (with_numbers db.next wave.changes) out.changes
     (numbered_changes_fit w.schema.tables db.next wave.changes h) (applied_is w db budget wave out e).after_triggers
 
 -- ---- rows

@@ -2,7 +2,7 @@
 use Rattle.std.proofs.Common.{◌≡◌, ℕ, nat_lt, Bool, true, false, not, ◌&&◌, ◌||◌, ◌==◌, if◌then◌else◌, List, [], ◌∷◌, ◌∙◌, Option, Some, None, is_none, is_some, refl, sym, ap, subst, length, map, filter, slice_get, inl, inr}
 use Rattle.std.specs.List.{list_all, cons_option}
 use Rattle.std.proofs.lemmas.Bool.{eqb-true, and_from, and_parts}
-use Rattle.iv_laws_rows.specs.Words.{Value, StoredRow, Change, TriggerEvent, Table, DataStatement, Trigger}
+use Rattle.iv_laws_rows.specs.Words.{Value, StoredRow, Change, TableColumn, TriggerEvent, Table, DataStatement, Trigger}
 use Rattle.iv_laws_rows.specs.Words.body
 use Rattle.iv_value.specs.declared.value.Value.TheVariants.{Null, Int, Text}
 use Rattle.iv_value.specs.declared.value.Kind.{Kind}
@@ -20,7 +20,7 @@ use Rattle.iv_catalogue.specs.declared.catalogue.Column.{Column}
 use Rattle.iv_machine.specs.Context.{Context}
 use Rattle.iv_machine.specs.Proposals.{table_of, event_of}
 use Rattle.iv_machine.specs.BeforeTriggers.{is_before, for_each_row, same_event, is_on, event_of_change}
-use Rattle.iv_machine.specs.Levels.{Firing, row_firing, statement_firing, firings_of, transitions_of, firings}
+use Rattle.iv_machine.specs.Levels.{Firing, row_firing, statement_firing, firings_of, transitions_of, is_after_on, firings}
 use Rattle.iv_store.specs.Stores.{is_fit, fits_columns, fits_table}
 use Rattle.iv_laws_fitting.specs.PlanShapes.{table_kinds, plain_shape, is_there, old_kinds, new_kinds, trigger_shape, action_suits, trigger_suits}
 use Rattle.iv_laws_fitting.proofs.Pointwise.{all_at}
@@ -222,13 +222,13 @@ firing_of_suits tables d t transitions x s h g i = by (for_each_row t) refl i
         subst (FiringSuits tables) (sym made.holds) (record { suits = s; sees = row_sees tables t transitions made.element h g made.is_in })
     by false e j = once e (is_on (table_of d) (event_of d) t || nat_lt 0 (length transitions)) j
 
-pub all_firings_suit : (context : Context) (d : DataStatement) (net : Wave) (x : Firing) → list_all (trigger_suits context.schema.tables) context.schema.triggers ≡ true
-    → wave_fits context.schema.tables net ≡ true → In x (firings context d net) → FiringSuits context.schema.tables x
-all_firings_suit context d net x s h i =
+pub all_firings_suit : (context : Context) (d : DataStatement) (columns : List TableColumn) (net : Wave) (x : Firing) → list_all (trigger_suits context.schema.tables) context.schema.triggers ≡ true
+    → wave_fits context.schema.tables net ≡ true → In x (firings context d columns net) → FiringSuits context.schema.tables x
+all_firings_suit context d columns net x s h i =
     let tables = context.schema.tables in
-    let found = of_flat_map (λ t. firings_of d t (transitions_of t net)) x (filter (λ t. not (is_before t)) context.schema.triggers) i in
+    let found = of_flat_map (λ t. firings_of d t (transitions_of t net)) x (filter (is_after_on columns) context.schema.triggers) i in
     let t = found.element in
-    let own = of_filter (λ y. not (is_before y)) t context.schema.triggers found.is_in in
+    let own = of_filter (is_after_on columns) t context.schema.triggers found.is_in in
     let here : Change → Bool = λ c. is_on c.table (event_of_change c) t in
     firing_of_suits tables d t (transitions_of t net) x (all_in (trigger_suits tables) t context.schema.triggers s own.0)
     (all_by_in (change_fits tables) (filter here net.changes) (λ c j. all_in (change_fits tables) c net.changes h (of_filter here c net.changes j).0))
@@ -239,5 +239,5 @@ pub firing_fits : (tables : List Table) (x : Firing) → FiringSuits tables x �
 firing_fits tables x f = body_fits tables x.trigger x.frame f.suits f.sees
 
 pub firings_fit : FiringsFit
-firings_fit context d net place x s h i =
-    firing_fits context.schema.tables x (all_firings_suit context d net x s h (at_in (firings context d net) place x i))
+firings_fit context d columns net place x s h i =
+    firing_fits context.schema.tables x (all_firings_suit context d columns net x s h (at_in (firings context d columns net) place x i))

@@ -8,7 +8,7 @@ use Rattle.iv_machine.specs.Context.{Context, over}
 use Rattle.iv_machine.specs.Proposals.{holds}
 use Rattle.iv_machine.specs.BeforeTriggers.{placed_statements}
 use Rattle.iv_machine.specs.Waves.{net_wave}
-use Rattle.iv_machine.specs.Levels.{Firing, Finished, Progress, Runs, statement_run, body_run, firing_run, firings_run, firings, nested_level}
+use Rattle.iv_machine.specs.Levels.{Firing, Finished, Progress, Runs, statement_run, body_run, firing_run, firings_run, firings, level_columns, nested_level}
 use Rattle.iv_laws_fitting.specs.ConstraintShapes.{SchemaSuits}
 use Rattle.iv_laws_levels.specs.FittingWaves.{Numbered}
 use Rattle.iv_laws_levels.proofs.Chains.{not_ok, ok_same, step_of, ok_inside}
@@ -84,8 +84,8 @@ steps_fit run w d f db budget done keeps suits fits h s =
     let settles = settled_waves_fit w d f db budget s.wave s.waves suits h.0 h.1 proposes s.is_proposed s.is_settled in
     let net = net_changes_fit w.schema.tables db s.waves.last s.waves.waves chain h.1 settles.0 in
     let kept = all_fired_keeps_fitting w.schema.tables (IsFitting w) run keeps
-    (firings w d (net_wave db.rows s.waves.last.rows s.waves.waves)) (record { database = s.waves.last; budget = s.waves.rest }) s.progress
-    (λ x i. firing_fits w.schema.tables x (all_firings_suit w d (net_wave db.rows s.waves.last.rows s.waves.waves) x suits.triggers net i))
+    (firings w d (level_columns d s.waves.waves) (net_wave db.rows s.waves.last.rows s.waves.waves)) (record { database = s.waves.last; budget = s.waves.rest }) s.progress
+    (λ x i. firing_fits w.schema.tables x (all_firings_suit w d (level_columns d s.waves.waves) (net_wave db.rows s.waves.last.rows s.waves.waves) x suits.triggers net i))
     s.is_fired (chain_ends db s.waves.last s.waves.waves chain, settles.0) in
     subst (λ x. IsFitting w x.database x.rest) s.is_done kept
 

@@ -166,7 +166,7 @@ key_fits schema k s i =
         of_rule : (x : Rule) → made x ≡ Some k → rule_suits schema.tables (table_kinds schema.tables c.table) x ≡ true → KeyFits schema k
         of_rule (rule.ForeignKey fk) g suit = of_key fk (some_same _ k g) suit
         of_rule (rule.NotNull column) g suit = absurd (some_none k (sym g))
-        of_rule (rule.Unique columns) g suit = absurd (some_none k (sym g))
+        of_rule (rule.Unique nulls columns) g suit = absurd (some_none k (sym g))
         of_rule (rule.PrimaryKey columns) g suit = absurd (some_none k (sym g))
         of_rule (rule.Check condition) g suit = absurd (some_none k (sym g))
 

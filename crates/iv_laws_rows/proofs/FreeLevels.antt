@@ -3,18 +3,18 @@ use Rattle.std.proofs.Common.{◌≡◌, ℕ, zero, suc, ◌+◌, ◌-◌, nat_l
 use Rattle.iv_laws_rows.specs.Words.{Change, Cause, BodyStatement, DataStatement, Database}
 use Rattle.iv_laws_rows.specs.Words.cause.{Restrict, ActionConflict, Violation, TooManyChanges, TransactionTooLarge, Limit}
 use Rattle.iv_laws_rows.specs.Words.body
-use Rattle.iv_expr.specs.Changes.{Wave, wave_of}
+use Rattle.iv_expr.specs.Changes.{Wave}
 use Rattle.iv_expr.specs.Evaluation.{and_then}
 use Rattle.iv_expr.specs.Scopes.{Frame, scope_of}
 use Rattle.iv_machine.specs.declared.database.Which.TheVariants.{Immediate}
 use Rattle.iv_machine.specs.Bounds.{most_changes_in_a_transaction}
 use Rattle.iv_machine.specs.Databases.{scan, is_chosen, size, database_after}
 use Rattle.iv_machine.specs.Context.{Context, fails, over, with_count}
-use Rattle.iv_machine.specs.Proposals.{holds, proposed_changes, proposed_wave, table_of, event_of}
-use Rattle.iv_machine.specs.BeforeTriggers.{is_before_row, placed_statements, before_statement, changes_after_triggers, wave_after_triggers}
+use Rattle.iv_machine.specs.Proposals.{holds, proposed_changes, proposed_wave, set_columns}
+use Rattle.iv_machine.specs.BeforeTriggers.{is_before_row_on, placed_statements, before_statement, changes_after_triggers, wave_after_triggers}
 use Rattle.iv_machine.specs.ReferentialActions.{lost_keys, restricted_rows, conflicts, following_wave}
 use Rattle.iv_machine.specs.Waves.{with_numbers, numbered_wave, is_beyond_last_row, wave_as_applied, AppliedWave, one_wave, is_empty, Settles, none_settled, settled_by, settled_within, settled_waves, net_wave}
-use Rattle.iv_machine.specs.Levels.{Firing, Progress, Runs, statement_run, body_run, firing_run, firings_run, firings, immediate_check, level_steps, nested_level}
+use Rattle.iv_machine.specs.Levels.{Firing, Progress, Runs, statement_run, body_run, firing_run, firings_run, firings, level_columns, immediate_check, level_steps, nested_level}
 use Rattle.iv_laws_fitting.specs.ConstraintShapes.{SchemaSuits}
 use Rattle.iv_laws_fitting.specs.PlanShapes.{trigger_suits}
 use Rattle.iv_laws_fitting.proofs.Running.{Plain, proposals_are_well_typed}
@@ -39,7 +39,7 @@ use Rattle.iv_laws_rows.specs.Starting.{Starts}
 proposed_free : (w : Context) (db : Database) (f : Frame) (d : DataStatement) → rows_fit w.schema.tables db.rows ≡ true → StatementFits w.schema.tables f d
     → FreeCause (proposed_wave w db f d)
 proposed_free w db f d h fits =
-    then_free (λ x. x) (proposed_changes w db f d) (λ changes. Ok (wave_of changes)) (plain_free (proposed_changes w db f d) (by (proposed_changes w db f d) refl)) (λ changes e. tt)
+    then_free (λ x. x) (proposed_changes w db f d) (λ changes. Ok (record { changes = changes; columns = set_columns d })) (plain_free (proposed_changes w db f d) (by (proposed_changes w db f d) refl)) (λ changes e. tt)
   where
     by : (r : Result (List Change) Cause) → proposed_changes w db f d ≡ r → Plain r
     by (Ok changes) e = tt
@@ -55,11 +55,11 @@ applied_free w db budget wave s h g =
     here : FreeFailure (with_count db (wave_after_triggers w db.rows (numbered_wave db.next wave)))
     here =
         counted_free db (wave_after_triggers w db.rows (numbered_wave db.next wave))
-        (then_free (λ x. x.cause) (changes_after_triggers w db.rows (filter is_before_row w.schema.triggers) (with_numbers db.next wave.changes))
+        (then_free (λ x. x.cause) (changes_after_triggers w db.rows (filter (is_before_row_on wave.columns) w.schema.triggers) (with_numbers db.next wave.changes))
         (λ changes. Ok (record (numbered_wave db.next wave) { changes = changes }))
-        (row_triggers_free w db.rows (filter is_before_row w.schema.triggers) (with_numbers db.next wave.changes)
-        (all_by_in (trigger_suits w.schema.tables) (filter is_before_row w.schema.triggers)
-        (λ t i. all_in (trigger_suits w.schema.tables) t w.schema.triggers s.triggers (of_filter is_before_row t w.schema.triggers i).0))
+        (row_triggers_free w db.rows (filter (is_before_row_on wave.columns) w.schema.triggers) (with_numbers db.next wave.changes)
+        (all_by_in (trigger_suits w.schema.tables) (filter (is_before_row_on wave.columns) w.schema.triggers)
+        (λ t i. all_in (trigger_suits w.schema.tables) t w.schema.triggers s.triggers (of_filter (is_before_row_on wave.columns) t w.schema.triggers i).0))
         h (numbered_changes_fit w.schema.tables db.next wave.changes g)) (λ changes e. tt))
 
     by : (a b c : Bool)
@@ -174,17 +174,17 @@ steps_free run w d f db budget s keeps free fits h =
     then_free (λ x. x.cause) (over db (proposed_wave w db f d)) _ (over_free db (proposed_wave w db f d) (proposed_free w db f d h.1 fits)) (λ wave e.
     let is_proposed = ok_over db (proposed_wave w db f d) wave e in
     let start = proposals_start w d f db wave s.tables h.0 h.1 fits is_proposed in
-    then_free (λ x. x.cause) (with_count db (before_statement w db.rows (table_of d) (event_of d))) _
-    (counted_free db (before_statement w db.rows (table_of d) (event_of d)) (statement_triggers_free w db.rows (table_of d) (event_of d) s.triggers h.1)) (λ _ e'.
+    then_free (λ x. x.cause) (with_count db (before_statement w db.rows d)) _
+    (counted_free db (before_statement w db.rows d) (statement_triggers_free w db.rows d s.triggers h.1)) (λ _ e'.
     then_free (λ x. x.cause) (settled_waves w db budget wave) _
     (settled_within_free budget w db budget wave s start) (λ settled is_settled.
     let settles = started_waves_fit w db budget wave settled s start is_settled in
     let net = net_changes_fit w.schema.tables db settled.last settled.waves settles.0 h.1 settles.1 in
     then_free (λ x. x.cause) (immediate_check w settled.last) _
     (unless_free settled.last Violation (scan settled.last.rows w.schema.constraints (is_chosen w.modes Immediate)) (Ok tt) (λ fault. refl) tt) (λ _ e''.
-    then_free (λ x. x.cause) (firings_run run (firings w d (net_wave db.rows settled.last.rows settled.waves)) (record { database = settled.last; budget = settled.rest })) _
-    (all_firings_free w run keeps free (firings w d (net_wave db.rows settled.last.rows settled.waves)) (record { database = settled.last; budget = settled.rest })
-    (λ x i. all_firings_suit w d (net_wave db.rows settled.last.rows settled.waves) x s.triggers net i)
+    then_free (λ x. x.cause) (firings_run run (firings w d (level_columns d settled.waves) (net_wave db.rows settled.last.rows settled.waves)) (record { database = settled.last; budget = settled.rest })) _
+    (all_firings_free w run keeps free (firings w d (level_columns d settled.waves) (net_wave db.rows settled.last.rows settled.waves)) (record { database = settled.last; budget = settled.rest })
+    (λ x i. all_firings_suit w d (level_columns d settled.waves) (net_wave db.rows settled.last.rows settled.waves) x s.triggers net i)
     (chain_ends db settled.last settled.waves settles.0, settles.1)) (λ at e'''. tt)))))
 
 nested_free : (depth : ℕ) (w : Context) (trigger : ℕ) (d : DataStatement) (f : Frame) (db : Database) (budget : ℕ) → SchemaSuits w.schema

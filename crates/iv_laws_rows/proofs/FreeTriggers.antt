@@ -2,7 +2,7 @@
 use Rattle.std.proofs.Common.{◌≡◌, ℕ, Bool, true, false, not, ◌&&◌, ◌==◌, if◌then◌else◌, List, [], ◌∙◌, Option, Some, None, is_none, Result, Ok, Err, refl, sym, ap, find, filter, slice_get, slice_set}
 use Rattle.std.proofs.lemmas.Bool.{and_parts, not-true}
 use Rattle.std.specs.List.{list_all}
-use Rattle.iv_laws_rows.specs.Words.{Value, StoredRow, Change, TriggerEvent, Table, Cause, Refusal, BodyStatement, Trigger}
+use Rattle.iv_laws_rows.specs.Words.{Value, StoredRow, Change, Table, Cause, Refusal, BodyStatement, DataStatement, Trigger}
 use Rattle.iv_laws_rows.specs.Words.cause.{Signal}
 use Rattle.iv_laws_rows.specs.Words.body
 use Rattle.iv_expr.specs.Evaluation.{value}
@@ -10,8 +10,8 @@ use Rattle.iv_expr.specs.Scopes.{Frame, no_frame, scope_of}
 use Rattle.iv_expr.specs.Suiting.{suits}
 use Rattle.iv_syntax.specs.declared.trigger.TriggerEvent.TheVariants as event
 use Rattle.iv_machine.specs.Context.{Context, while_running, each, in_turn}
-use Rattle.iv_machine.specs.Proposals.{holds, stored_value}
-use Rattle.iv_machine.specs.BeforeTriggers.{is_before, for_each_row, is_before_statement, same_event, is_on, event_of_change, placed_statements, is_signal, unless_signal, before_statement_run, before_statement, change_frame, with_new_value, change_after_statement, before_row_run, change_after_trigger, changes_after_triggers}
+use Rattle.iv_machine.specs.Proposals.{holds, stored_value, table_of, event_of, set_columns}
+use Rattle.iv_machine.specs.BeforeTriggers.{is_before, for_each_row, is_before_statement, is_before_this, same_event, is_on, is_on_columns, event_of_change, placed_statements, is_signal, unless_signal, before_statement_run, before_statement, change_frame, with_new_value, change_after_statement, before_row_run, change_after_trigger, changes_after_triggers}
 use Rattle.iv_laws_fitting.specs.PlanShapes.{table_kinds, is_there, action_suits, trigger_suits}
 use Rattle.iv_laws_fitting.proofs.Running.{expression_plain, holds_plain}
 use Rattle.iv_laws_levels.proofs.Chains.{not_ok, ok_same, step_of}
@@ -167,19 +167,19 @@ statement_trigger_free w rows t s b h =
     by true = signal_free t
     by false = tt
 
-pub statement_triggers_free : (w : Context) (rows : List StoredRow) (table : ℕ) (e : TriggerEvent) → list_all (trigger_suits w.schema.tables) w.schema.triggers ≡ true
-    → rows_fit w.schema.tables rows ≡ true → FreeRefusal (before_statement w rows table e)
-statement_triggers_free w rows table e s h =
-    let meant : Trigger → Bool = λ t. is_before_statement t && is_on table e t in
-    in_turn_free (λ (x : Refusal). x.cause) (λ _. Unit {0}) (λ t _. while_running t.id (before_statement_run rows t)) (filter meant w.schema.triggers)
+pub statement_triggers_free : (w : Context) (rows : List StoredRow) (d : DataStatement) → list_all (trigger_suits w.schema.tables) w.schema.triggers ≡ true
+    → rows_fit w.schema.tables rows ≡ true → FreeRefusal (before_statement w rows d)
+statement_triggers_free w rows d s h =
+    in_turn_free (λ (x : Refusal). x.cause) (λ _. Unit {0}) (λ t _. while_running t.id (before_statement_run rows t)) (filter (is_before_this d) w.schema.triggers)
     (λ t i b p.
-    let own = of_filter meant t w.schema.triggers i in
+    let own = of_filter (is_before_this d) t w.schema.triggers i in
     running_free t.id (before_statement_run rows t)
     (statement_trigger_free w rows t (all_in (trigger_suits w.schema.tables) t w.schema.triggers s own.0)
-    (and_parts (is_before_statement t) (is_on table e t) own.1).0 h))
+    (and_parts (is_before_statement t) (is_on (table_of d) (event_of d) t)
+    (and_parts (is_before_statement t && is_on (table_of d) (event_of d) t) (is_on_columns (set_columns d) t) own.1).0).0 h))
     (λ t i b after p f. tt)
     tt tt
 
 pub statement_triggers_are_well_typed : StatementTriggersAreWellTyped
-statement_triggers_are_well_typed w rows table e refusal s h is =
-    free_refused (λ (x : Refusal). x.cause) (before_statement w rows table e) refusal (statement_triggers_free w rows table e s h) is
+statement_triggers_are_well_typed w rows d refusal s h is =
+    free_refused (λ (x : Refusal). x.cause) (before_statement w rows d) refusal (statement_triggers_free w rows d s h) is

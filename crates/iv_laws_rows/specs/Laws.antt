@@ -1,7 +1,7 @@
 -- The rows of every table fit its columns, whatever statements, waves and triggers do.
 use Rattle.std.specs.Prelude.{◌≡◌, ℕ, true, false, List, ◌++◌, slice_get, Some, Ok}
 use Rattle.std.specs.List.{list_all}
-use Rattle.iv_laws_rows.specs.Words.{StoredRow, Change, Table, DataStatement, Trigger, Database}
+use Rattle.iv_laws_rows.specs.Words.{StoredRow, Change, TableColumn, Table, DataStatement, Trigger, Database}
 use Rattle.iv_expr.specs.Changes.{Wave}
 use Rattle.iv_expr.specs.Scopes.{Frame, no_frame}
 use Rattle.iv_machine.specs.Databases.{database_after}
@@ -124,13 +124,13 @@ StatementFiringsFit =
     → list_all (λ x. is_on x.table (event_of_change x) t) transitions ≡ true
     → BodyFits tables (statement_firing t transitions).frame t.body
 
--- So do the bodies of all that fire on net changes which fit.
+-- So do the bodies of all that fire on net changes which fit, whatever the columns.
 abbrev pub FiringsFit : Type 0
 FiringsFit =
-    (context : Context) (d : DataStatement) (net : Wave) (place : ℕ) (x : Firing)
+    (context : Context) (d : DataStatement) (columns : List TableColumn) (net : Wave) (place : ℕ) (x : Firing)
     → list_all (trigger_suits context.schema.tables) context.schema.triggers ≡ true
     → wave_fits context.schema.tables net ≡ true
-    → slice_get (firings context d net) place ≡ Some x
+    → slice_get (firings context d columns net) place ≡ Some x
     → BodyFits context.schema.tables x.frame x.trigger.body
 
 -- ---- levels

@@ -1,7 +1,7 @@
 -- A data statement that fits meets no value of the wrong kind, and names no column that isn't there, in all that follows from it.
 use Rattle.std.specs.Prelude.{◌≡◌, ℕ, Bool, true, false, List, Err}
 use Rattle.std.specs.List.{list_all}
-use Rattle.iv_laws_rows.specs.Words.{StoredRow, Change, TriggerEvent, Cause, Refusal, DataStatement, Trigger, Database}
+use Rattle.iv_laws_rows.specs.Words.{StoredRow, Change, Cause, Refusal, DataStatement, Trigger, Database}
 use Rattle.iv_laws_rows.specs.Words.cause.{WrongShape}
 use Rattle.iv_expr.specs.Changes.{Wave}
 use Rattle.iv_expr.specs.Scopes.{Frame}
@@ -34,10 +34,10 @@ RowTriggersAreWellTyped =
 -- Nor do BEFORE statement triggers.
 abbrev pub StatementTriggersAreWellTyped : Type 0
 StatementTriggersAreWellTyped =
-    (context : Context) (rows : List StoredRow) (table : ℕ) (event : TriggerEvent) (refusal : Refusal)
+    (context : Context) (rows : List StoredRow) (statement : DataStatement) (refusal : Refusal)
     → list_all (trigger_suits context.schema.tables) context.schema.triggers ≡ true
     → rows_fit context.schema.tables rows ≡ true
-    → before_statement context rows table event ≡ Err refusal
+    → before_statement context rows statement ≡ Err refusal
     → is_ill_typed refusal.cause ≡ false
 
 -- ---- waves and levels

@@ -2,6 +2,7 @@
 pub use Rattle.iv_value.specs.declared.value.Value.{Value}
 pub use Rattle.iv_expr.specs.declared.row.StoredRow.{StoredRow}
 pub use Rattle.iv_expr.specs.declared.row.Change.{Change}
+pub use Rattle.iv_expr.specs.declared.wave.TableColumn.{TableColumn}
 pub use Rattle.iv_syntax.specs.declared.trigger.TriggerEvent.{TriggerEvent}
 pub use Rattle.iv_catalogue.specs.declared.catalogue.Table.{Table}
 pub use Rattle.iv_catalogue.specs.declared.cause.Cause.{Cause}

@@ -12,7 +12,7 @@ use Rattle.iv_parse_data.specs.Words.table_rule
 use Rattle.iv_parse_data.specs.Words.element.{Column, Constraint}
 use Rattle.iv_parse_data.specs.Series.{Maybe, InParentheses}
 use Rattle.iv_parse_data.specs.Data.{Names, IsShallowCondition}
-use Rattle.iv_parse_data.specs.Tables.{IsLiteral, IsDefault, IsConstraintName, IsReferences, IsColumnRule, IsColumnConstraint, IsTableRule, IsTableConstraint, IsElement, IsCreateTable, IsAlterTable}
+use Rattle.iv_parse_data.specs.Tables.{IsLiteral, IsDefault, IsConstraintName, IsReferences, null_words, IsColumnRule, IsColumnConstraint, IsTableRule, IsTableConstraint, IsElement, IsCreateTable, IsAlterTable}
 use Rattle.iv_resolution.specs.Constraints.{rule_of_column, rule_of_table, column_constraint, table_constraint, written_columns, written_constraints}
 use Rattle.iv_resolution.specs.Writable.{is_name, is_name_or_none, is_name_list, is_name_list_or_none, is_condition, is_literal, is_definition, is_rule, is_written_constraint, is_table_definition}
 use Rattle.iv_laws_writable.proofs.Names.{Written, front, back, join}
@@ -57,7 +57,7 @@ one_name column h = join (is_name column) true h refl
 
 column_rule_passes : (column : List ℕ) → is_name column ≡ true → Passes IsColumnRule (λ r. is_rule (rule_of_column column r))
 column_rule_passes column n ws column_rule.NotNull e w = n
-column_rule_passes column n ws column_rule.Unique e w = one_name column n
+column_rule_passes column n ws (column_rule.Unique nulls) e w = one_name column n
 column_rule_passes column n ws column_rule.PrimaryKey e w = one_name column n
 column_rule_passes column n ws (column_rule.Check c) (check, p, e) w = check_passes check c p (subst Written e w).1
 column_rule_passes column n ws (column_rule.References r) p w = join (is_name_list (column ∷ [])) _ (one_name column n) (references_pass ws r p w)
@@ -72,7 +72,7 @@ column_constraint_passes column n ws k (called, rule, time, p, q, t, e) w =
     (column_rule_passes column n rule k.rule q (front rule time (back called (rule ++ time) v)))
 
 table_rule_passes : Passes IsTableRule (λ r. is_rule (rule_of_table r))
-table_rule_passes ws (table_rule.Unique ns) (key, p, e) w = key_passes key ns p (subst Written e w).1
+table_rule_passes ws (table_rule.Unique nulls ns) (key, p, e) w = key_passes key ns p (back (null_words nulls) key (subst Written e w).1)
 table_rule_passes ws (table_rule.PrimaryKey ns) (key, p, e) w = key_passes key ns p (subst Written e w).1.1
 table_rule_passes ws (table_rule.Check c) (check, p, e) w = check_passes check c p (subst Written e w).1
 table_rule_passes ws (table_rule.ForeignKey ns r) (key, references, p, q, e) w =

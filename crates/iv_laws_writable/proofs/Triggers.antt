@@ -1,19 +1,33 @@
 -- CREATE TRIGGER whose words can be written is writable.
-use Rattle.std.proofs.Common.{◌≡◌, inl, inr, Bool, true, not, Some, None, [], ◌∷◌, ◌++◌, length, refl, subst}
+use Rattle.std.proofs.Common.{◌≡◌, inl, inr, ℕ, Bool, true, not, Some, None, List, [], ◌∷◌, ◌++◌, length, refl, ap, subst}
 use Rattle.std.specs.Prelude.{◌==◌}
 use Rattle.std.specs.List.{list_all}
+use Rattle.std.proofs.lemmas.Bool.{and_parts}
 use Rattle.iv_lex.specs.declared.kind.TokenKind.TheVariants as kind
-use Rattle.iv_lex.specs.Words.{name, plain}
+use Rattle.iv_lex.specs.Words.{Word, name, plain}
 use Rattle.iv_parse_data.specs.Series.{Maybe}
-use Rattle.iv_parse_data.specs.Data.{IsShallowCondition}
-use Rattle.iv_parse.specs.Words.{Referencing}
+use Rattle.iv_parse_data.specs.Data.{Names, IsShallowCondition}
+use Rattle.iv_parse.specs.Words.{Referencing, TriggerEvent}
+use Rattle.iv_parse.specs.Words.event
 use Rattle.iv_parse.specs.Words.action
-use Rattle.iv_parse.specs.Triggers.{IsItem, IsReferencing, IsWhen, IsAction, IsEndedAction, IsSingle, IsBlock, IsBody, time_kind, event_kind, IsTrigger}
-use Rattle.iv_resolution.specs.Writable.{is_name, is_condition, is_filter, is_action, is_trigger_definition}
-use Rattle.iv_laws_writable.proofs.Names.{Written, front, back, join}
-use Rattle.iv_laws_writable.proofs.Parts.{Passes, some_pass, some_parts, sequence_passes, some_sequence, inner_passes}
+use Rattle.iv_parse.specs.Triggers.{IsItem, IsReferencing, IsWhen, IsAction, IsEndedAction, IsSingle, IsBlock, IsBody, time_kind, IsUpdateColumns, IsEvent, IsTrigger}
+use Rattle.iv_resolution.specs.Writable.{is_name, are_names, is_name_list, is_condition, is_filter, is_action, are_event_columns, is_trigger_definition}
+use Rattle.iv_laws_writable.proofs.Names.{Written, two_parts, front, back, join}
+use Rattle.iv_laws_writable.proofs.Parts.{Passes, names_pass, some_pass, some_parts, sequence_passes, some_sequence, inner_passes}
 use Rattle.iv_laws_writable.proofs.Terms.{shallow_passes, condition_passes}
 use Rattle.iv_laws_writable.proofs.Data.{insert_passes, update_passes, delete_passes}
+
+-- ---- the columns of UPDATE OF
+
+columns_pass : Passes IsUpdateColumns are_names
+columns_pass ws [] e w = refl
+columns_pass ws (n ∷ ns) (names, p, e) w =
+    (and_parts (not (length (n ∷ ns) == 0)) (are_names (n ∷ ns)) (names_pass names (n ∷ ns) p (subst Written e w).1)).1
+
+event_passes : (ws : List Word) (e : TriggerEvent) (ns : List (List ℕ)) → IsEvent ws e ns → Written ws → are_event_columns e ns ≡ true
+event_passes ws event.Insert ns (p, e) w = ap (λ xs. length xs == 0) p
+event_passes ws event.Update ns (columns, p, e) w = columns_pass columns ns p (subst Written e w).1
+event_passes ws event.Delete ns (p, e) w = ap (λ xs. length xs == 0) p
 
 -- ---- REFERENCING and WHEN
 
@@ -64,13 +78,15 @@ body_passes ws actions (inr p) w = block_passes ws actions p w
 -- ---- the statement
 
 pub trigger_passes : Passes IsTrigger is_trigger_definition
-trigger_passes ws t (items, each, when, body, p, q, r, s, e) w =
-    let v : Written (plain kind.Create ∷ plain kind.Trigger ∷ name t.name ∷ plain (time_kind t.time) ∷ plain (event_kind t.event) ∷ plain kind.On ∷ name t.table
-    ∷ (items ++ (each ++ (when ++ body)))) = subst Written e w in
-    let table : is_name t.table ≡ true = v.1.1.1.1.1.1.0 in
-    let parts : Written (items ++ (each ++ (when ++ body))) = v.1.1.1.1.1.1.1 in
+trigger_passes ws t (happens, items, each, when, body, h, p, q, r, s, e) w =
+    let v : Written (plain kind.Create ∷ plain kind.Trigger ∷ name t.name ∷ plain (time_kind t.time)
+    ∷ (happens ++ plain kind.On ∷ name t.table ∷ (items ++ (each ++ (when ++ body))))) = subst Written e w in
+    let occasion = two_parts happens (plain kind.On ∷ name t.table ∷ (items ++ (each ++ (when ++ body)))) v.1.1.1.1 in
+    let table : is_name t.table ≡ true = occasion.1.1.0 in
+    let parts : Written (items ++ (each ++ (when ++ body))) = occasion.1.1.1 in
     let ends : Written (when ++ body) = back each (when ++ body) (back items (each ++ (when ++ body)) parts) in
     let done = some_parts is_action t.body (body_passes body t.body s (back when body ends)) in
     join (is_name t.name) _ v.1.1.0 (join (is_name t.table) _ table
+    (join (are_event_columns t.event t.columns) _ (event_passes happens t.event t.columns h occasion.0)
     (join (list_all is_item t.referencing) _ (referencing_passes items t.referencing p (front items (each ++ (when ++ body)) parts))
-    (join (is_filter t.when) _ (when_passes when t.when r (front when body ends)) (join (not (length t.body == 0)) _ done.0 done.1))))
+    (join (is_filter t.when) _ (when_passes when t.when r (front when body ends)) (join (not (length t.body == 0)) _ done.0 done.1)))))

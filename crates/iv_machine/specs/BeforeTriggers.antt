@@ -1,17 +1,17 @@
 -- BEFORE triggers: those of a statement, and those of the rows of a wave ("Triggers", "Execution of BEFORE triggers").
-use Rattle.std.specs.Prelude.{ℕ, Bool, true, false, ◌&&◌, not, if◌then◌else◌, ◌==◌, List, [], filter, find, slice_set, Some, None, is_none, Result, Ok, Err}
-use Rattle.std.specs.List.{enumerate_from}
-use Rattle.iv_machine.specs.Words.{Value, StoredRow, Change, TriggerEvent, Cause, Refusal, BodyStatement, Setting, Trigger}
+use Rattle.std.specs.Prelude.{ℕ, Bool, true, false, ◌&&◌, ◌||◌, not, if◌then◌else◌, ◌==◌, List, [], length, filter, find, slice_set, Some, None, is_none, Result, Ok, Err}
+use Rattle.std.specs.List.{list_any, enumerate_from}
+use Rattle.iv_machine.specs.Words.{Value, StoredRow, Change, TableColumn, TriggerEvent, Cause, Refusal, BodyStatement, DataStatement, Setting, Trigger}
 use Rattle.iv_machine.specs.Words.time.{Before, After}
 use Rattle.iv_machine.specs.Words.granularity
 use Rattle.iv_machine.specs.Words.event
 use Rattle.iv_machine.specs.Words.cause.{Signal}
 use Rattle.iv_machine.specs.Words.body
-use Rattle.iv_expr.specs.Changes.{Wave}
+use Rattle.iv_expr.specs.Changes.{Wave, names_column}
 use Rattle.iv_expr.specs.Scopes.{Frame, no_frame, scope_of}
 use Rattle.iv_expr.specs.Evaluation.{value, and_then}
 use Rattle.iv_machine.specs.Context.{Context, while_running, each, in_turn}
-use Rattle.iv_machine.specs.Proposals.{holds, stored_value}
+use Rattle.iv_machine.specs.Proposals.{holds, stored_value, table_of, event_of, set_columns}
 
 -- ---- which triggers are meant
 
@@ -37,6 +37,10 @@ same_event _ _ = false
 abbrev pub is_on : ℕ → TriggerEvent → Trigger → Bool
 is_on table event t = (t.table == table) && same_event t.event event
 
+-- a trigger without a list of columns, or one whose list has a column of these
+abbrev pub is_on_columns : List TableColumn → Trigger → Bool
+is_on_columns columns t = (length t.columns == 0) || list_any (names_column columns t.table) t.columns
+
 -- what kind of change it is
 abbrev pub event_of_change : Change → TriggerEvent
 event_of_change c = if is_none c.old then event.Insert else (if is_none c.new then event.Delete else event.Update)
@@ -60,11 +64,15 @@ abbrev pub before_statement_run : List StoredRow → Trigger → Result (Unit {0
 before_statement_run rows t =
     and_then (holds (scope_of no_frame rows) t.when) (λ fires. if fires then unless_signal t else Ok tt)
 
--- The BEFORE statement triggers of a table and event, by creation.
-abbrev pub before_statement : Context → List StoredRow → ℕ → TriggerEvent → Result (Unit {0}) Refusal
-before_statement context rows table event =
-    in_turn (λ t _. while_running t.id (before_statement_run rows t))
-    (filter (λ t. is_before_statement t && is_on table event t) context.schema.triggers) tt
+-- it is a BEFORE statement trigger of the statement's table and event, and of a column of its SET list where it lists columns
+abbrev pub is_before_this : DataStatement → Trigger → Bool
+is_before_this statement t =
+    is_before_statement t && is_on (table_of statement) (event_of statement) t && is_on_columns (set_columns statement) t
+
+-- The BEFORE statement triggers of a statement, by creation.
+abbrev pub before_statement : Context → List StoredRow → DataStatement → Result (Unit {0}) Refusal
+before_statement context rows statement =
+    in_turn (λ t _. while_running t.id (before_statement_run rows t)) (filter (is_before_this statement) context.schema.triggers) tt
 
 -- ---- those of the rows of a wave
 
@@ -103,8 +111,14 @@ change_after_trigger context rows t c =
 abbrev pub changes_after_triggers : Context → List StoredRow → List Trigger → List Change → Result (List Change) Refusal
 changes_after_triggers context rows triggers changes = in_turn (λ t. each (change_after_trigger context rows t)) triggers changes
 
--- A wave after its BEFORE row triggers, by their creation; tables are seen with these rows, as they are before the wave.
+-- a BEFORE row trigger, on one of these columns where it lists columns
+abbrev pub is_before_row_on : List TableColumn → Trigger → Bool
+is_before_row_on columns t = is_before_row t && is_on_columns columns t
+
+-- A wave after its BEFORE row triggers, by their creation; tables are seen with these rows, as they are before the wave. What a
+-- trigger sets adds nothing to the wave's columns.
 abbrev pub wave_after_triggers : Context → List StoredRow → Wave → Result Wave Refusal
 wave_after_triggers context rows wave =
-    and_then (changes_after_triggers context rows (filter is_before_row context.schema.triggers) wave.changes) (λ changes.
+    and_then
+    (changes_after_triggers context rows (filter (is_before_row_on wave.columns) context.schema.triggers) wave.changes) (λ changes.
     Ok (record wave { changes = changes }))

@@ -2,10 +2,11 @@
 -- changes (ISO/IEC 9075-2:1999, "Integrity constraints").
 use Rattle.std.specs.Prelude.{ℕ, ◌+◌, max, Bool, true, false, ◌&&◌, ◌||◌, not, if◌then◌else◌, ◌==◌, nat_lt, List, [], ◌∷◌, ◌++◌, length, map, filter, filter_map, flat_map, find, slice_get, Option, Some, None}
 use Rattle.std.specs.List.{list_any, list_all, enumerate_from}
-use Rattle.iv_machine.specs.Words.{Value, StoredRow, Change, ConstraintMode, MatchType, Constraint, Rule, ForeignKey, Fault, Database, Which}
+use Rattle.iv_machine.specs.Words.{Value, StoredRow, Change, ConstraintMode, MatchType, NullTreatment, Constraint, Rule, ForeignKey, Fault, Database, Which}
 use Rattle.iv_machine.specs.Words.value.{Null}
 use Rattle.iv_machine.specs.Words.mode
 use Rattle.iv_machine.specs.Words.matching.{Simple, Full}
+use Rattle.iv_machine.specs.Words.nulls.{Distinct, NotDistinct}
 use Rattle.iv_machine.specs.Words.rule
 use Rattle.iv_machine.specs.Words.which.{Immediate, Deferred, All}
 use Rattle.iv_value.specs.Truths.{is_false}
@@ -25,13 +26,18 @@ row_at rows number = find (λ r. r.number == number) rows
 
 -- ---- what a constraint asks of a row of its table
 
--- another row has another number, and holds this row's key
-abbrev pub shares_key : List ℕ → StoredRow → StoredRow → Bool
-shares_key columns row other = not (other.number == row.number) && holds_key columns (key_of columns row.values) other.values
+-- a row has this key in these columns: a key with a null is no row's, unless nulls are not distinct; then null is the same as null
+abbrev pub holds_key_with : NullTreatment → List ℕ → List Value → List Value → Bool
+holds_key_with Distinct columns key row = holds_key columns key row
+holds_key_with NotDistinct columns key row = all_same (key_of columns row) key
 
--- no other row of the table holds this row's key ("Unique constraint definition")
-abbrev pub is_unique : List StoredRow → ℕ → List ℕ → StoredRow → Bool
-is_unique rows table columns row = not (list_any (shares_key columns row) (table_rows rows table))
+-- another row has another number, and this row's key
+abbrev pub shares_key : NullTreatment → List ℕ → StoredRow → StoredRow → Bool
+shares_key nulls columns row other = not (other.number == row.number) && holds_key_with nulls columns (key_of columns row.values) other.values
+
+-- no other row of the table has this row's key ("Unique constraint definition")
+abbrev pub is_unique : List StoredRow → ℕ → NullTreatment → List ℕ → StoredRow → Bool
+is_unique rows table nulls columns row = not (list_any (shares_key nulls columns row) (table_rows rows table))
 
 -- some row of the referenced table has this key
 abbrev pub has_referenced : List StoredRow → ForeignKey → List Value → Bool
@@ -48,8 +54,8 @@ matches Full rows fk key = all_null key || (none_null key && has_referenced rows
 abbrev pub obeys : List StoredRow → ℕ → Rule → StoredRow → Bool
 obeys rows table (rule.NotNull column) row = not (is_null (value_at row.values column))
 obeys rows table (rule.Check condition) row = not (is_false (check_truth condition row.values))
-obeys rows table (rule.Unique columns) row = is_unique rows table columns row
-obeys rows table (rule.PrimaryKey columns) row = none_null (key_of columns row.values) && is_unique rows table columns row
+obeys rows table (rule.Unique nulls columns) row = is_unique rows table nulls columns row
+obeys rows table (rule.PrimaryKey columns) row = none_null (key_of columns row.values) && is_unique rows table Distinct columns row
 obeys rows table (rule.ForeignKey fk) row = matches fk.matching rows fk (key_of fk.columns row.values)
 
 -- Whether a row of a constraint's table satisfies it, among these rows.

@@ -1,7 +1,7 @@
 -- A data statement with all that follows from it: a level ("Delete statement: searched", "Insert statement", "Update statement:
 -- searched", "Execution of triggers").
-use Rattle.std.specs.Prelude.{ℕ, zero, suc, ◌||◌, not, if◌then◌else◌, nat_lt, List, [], ◌∷◌, length, map, filter, flat_map, None, Result, Ok}
-use Rattle.iv_machine.specs.Words.{Change, BodyStatement, DataStatement, Trigger, Database}
+use Rattle.std.specs.Prelude.{ℕ, zero, suc, Bool, ◌||◌, ◌&&◌, ◌++◌, not, if◌then◌else◌, nat_lt, List, [], ◌∷◌, length, map, filter, flat_map, None, Result, Ok}
+use Rattle.iv_machine.specs.Words.{Change, TableColumn, BodyStatement, DataStatement, Trigger, Database}
 use Rattle.iv_machine.specs.Words.cause.{Violation, Signal, DepthLimit, TooManyChanges}
 use Rattle.iv_machine.specs.Words.body
 use Rattle.iv_machine.specs.Words.which.{Immediate}
@@ -10,8 +10,8 @@ use Rattle.iv_expr.specs.Scopes.{Frame, scope_of}
 use Rattle.iv_expr.specs.Evaluation.{and_then}
 use Rattle.iv_machine.specs.Databases.{scan, is_chosen, size}
 use Rattle.iv_machine.specs.Context.{Context, Failure, fails, over, unless_first, with_count, inside_trigger, in_turn}
-use Rattle.iv_machine.specs.Proposals.{holds, proposed_wave, table_of, event_of}
-use Rattle.iv_machine.specs.BeforeTriggers.{is_before, for_each_row, is_on, event_of_change, placed_statements, before_statement}
+use Rattle.iv_machine.specs.Proposals.{holds, proposed_wave, table_of, event_of, set_columns}
+use Rattle.iv_machine.specs.BeforeTriggers.{is_before, for_each_row, is_on, is_on_columns, event_of_change, placed_statements, before_statement}
 use Rattle.iv_machine.specs.Waves.{settled_waves, net_wave}
 
 -- ---- which AFTER triggers fire, and on what
@@ -39,10 +39,18 @@ firings_of statement t transitions =
 abbrev pub transitions_of : Trigger → Wave → List Change
 transitions_of t net = filter (λ c. is_on c.table (event_of_change c) t) net.changes
 
--- The firings that the net changes of a level fix, by the triggers' creation, then by row.
-abbrev pub firings : Context → DataStatement → Wave → List Firing
-firings context statement net =
-    flat_map (λ t. firings_of statement t (transitions_of t net)) (filter (λ t. not (is_before t)) context.schema.triggers)
+-- the columns of a level: those of the SET list of its statement, and those of its waves
+abbrev pub level_columns : DataStatement → List Wave → List TableColumn
+level_columns statement waves = set_columns statement ++ flat_map (λ wave. wave.columns) waves
+
+-- an AFTER trigger, on one of these columns where it lists columns
+abbrev pub is_after_on : List TableColumn → Trigger → Bool
+is_after_on columns t = not (is_before t) && is_on_columns columns t
+
+-- The firings that the columns and the net changes of a level fix, by the triggers' creation, then by row.
+abbrev pub firings : Context → DataStatement → List TableColumn → Wave → List Firing
+firings context statement columns net =
+    flat_map (λ t. firings_of statement t (transitions_of t net)) (filter (is_after_on columns) context.schema.triggers)
 
 -- ---- what a level gives
 
@@ -98,11 +106,11 @@ immediate_check context db =
 abbrev pub level_steps : Runs → Context → DataStatement → Frame → Database → ℕ → Result Finished Failure
 level_steps run context statement frame db budget =
     and_then (over db (proposed_wave context db frame statement)) (λ wave.
-    and_then (with_count db (before_statement context db.rows (table_of statement) (event_of statement))) (λ _.
+    and_then (with_count db (before_statement context db.rows statement)) (λ _.
     and_then (settled_waves context db budget wave) (λ s.
     and_then (immediate_check context s.last) (λ _.
     and_then
-    (firings_run run (firings context statement (net_wave db.rows s.last.rows s.waves))
+    (firings_run run (firings context statement (level_columns statement s.waves) (net_wave db.rows s.last.rows s.waves))
     (record { database = s.last; budget = s.rest })) (λ at.
     Ok (record { database = at.database; rest = at.budget; size = size wave }))))))
 

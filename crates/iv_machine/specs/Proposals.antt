@@ -2,7 +2,7 @@
 -- "Update statement: searched").
 use Rattle.std.specs.Prelude.{ℕ, Bool, if◌then◌else◌, List, [], map, filter_map, fold, zip, slice_get, slice_set, Option, Some, None, Result, Ok, Err}
 use Rattle.std.specs.List.{enumerate_from}
-use Rattle.iv_machine.specs.Words.{Value, StoredRow, Change, Cond, ExprFault, TriggerEvent, Column, Cause, Setting, Outputs, InsertColumns, InsertRows, DataStatement, Database}
+use Rattle.iv_machine.specs.Words.{Value, StoredRow, Change, TableColumn, Cond, ExprFault, TriggerEvent, Column, Cause, Setting, Outputs, InsertColumns, InsertRows, DataStatement, Database}
 use Rattle.iv_machine.specs.Words.fit.{Yes, WrongKind, TooLong}
 use Rattle.iv_machine.specs.Words.event
 use Rattle.iv_machine.specs.Words.cause.{TextTooLong, WrongShape}
@@ -12,7 +12,7 @@ use Rattle.iv_machine.specs.Words.insert_rows as rows
 use Rattle.iv_machine.specs.Words.data_statement
 use Rattle.iv_value.specs.Truths.{is_true}
 use Rattle.iv_value.specs.Values.{fit_of}
-use Rattle.iv_expr.specs.Changes.{Wave, wave_of}
+use Rattle.iv_expr.specs.Changes.{Wave}
 use Rattle.iv_expr.specs.Scopes.{Scope, Frame, scope_of, within, range_rows, table_rows}
 use Rattle.iv_expr.specs.Evaluation.{value, truth, and_then}
 use Rattle.iv_catalogue.specs.Catalogues.{Schema}
@@ -129,9 +129,10 @@ proposed_changes context db frame (data_statement.Update table settings filter) 
 proposed_changes context db frame (data_statement.Delete table filter) =
     and_then (matching_rows (scope_of frame db.rows) filter (table_rows db.rows table)) (λ found. Ok (map deletion found))
 
--- The wave that a statement proposes.
-abbrev pub proposed_wave : Context → Database → Frame → DataStatement → Result Wave Cause
-proposed_wave context db frame statement = and_then (proposed_changes context db frame statement) (λ changes. Ok (wave_of changes))
+-- the columns of the SET list of an UPDATE
+abbrev pub set_columns : DataStatement → List TableColumn
+set_columns (data_statement.Update table settings filter) = map (λ s. record { table = table; column = s.column }) settings
+set_columns _ = []
 
 -- the table that a statement changes, and how
 abbrev pub table_of : DataStatement → ℕ
@@ -143,3 +144,9 @@ abbrev pub event_of : DataStatement → TriggerEvent
 event_of (data_statement.Insert _ _ _) = event.Insert
 event_of (data_statement.Update _ _ _) = event.Update
 event_of (data_statement.Delete _ _) = event.Delete
+
+-- The wave that a statement proposes.
+abbrev pub proposed_wave : Context → Database → Frame → DataStatement → Result Wave Cause
+proposed_wave context db frame statement =
+    and_then (proposed_changes context db frame statement) (λ changes.
+    Ok (record { changes = changes; columns = set_columns statement }))

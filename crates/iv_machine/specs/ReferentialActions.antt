@@ -2,14 +2,14 @@
 -- wave that follows (ISO/IEC 9075-2:1999, "Referential constraint definition").
 use Rattle.std.specs.Prelude.{ℕ, Bool, true, false, ◌&&◌, not, if◌then◌else◌, ◌==◌, nat_lt, List, [], ◌∷◌, map, filter, filter_map, flat_map, zip, Option, Some, None, Result, Ok}
 use Rattle.std.specs.List.{list_any, enumerate_from}
-use Rattle.iv_machine.specs.Words.{Value, StoredRow, Change, ReferentialAction, Constraint, Rule, ForeignKey, Fault, Database, Effect}
+use Rattle.iv_machine.specs.Words.{Value, StoredRow, Change, TableColumn, ReferentialAction, Constraint, Rule, ForeignKey, Fault, Database, Effect}
 use Rattle.iv_machine.specs.Words.value.{Null}
 use Rattle.iv_machine.specs.Words.referential_action as action
 use Rattle.iv_machine.specs.Words.rule
 use Rattle.iv_machine.specs.Words.cause.{Restrict, ActionConflict}
 use Rattle.iv_machine.specs.Words.effect.{DeleteRow, SetColumns}
 use Rattle.iv_value.specs.Values.{is_same, all_same}
-use Rattle.iv_expr.specs.Changes.{Wave, wave_of}
+use Rattle.iv_expr.specs.Changes.{Wave}
 use Rattle.iv_expr.specs.Scopes.{table_rows}
 use Rattle.iv_catalogue.specs.Catalogues.{Schema}
 use Rattle.iv_key.specs.Keys.{value_at, key_of, none_null, holds_key}
@@ -145,10 +145,27 @@ change_by row [] = None
 change_by row (e ∷ es) =
     Some (record { table = row.table; row = row.number; old = Some row.values; new = values_after row.values (e ∷ es) })
 
+-- a foreign key sets values of a row: one of these effects is its own, and none deletes the row
+abbrev pub sets_values : ℕ → List (ℕ × Effect) → Bool
+sets_values id es = not (have_deletion es) && list_any (λ e. e.0 == id) es
+
+-- the referencing columns of a foreign key
+abbrev pub referencing_columns : Reference → List TableColumn
+referencing_columns k = map (λ column. record { table = k.table; column = column }) k.key.columns
+
+-- the columns of the foreign keys that set values of a row of the later database, by creation; values that are equal count
+abbrev pub columns_set_next : Schema → LostKeys → List StoredRow → List StoredRow → List TableColumn
+columns_set_next schema lost rows later =
+    flat_map referencing_columns
+    (filter (λ k. list_any (λ after. sets_values k.id (effects_on schema lost (row_at rows after.number) after)) later)
+    (references schema.constraints))
+
 -- The wave that follows from lost keys: the changes of the rows of the later database by their effects, by row.
 abbrev pub next_wave : Schema → LostKeys → List StoredRow → List StoredRow → Wave
-next_wave schema lost rows later =
-    wave_of (filter_map (λ after. change_by after (effects_on schema lost (row_at rows after.number) after)) later)
+next_wave schema lost rows later = record {
+  changes = filter_map (λ after. change_by after (effects_on schema lost (row_at rows after.number) after)) later;
+  columns = columns_set_next schema lost rows later;
+}
 
 -- ---- conflicts
 

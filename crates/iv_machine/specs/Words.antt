@@ -4,10 +4,13 @@ pub use Rattle.iv_value.specs.declared.value.Value.TheVariants as value
 pub use Rattle.iv_value.specs.declared.value.Fit.TheVariants as fit
 pub use Rattle.iv_expr.specs.declared.row.StoredRow.{StoredRow}
 pub use Rattle.iv_expr.specs.declared.row.Change.{Change}
+pub use Rattle.iv_expr.specs.declared.wave.TableColumn.{TableColumn}
 pub use Rattle.iv_expr.specs.declared.tree.Cond.{Cond}
 pub use Rattle.iv_expr.specs.declared.tree.ExprFault.{ExprFault}
 pub use Rattle.iv_syntax.specs.declared.table.MatchType.{MatchType}
 pub use Rattle.iv_syntax.specs.declared.table.MatchType.TheVariants as matching
+pub use Rattle.iv_syntax.specs.declared.table.NullTreatment.{NullTreatment}
+pub use Rattle.iv_syntax.specs.declared.table.NullTreatment.TheVariants as nulls
 pub use Rattle.iv_syntax.specs.declared.table.ReferentialAction.{ReferentialAction}
 pub use Rattle.iv_syntax.specs.declared.table.ReferentialAction.TheVariants as referential_action
 pub use Rattle.iv_syntax.specs.declared.statement.ConstraintMode.{ConstraintMode}

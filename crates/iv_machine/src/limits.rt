@@ -8,7 +8,7 @@ use std::marker::Model;
 pub const LEAST_DEPTH: u8 = 1;
 
 /// The greatest depth of triggers that a session may have.
-pub const GREATEST_DEPTH: u8 = 32;
+pub const GREATEST_DEPTH: u8 = 64;
 
 /// The least number of row changes in a statement that a session may have.
 pub const FEWEST_CHANGES_IN_A_STATEMENT: u32 = 1;
@@ -22,7 +22,7 @@ pub const MOST_CHANGES_IN_A_TRANSACTION: u64 = 1_048_576;
 /// The last number that a row may have.
 pub const LAST_ROW_NUMBER: u64 = 9_223_372_036_854_775_807;
 
-/// How deep triggers may nest, 1 to 32, and how many row changes one statement may make, 1 to 65,536.
+/// How deep triggers may nest, 1 to 64, and how many row changes one statement may make, 1 to 65,536.
 /// Contracts see them as the two numbers.
 #[derive(Clone, Copy, Debug, PartialEq, Eq)]
 pub struct Limits {
@@ -45,7 +45,7 @@ impl Model for Limits {
 }
 
 impl Limits {
-    /// These limits; none where the depth isn't from 1 to 32 or the changes aren't from 1 to 65,536.
+    /// These limits; none where the depth isn't from 1 to 64 or the changes aren't from 1 to 65,536.
     pub fn new(depth: u8, changes: u32) -> Option<Limits>
         ensures { result ≡
             (if nat_le least_depth depth && nat_le depth greatest_depth

@@ -16,25 +16,33 @@ use iv_catalogue::{
 };
 use iv_expr::{StoredRow, TableId, check_truth};
 use iv_key::{Key, value_at};
-use iv_syntax::{ConstraintMode, MatchType};
+use iv_syntax::{ConstraintMode, MatchType, NullTreatment};
 use iv_value::{Truth, Value};
 use std::alloc::{AllocError, Global};
 
-// Whether another row holds this row's key.
-fn is_equal(columns: &[u32], row: &StoredRow, other: &StoredRow) -> bool
-    ensures { result ≡ shares_key columns.now row.now other.now }
+// Whether another row has this row's key.
+fn shares_key(nulls: NullTreatment, columns: &[u32], row: &StoredRow, other: &StoredRow) -> bool
+    ensures { result ≡ shares_key nulls columns.now row.now other.now }
 {
     let key = Key::new(columns, other.values.values());
-    other.number != row.number
-        && key.none_null()
-        && key.same(&Key::new(columns, row.values.values()))
+    let may_be_same = match nulls {
+        NullTreatment::Distinct => key.none_null(),
+        NullTreatment::NotDistinct => true,
+    };
+    other.number != row.number && may_be_same && key.same(&Key::new(columns, row.values.values()))
 }
 
-fn is_unique(rows: &[StoredRow], table: TableId, columns: &[u32], row: &StoredRow) -> bool
-    ensures { result ≡ is_unique rows.now table columns.now row.now }
+fn is_unique(
+    rows: &[StoredRow],
+    table: TableId,
+    nulls: NullTreatment,
+    columns: &[u32],
+    row: &StoredRow,
+) -> bool
+    ensures { result ≡ is_unique rows.now table nulls columns.now row.now }
 {
     for other in rows {
-        if other.table == table && is_equal(columns, row, other) {
+        if other.table == table && shares_key(nulls, columns, row, other) {
             return false;
         }
     }
@@ -82,10 +90,16 @@ fn obeys(rows: &[StoredRow], table: TableId, rule: &Rule, row: &StoredRow) -> bo
     match rule {
         Rule::NotNull(column) => !value_at(row.values.values(), *column).is_null(),
         Rule::Check(condition) => passes_check(check_truth(condition, row.values.values())),
-        Rule::Unique(columns) => is_unique(rows, table, columns.as_slice(), row),
+        Rule::Unique(nulls, columns) => is_unique(rows, table, *nulls, columns.as_slice(), row),
         Rule::PrimaryKey(columns) => {
             Key::new(columns.as_slice(), row.values.values()).none_null()
-                && is_unique(rows, table, columns.as_slice(), row)
+                && is_unique(
+                    rows,
+                    table,
+                    NullTreatment::Distinct,
+                    columns.as_slice(),
+                    row,
+                )
         }
         Rule::ForeignKey(key) => matches(rows, key, row.values.values()),
     }

@@ -6,8 +6,7 @@ use Rattle.iv_catalogue.specs.declared.constraint.Constraint.{Constraint}
 use Rattle.iv_laws_levels.proofs.Keys.{false_true, and_first}
 use Rattle.iv_laws_levels.proofs.RowNumbers.{some_none, some_same}
 use Rattle.iv_laws_kept.specs.Numbers.{has, in_rising_order}
-use Rattle.iv_laws_kept.specs.Kept.{Group, Groups, groups_of, break_rule, fault_of, is_empty, is_violating, kept_rows}
-use Rattle.iv_key.specs.Keys.{none_null}
+use Rattle.iv_laws_kept.specs.Kept.{Group, Groups, groups_of, break_rule, violates_alone, fault_of, is_empty, is_violating, kept_rows}
 use Rattle.iv_laws_kept.specs.Marks.{Marks, marks_of, AreMarked, rows_at}
 use Rattle.iv_laws_kept.proofs.RisingNumbers.{has_head, has_in_rising_order}
 use Rattle.iv_laws_kept.proofs.Groups.{has_chosen}
@@ -120,7 +119,7 @@ module _ (constraints : List Constraint) (groups : Groups) (marks : Marks) (few 
           passing (is_violating constraints groups c.constraint) (groups_of groups id) found.place (sym (are id c.constraint found.place c.at) ∙ found.is)
 
       row : Member set.group.rows
-      row = member_of set.group.rows (and_first (not (is_empty set.group.rows)) (not (none_null set.group.key) || break_rule constraints groups c.constraint.rule set.group.key set.group.rows) set.passes)
+      row = member_of set.group.rows (and_first (not (is_empty set.group.rows)) (violates_alone c.constraint.rule set.group.key || break_rule constraints groups c.constraint.rule set.group.key set.group.rows) set.passes)
 
       is_in : has row.number (kept_rows constraints groups id c.constraint) ≡ true
       is_in = has_in_rising_order row.number _

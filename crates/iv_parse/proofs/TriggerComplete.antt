@@ -1,5 +1,5 @@
 -- What is in the grammar of CREATE TRIGGER is read.
-use Rattle.std.proofs.Common.{◌≡◌, inl, inr, ℕ, false, Option, Some, None, List, [], ◌∷◌, ◌++◌, length, refl, ◌∙◌, ap, append_assoc}
+use Rattle.std.proofs.Common.{◌≡◌, inl, inr, ℕ, false, Option, Some, None, List, [], ◌∷◌, ◌++◌, length, refl, sym, ◌∙◌, ap, append_assoc}
 use Rattle.iv_lex.specs.declared.kind.TokenKind.{TokenKind}
 use Rattle.iv_lex.specs.declared.kind.TokenKind.TheVariants as kind
 use Rattle.iv_lex.specs.Words.{Word, name, plain}
@@ -18,11 +18,11 @@ use Rattle.iv_parse_data.specs.readers.Series.{read_sequence, skip}
 use Rattle.iv_parse_data.specs.Data.{IsInsert}
 use Rattle.iv_parse_data.specs.readers.Data.{then_word, read_name, read_check}
 use Rattle.iv_parse_data.specs.readers.Items.{read_transition, read_referencing_item_of, read_referencing_item}
-use Rattle.iv_parse.specs.Triggers.{side_kind, IsTransition, IsItem, IsReferencing, IsGranularity, IsWhen, IsAction, IsEndedAction, IsBody, time_kind, event_kind, IsTrigger}
-use Rattle.iv_parse.specs.readers.Triggers.{read_middle, trigger_of, some_items, read_referencing, read_each, read_granularity, read_when, read_set_variable, read_signal, read_other_action, read_delete_action, read_update_action, read_action, read_with_semicolon, read_ended_action, some_actions, read_block, read_single, read_body, read_action_time, read_other_event, read_event, read_occasion, read_trigger_rest, read_trigger}
+use Rattle.iv_parse.specs.Triggers.{side_kind, IsTransition, IsItem, IsReferencing, IsGranularity, IsWhen, IsAction, IsEndedAction, IsBody, time_kind, IsUpdateColumns, IsEvent, IsTrigger}
+use Rattle.iv_parse.specs.readers.Triggers.{read_middle, trigger_of, some_items, read_referencing, read_each, read_granularity, read_when, read_set_variable, read_signal, read_other_action, read_delete_action, read_update_action, read_action, read_with_semicolon, read_ended_action, some_actions, read_block, read_single, read_body, read_action_time, read_update_columns, read_update_event, read_other_event, read_event, read_occasion, read_trigger_rest, read_trigger}
 use Rattle.iv_parse_data.proofs.Complete.{Anything}
 use Rattle.iv_parse_data.proofs.OptionalComplete.{maybe_after, Parts, sequence_complete}
-use Rattle.iv_parse_data.proofs.DataComplete.{EndsStatement, semicolon, shallow_complete, check_complete, insert_reads, update_reads, delete_reads, other_word, statement_expression}
+use Rattle.iv_parse_data.proofs.DataComplete.{EndsStatement, semicolon, names_complete, shallow_complete, check_complete, insert_reads, update_reads, delete_reads, other_word, statement_expression}
 
 abbrev named : Side → TransitionName → List ℕ → List Word → Option (Option Referencing × List Word)
 named s w n more = Some (Some (record { side = s; what = w; name = n }), more)
@@ -192,14 +192,34 @@ body_reads (a ∷ xs) front rest (inr (acts, p, w)) e =
     ∙ ap (λ z. then_read (read_sequence read_ended_action (length z) z) some_actions) (append_assoc acts (plain kind.End ∷ []) rest)
     ∙ ap (λ o. then_read o some_actions) (sequence_complete IsEndedAction Anything read_ended_action ended_parts (a ∷ xs) acts (plain kind.End ∷ rest) p tt (end_reads rest))
 
-occasion_reads : (t : ActionTime) (e : TriggerEvent) (rest : List Word) → read_occasion (plain (time_kind t) ∷ plain (event_kind e) ∷ plain kind.On ∷ rest) ≡ Some ((t, e), rest)
-unfolding read_occasion read_action_time read_event read_other_event
-occasion_reads action_time.Before event.Insert rest = refl
-occasion_reads action_time.Before event.Update rest = refl
-occasion_reads action_time.Before event.Delete rest = refl
-occasion_reads action_time.After event.Insert rest = refl
-occasion_reads action_time.After event.Update rest = refl
-occasion_reads action_time.After event.Delete rest = refl
+action_time_reads : (t : ActionTime) (rest : List Word) → read_action_time (plain (time_kind t) ∷ rest) ≡ Some (t, rest)
+unfolding read_action_time
+action_time_reads action_time.Before rest = refl
+action_time_reads action_time.After rest = refl
+
+update_columns_reads : (ns : List (List ℕ)) (front rest : List Word) → IsUpdateColumns front ns → read_update_columns (front ++ plain kind.On ∷ rest) ≡ Some (ns, plain kind.On ∷ rest)
+unfolding read_update_columns
+update_columns_reads [] front rest p = ap (λ z. read_update_columns (z ++ plain kind.On ∷ rest)) p
+update_columns_reads (n ∷ ns) front rest (names, p, w) =
+    ap (λ z. read_update_columns (z ++ plain kind.On ∷ rest)) w ∙ names_complete.reads (n ∷ ns) names (plain kind.On ∷ rest) p (tt, refl)
+
+event_reads : (e : TriggerEvent) (ns : List (List ℕ)) (front rest : List Word) → IsEvent front e ns → read_event (front ++ plain kind.On ∷ rest) ≡ Some ((e, ns), plain kind.On ∷ rest)
+unfolding read_event read_other_event read_update_event
+event_reads event.Insert ns front rest (p, w) =
+    ap (λ z. read_event (z ++ plain kind.On ∷ rest)) w ∙ ap (λ xs. Some ((event.Insert, xs), plain kind.On ∷ rest)) (sym p)
+event_reads event.Update ns front rest (columns, p, w) =
+    ap (λ z. read_event (z ++ plain kind.On ∷ rest)) w
+    ∙ ap (λ o. then_read o (λ xs more. Some ((event.Update, xs), more))) (update_columns_reads ns columns rest p)
+event_reads event.Delete ns front rest (p, w) =
+    ap (λ z. read_event (z ++ plain kind.On ∷ rest)) w ∙ ap (λ xs. Some ((event.Delete, xs), plain kind.On ∷ rest)) (sym p)
+
+occasion_reads : (t : ActionTime) (e : TriggerEvent) (ns : List (List ℕ)) (front rest : List Word) → IsEvent front e ns
+    → read_occasion (plain (time_kind t) ∷ (front ++ plain kind.On ∷ rest)) ≡ Some ((t, e, ns), rest)
+unfolding read_occasion
+occasion_reads t e ns front rest p =
+    ap (λ o. then_read o (λ x more. then_read (read_event more) (λ y left. then_word kind.On left (λ last. Some ((x, y.0, y.1), last)))))
+    (action_time_reads t (front ++ plain kind.On ∷ rest))
+    ∙ ap (λ o. then_read o (λ y left. then_word kind.On left (λ last. Some ((t, y.0, y.1), last)))) (event_reads e ns front rest p)
 
 -- what follows the items begins with none of these
 tail_begins : (k : TokenKind) → Outside k → same kind.When k ≡ false → same kind.For k ≡ false → (t : TriggerDefinition) (each when body rest : List Word)
@@ -223,20 +243,22 @@ middle_reads t items each when body rest p q r s =
     (when_reads t.when when (body ++ rest) r (body_begins kind.When (record { begin = refl; insert = refl; update = refl; delete = refl; signal = refl; set = refl }) t.body body rest s))
 
 rest_reads : (t : TriggerDefinition) (items each when body rest : List Word) → IsReferencing items t.referencing → IsGranularity each t.granularity → Maybe IsWhen when t.when → IsBody body t.body → EndsStatement rest
-    → read_trigger_rest t.name (t.time, t.event) t.table (items ++ (each ++ (when ++ (body ++ rest)))) ≡ Some (t, rest)
+    → read_trigger_rest t.name (t.time, t.event, t.columns) t.table (items ++ (each ++ (when ++ (body ++ rest)))) ≡ Some (t, rest)
 unfolding read_trigger_rest
 rest_reads t items each when body rest p q r s e =
-    ap (λ o. then_read o (λ m a. then_read (read_body a) (λ x left. Some (trigger_of t.name (t.time, t.event) t.table m x, left)))) (middle_reads t items each when body rest p q r s)
-    ∙ ap (λ o. then_read o (λ x left. Some (trigger_of t.name (t.time, t.event) t.table (t.referencing, t.granularity, t.when) x, left))) (body_reads t.body body rest s e)
+    ap (λ o. then_read o (λ m a. then_read (read_body a) (λ x left. Some (trigger_of t.name (t.time, t.event, t.columns) t.table m x, left)))) (middle_reads t items each when body rest p q r s)
+    ∙ ap (λ o. then_read o (λ x left. Some (trigger_of t.name (t.time, t.event, t.columns) t.table (t.referencing, t.granularity, t.when) x, left))) (body_reads t.body body rest s e)
 
 pub trigger_reads : (t : TriggerDefinition) (front rest : List Word) → IsTrigger front t → EndsStatement rest
     → (back : List Word) × (front ++ rest ≡ plain kind.Create ∷ plain kind.Trigger ∷ back) × (read_trigger back ≡ Some (t, rest))
 unfolding read_trigger
-trigger_reads t front rest (items, each, when, body, p, q, r, s, w) e = (
-  name t.name ∷ plain (time_kind t.time) ∷ plain (event_kind t.event) ∷ plain kind.On ∷ name t.table ∷ (items ++ (each ++ (when ++ (body ++ rest)))),
+trigger_reads t front rest (happens, items, each, when, body, h, p, q, r, s, w) e = (
+  name t.name ∷ plain (time_kind t.time) ∷ (happens ++ plain kind.On ∷ name t.table ∷ (items ++ (each ++ (when ++ (body ++ rest))))),
   ap (λ z. z ++ rest) w
-      ∙ ap (λ z. plain kind.Create ∷ plain kind.Trigger ∷ name t.name ∷ plain (time_kind t.time) ∷ plain (event_kind t.event) ∷ plain kind.On ∷ name t.table ∷ z)
-      (append_assoc items (each ++ (when ++ body)) rest ∙ ap (λ z. items ++ z) (append_assoc each (when ++ body) rest ∙ ap (λ z. each ++ z) (append_assoc when body rest))),
-  ap (λ o. then_read o (λ o b. then_read (read_name b) (λ x left. read_trigger_rest t.name o x left))) (occasion_reads t.time t.event (name t.table ∷ (items ++ (each ++ (when ++ (body ++ rest))))))
+      ∙ ap (λ z. plain kind.Create ∷ plain kind.Trigger ∷ name t.name ∷ plain (time_kind t.time) ∷ z)
+      (append_assoc happens (plain kind.On ∷ name t.table ∷ (items ++ (each ++ (when ++ body)))) rest
+      ∙ ap (λ z. happens ++ plain kind.On ∷ name t.table ∷ z)
+      (append_assoc items (each ++ (when ++ body)) rest ∙ ap (λ z. items ++ z) (append_assoc each (when ++ body) rest ∙ ap (λ z. each ++ z) (append_assoc when body rest)))),
+  ap (λ o. then_read o (λ o b. then_read (read_name b) (λ x left. read_trigger_rest t.name o x left))) (occasion_reads t.time t.event t.columns happens (name t.table ∷ (items ++ (each ++ (when ++ (body ++ rest))))) h)
       ∙ rest_reads t items each when body rest p q r s e,
 )

@@ -11,16 +11,16 @@ use Rattle.iv_parse.specs.Words.transition
 use Rattle.iv_parse.specs.Words.action
 use Rattle.iv_parse_terms.specs.After.{after, if_some, then_read}
 use Rattle.iv_parse_data.specs.Series.{Sequence, Maybe, InParentheses, Optional}
-use Rattle.iv_parse_data.specs.readers.Series.{read_sequence}
-use Rattle.iv_parse_data.specs.Data.{IsShallow, IsShallowCondition, IsInsert, IsUpdate, IsDelete}
+use Rattle.iv_parse_data.specs.readers.Series.{read_series, read_sequence}
+use Rattle.iv_parse_data.specs.Data.{Names, IsShallow, IsShallowCondition, IsInsert, IsUpdate, IsDelete}
 use Rattle.iv_parse_data.specs.readers.Data.{read_name, read_shallow, read_check, read_insert, read_update, read_delete}
 use Rattle.iv_parse_data.specs.readers.Tables.{read_quoted}
 use Rattle.iv_parse_data.specs.readers.Items.{read_transition, read_referencing_item_of, read_referencing_item}
-use Rattle.iv_parse.specs.Triggers.{side_kind, IsTransition, IsItem, IsReferencing, IsGranularity, IsWhen, IsAction, IsEndedAction, IsBody, time_kind, event_kind, IsTrigger}
-use Rattle.iv_parse.specs.readers.Triggers.{read_middle, trigger_of, some_items, read_referencing, read_each, read_granularity, read_when, read_set_variable, read_signal, read_other_action, read_delete_action, read_update_action, read_action, read_with_semicolon, read_ended_action, some_actions, read_block, read_single, read_body, read_action_time, read_other_event, read_event, read_occasion, read_trigger_rest, read_trigger}
+use Rattle.iv_parse.specs.Triggers.{side_kind, IsTransition, IsItem, IsReferencing, IsGranularity, IsWhen, IsAction, IsEndedAction, IsBody, time_kind, IsUpdateColumns, IsEvent, IsTrigger}
+use Rattle.iv_parse.specs.readers.Triggers.{read_middle, trigger_of, some_items, read_referencing, read_each, read_granularity, read_when, read_set_variable, read_signal, read_other_action, read_delete_action, read_update_action, read_action, read_with_semicolon, read_ended_action, some_actions, read_block, read_single, read_body, read_action_time, read_update_columns, read_update_event, read_other_event, read_event, read_occasion, read_trigger_rest, read_trigger}
 use Rattle.iv_parse_data.proofs.Fronts.{Good, nothing_good, done_good, after_good, name_good, then_good, made_good, skip_good}
 use Rattle.iv_parse_data.proofs.OptionalSound.{IsQuoted, quoted_good, sequence_good}
-use Rattle.iv_parse_data.proofs.DataSound.{shallow_good, check_good, insert_good, update_good, delete_good}
+use Rattle.iv_parse_data.proofs.DataSound.{names_good, shallow_good, check_good, insert_good, update_good, delete_good}
 
 transition_good : (ws : List Word) → Good IsTransition ws (read_transition ws)
 unfolding read_transition
@@ -132,14 +132,14 @@ body_good ws =
     after_good IsBody kind.Begin ws read_block _ block_good
     (made_good IsAction IsBody ws (read_action ws) (λ a. a ∷ []) (action_good ws) (λ a front p. inl p))
 
-abbrev pub IsOccasion : List Word → ActionTime × TriggerEvent → Type 0
-IsOccasion ws o = ws ≡ plain (time_kind o.0) ∷ plain (event_kind o.1) ∷ plain kind.On ∷ []
+abbrev pub IsOccasion : List Word → ActionTime × TriggerEvent × List (List ℕ) → Type 0
+IsOccasion ws o = (happens : List Word) × IsEvent happens o.1 o.2 × (ws ≡ plain (time_kind o.0) ∷ (happens ++ plain kind.On ∷ []))
 
 abbrev pub IsTime : List Word → ActionTime → Type 0
 IsTime ws t = ws ≡ plain (time_kind t) ∷ []
 
-abbrev pub IsEvent : List Word → TriggerEvent → Type 0
-IsEvent ws e = ws ≡ plain (event_kind e) ∷ []
+abbrev pub IsEventOf : List Word → TriggerEvent × List (List ℕ) → Type 0
+IsEventOf ws e = IsEvent ws e.0 e.1
 
 time_good : (ws : List Word) → Good IsTime ws (read_action_time ws)
 unfolding read_action_time
@@ -147,20 +147,38 @@ time_good ws =
     after_good IsTime kind.Before ws _ _ (λ rest. done_good _ rest action_time.Before refl)
     (after_good IsTime kind.After ws _ None (λ rest. done_good _ rest action_time.After refl) (nothing_good IsTime ws))
 
-event_good : (ws : List Word) → Good IsEvent ws (read_event ws)
-unfolding read_event read_other_event
+-- names that are read are a list of OF
+named_columns : (ns : List (List ℕ)) (front : List Word) → Names front ns → IsUpdateColumns (plain kind.Of ∷ front) ns
+named_columns [] front p = absurd p
+named_columns (n ∷ ns) front p = (front, p, refl)
+
+listed_columns_good : (ws : List Word) → Good (λ back ns. IsUpdateColumns (plain kind.Of ∷ back) ns) ws (read_series read_name ws)
+listed_columns_good ws = record {
+  holds = λ ns rest h.
+      let good = names_good ws in
+      let fit = good.holds ns rest h in
+      record { front = fit.front; part = named_columns ns fit.front fit.part; whole = fit.whole };
+}
+
+update_columns_good : (ws : List Word) → Good IsUpdateColumns ws (read_update_columns ws)
+unfolding read_update_columns
+update_columns_good ws = after_good IsUpdateColumns kind.Of ws (read_series read_name) _ listed_columns_good (done_good IsUpdateColumns ws [] refl)
+
+event_good : (ws : List Word) → Good IsEventOf ws (read_event ws)
+unfolding read_event read_other_event read_update_event
 event_good ws =
-    after_good IsEvent kind.Insert ws _ _ (λ rest. done_good _ rest event.Insert refl)
-    (after_good IsEvent kind.Update ws _ _ (λ rest. done_good _ rest event.Update refl)
-    (after_good IsEvent kind.Delete ws _ None (λ rest. done_good _ rest event.Delete refl) (nothing_good IsEvent ws)))
+    after_good IsEventOf kind.Insert ws _ _ (λ rest. done_good _ rest (event.Insert, []) (refl, refl))
+    (after_good IsEventOf kind.Update ws read_update_event _
+    (λ rest. made_good IsUpdateColumns _ rest (read_update_columns rest) (λ ns. (event.Update, ns)) (update_columns_good rest) (λ ns front p. (front, p, refl)))
+    (after_good IsEventOf kind.Delete ws _ None (λ rest. done_good _ rest (event.Delete, []) (refl, refl)) (nothing_good IsEventOf ws)))
 
 occasion_good : (ws : List Word) → Good IsOccasion ws (read_occasion ws)
 unfolding read_occasion
 occasion_good ws =
     then_good IsTime _ ws (read_action_time ws) _ (time_good ws)
-    (λ t front rest p. then_good IsEvent _ rest (read_event rest) _ (event_good rest)
+    (λ t front rest p. then_good IsEventOf _ rest (read_event rest) _ (event_good rest)
     (λ e back more q. after_good _ kind.On more _ None
-    (λ left. done_good _ left (t, e) (ap (λ z. z ++ (back ++ plain kind.On ∷ [])) p ∙ ap (λ z. plain (time_kind t) ∷ (z ++ plain kind.On ∷ [])) q))
+    (λ left. done_good _ left (t, e.0, e.1) (back, q, ap (λ z. z ++ (back ++ plain kind.On ∷ [])) p))
     (nothing_good _ more)))
 
 -- what is between the table and the body
@@ -175,23 +193,27 @@ middle_good ws =
     (λ rs items a p. then_good IsGranularity _ a (read_granularity a) _ (granularity_good a)
     (λ g each b q. made_good (Maybe IsWhen) _ b (read_when b) (λ w. (rs, g, w)) (when_good b) (λ w when r. (items, each, when, p, q, r, refl))))
 
-trigger_rest_good : (n : List ℕ) (o : ActionTime × TriggerEvent) (table : List ℕ) (ws : List Word)
-    → Good (λ back x. IsTrigger (plain kind.Create ∷ plain kind.Trigger ∷ name n ∷ plain (time_kind o.0) ∷ plain (event_kind o.1) ∷ plain kind.On ∷ name table ∷ back) x) ws (read_trigger_rest n o table ws)
+trigger_rest_good : (n : List ℕ) (o : ActionTime × TriggerEvent × List (List ℕ)) (happens : List Word) (table : List ℕ) (ws : List Word) → IsEvent happens o.1 o.2
+    → Good (λ back x. IsTrigger (plain kind.Create ∷ plain kind.Trigger ∷ name n ∷ plain (time_kind o.0) ∷ ((happens ++ plain kind.On ∷ []) ++ name table ∷ back)) x) ws (read_trigger_rest n o table ws)
 unfolding read_trigger_rest
-trigger_rest_good n o table ws =
+trigger_rest_good n o happens table ws h =
     then_good IsMiddle _ ws (read_middle ws) _ (middle_good ws)
     (λ m front a (items, each, when, p, q, r, w). made_good IsBody _ a (read_body a) (trigger_of n o table m) (body_good a)
     (λ xs body s. (
+      happens,
       items,
       each,
       when,
       body,
+      h,
       p,
       q,
       r,
       s,
-      ap (λ z. plain kind.Create ∷ plain kind.Trigger ∷ name n ∷ plain (time_kind o.0) ∷ plain (event_kind o.1) ∷ plain kind.On ∷ name table ∷ z)
-          (ap (λ z. z ++ body) w ∙ append_assoc items (each ++ when) body ∙ ap (λ z. items ++ z) (append_assoc each when body)),
+      ap (λ z. plain kind.Create ∷ plain kind.Trigger ∷ name n ∷ plain (time_kind o.0) ∷ z)
+          (append_assoc happens (plain kind.On ∷ []) (name table ∷ (front ++ body))
+          ∙ ap (λ z. happens ++ plain kind.On ∷ name table ∷ z)
+          (ap (λ z. z ++ body) w ∙ append_assoc items (each ++ when) body ∙ ap (λ z. items ++ z) (append_assoc each when body))),
     )))
 
 pub trigger_good : (ws : List Word) → Good (λ back t. IsTrigger (plain kind.Create ∷ plain kind.Trigger ∷ back) t) ws (read_trigger ws)
@@ -199,6 +221,6 @@ unfolding read_trigger
 trigger_good ws =
     name_good _ ws _
     (λ n a. then_good IsOccasion _ a (read_occasion a) _ (occasion_good a)
-    (λ o front b p. name_good _ b _
-    (λ t rest. subst (λ z. Good (λ back x. IsTrigger (plain kind.Create ∷ plain kind.Trigger ∷ name n ∷ (z ++ name t ∷ back)) x) rest (read_trigger_rest n o t rest)) (sym p)
-    (trigger_rest_good n o t rest))))
+    (λ o front b (happens, h, w). name_good _ b _
+    (λ t rest. subst (λ z. Good (λ back x. IsTrigger (plain kind.Create ∷ plain kind.Trigger ∷ name n ∷ (z ++ name t ∷ back)) x) rest (read_trigger_rest n o t rest)) (sym w)
+    (trigger_rest_good n o happens t rest h))))

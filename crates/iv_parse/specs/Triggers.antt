@@ -1,5 +1,5 @@
 -- Triggers: which words are the parts of CREATE TRIGGER.
-use Rattle.std.specs.Prelude.{◌≡◌, ◌⊎◌, List, [], ◌∷◌, ◌++◌}
+use Rattle.std.specs.Prelude.{◌≡◌, ◌⊎◌, ℕ, List, [], ◌∷◌, ◌++◌}
 use Rattle.iv_lex.specs.declared.kind.TokenKind.{TokenKind}
 use Rattle.iv_lex.specs.declared.kind.TokenKind.TheVariants as kind
 use Rattle.iv_lex.specs.Words.{Word, name, quoted, plain}
@@ -11,7 +11,7 @@ use Rattle.iv_parse.specs.Words.granularity
 use Rattle.iv_parse.specs.Words.transition
 use Rattle.iv_parse.specs.Words.action
 use Rattle.iv_parse_data.specs.Series.{Sequence, Maybe, InParentheses, Optional}
-use Rattle.iv_parse_data.specs.Data.{IsShallow, IsShallowCondition, IsInsert, IsUpdate, IsDelete}
+use Rattle.iv_parse_data.specs.Data.{Names, IsShallow, IsShallowCondition, IsInsert, IsUpdate, IsDelete}
 
 abbrev pub side_kind : Side → TokenKind
 side_kind side.Old = kind.Old
@@ -73,15 +73,21 @@ abbrev pub time_kind : ActionTime → TokenKind
 time_kind action_time.Before = kind.Before
 time_kind action_time.After = kind.After
 
-abbrev pub event_kind : TriggerEvent → TokenKind
-event_kind event.Insert = kind.Insert
-event_kind event.Update = kind.Update
-event_kind event.Delete = kind.Delete
+-- [ OF names ]
+abbrev pub IsUpdateColumns : List Word → List (List ℕ) → Type 0
+IsUpdateColumns ws [] = ws ≡ []
+IsUpdateColumns ws (n ∷ ns) = (names : List Word) × Names names (n ∷ ns) × (ws ≡ plain kind.Of ∷ names)
+
+-- INSERT | UPDATE [ OF .. ] | DELETE
+abbrev pub IsEvent : List Word → TriggerEvent → List (List ℕ) → Type 0
+IsEvent ws event.Insert ns = (ns ≡ []) × (ws ≡ plain kind.Insert ∷ [])
+IsEvent ws event.Update ns = (columns : List Word) × IsUpdateColumns columns ns × (ws ≡ plain kind.Update ∷ columns)
+IsEvent ws event.Delete ns = (ns ≡ []) × (ws ≡ plain kind.Delete ∷ [])
 
 -- CREATE TRIGGER name < BEFORE | AFTER > event ON name [ REFERENCING .. ] [ FOR EACH .. ] [ WHEN .. ] body
 abbrev pub IsTrigger : List Word → TriggerDefinition → Type 0
 IsTrigger ws t =
-    (items : List Word) × (each : List Word) × (when : List Word) × (body : List Word)
-    × IsReferencing items t.referencing × IsGranularity each t.granularity × Maybe IsWhen when t.when × IsBody body t.body
-    × (ws ≡ plain kind.Create ∷ plain kind.Trigger ∷ name t.name ∷ plain (time_kind t.time) ∷ plain (event_kind t.event) ∷ plain kind.On ∷ name t.table
-    ∷ (items ++ (each ++ (when ++ body))))
+    (happens : List Word) × (items : List Word) × (each : List Word) × (when : List Word) × (body : List Word)
+    × IsEvent happens t.event t.columns × IsReferencing items t.referencing × IsGranularity each t.granularity × Maybe IsWhen when t.when × IsBody body t.body
+    × (ws ≡ plain kind.Create ∷ plain kind.Trigger ∷ name t.name ∷ plain (time_kind t.time)
+    ∷ (happens ++ plain kind.On ∷ name t.table ∷ (items ++ (each ++ (when ++ body)))))

@@ -2,11 +2,11 @@
 ghost use Rattle.std.specs.Prelude.{◌≡◌, IfOk, ℕ, List};
 ghost use Rattle.iv_lex.specs.Words.{words};
 ghost use Rattle.iv_parse_terms.specs.Seen.{with_words};
-ghost use Rattle.iv_parse.specs.readers.Triggers.{some_items, read_referencing, read_each, read_granularity, read_when, read_action_time, read_other_event, read_event, read_occasion, read_middle, trigger_of, read_trigger_rest, read_trigger};
+ghost use Rattle.iv_parse.specs.readers.Triggers.{some_items, read_referencing, read_each, read_granularity, read_when, read_action_time, read_update_columns, read_update_event, read_other_event, read_event, with_on, read_occasion, read_middle, trigger_of, read_trigger_rest, read_trigger};
 
 use crate::action::body;
 use iv_lex::{Token, TokenKind};
-use iv_parse_data::{enclosed_condition, sequence};
+use iv_parse_data::{enclosed_condition, sequence, series};
 use iv_parse_terms::{after, name};
 use iv_syntax::{
     ActionTime, Condition, Granularity, Name, Referencing, TriggerAction, TriggerDefinition,
@@ -99,38 +99,105 @@ fn action_time(tokens: &[Token]) -> Option<(ActionTime, &[Token])>
     Some((ActionTime::After, rest))
 }
 
+// OF and the columns, where they are written.
+#[tactic(auto, unfolding(crate::specs::readers::Triggers::read_update_columns))]
+fn update_columns<'a>(
+    alloc: Global,
+    text: &str,
+    tokens: &'a [Token],
+) -> Result<Option<(Items<Name>, &'a [Token])>, AllocError>
+    ensures { IfOk result (λ r. with_words text.now r
+        ≡ read_update_columns (words text.now tokens.now)) }
+{
+    match after(TokenKind::Of, tokens) {
+        Some(rest) => series::<Name>(alloc, text, rest),
+        None => Ok(Some((Items::new(alloc), tokens))),
+    }
+}
+
+// UPDATE, from the columns on.
+#[tactic(auto, unfolding(crate::specs::readers::Triggers::read_update_event))]
+fn update_event<'a>(
+    alloc: Global,
+    text: &str,
+    tokens: &'a [Token],
+) -> Result<Option<((TriggerEvent, Items<Name>), &'a [Token])>, AllocError>
+    ensures { IfOk result (λ r. with_words text.now r
+        ≡ read_update_event (words text.now tokens.now)) }
+{
+    match update_columns(alloc, text, tokens)? {
+        Some((columns, rest)) => Ok(Some(((TriggerEvent::Update, columns), rest))),
+        None => Ok(None),
+    }
+}
+
 #[tactic(auto, unfolding(crate::specs::readers::Triggers::read_other_event))]
-fn other_event(tokens: &[Token]) -> Option<(TriggerEvent, &[Token])>
-    ensures { (text : List ℕ) → with_words text result ≡ read_other_event (words text tokens.now) }
+fn other_event<'a>(
+    alloc: Global,
+    text: &str,
+    tokens: &'a [Token],
+) -> Result<Option<((TriggerEvent, Items<Name>), &'a [Token])>, AllocError>
+    ensures { IfOk result (λ r. with_words text.now r
+        ≡ read_other_event (words text.now tokens.now)) }
 {
     if let Some(rest) = after(TokenKind::Update, tokens) {
-        return Some((TriggerEvent::Update, rest));
+        return update_event(alloc, text, rest);
     }
     match after(TokenKind::Delete, tokens) {
-        Some(rest) => Some((TriggerEvent::Delete, rest)),
+        Some(rest) => Ok(Some(((TriggerEvent::Delete, Items::new(alloc)), rest))),
+        None => Ok(None),
+    }
+}
+
+// The event, and the columns of UPDATE OF.
+#[tactic(auto, unfolding(crate::specs::readers::Triggers::read_event))]
+fn event<'a>(
+    alloc: Global,
+    text: &str,
+    tokens: &'a [Token],
+) -> Result<Option<((TriggerEvent, Items<Name>), &'a [Token])>, AllocError>
+    ensures { IfOk result (λ r. with_words text.now r ≡ read_event (words text.now tokens.now)) }
+{
+    match after(TokenKind::Insert, tokens) {
+        Some(rest) => Ok(Some(((TriggerEvent::Insert, Items::new(alloc)), rest))),
+        None => other_event(alloc, text, tokens),
+    }
+}
+
+// ON, after the time and the event with its columns.
+fn with_on<'a>(
+    time: ActionTime,
+    event: (TriggerEvent, Items<Name>),
+    tokens: &'a [Token],
+) -> Option<((ActionTime, TriggerEvent, Items<Name>), &'a [Token])>
+    ensures { (text : List ℕ)
+        → with_words text result ≡ with_on time event (words text tokens.now) }
+{
+    match after(TokenKind::On, tokens) {
+        Some(rest) => {
+            let (event, columns) = event;
+            Some(((time, event, columns), rest))
+        }
         None => None,
     }
 }
 
-#[tactic(auto, unfolding(crate::specs::readers::Triggers::read_event))]
-fn event(tokens: &[Token]) -> Option<(TriggerEvent, &[Token])>
-    ensures { (text : List ℕ) → with_words text result ≡ read_event (words text tokens.now) }
-{
-    if let Some(rest) = after(TokenKind::Insert, tokens) {
-        return Some((TriggerEvent::Insert, rest));
-    }
-    other_event(tokens)
-}
-
-// The time, the event and ON.
+// The time, the event with its columns, and ON.
 #[tactic(auto, unfolding(crate::specs::readers::Triggers::read_occasion))]
-fn occasion(tokens: &[Token]) -> Option<((ActionTime, TriggerEvent), &[Token])>
-    ensures { (text : List ℕ) → with_words text result ≡ read_occasion (words text tokens.now) }
+fn occasion<'a>(
+    alloc: Global,
+    text: &str,
+    tokens: &'a [Token],
+) -> Result<Option<((ActionTime, TriggerEvent, Items<Name>), &'a [Token])>, AllocError>
+    ensures { IfOk result (λ r. with_words text.now r ≡ read_occasion (words text.now tokens.now)) }
 {
-    let (time, rest) = action_time(tokens)?;
-    let (event, rest) = event(rest)?;
-    let rest = after(TokenKind::On, rest)?;
-    Some(((time, event), rest))
+    let Some((time, rest)) = action_time(tokens) else {
+        return Ok(None);
+    };
+    match event(alloc, text, rest)? {
+        Some((event, rest)) => Ok(with_on(time, event, rest)),
+        None => Ok(None),
+    }
 }
 
 // What is between the table and the body.
@@ -164,19 +231,20 @@ fn middle<'a>(
 
 fn trigger_of(
     name: Name,
-    occasion: (ActionTime, TriggerEvent),
+    occasion: (ActionTime, TriggerEvent, Items<Name>),
     table: Name,
     middle: (Items<Referencing>, Granularity, Option<Condition>),
     body: Items<TriggerAction>,
 ) -> TriggerDefinition
     ensures { result ≡ trigger_of name occasion table middle body }
 {
-    let (time, event) = occasion;
+    let (time, event, columns) = occasion;
     let (referencing, granularity, when) = middle;
     TriggerDefinition {
         name,
         time,
         event,
+        columns,
         table,
         referencing,
         granularity,
@@ -191,7 +259,7 @@ fn trigger_rest<'a>(
     alloc: Global,
     text: &str,
     name: Name,
-    occasion: (ActionTime, TriggerEvent),
+    occasion: (ActionTime, TriggerEvent, Items<Name>),
     table: Name,
     tokens: &'a [Token],
 ) -> Result<Option<(TriggerDefinition, &'a [Token])>, AllocError>
@@ -229,7 +297,7 @@ pub fn create_trigger<'a>(
     let Some((trigger, rest)) = name(alloc, text, tokens)? else {
         return Ok(None);
     };
-    let Some((occasion, rest)) = occasion(rest) else {
+    let Some((occasion, rest)) = occasion(alloc, text, rest)? else {
         return Ok(None);
     };
     match name(alloc, text, rest)? {

@@ -5,11 +5,12 @@ use Rattle.iv_lex.specs.declared.kind.TokenKind.TheVariants as kind
 use Rattle.iv_lex.specs.Words.{Word, name, number, plain}
 use Rattle.iv_syntax.specs.declared.tree.Sign.{Sign}
 use Rattle.iv_syntax.specs.declared.tree.Sign.TheVariants as sign
-use Rattle.iv_parse_data.specs.Words.{ConstraintMode, Literal, ColumnType, ConstraintTime, MatchType, ReferentialAction, References, ColumnRule, ColumnConstraint, TableRule, TableConstraint, ColumnDefinition, TableElement}
+use Rattle.iv_parse_data.specs.Words.{ConstraintMode, Literal, ColumnType, ConstraintTime, MatchType, NullTreatment, ReferentialAction, References, ColumnRule, ColumnConstraint, TableRule, TableConstraint, ColumnDefinition, TableElement}
 use Rattle.iv_parse_data.specs.Words.mode.{Immediate, Deferred}
 use Rattle.iv_parse_data.specs.Words.literal
 use Rattle.iv_parse_data.specs.Words.type.{Integer, Varchar}
 use Rattle.iv_parse_data.specs.Words.matching.{Simple, Full}
+use Rattle.iv_parse_data.specs.Words.nulls.{Distinct, NotDistinct}
 use Rattle.iv_parse_data.specs.Words.referential_action.{NoAction, Restrict, Cascade, SetNull, SetDefault}
 use Rattle.iv_parse_data.specs.Words.column_rule
 use Rattle.iv_parse_data.specs.Words.table_rule
@@ -20,8 +21,8 @@ use Rattle.iv_parse_data.specs.Series.{Series, Sequence, Maybe, InParentheses}
 use Rattle.iv_parse_data.specs.readers.Series.{read_series}
 use Rattle.iv_parse_data.specs.Data.{Names}
 use Rattle.iv_parse_data.specs.readers.Data.{then_word, read_name}
-use Rattle.iv_parse_data.specs.Tables.{mode_kind, IsVarchar, IsType, IsLiteral, IsDefault, IsConstraintName, IsDeferrable, IsInitially, IsTime, match_kind, IsMatch, action_words, IsOn, AreActions, IsReferences, IsColumnRule, IsColumnConstraint, IsTableRule, IsTableConstraint, IsElement}
-use Rattle.iv_parse_data.specs.readers.Tables.{read_length, read_varchar, read_type, read_literal, read_default, read_constraint_name, read_deferrable, read_mode, read_initially, read_time, read_match_type, read_match, read_strict_action, read_referential_action, read_on, read_actions, read_reference_columns, read_references, read_null_rule, read_primary_rule, read_plain_rule, read_condition_rule, read_column_rule, column_constraint_of, read_column_constraint, read_column_constraints, read_column, read_key, read_primary_key, read_foreign_key, read_check_rule, read_unique_rule, read_table_rule, read_table_constraint, read_column_element, read_element, read_elements}
+use Rattle.iv_parse_data.specs.Tables.{mode_kind, IsVarchar, IsType, IsLiteral, IsDefault, IsConstraintName, IsDeferrable, IsInitially, IsTime, match_kind, IsMatch, action_words, IsOn, AreActions, IsReferences, null_words, IsColumnRule, IsColumnConstraint, IsTableRule, IsTableConstraint, IsElement}
+use Rattle.iv_parse_data.specs.readers.Tables.{read_length, read_varchar, read_type, read_literal, read_default, read_constraint_name, read_deferrable, read_mode, read_initially, read_time, read_match_type, read_match, read_strict_action, read_referential_action, read_on, read_actions, read_reference_columns, read_references, read_null_treatment, read_null_rule, read_primary_rule, read_unique_column, read_plain_rule, read_condition_rule, read_column_rule, column_constraint_of, read_column_constraint, read_column_constraints, read_column, read_key, read_primary_key, read_foreign_key, read_check_rule, read_unique_key, read_unique_rule, read_table_rule, read_table_constraint, read_column_element, read_element, read_elements}
 use Rattle.iv_parse_data.proofs.Complete.{Reads_all, Anything, series_complete, enclosed_complete}
 use Rattle.iv_parse_data.proofs.OptionalComplete.{maybe_after, either_after, either_order_complete, Parts, sequence_complete}
 use Rattle.iv_parse_data.proofs.DataComplete.{names_complete, column_list_reads, check_complete, other_word}
@@ -154,13 +155,14 @@ actions_after k h a b front ws p e =
 match_after : (k : TokenKind) → same kind.Match k ≡ false → (m : Option MatchType) (front ws : List Word) → Maybe IsMatch front m → after k ws ≡ None → after k (front ++ ws) ≡ None
 match_after k h m front ws p e = maybe_after IsMatch k (λ x f rest q. ap (λ z. after k (z ++ rest)) q ∙ other_word k kind.Match _ h) m front ws p e
 
--- the words cannot go on with REFERENCES
-pub record EndsReferences (ws : List Word) : Type 0 where
+-- the words cannot go on with a rule
+pub record EndsRule (ws : List Word) : Type 0 where
   pub columns : after kind.LeftParenthesis ws ≡ None
   pub matching : after kind.Match ws ≡ None
   pub actions : after kind.On ws ≡ None
+  pub nulls : after kind.Nulls ws ≡ None
 
-references_read : (r : References) (front rest : List Word) → IsReferences front r → EndsReferences rest
+references_read : (r : References) (front rest : List Word) → IsReferences front r → EndsRule rest
     → (back : List Word) × (front ++ rest ≡ plain kind.References ∷ back) × (read_references back ≡ Some (r, rest))
 unfolding read_references read_reference_columns
 references_read r front rest (columns, matching, actions, p, q, s, w) e = (
@@ -187,22 +189,31 @@ time_after : (k : TokenKind) → same kind.Deferrable k ≡ false → same kind.
 time_after k h i j t front ws p e =
     either_after IsDeferrable IsInitially k (deferrable_after k h i) (λ x f rest q. ap (λ z. after k (z ++ rest)) q ∙ other_word k kind.Initially _ j) t.deferrable t.initially front ws p e
 
-time_references : (t : ConstraintTime) (front ws : List Word) → IsTime front t → EndsReferences ws → EndsReferences (front ++ ws)
-time_references t front ws p e = record {
+time_rule : (t : ConstraintTime) (front ws : List Word) → IsTime front t → EndsRule ws → EndsRule (front ++ ws)
+time_rule t front ws p e = record {
   columns = time_after kind.LeftParenthesis refl refl refl t front ws p e.columns;
   matching = time_after kind.Match refl refl refl t front ws p e.matching;
   actions = time_after kind.On refl refl refl t front ws p e.actions;
+  nulls = time_after kind.Nulls refl refl refl t front ws p e.nulls;
 }
 
 -- the words cannot go on with a constraint
 pub record EndsConstraint (ws : List Word) : Type 0 where
-  pub references : EndsReferences ws
+  pub rule : EndsRule ws
   pub time : EndsTime ws
 
-column_rule_reads : (r : ColumnRule) (front rest : List Word) → IsColumnRule front r → EndsReferences rest → read_column_rule (front ++ rest) ≡ Some (Some r, rest)
-unfolding read_column_rule read_condition_rule read_plain_rule read_null_rule read_primary_rule
+null_treatment_reads : (nulls : NullTreatment) (rest : List Word) → after kind.Nulls rest ≡ None → read_null_treatment (null_words nulls ++ rest) ≡ Some (nulls, rest)
+unfolding read_null_treatment
+null_treatment_reads Distinct rest e =
+    ap (λ o. if_some o (λ more. then_word kind.Not more (λ left. then_word kind.Distinct left (λ last. Some (NotDistinct, last)))) (Some (Distinct, rest))) e
+null_treatment_reads NotDistinct rest e = refl
+
+column_rule_reads : (r : ColumnRule) (front rest : List Word) → IsColumnRule front r → EndsRule rest → read_column_rule (front ++ rest) ≡ Some (Some r, rest)
+unfolding read_column_rule read_condition_rule read_plain_rule read_null_rule read_unique_column read_primary_rule
 column_rule_reads column_rule.NotNull front rest p e = ap (λ z. read_column_rule (z ++ rest)) p
-column_rule_reads column_rule.Unique front rest p e = ap (λ z. read_column_rule (z ++ rest)) p
+column_rule_reads (column_rule.Unique nulls) front rest p e =
+    ap (λ z. read_column_rule (z ++ rest)) p
+    ∙ ap (λ o. then_read o (λ nulls left. Some (Some (column_rule.Unique nulls), left))) (null_treatment_reads nulls rest e.nulls)
 column_rule_reads column_rule.PrimaryKey front rest p e = ap (λ z. read_column_rule (z ++ rest)) p
 column_rule_reads (column_rule.Check c) front rest (check, p, w) e =
     ap (λ z. read_column_rule (z ++ rest)) w ∙ ap (λ o. then_read o (λ c left. Some (Some (column_rule.Check c), left))) (check_complete.reads c check rest p tt)
@@ -213,7 +224,7 @@ column_rule_reads (column_rule.References r) front rest p e =
 -- a rule doesn't begin with CONSTRAINT
 column_rule_begins : (r : ColumnRule) (front rest : List Word) → IsColumnRule front r → after kind.Constraint (front ++ rest) ≡ None
 column_rule_begins column_rule.NotNull front rest p = ap (λ z. after kind.Constraint (z ++ rest)) p
-column_rule_begins column_rule.Unique front rest p = ap (λ z. after kind.Constraint (z ++ rest)) p
+column_rule_begins (column_rule.Unique nulls) front rest p = ap (λ z. after kind.Constraint (z ++ rest)) p
 column_rule_begins column_rule.PrimaryKey front rest p = ap (λ z. after kind.Constraint (z ++ rest)) p
 column_rule_begins (column_rule.Check c) front rest (check, p, w) = ap (λ z. after kind.Constraint (z ++ rest)) w
 column_rule_begins (column_rule.References r) front rest (columns, matching, actions, p, q, s, w) = ap (λ z. after kind.Constraint (z ++ rest)) w
@@ -225,26 +236,26 @@ column_constraint_reads c front rest (called, rule, time, p, q, s, w) e =
     ∙ ap read_column_constraint (append_assoc called (rule ++ time) rest ∙ ap (λ z. called ++ z) (append_assoc rule time rest))
     ∙ ap (λ o. then_read o (λ n left. then_read (read_column_rule left) (column_constraint_of n)))
     (constraint_name_reads c.name called (rule ++ (time ++ rest)) p (column_rule_begins c.rule rule (time ++ rest) q))
-    ∙ ap (λ o. then_read o (column_constraint_of c.name)) (column_rule_reads c.rule rule (time ++ rest) q (time_references c.time time rest s e.references))
+    ∙ ap (λ o. then_read o (column_constraint_of c.name)) (column_rule_reads c.rule rule (time ++ rest) q (time_rule c.time time rest s e.rule))
     ∙ ap (λ o. then_read o (λ t left. Some (Some (record { name = c.name; rule = c.rule; time = t }), left))) (time_reads c.time time rest s e.time)
 
 -- each of these words begins something else
 constraint_ends : (ws : List Word) → EndsConstraint (plain kind.Constraint ∷ ws)
 unfolding read_deferrable
-constraint_ends ws = record { references = record { columns = refl; matching = refl; actions = refl }; time = record { deferrable = refl; initially = refl } }
+constraint_ends ws = record { rule = record { columns = refl; matching = refl; actions = refl; nulls = refl }; time = record { deferrable = refl; initially = refl } }
 
 column_rule_ends : (r : ColumnRule) (front rest : List Word) → IsColumnRule front r → EndsConstraint (front ++ rest)
 unfolding read_deferrable
 column_rule_ends column_rule.NotNull front rest p =
-    subst (λ z. EndsConstraint (z ++ rest)) (sym p) (record { references = record { columns = refl; matching = refl; actions = refl }; time = record { deferrable = refl; initially = refl } })
-column_rule_ends column_rule.Unique front rest p =
-    subst (λ z. EndsConstraint (z ++ rest)) (sym p) (record { references = record { columns = refl; matching = refl; actions = refl }; time = record { deferrable = refl; initially = refl } })
+    subst (λ z. EndsConstraint (z ++ rest)) (sym p) (record { rule = record { columns = refl; matching = refl; actions = refl; nulls = refl }; time = record { deferrable = refl; initially = refl } })
+column_rule_ends (column_rule.Unique nulls) front rest p =
+    subst (λ z. EndsConstraint (z ++ rest)) (sym p) (record { rule = record { columns = refl; matching = refl; actions = refl; nulls = refl }; time = record { deferrable = refl; initially = refl } })
 column_rule_ends column_rule.PrimaryKey front rest p =
-    subst (λ z. EndsConstraint (z ++ rest)) (sym p) (record { references = record { columns = refl; matching = refl; actions = refl }; time = record { deferrable = refl; initially = refl } })
+    subst (λ z. EndsConstraint (z ++ rest)) (sym p) (record { rule = record { columns = refl; matching = refl; actions = refl; nulls = refl }; time = record { deferrable = refl; initially = refl } })
 column_rule_ends (column_rule.Check c) front rest (check, p, w) =
-    subst (λ z. EndsConstraint (z ++ rest)) (sym w) (record { references = record { columns = refl; matching = refl; actions = refl }; time = record { deferrable = refl; initially = refl } })
+    subst (λ z. EndsConstraint (z ++ rest)) (sym w) (record { rule = record { columns = refl; matching = refl; actions = refl; nulls = refl }; time = record { deferrable = refl; initially = refl } })
 column_rule_ends (column_rule.References r) front rest (columns, matching, actions, p, q, s, w) =
-    subst (λ z. EndsConstraint (z ++ rest)) (sym w) (record { references = record { columns = refl; matching = refl; actions = refl }; time = record { deferrable = refl; initially = refl } })
+    subst (λ z. EndsConstraint (z ++ rest)) (sym w) (record { rule = record { columns = refl; matching = refl; actions = refl; nulls = refl }; time = record { deferrable = refl; initially = refl } })
 
 called_ends : (n : Option (List ℕ)) (r : ColumnRule) (called rule rest : List Word) → Maybe IsConstraintName called n → IsColumnRule rule r → EndsConstraint (called ++ (rule ++ rest))
 called_ends None r called rule rest p q = subst (λ z. EndsConstraint (z ++ (rule ++ rest))) (sym p) (column_rule_ends r rule rest q)
@@ -257,7 +268,7 @@ column_constraint_begins c front rest (called, rule, time, p, q, s, w) =
 
 pub statement_constraint : (ws : List Word) → EndsConstraint (plain kind.Semicolon ∷ ws)
 unfolding read_deferrable
-statement_constraint ws = record { references = record { columns = refl; matching = refl; actions = refl }; time = record { deferrable = refl; initially = refl } }
+statement_constraint ws = record { rule = record { columns = refl; matching = refl; actions = refl; nulls = refl }; time = record { deferrable = refl; initially = refl } }
 
 constraint_parts : Parts IsColumnConstraint EndsConstraint read_column_constraint
 constraint_parts = record { reads = column_constraint_reads; begins = column_constraint_begins }
@@ -269,8 +280,8 @@ pub data EndsElement : List Word → Type 0 where
 
 element_ends : (ws : List Word) → EndsElement ws → EndsConstraint ws
 unfolding read_deferrable
-element_ends _ (comma ws) = record { references = record { columns = refl; matching = refl; actions = refl }; time = record { deferrable = refl; initially = refl } }
-element_ends _ (closes ws) = record { references = record { columns = refl; matching = refl; actions = refl }; time = record { deferrable = refl; initially = refl } }
+element_ends _ (comma ws) = record { rule = record { columns = refl; matching = refl; actions = refl; nulls = refl }; time = record { deferrable = refl; initially = refl } }
+element_ends _ (closes ws) = record { rule = record { columns = refl; matching = refl; actions = refl; nulls = refl }; time = record { deferrable = refl; initially = refl } }
 
 no_constraint : (ws : List Word) → EndsElement ws → read_column_constraint ws ≡ Some (None, ws)
 unfolding read_column_constraint read_constraint_name read_column_rule read_condition_rule read_plain_rule read_primary_rule
@@ -285,7 +296,7 @@ no_default _ (closes ws) = refl
 called_default : (n : Option (List ℕ)) (r : ColumnRule) (called rule rest : List Word) → Maybe IsConstraintName called n → IsColumnRule rule r → after kind.Default (called ++ (rule ++ rest)) ≡ None
 called_default (Some n) r called rule rest p q = ap (λ z. after kind.Default (z ++ (rule ++ rest))) p
 called_default None column_rule.NotNull called rule rest p q = ap (λ z. after kind.Default (z ++ (rule ++ rest))) p ∙ ap (λ z. after kind.Default (z ++ rest)) q
-called_default None column_rule.Unique called rule rest p q = ap (λ z. after kind.Default (z ++ (rule ++ rest))) p ∙ ap (λ z. after kind.Default (z ++ rest)) q
+called_default None (column_rule.Unique nulls) called rule rest p q = ap (λ z. after kind.Default (z ++ (rule ++ rest))) p ∙ ap (λ z. after kind.Default (z ++ rest)) q
 called_default None column_rule.PrimaryKey called rule rest p q = ap (λ z. after kind.Default (z ++ (rule ++ rest))) p ∙ ap (λ z. after kind.Default (z ++ rest)) q
 called_default None (column_rule.Check c) called rule rest p (check, q, w) = ap (λ z. after kind.Default (z ++ (rule ++ rest))) p ∙ ap (λ z. after kind.Default (z ++ rest)) w
 called_default None (column_rule.References r) called rule rest p (columns, matching, actions, q, s, t, w) =
@@ -315,10 +326,18 @@ column_reads c type default constraints rest p q s e =
 key_complete : Reads_all (InParentheses Names) Anything read_key
 key_complete = enclosed_complete Names (λ rest. Anything rest × (after kind.Comma rest ≡ None)) (read_series read_name) names_complete (λ ws. (tt, refl))
 
-table_rule_reads : (r : TableRule) (front rest : List Word) → IsTableRule front r → EndsReferences rest → read_table_rule (front ++ rest) ≡ Some (r, rest)
-unfolding read_table_rule read_primary_key read_foreign_key read_unique_rule read_check_rule
-table_rule_reads (table_rule.Unique ns) front rest (key, p, w) e =
-    ap (λ z. read_table_rule (z ++ rest)) w ∙ ap (λ o. then_read o (λ ns left. Some (table_rule.Unique ns, left))) (key_complete.reads ns key rest p tt)
+-- a list of names doesn't begin with NULLS
+key_nulls : (ns : List (List ℕ)) (front rest : List Word) → InParentheses Names front ns → after kind.Nulls (front ++ rest) ≡ None
+key_nulls ns front rest (inner, p, w) = ap (λ z. after kind.Nulls (z ++ rest)) w
+
+table_rule_reads : (r : TableRule) (front rest : List Word) → IsTableRule front r → EndsRule rest → read_table_rule (front ++ rest) ≡ Some (r, rest)
+unfolding read_table_rule read_primary_key read_foreign_key read_unique_rule read_unique_key read_check_rule
+table_rule_reads (table_rule.Unique nulls ns) front rest (key, p, w) e =
+    ap (λ z. read_table_rule (z ++ rest)) w
+    ∙ ap read_unique_key (append_assoc (null_words nulls) key rest)
+    ∙ ap (λ o. then_read o (λ nulls left. then_read (read_key left) (λ ns more. Some (table_rule.Unique nulls ns, more))))
+    (null_treatment_reads nulls (key ++ rest) (key_nulls ns key rest p))
+    ∙ ap (λ o. then_read o (λ ns left. Some (table_rule.Unique nulls ns, left))) (key_complete.reads ns key rest p tt)
 table_rule_reads (table_rule.PrimaryKey ns) front rest (key, p, w) e =
     ap (λ z. read_table_rule (z ++ rest)) w ∙ ap (λ o. then_read o (λ ns left. Some (table_rule.PrimaryKey ns, left))) (key_complete.reads ns key rest p tt)
 table_rule_reads (table_rule.Check c) front rest (check, p, w) e =
@@ -333,7 +352,7 @@ table_rule_reads (table_rule.ForeignKey ns r) front rest (key, references, p, q,
     ∙ ap (λ o. then_read o (λ r last. Some (table_rule.ForeignKey ns r, last))) h
 
 table_rule_begins : (r : TableRule) (front rest : List Word) → IsTableRule front r → after kind.Constraint (front ++ rest) ≡ None
-table_rule_begins (table_rule.Unique ns) front rest (key, p, w) = ap (λ z. after kind.Constraint (z ++ rest)) w
+table_rule_begins (table_rule.Unique nulls ns) front rest (key, p, w) = ap (λ z. after kind.Constraint (z ++ rest)) w
 table_rule_begins (table_rule.PrimaryKey ns) front rest (key, p, w) = ap (λ z. after kind.Constraint (z ++ rest)) w
 table_rule_begins (table_rule.Check c) front rest (check, p, w) = ap (λ z. after kind.Constraint (z ++ rest)) w
 table_rule_begins (table_rule.ForeignKey ns r) front rest (key, references, p, q, w) = ap (λ z. after kind.Constraint (z ++ rest)) w
@@ -346,12 +365,12 @@ table_constraint_reads c front rest (called, rule, time, p, q, s, w) e =
     ∙ ap (λ o. then_read o (λ n left. then_read (read_table_rule left) (λ r more. then_read (read_time more) (λ t last. Some (record { name = n; rule = r; time = t }, last)))))
     (constraint_name_reads c.name called (rule ++ (time ++ rest)) p (table_rule_begins c.rule rule (time ++ rest) q))
     ∙ ap (λ o. then_read o (λ r more. then_read (read_time more) (λ t last. Some (record { name = c.name; rule = r; time = t }, last))))
-    (table_rule_reads c.rule rule (time ++ rest) q (time_references c.time time rest s e.references))
+    (table_rule_reads c.rule rule (time ++ rest) q (time_rule c.time time rest s e.rule))
     ∙ ap (λ o. then_read o (λ t last. Some (record { name = c.name; rule = c.rule; time = t }, last))) (time_reads c.time time rest s e.time)
 
 -- a constraint of a table doesn't begin with a name
 rule_name : (r : TableRule) (front rest : List Word) → IsTableRule front r → after_name (front ++ rest) ≡ None
-rule_name (table_rule.Unique ns) front rest (key, p, w) = ap (λ z. after_name (z ++ rest)) w
+rule_name (table_rule.Unique nulls ns) front rest (key, p, w) = ap (λ z. after_name (z ++ rest)) w
 rule_name (table_rule.PrimaryKey ns) front rest (key, p, w) = ap (λ z. after_name (z ++ rest)) w
 rule_name (table_rule.Check c) front rest (check, p, w) = ap (λ z. after_name (z ++ rest)) w
 rule_name (table_rule.ForeignKey ns r) front rest (key, references, p, q, w) = ap (λ z. after_name (z ++ rest)) w

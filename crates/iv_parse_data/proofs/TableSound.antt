@@ -3,11 +3,12 @@ use Rattle.std.proofs.Common.{◌≡◌, inl, inr, ℕ, true, false, Option, Som
 use Rattle.iv_lex.specs.declared.kind.TokenKind.{TokenKind}
 use Rattle.iv_lex.specs.declared.kind.TokenKind.TheVariants as kind
 use Rattle.iv_lex.specs.Words.{Word, name, plain}
-use Rattle.iv_parse_data.specs.Words.{ConstraintMode, MatchType, ReferentialAction, ColumnRule}
+use Rattle.iv_parse_data.specs.Words.{ConstraintMode, MatchType, NullTreatment, ReferentialAction, ColumnRule}
 use Rattle.iv_parse_data.specs.Words.mode.{Immediate, Deferred}
 use Rattle.iv_parse_data.specs.Words.literal
 use Rattle.iv_parse_data.specs.Words.type.{Integer, Varchar}
 use Rattle.iv_parse_data.specs.Words.matching.{Simple, Full}
+use Rattle.iv_parse_data.specs.Words.nulls.{Distinct, NotDistinct}
 use Rattle.iv_parse_data.specs.Words.referential_action.{NoAction, Restrict, Cascade, SetNull, SetDefault}
 use Rattle.iv_parse_data.specs.Words.column_rule
 use Rattle.iv_parse_data.specs.Words.table_rule
@@ -18,8 +19,8 @@ use Rattle.iv_parse_data.specs.Series.{Series, Sequence, Maybe, InParentheses, I
 use Rattle.iv_parse_data.specs.readers.Series.{read_series, read_either_order}
 use Rattle.iv_parse_data.specs.Data.{IsName, Names, IsColumnList, IsShallowCondition}
 use Rattle.iv_parse_data.specs.readers.Data.{read_name, read_column_list, read_check}
-use Rattle.iv_parse_data.specs.Tables.{mode_kind, IsVarchar, IsType, IsLiteral, IsDefault, IsConstraintName, IsDeferrable, IsInitially, IsTime, match_kind, IsMatch, action_words, IsOn, AreActions, IsReferences, IsColumnRule, IsColumnConstraint, IsColumn, IsTableRule, IsTableConstraint, IsElement}
-use Rattle.iv_parse_data.specs.readers.Tables.{read_number, read_quoted, read_length, read_varying, read_varchar, read_type, read_literal, read_default, read_constraint_name, read_deferrable, read_mode, read_initially, read_time, read_match_type, read_match, read_set_action, read_strict_action, read_referential_action, read_on, read_actions, read_reference_columns, read_references, read_null_rule, read_primary_rule, read_plain_rule, read_condition_rule, read_column_rule, column_constraint_of, read_column_constraint, read_column_constraints, read_column, read_key, read_primary_key, read_foreign_key, read_check_rule, read_unique_rule, read_table_rule, read_table_constraint, read_column_element, read_element, read_elements}
+use Rattle.iv_parse_data.specs.Tables.{mode_kind, IsVarchar, IsType, IsLiteral, IsDefault, IsConstraintName, IsDeferrable, IsInitially, IsTime, match_kind, IsMatch, action_words, IsOn, AreActions, IsReferences, null_words, IsColumnRule, IsColumnConstraint, IsColumn, IsTableRule, IsTableConstraint, IsElement}
+use Rattle.iv_parse_data.specs.readers.Tables.{read_number, read_quoted, read_length, read_varying, read_varchar, read_type, read_literal, read_default, read_constraint_name, read_deferrable, read_mode, read_initially, read_time, read_match_type, read_match, read_set_action, read_strict_action, read_referential_action, read_on, read_actions, read_reference_columns, read_references, read_null_treatment, read_null_rule, read_primary_rule, read_unique_column, read_plain_rule, read_condition_rule, read_column_rule, column_constraint_of, read_column_constraint, read_column_constraints, read_column, read_key, read_primary_key, read_foreign_key, read_check_rule, read_unique_key, read_unique_rule, read_table_rule, read_table_constraint, read_column_element, read_element, read_elements}
 use Rattle.iv_parse_data.proofs.Fronts.{Good, nothing_good, done_good, after_good, name_good, then_good, made_good, series_good, enclosed_good, ahead_good}
 use Rattle.iv_parse_data.proofs.OptionalSound.{IsNumber, IsQuoted, IsSign, number_good, quoted_good, sign_good, found_good, sequence_good, either_order_good}
 use Rattle.iv_parse_data.proofs.DataSound.{one_name_good, names_good, column_list_good, check_good}
@@ -156,12 +157,25 @@ references_good ws =
     (λ m matching left q. made_good AreActions _ left (read_actions left) (λ p. record { table = t; columns = cs; matching = m; on_delete = p.0; on_update = p.1 })
     (actions_good left) (λ a actions r. (columns, matching, actions, p, q, r, refl)))))
 
+abbrev pub IsNullTreatment : List Word → NullTreatment → Type 0
+IsNullTreatment ws nulls = ws ≡ null_words nulls
+
+null_treatment_good : (ws : List Word) → Good IsNullTreatment ws (read_null_treatment ws)
+unfolding read_null_treatment
+null_treatment_good ws =
+    after_good IsNullTreatment kind.Nulls ws _ _
+    (λ rest. after_good _ kind.Not rest _ None
+    (λ more. after_good _ kind.Distinct more _ None (λ left. done_good _ left NotDistinct refl) (nothing_good _ more))
+    (nothing_good _ rest))
+    (done_good IsNullTreatment ws Distinct refl)
+
 plain_rule_good : (ws : List Word) → Good (Maybe IsColumnRule) ws (read_plain_rule ws)
-unfolding read_plain_rule read_null_rule read_primary_rule
+unfolding read_plain_rule read_null_rule read_unique_column read_primary_rule
 plain_rule_good ws =
     after_good (Maybe IsColumnRule) kind.Not ws read_null_rule _
     (λ rest. after_good _ kind.Null rest _ None (λ more. done_good _ more (Some column_rule.NotNull) refl) (nothing_good _ rest))
-    (after_good (Maybe IsColumnRule) kind.Unique ws _ _ (λ rest. done_good _ rest (Some column_rule.Unique) refl)
+    (after_good (Maybe IsColumnRule) kind.Unique ws read_unique_column _
+    (λ rest. made_good IsNullTreatment _ rest (read_null_treatment rest) (λ nulls. Some (column_rule.Unique nulls)) (null_treatment_good rest) (λ nulls front p. ap (λ z. plain kind.Unique ∷ z) p))
     (after_good (Maybe IsColumnRule) kind.Primary ws _ _
     (λ rest. after_good _ kind.Key rest _ None (λ more. done_good _ more (Some column_rule.PrimaryKey) refl) (nothing_good _ rest))
     (done_good (Maybe IsColumnRule) ws None refl)))
@@ -205,7 +219,7 @@ key_good : (ws : List Word) → Good (InParentheses Names) ws (read_key ws)
 key_good ws = enclosed_good Names (read_series read_name) names_good ws
 
 table_rule_good : (ws : List Word) → Good IsTableRule ws (read_table_rule ws)
-unfolding read_table_rule read_primary_key read_foreign_key read_unique_rule read_check_rule
+unfolding read_table_rule read_primary_key read_foreign_key read_unique_rule read_unique_key read_check_rule
 table_rule_good ws =
     after_good IsTableRule kind.Primary ws read_primary_key _
     (λ rest. after_good _ kind.Key rest _ None
@@ -219,8 +233,10 @@ table_rule_good ws =
     (λ r front q. (key, plain kind.References ∷ front, p, q, refl)))
     (nothing_good _ left)))
     (nothing_good _ rest))
-    (after_good IsTableRule kind.Unique ws _ _
-    (λ rest. made_good (InParentheses Names) _ rest (read_key rest) table_rule.Unique (key_good rest) (λ ns front p. (front, p, refl)))
+    (after_good IsTableRule kind.Unique ws read_unique_key _
+    (λ rest. then_good IsNullTreatment _ rest (read_null_treatment rest) _ (null_treatment_good rest)
+    (λ nulls front more p. made_good (InParentheses Names) _ more (read_key more) (table_rule.Unique nulls) (key_good more)
+    (λ ns key q. (key, q, ap (λ z. plain kind.Unique ∷ (z ++ key)) p))))
     (after_good IsTableRule kind.Check ws _ None
     (λ rest. made_good (InParentheses IsShallowCondition) _ rest (read_check rest) table_rule.Check (check_good rest) (λ c front p. (front, p, refl)))
     (nothing_good IsTableRule ws))))

@@ -3,11 +3,12 @@ use Rattle.std.specs.Prelude.{◌≡◌, ◌⊎◌, ℕ, Bool, true, false, Opti
 use Rattle.iv_lex.specs.declared.kind.TokenKind.{TokenKind}
 use Rattle.iv_lex.specs.declared.kind.TokenKind.TheVariants as kind
 use Rattle.iv_lex.specs.Words.{Word, name, number, quoted, plain}
-use Rattle.iv_parse_data.specs.Words.{ConstraintMode, Literal, ColumnType, ConstraintTime, MatchType, ReferentialAction, References, ColumnRule, ColumnConstraint, TableRule, TableConstraint, ColumnDefinition, TableElement}
+use Rattle.iv_parse_data.specs.Words.{ConstraintMode, Literal, ColumnType, ConstraintTime, MatchType, NullTreatment, ReferentialAction, References, ColumnRule, ColumnConstraint, TableRule, TableConstraint, ColumnDefinition, TableElement}
 use Rattle.iv_parse_data.specs.Words.mode.{Immediate, Deferred}
 use Rattle.iv_parse_data.specs.Words.literal
 use Rattle.iv_parse_data.specs.Words.type.{Integer, Varchar}
 use Rattle.iv_parse_data.specs.Words.matching.{Simple, Full}
+use Rattle.iv_parse_data.specs.Words.nulls.{Distinct, NotDistinct}
 use Rattle.iv_parse_data.specs.Words.referential_action.{NoAction, Restrict, Cascade, SetNull, SetDefault}
 use Rattle.iv_parse_data.specs.Words.column_rule
 use Rattle.iv_parse_data.specs.Words.table_rule
@@ -90,10 +91,15 @@ IsReferences ws r =
     × IsColumnList columns r.columns × Maybe IsMatch matching r.matching × AreActions actions (r.on_delete, r.on_update)
     × (ws ≡ plain kind.References ∷ name r.table ∷ (columns ++ (matching ++ actions)))
 
--- NOT NULL | UNIQUE | PRIMARY KEY | CHECK ( condition ) | references
+-- [ NULLS NOT DISTINCT ]
+abbrev pub null_words : NullTreatment → List Word
+null_words Distinct = []
+null_words NotDistinct = plain kind.Nulls ∷ plain kind.Not ∷ plain kind.Distinct ∷ []
+
+-- NOT NULL | UNIQUE [ NULLS .. ] | PRIMARY KEY | CHECK ( condition ) | references
 abbrev pub IsColumnRule : List Word → ColumnRule → Type 0
 IsColumnRule ws column_rule.NotNull = ws ≡ plain kind.Not ∷ plain kind.Null ∷ []
-IsColumnRule ws column_rule.Unique = ws ≡ plain kind.Unique ∷ []
+IsColumnRule ws (column_rule.Unique nulls) = ws ≡ plain kind.Unique ∷ null_words nulls
 IsColumnRule ws column_rule.PrimaryKey = ws ≡ plain kind.Primary ∷ plain kind.Key ∷ []
 IsColumnRule ws (column_rule.Check c) = (check : List Word) × InParentheses IsShallowCondition check c × (ws ≡ plain kind.Check ∷ check)
 IsColumnRule ws (column_rule.References r) = IsReferences ws r
@@ -111,9 +117,10 @@ IsColumn ws c =
     × IsType type c.kind × Maybe IsDefault default c.default × Sequence IsColumnConstraint constraints c.constraints
     × (ws ≡ name c.name ∷ (type ++ (default ++ constraints)))
 
--- UNIQUE ( names ) | PRIMARY KEY ( names ) | CHECK ( condition ) | FOREIGN KEY ( names ) references
+-- UNIQUE [ NULLS .. ] ( names ) | PRIMARY KEY ( names ) | CHECK ( condition ) | FOREIGN KEY ( names ) references
 abbrev pub IsTableRule : List Word → TableRule → Type 0
-IsTableRule ws (table_rule.Unique ns) = (key : List Word) × InParentheses Names key ns × (ws ≡ plain kind.Unique ∷ key)
+IsTableRule ws (table_rule.Unique nulls ns) =
+    (key : List Word) × InParentheses Names key ns × (ws ≡ plain kind.Unique ∷ (null_words nulls ++ key))
 IsTableRule ws (table_rule.PrimaryKey ns) =
     (key : List Word) × InParentheses Names key ns × (ws ≡ plain kind.Primary ∷ plain kind.Key ∷ key)
 IsTableRule ws (table_rule.Check c) = (check : List Word) × InParentheses IsShallowCondition check c × (ws ≡ plain kind.Check ∷ check)

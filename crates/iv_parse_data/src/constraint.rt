@@ -4,7 +4,7 @@ ghost use Rattle.iv_lex.specs.Words.{words};
 ghost use Rattle.iv_parse_terms.specs.After.{is_plain};
 ghost use Rattle.iv_parse_terms.specs.Seen.{with_words};
 ghost use Rattle.iv_parse_data.specs.readers.Series.{read_either_order};
-ghost use Rattle.iv_parse_data.specs.readers.Tables.{read_match_type, read_match, read_set_action, read_strict_action, read_referential_action, read_on, read_actions, read_reference_columns, read_references, read_null_rule, read_primary_rule, read_plain_rule, read_condition_rule, read_column_rule, column_constraint_of, read_column_constraint, read_key, read_primary_key, read_foreign_key, read_check_rule, read_unique_rule, read_table_rule, read_table_constraint};
+ghost use Rattle.iv_parse_data.specs.readers.Tables.{read_match_type, read_match, read_set_action, read_strict_action, read_referential_action, read_on, read_actions, read_reference_columns, read_references, read_null_treatment, read_null_rule, read_primary_rule, read_unique_column, read_plain_rule, read_condition_rule, read_column_rule, column_constraint_of, read_column_constraint, read_key, read_primary_key, read_foreign_key, read_check_rule, read_unique_key, read_unique_rule, read_table_rule, read_table_constraint};
 
 use crate::characteristics::{constraint_name, time};
 use crate::inserting::column_list;
@@ -14,8 +14,8 @@ use crate::selecting::enclosed_condition;
 use iv_lex::{Token, TokenKind};
 use iv_parse_terms::{after, name};
 use iv_syntax::{
-    ColumnConstraint, ColumnRule, Condition, MatchType, Name, References, ReferentialAction,
-    TableConstraint, TableRule,
+    ColumnConstraint, ColumnRule, Condition, MatchType, Name, NullTreatment, References,
+    ReferentialAction, TableConstraint, TableRule,
 };
 use sqlite_items::Items;
 use std::alloc::{AllocError, Global};
@@ -172,6 +172,20 @@ fn references<'a>(
     }
 }
 
+// NULLS NOT DISTINCT, where it is written.
+#[tactic(auto, unfolding(crate::specs::readers::Tables::read_null_treatment))]
+fn null_treatment(tokens: &[Token]) -> Option<(NullTreatment, &[Token])>
+    ensures { (text : List ℕ)
+        → with_words text result ≡ read_null_treatment (words text tokens.now) }
+{
+    let Some(rest) = after(TokenKind::Nulls, tokens) else {
+        return Some((NullTreatment::Distinct, tokens));
+    };
+    let rest = after(TokenKind::Not, rest)?;
+    let rest = after(TokenKind::Distinct, rest)?;
+    Some((NullTreatment::NotDistinct, rest))
+}
+
 // NOT NULL, from NULL on.
 #[tactic(auto, unfolding(crate::specs::readers::Tables::read_null_rule))]
 fn null_rule(tokens: &[Token]) -> Option<(Option<ColumnRule>, &[Token])>
@@ -192,6 +206,16 @@ fn primary_rule(tokens: &[Token]) -> Option<(Option<ColumnRule>, &[Token])>
     Some((Some(ColumnRule::PrimaryKey), rest))
 }
 
+// UNIQUE of a column, from what follows the word on.
+#[tactic(auto, unfolding(crate::specs::readers::Tables::read_unique_column))]
+fn unique_column(tokens: &[Token]) -> Option<(Option<ColumnRule>, &[Token])>
+    ensures { (text : List ℕ)
+        → with_words text result ≡ read_unique_column (words text tokens.now) }
+{
+    let (nulls, rest) = null_treatment(tokens)?;
+    Some((Some(ColumnRule::Unique(nulls)), rest))
+}
+
 // A rule that begins with NOT, UNIQUE or PRIMARY, where one begins.
 #[tactic(auto, unfolding(crate::specs::readers::Tables::read_plain_rule))]
 fn plain_rule(tokens: &[Token]) -> Option<(Option<ColumnRule>, &[Token])>
@@ -201,12 +225,12 @@ fn plain_rule(tokens: &[Token]) -> Option<(Option<ColumnRule>, &[Token])>
         return null_rule(rest);
     }
     if let Some(rest) = after(TokenKind::Unique, tokens) {
-        return Some((Some(ColumnRule::Unique), rest));
+        return unique_column(rest);
     }
     primary_rule(tokens)
 }
 
-// CHECK or a rule of one or two words, where one begins.
+// CHECK or a rule of plain words, where one begins.
 #[tactic(auto, unfolding(crate::specs::readers::Tables::read_condition_rule))]
 fn condition_rule<'a>(
     alloc: Global,
@@ -356,6 +380,25 @@ fn check_rule<'a>(
     }
 }
 
+// UNIQUE of a table, from what follows the word on.
+#[tactic(auto, unfolding(crate::specs::readers::Tables::read_unique_key))]
+fn unique_key<'a>(
+    alloc: Global,
+    text: &str,
+    tokens: &'a [Token],
+) -> Result<Option<(TableRule, &'a [Token])>, AllocError>
+    ensures { IfOk result (λ r. with_words text.now r
+        ≡ read_unique_key (words text.now tokens.now)) }
+{
+    let Some((nulls, rest)) = null_treatment(tokens) else {
+        return Ok(None);
+    };
+    match key(alloc, text, rest)? {
+        Some((names, rest)) => Ok(Some((TableRule::Unique(nulls, names), rest))),
+        None => Ok(None),
+    }
+}
+
 #[tactic(auto, unfolding(crate::specs::readers::Tables::read_unique_rule))]
 fn unique_rule<'a>(
     alloc: Global,
@@ -365,12 +408,9 @@ fn unique_rule<'a>(
     ensures { IfOk result (λ r. with_words text.now r
         ≡ read_unique_rule (words text.now tokens.now)) }
 {
-    let Some(rest) = after(TokenKind::Unique, tokens) else {
-        return check_rule(alloc, text, tokens);
-    };
-    match key(alloc, text, rest)? {
-        Some((names, rest)) => Ok(Some((TableRule::Unique(names), rest))),
-        None => Ok(None),
+    match after(TokenKind::Unique, tokens) {
+        Some(rest) => unique_key(alloc, text, rest),
+        None => check_rule(alloc, text, tokens),
     }
 }
 

@@ -12,6 +12,7 @@ use Rattle.iv_expr.specs.Changes.{wave_of}
 use Rattle.iv_expr.specs.Scopes.{Rises, table_rows}
 use Rattle.iv_syntax.specs.declared.table.MatchType.{MatchType}
 use Rattle.iv_syntax.specs.declared.table.MatchType.TheVariants as matching
+use Rattle.iv_syntax.specs.declared.table.NullTreatment.TheVariants.{Distinct}
 use Rattle.iv_catalogue.specs.Catalogues.{AllOn}
 use Rattle.iv_catalogue.specs.declared.cause.Fault.{Fault}
 use Rattle.iv_catalogue.specs.declared.constraint.Constraint.{Constraint}
@@ -161,10 +162,10 @@ disobeying_same : (rows after : List StoredRow) (table : ℕ) (rl : Rule) → ta
     → disobeying after table rl ≡ disobeying rows table rl
 disobeying_same rows after table (rule.NotNull column) e f = ap (λ (l : List StoredRow). filter (λ (r : StoredRow). not (obeys rows table (rule.NotNull column) r)) l) e
 disobeying_same rows after table (rule.Check condition) e f = ap (λ (l : List StoredRow). filter (λ (r : StoredRow). not (obeys rows table (rule.Check condition) r)) l) e
-disobeying_same rows after table (rule.Unique columns) e f =
-    ap (λ (l : List StoredRow). filter (λ (r : StoredRow). not (not (list_any (shares_key columns r) l))) l) e
+disobeying_same rows after table (rule.Unique nulls columns) e f =
+    ap (λ (l : List StoredRow). filter (λ (r : StoredRow). not (not (list_any (shares_key nulls columns r) l))) l) e
 disobeying_same rows after table (rule.PrimaryKey columns) e f =
-    ap (λ (l : List StoredRow). filter (λ (r : StoredRow). not (none_null (key_of columns r.values) && not (list_any (shares_key columns r) l))) l) e
+    ap (λ (l : List StoredRow). filter (λ (r : StoredRow). not (none_null (key_of columns r.values) && not (list_any (shares_key Distinct columns r) l))) l) e
 disobeying_same rows after table (rule.ForeignKey fk) e f =
     matched_same rows after fk fk.matching (table_rows after table) f
     ∙ ap (λ (l : List StoredRow). filter (λ (r : StoredRow). not (obeys rows table (rule.ForeignKey fk) r)) l) e
@@ -183,7 +184,7 @@ turned_false a b e = grind (arith, nat_tests)
 referenced_stay : (rows after : List StoredRow) (t : ℕ) (rl : Rule) → refers_to t rl ≡ false → ((u : ℕ) → (t == u) ≡ false → table_rows after u ≡ table_rows rows u) → ReferencedStay rows after rl
 referenced_stay rows after t (rule.NotNull column) e stay = tt
 referenced_stay rows after t (rule.Check condition) e stay = tt
-referenced_stay rows after t (rule.Unique columns) e stay = tt
+referenced_stay rows after t (rule.Unique nulls columns) e stay = tt
 referenced_stay rows after t (rule.PrimaryKey columns) e stay = tt
 referenced_stay rows after t (rule.ForeignKey fk) e stay = stay fk.referenced (turned_false fk.referenced t e)
 

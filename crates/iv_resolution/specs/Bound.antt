@@ -37,7 +37,7 @@ use Rattle.iv_resolution.specs.Terms.{integer_of, bound_expression, bound_condit
 use Rattle.iv_resolution.specs.Constraints.{WrittenRule, not_null, unique, primary_key, check, foreign_key, WrittenConstraint, written_columns, written_constraints, table_constraint, constraint_name, is_deferrable, initial_mode, places_of, primary_key_of, Referenced, Altered, referenced}
 use Rattle.iv_resolution.specs.Changes.{stored_columns, target_columns, target_ranges}
 use Rattle.iv_resolution.specs.Tables.{created_table, altered_at, creating, table_names, check_ranges, added_name}
-use Rattle.iv_resolution.specs.Triggers.{trigger_names, trigger_variables}
+use Rattle.iv_resolution.specs.Triggers.{subject_of, trigger_names, trigger_variables}
 
 -- ---- INSERT, UPDATE, DELETE and SELECT
 
@@ -143,7 +143,7 @@ bound_reference own names r t = record {
 
 abbrev pub bound_rule : Schema → Names → Altered → WrittenRule → Rule
 bound_rule schema names own (not_null column) = rule.NotNull (place_of own.columns column)
-bound_rule schema names own (unique columns) = rule.Unique (places_of own.columns columns)
+bound_rule schema names own (unique nulls columns) = rule.Unique nulls (places_of own.columns columns)
 bound_rule schema names own (primary_key columns) = rule.PrimaryKey (places_of own.columns columns)
 bound_rule schema names own (check c) = rule.Check (bound_condition names (check_ranges own) c)
 bound_rule schema names own (foreign_key columns r) = rule.ForeignKey (bound_reference own columns r (referenced schema own r.table))
@@ -189,6 +189,7 @@ bound_trigger schema t = record {
   table = table_id (table_names schema) t.table;
   time = t.time;
   event = t.event;
+  columns = places_of (subject_of schema t) t.columns;
   granularity = t.granularity;
   when = bound_filter (trigger_names schema t) (trigger_variables schema t) t.when;
   body = map (bound_action (trigger_names schema t) (trigger_variables schema t)) t.body;

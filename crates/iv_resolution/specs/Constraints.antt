@@ -3,7 +3,7 @@
 use Rattle.std.specs.Prelude.{ℕ, Bool, true, false, not, ◌&&◌, ◌||◌, ◌==◌, List, [], ◌∷◌, length, map, filter, filter_map, flat_map, find, zip, chars, Option, Some, None, nat_le, unwrap_or, option_map, slice_get}
 use Rattle.std.specs.List.{list_any, list_all, enumerate_from}
 use Rattle.std.specs.Str.{bytes_eq}
-use Rattle.iv_resolution.specs.Words.{ConstraintMode, ColumnType, Literal, ConstraintTime, References, ColumnRule, ColumnConstraint, ColumnDefinition, TableRule, TableConstraint, TableElement, Condition, Constraint, Rule}
+use Rattle.iv_resolution.specs.Words.{ConstraintMode, ColumnType, Literal, ConstraintTime, NullTreatment, References, ColumnRule, ColumnConstraint, ColumnDefinition, TableRule, TableConstraint, TableElement, Condition, Constraint, Rule}
 use Rattle.iv_resolution.specs.Words.mode
 use Rattle.iv_resolution.specs.Words.type
 use Rattle.iv_resolution.specs.Words.literal
@@ -36,7 +36,7 @@ defined_columns elements = map defined_column (written_columns elements)
 -- what a constraint says, wherever it is written
 pub data WrittenRule : Type 0 where
   not_null : List ℕ → WrittenRule
-  unique : List (List ℕ) → WrittenRule
+  unique : NullTreatment → List (List ℕ) → WrittenRule
   primary_key : List (List ℕ) → WrittenRule
   check : Condition → WrittenRule
   foreign_key : List (List ℕ) → References → WrittenRule
@@ -49,13 +49,13 @@ pub record WrittenConstraint : Type 0 where
 -- a constraint inside a column says of that column what a table constraint says of a list
 abbrev pub rule_of_column : List ℕ → ColumnRule → WrittenRule
 rule_of_column column column_rule.NotNull = not_null column
-rule_of_column column column_rule.Unique = unique (column ∷ [])
+rule_of_column column (column_rule.Unique nulls) = unique nulls (column ∷ [])
 rule_of_column column column_rule.PrimaryKey = primary_key (column ∷ [])
 rule_of_column column (column_rule.Check c) = check c
 rule_of_column column (column_rule.References r) = foreign_key (column ∷ []) r
 
 abbrev pub rule_of_table : TableRule → WrittenRule
-rule_of_table (table_rule.Unique columns) = unique columns
+rule_of_table (table_rule.Unique nulls columns) = unique nulls columns
 rule_of_table (table_rule.PrimaryKey columns) = primary_key columns
 rule_of_table (table_rule.Check c) = check c
 rule_of_table (table_rule.ForeignKey columns r) = foreign_key columns r
@@ -125,7 +125,7 @@ abbrev pub name_at : List NamedColumn → ℕ → List ℕ
 name_at columns place = elim (slice_get columns place) [ Some c ↦ c.name | None ↦ [] ]
 
 abbrev pub key_of_rule : List NamedColumn → Bool → Rule → Option Key
-key_of_rule columns deferrable (rule.Unique places) = Some (record { columns = map (name_at columns) places; places = places; is_primary = false; deferrable = deferrable })
+key_of_rule columns deferrable (rule.Unique nulls places) = Some (record { columns = map (name_at columns) places; places = places; is_primary = false; deferrable = deferrable })
 key_of_rule columns deferrable (rule.PrimaryKey places) = Some (record { columns = map (name_at columns) places; places = places; is_primary = true; deferrable = deferrable })
 key_of_rule columns deferrable _ = None
 
@@ -134,7 +134,7 @@ abbrev pub stored_keys : List NamedColumn → List Constraint → List Key
 stored_keys columns constraints = filter_map (λ k. key_of_rule columns k.deferrable k.rule) constraints
 
 abbrev pub key_of_written : List NamedColumn → ConstraintTime → WrittenRule → Option Key
-key_of_written columns time (unique names) = Some (record { columns = names; places = places_of columns names; is_primary = false; deferrable = is_deferrable time })
+key_of_written columns time (unique nulls names) = Some (record { columns = names; places = places_of columns names; is_primary = false; deferrable = is_deferrable time })
 key_of_written columns time (primary_key names) = Some (record { columns = names; places = places_of columns names; is_primary = true; deferrable = is_deferrable time })
 key_of_written columns time _ = None
 

@@ -51,7 +51,7 @@ unknown_reference (Some r) (Some names) = unknown_names r.columns names
 
 abbrev pub unknown_rule : Schema → Names → Altered → WrittenRule → Bool
 unknown_rule schema names own (not_null column) = not (has_column own.columns column)
-unknown_rule schema names own (unique columns) = unknown_names own.columns columns
+unknown_rule schema names own (unique nulls columns) = unknown_names own.columns columns
 unknown_rule schema names own (primary_key columns) = unknown_names own.columns columns
 unknown_rule schema names own (check c) = unknown_condition names (check_ranges own) c
 unknown_rule schema names own (foreign_key columns r) =
@@ -62,7 +62,7 @@ unknown_rule schema names own (foreign_key columns r) =
 -- a column twice in a key or in a list of a foreign key
 abbrev pub duplicate_rule : WrittenRule → Bool
 duplicate_rule (not_null column) = false
-duplicate_rule (unique columns) = comes_twice columns
+duplicate_rule (unique nulls columns) = comes_twice columns
 duplicate_rule (primary_key columns) = comes_twice columns
 duplicate_rule (check c) = false
 duplicate_rule (foreign_key columns r) = comes_twice columns || elim r.columns [ Some names ↦ comes_twice names | None ↦ false ]
@@ -96,7 +96,7 @@ misshaped_rule names own _ = false
 -- ---- limits
 
 abbrev pub long_key : WrittenRule → Bool
-long_key (unique columns) = nat_lt MOST_KEY_COLUMNS (length columns)
+long_key (unique nulls columns) = nat_lt MOST_KEY_COLUMNS (length columns)
 long_key (primary_key columns) = nat_lt MOST_KEY_COLUMNS (length columns)
 long_key _ = false
 

@@ -1,4 +1,4 @@
--- CREATE TRIGGER: what its REFERENCING, WHEN and body are refused for ("Trigger definition").
+-- CREATE TRIGGER: what its columns, REFERENCING, WHEN and body are refused for ("Trigger definition").
 use Rattle.std.specs.Prelude.{ℕ, Bool, true, false, not, ◌&&◌, ◌||◌, List, length, map, filter, find, Option, Some, None, nat_le, nat_lt, option_map, is_none}
 use Rattle.std.specs.List.{list_any}
 use Rattle.std.specs.Str.{bytes_eq}
@@ -16,7 +16,7 @@ use Rattle.iv_resolution.specs.declared.origin.Origin.TheVariants.{Rows, Variabl
 use Rattle.iv_resolution.specs.Scopes.{NamedColumn, NamedRange, Names, NamedTransition, has_column, type_named}
 use Rattle.iv_resolution.specs.Terms.{unknown_expression, unknown_filter, misshaped_expression, misshaped_filter}
 use Rattle.iv_resolution.specs.Constraints.{comes_twice}
-use Rattle.iv_resolution.specs.Changes.{target_columns, is_table, unknown_insert, unknown_update, unknown_delete, duplicate_insert, duplicate_update, clashes_with, misshaped_insert, misshaped_update, misshaped_delete}
+use Rattle.iv_resolution.specs.Changes.{target_columns, is_table, unknown_names, unknown_insert, unknown_update, unknown_delete, duplicate_insert, duplicate_update, clashes_with, misshaped_insert, misshaped_update, misshaped_delete}
 use Rattle.iv_resolution.specs.Tables.{table_names}
 
 -- ---- what WHEN and the body may name
@@ -61,8 +61,9 @@ unknown_action names variables (action.Set v column e) = unknown_set names varia
 abbrev pub unknown_trigger : Schema → TriggerDefinition → Bool
 unknown_trigger schema t =
     not (is_table (trigger_names schema t) t.table)
+    || (unknown_names (subject_of schema t) t.columns
     || (unknown_filter (trigger_names schema t) (trigger_variables schema t) t.when
-    || list_any (unknown_action (trigger_names schema t) (trigger_variables schema t)) t.body)
+    || list_any (unknown_action (trigger_names schema t) (trigger_variables schema t)) t.body))
 
 -- ---- names that come twice, or are in use
 
@@ -73,7 +74,8 @@ duplicate_action _ = false
 
 abbrev pub duplicate_trigger : Schema → TriggerDefinition → Bool
 duplicate_trigger schema t =
-    has_trigger schema t.name || (comes_twice (map (λ i. i.name) t.referencing) || list_any duplicate_action t.body)
+    has_trigger schema t.name
+    || (comes_twice t.columns || (comes_twice (map (λ i. i.name) t.referencing) || list_any duplicate_action t.body))
 
 -- ---- what the trigger's time, event and granularity don't allow
 

@@ -30,6 +30,8 @@ pub use Rattle.iv_syntax.specs.declared.table.ConstraintTime.{ConstraintTime}
 pub use Rattle.iv_syntax.specs.declared.table.Literal.{Literal}
 pub use Rattle.iv_syntax.specs.declared.table.Literal.TheVariants as literal
 pub use Rattle.iv_syntax.specs.declared.table.MatchType.TheVariants as matching
+pub use Rattle.iv_syntax.specs.declared.table.NullTreatment.{NullTreatment}
+pub use Rattle.iv_syntax.specs.declared.table.NullTreatment.TheVariants as nulls
 pub use Rattle.iv_syntax.specs.declared.table.References.{References}
 pub use Rattle.iv_syntax.specs.declared.table.ReferentialAction.TheVariants as referential_action
 pub use Rattle.iv_syntax.specs.declared.table.TableConstraint.{TableConstraint}

@@ -25,6 +25,7 @@ use Rattle.iv_resolution.specs.Words.table_rule
 use Rattle.iv_resolution.specs.Words.element
 use Rattle.iv_resolution.specs.Words.literal
 use Rattle.iv_resolution.specs.Words.matching.{Simple}
+use Rattle.iv_resolution.specs.Words.nulls.{Distinct}
 use Rattle.iv_resolution.specs.Words.referential_action.{NoAction}
 use Rattle.iv_resolution.specs.Words.time
 use Rattle.iv_resolution.specs.Words.event
@@ -127,7 +128,7 @@ abbrev pub item : Side → TransitionName → List ℕ → Referencing
 item side what name = record { side = side; what = what; name = name }
 
 abbrev pub trigger : ActionTime → TriggerEvent → List Referencing → TriggerAction → Statement
-trigger time event items act = statement.CreateTrigger (record { name = codes "R"; time = time; event = event; table = t; referencing = items; granularity = Row; when = None; body = act ∷ [] })
+trigger time event items act = statement.CreateTrigger (record { name = codes "R"; time = time; event = event; columns = []; table = t; referencing = items; granularity = Row; when = None; body = act ∷ [] })
 
 -- ---- the statements
 
@@ -170,7 +171,7 @@ pub record WorkedStatements : Type 0 where
   -- CREATE TABLE t (a INT);
   pub table_in_use : least tables (statement.CreateTable t (defined a type.Integer None [] ∷ [])) ≡ Some Duplicate
   -- CREATE TABLE w (a INT, UNIQUE (a, a));
-  pub key_column_twice : least tables (create (defined a type.Integer None [] ∷ constrained (table_rule.Unique (a ∷ a ∷ [])) ∷ [])) ≡ Some Duplicate
+  pub key_column_twice : least tables (create (defined a type.Integer None [] ∷ constrained (table_rule.Unique Distinct (a ∷ a ∷ [])) ∷ [])) ≡ Some Duplicate
   -- CREATE TABLE w (CHECK (1 = 1));
   pub no_columns : least tables (create (constrained (table_rule.Check (condition.Compare Equal one one)) ∷ [])) ≡ Some SchemaFault
   -- CREATE TABLE w (a INT, CONSTRAINT p PRIMARY KEY (a), CONSTRAINT z PRIMARY KEY (a));
@@ -208,7 +209,7 @@ pub record WorkedStatements : Type 0 where
   -- ALTER TABLE p ADD CONSTRAINT z PRIMARY KEY (k);
   pub primary_key_added_again : least tables (statement.AlterTable p (record { name = Some z; rule = table_rule.PrimaryKey (k ∷ []); time = any_time })) ≡ Some SchemaFault
   -- ALTER TABLE t ADD CONSTRAINT p_c1 UNIQUE (a);
-  pub constraint_in_use : least tables (statement.AlterTable t (record { name = Some (codes "P_C1"); rule = table_rule.Unique (a ∷ []); time = any_time })) ≡ Some Duplicate
+  pub constraint_in_use : least tables (statement.AlterTable t (record { name = Some (codes "P_C1"); rule = table_rule.Unique Distinct (a ∷ []); time = any_time })) ≡ Some Duplicate
   -- CREATE TRIGGER r BEFORE INSERT ON t REFERENCING NEW AS z FOR EACH ROW SET z.a = 1;
   pub new_is_set : least tables (trigger time.Before event.Insert (item New what.Row z ∷ []) (action.Set z a one)) ≡ None
   -- CREATE TRIGGER r BEFORE INSERT ON t REFERENCING NEW AS z FOR EACH ROW SET w.a = 1;

@@ -2,7 +2,7 @@
 -- ("Names and identifiers", "Literal").
 use Rattle.std.specs.Prelude.{ℕ, Bool, true, false, not, ◌&&◌, ◌||◌, ◌==◌, List, [], ◌∷◌, length, Option, Some, None, nat_le}
 use Rattle.std.specs.List.{list_all}
-use Rattle.iv_resolution.specs.Words.{Literal, ColumnDefinition, TableElement, ColumnName, RangeName, Expression, Condition, ValueOrDefault, SelectList, InsertSource, Insert, Assignment, Update, Delete, Select, ConstraintList, Statement, TriggerAction, TriggerDefinition}
+use Rattle.iv_resolution.specs.Words.{Literal, ColumnDefinition, TableElement, ColumnName, RangeName, Expression, Condition, ValueOrDefault, SelectList, InsertSource, Insert, Assignment, Update, Delete, Select, ConstraintList, Statement, TriggerEvent, TriggerAction, TriggerDefinition}
 use Rattle.iv_resolution.specs.Words.literal
 use Rattle.iv_resolution.specs.Words.expression
 use Rattle.iv_resolution.specs.Words.condition
@@ -13,6 +13,7 @@ use Rattle.iv_resolution.specs.Words.insert
 use Rattle.iv_resolution.specs.Words.select
 use Rattle.iv_resolution.specs.Words.constraints
 use Rattle.iv_resolution.specs.Words.statement
+use Rattle.iv_resolution.specs.Words.event
 use Rattle.iv_resolution.specs.Words.action
 use Rattle.iv_syntax.specs.Trees.{group, signed, product, sum, enclosed, negated, both, either, exists_where, depth, condition_depth}
 use Rattle.iv_syntax.specs.declared.limits.TheConstants.{GREATEST_INTEGER, DEEPEST_TREE, LONGEST_NAME}
@@ -136,7 +137,7 @@ is_definition c = is_name c.name && elim c.default [ Some l ↦ is_literal l | N
 
 abbrev pub is_rule : WrittenRule → Bool
 is_rule (not_null column) = is_name column
-is_rule (unique columns) = is_name_list columns
+is_rule (unique nulls columns) = is_name_list columns
 is_rule (primary_key columns) = is_name_list columns
 is_rule (check c) = is_condition c
 is_rule (foreign_key columns r) = is_name_list columns && (is_name r.table && is_name_list_or_none r.columns)
@@ -157,10 +158,15 @@ is_action (action.Delete d) = is_delete d
 is_action (action.Signal t) = true
 is_action (action.Set v column e) = is_name v && (is_name column && is_expression e)
 
+-- UPDATE alone has a list of columns
+abbrev pub are_event_columns : TriggerEvent → List (List ℕ) → Bool
+are_event_columns event.Update columns = are_names columns
+are_event_columns _ columns = length columns == 0
+
 abbrev pub is_trigger_definition : TriggerDefinition → Bool
 is_trigger_definition t =
-    is_name t.name && (is_name t.table && (list_all (λ i. is_name i.name) t.referencing
-    && (is_filter t.when && (not (length t.body == 0) && list_all is_action t.body))))
+    is_name t.name && (is_name t.table && (are_event_columns t.event t.columns && (list_all (λ i. is_name i.name) t.referencing
+    && (is_filter t.when && (not (length t.body == 0) && list_all is_action t.body)))))
 
 -- ---- statements
 

@@ -53,7 +53,7 @@ fn duplicate_rule(alloc: Global, rule: &WrittenRule<'_>) -> bool
 {
     match rule {
         WrittenRule::NotNull(_) => false,
-        WrittenRule::Unique(columns) => comes_twice(alloc, columns),
+        WrittenRule::Unique(_, columns) => comes_twice(alloc, columns),
         WrittenRule::PrimaryKey(columns) => comes_twice(alloc, columns),
         WrittenRule::Check(_) => false,
         WrittenRule::ForeignKey(columns, references) => {

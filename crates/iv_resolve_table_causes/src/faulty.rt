@@ -97,7 +97,7 @@ fn faulty_rule<'a>(
 {
     match rule {
         WrittenRule::NotNull(_) => false,
-        WrittenRule::Unique(_) => false,
+        WrittenRule::Unique(_, _) => false,
         WrittenRule::PrimaryKey(_) => false,
         WrittenRule::Check(condition) => has_exists(condition),
         WrittenRule::ForeignKey(columns, references) => {

@@ -24,7 +24,7 @@ fn long_key(rule: &WrittenRule<'_>) -> bool
 {
     match rule {
         WrittenRule::NotNull(_) => false,
-        WrittenRule::Unique(columns) => columns.len() > MOST_KEY_COLUMNS,
+        WrittenRule::Unique(_, columns) => columns.len() > MOST_KEY_COLUMNS,
         WrittenRule::PrimaryKey(columns) => columns.len() > MOST_KEY_COLUMNS,
         WrittenRule::Check(_) => false,
         WrittenRule::ForeignKey(_, _) => false,

@@ -43,7 +43,7 @@ pub fn misshaped_rule<'a>(
 {
     match rule {
         WrittenRule::NotNull(_) => false,
-        WrittenRule::Unique(_) => false,
+        WrittenRule::Unique(_, _) => false,
         WrittenRule::PrimaryKey(_) => false,
         WrittenRule::Check(condition) => misshaped_check(own, catalogue, outside, condition),
         WrittenRule::ForeignKey(_, _) => false,

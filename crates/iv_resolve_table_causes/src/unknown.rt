@@ -81,7 +81,7 @@ pub fn unknown_rule<'a>(
 {
     match rule {
         WrittenRule::NotNull(column) => !own_columns(own, catalogue).has(column.as_str()),
-        WrittenRule::Unique(columns) => unknown_names(&own_columns(own, catalogue), columns),
+        WrittenRule::Unique(_, columns) => unknown_names(&own_columns(own, catalogue), columns),
         WrittenRule::PrimaryKey(columns) => unknown_names(&own_columns(own, catalogue), columns),
         WrittenRule::Check(condition) => unknown_check(own, catalogue, outside, condition),
         WrittenRule::ForeignKey(columns, references) => {

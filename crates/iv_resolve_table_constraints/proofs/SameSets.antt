@@ -16,6 +16,7 @@ use Rattle.std.proofs.lemmas.List.Elements.{filter_map-append}
 use Rattle.std.proofs.lemmas.List.Folds.{list_any-append}
 use Rattle.std.proofs.lemmas.Map.Lookups.{btree_set_from_contains, exact_bytes}
 use Rattle.iv_syntax.specs.declared.table.ConstraintTime.{ConstraintTime}
+use Rattle.iv_syntax.specs.declared.table.NullTreatment.{NullTreatment}
 use Rattle.iv_catalogue.specs.Names.{is_among}
 use Rattle.iv_catalogue.proofs.WrittenNames.{same_turned}
 use Rattle.iv_resolution.specs.Constraints.{Key, WrittenConstraint, WrittenRule, not_null, unique, primary_key, check, foreign_key, is_deferrable, is_reliable, key_of_written, same_set, written_keys}
@@ -175,10 +176,10 @@ next_reliable columns k ks names =
 abbrev pub constraint_of : Option (List ℕ) → WrittenRule → ConstraintTime → WrittenConstraint
 constraint_of name rule time = record { name = name; rule = rule; time = time }
 
-pub unique_alone : (columns : List NamedColumn) (name : Option (List ℕ)) (key : List (List ℕ)) (time : ConstraintTime) (names : List (List ℕ))
-    → is_deferrable time ≡ false → some_reliable columns (constraint_of name (unique key) time ∷ []) names ≡ same_set names key
+pub unique_alone : (columns : List NamedColumn) (name : Option (List ℕ)) (nulls : NullTreatment) (key : List (List ℕ)) (time : ConstraintTime) (names : List (List ℕ))
+    → is_deferrable time ≡ false → some_reliable columns (constraint_of name (unique nulls key) time ∷ []) names ≡ same_set names key
 unfolding some_reliable
-unique_alone columns name key time names h = ap (λ b. (not b && same_set names key) || false) h ∙ or-false (same_set names key)
+unique_alone columns name nulls key time names h = ap (λ b. (not b && same_set names key) || false) h ∙ or-false (same_set names key)
 
 pub primary_alone : (columns : List NamedColumn) (name : Option (List ℕ)) (key : List (List ℕ)) (time : ConstraintTime) (names : List (List ℕ))
     → is_deferrable time ≡ false → some_reliable columns (constraint_of name (primary_key key) time ∷ []) names ≡ same_set names key
@@ -189,7 +190,7 @@ pub deferrable_alone : (columns : List NamedColumn) (name : Option (List ℕ)) (
     → is_deferrable time ≡ true → some_reliable columns (constraint_of name rule time ∷ []) names ≡ false
 unfolding some_reliable
 deferrable_alone columns name (not_null column) time names h = refl
-deferrable_alone columns name (unique key) time names h = ap (λ b. (not b && same_set names key) || false) h
+deferrable_alone columns name (unique nulls key) time names h = ap (λ b. (not b && same_set names key) || false) h
 deferrable_alone columns name (primary_key key) time names h = ap (λ b. (not b && same_set names key) || false) h
 deferrable_alone columns name (check c) time names h = refl
 deferrable_alone columns name (foreign_key key r) time names h = refl

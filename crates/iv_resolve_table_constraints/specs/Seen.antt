@@ -14,7 +14,7 @@ use Rattle.iv_resolve_table_constraints.specs.declared.written.WrittenConstraint
 
 abbrev pub rule_seen : WrittenRule → written.WrittenRule
 rule_seen (NotNull column) = written.not_null column.now
-rule_seen (Unique columns) = written.unique columns.now
+rule_seen (Unique nulls columns) = written.unique nulls columns.now
 rule_seen (PrimaryKey columns) = written.primary_key columns.now
 rule_seen (Check c) = written.check c.now
 rule_seen (ForeignKey columns r) = written.foreign_key columns.now r.now

@@ -58,7 +58,7 @@ fn reliable_columns<'a>(constraint: &WrittenConstraint<'a>) -> Option<&'a [Name]
         return None;
     }
     match constraint.rule {
-        WrittenRule::Unique(names) => Some(names),
+        WrittenRule::Unique(_, names) => Some(names),
         WrittenRule::PrimaryKey(names) => Some(names),
         WrittenRule::NotNull(_) => None,
         WrittenRule::Check(_) => None,

@@ -162,7 +162,7 @@ pub fn written_key<'a>(
 {
     let deferrable = is_deferrable(constraint.time);
     match constraint.rule {
-        WrittenRule::Unique(names) => Some(TableKey {
+        WrittenRule::Unique(_, names) => Some(TableKey {
             columns: KeyColumns::Named(columns, names),
             is_primary: false,
             deferrable,
@@ -186,7 +186,7 @@ pub fn stored_key<'a>(columns: &'a [Column], constraint: &'a Constraint) -> Opti
 {
     let deferrable = constraint.deferrable;
     match &constraint.rule {
-        Rule::Unique(places) => Some(TableKey {
+        Rule::Unique(_, places) => Some(TableKey {
             columns: KeyColumns::Placed(columns, places.as_slice()),
             is_primary: false,
             deferrable,

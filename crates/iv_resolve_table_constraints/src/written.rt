@@ -4,8 +4,8 @@ ghost use Rattle.iv_resolution.specs.Constraints.{column_constraint, rule_of_col
 ghost use Rattle.iv_resolve_table_constraints.specs.Seen.{constraint_seen, rule_seen};
 
 use iv_syntax::{
-    ColumnConstraint, ColumnRule, Condition, ConstraintTime, Name, References, TableConstraint,
-    TableRule,
+    ColumnConstraint, ColumnRule, Condition, ConstraintTime, Name, NullTreatment, References,
+    TableConstraint, TableRule,
 };
 use std::slice;
 
@@ -13,7 +13,7 @@ use std::slice;
 #[derive(Clone, Copy)]
 pub enum WrittenRule<'a> {
     NotNull(&'a Name),
-    Unique(&'a [Name]),
+    Unique(NullTreatment, &'a [Name]),
     PrimaryKey(&'a [Name]),
     Check(&'a Condition),
     ForeignKey(&'a [Name], &'a References),
@@ -38,7 +38,7 @@ fn rule_of_column<'a>(column: &'a Name, rule: &'a ColumnRule) -> WrittenRule<'a>
 {
     match rule {
         ColumnRule::NotNull => WrittenRule::NotNull(column),
-        ColumnRule::Unique => WrittenRule::Unique(one(column)),
+        ColumnRule::Unique(nulls) => WrittenRule::Unique(*nulls, one(column)),
         ColumnRule::PrimaryKey => WrittenRule::PrimaryKey(one(column)),
         ColumnRule::Check(condition) => WrittenRule::Check(condition),
         ColumnRule::References(references) => WrittenRule::ForeignKey(one(column), references),
@@ -49,7 +49,7 @@ fn rule_of_table<'a>(rule: &'a TableRule) -> WrittenRule<'a>
     ensures { rule_seen result ≡ rule_of_table rule.entry.now }
 {
     match rule {
-        TableRule::Unique(names) => WrittenRule::Unique(names.as_slice()),
+        TableRule::Unique(nulls, names) => WrittenRule::Unique(*nulls, names.as_slice()),
         TableRule::PrimaryKey(names) => WrittenRule::PrimaryKey(names.as_slice()),
         TableRule::Check(condition) => WrittenRule::Check(condition),
         TableRule::ForeignKey(names, references) => {

@@ -199,9 +199,10 @@ fn bound_rule<'a>(
         WrittenRule::NotNull(column) => {
             Ok(Rule::NotNull(own_columns(own, catalogue).place_of(column.as_str())))
         }
-        WrittenRule::Unique(names) => {
-            Ok(Rule::Unique(own_places(alloc, own, catalogue, names)?))
-        }
+        WrittenRule::Unique(nulls, names) => Ok(Rule::Unique(
+            *nulls,
+            own_places(alloc, own, catalogue, names)?,
+        )),
         WrittenRule::PrimaryKey(names) => {
             Ok(Rule::PrimaryKey(own_places(alloc, own, catalogue, names)?))
         }

@@ -5,4 +5,4 @@ mod allowed;
 mod names;
 
 pub use allowed::faulty_trigger;
-pub use names::{names_among, trigger_names, variable_named, variables};
+pub use names::{names_among, subject, trigger_names, variable_named, variables};

@@ -1,12 +1,20 @@
 //! What WHEN and the body of a trigger may name.
 ghost use Rattle.std.specs.Prelude.{◌≡◌, ◌≤◌, length};
-ghost use Rattle.iv_resolution.specs.Triggers.{row_variables, trigger_names, trigger_variables, variable_named};
+ghost use Rattle.iv_resolution.specs.Triggers.{row_variables, subject_of, trigger_names, trigger_variables, variable_named};
 ghost use Rattle.iv_resolve_scope.specs.Seen.{columns_seen, items_seen, names_seen, ranges_seen};
 
 use iv_catalogue::{Catalogue, MOST_TABLES};
 use iv_resolution::Origin;
 use iv_resolve_scope::{Columns, Names, Ranges, ReferencingItems, stored_columns};
 use iv_syntax::{TransitionName, TriggerDefinition};
+
+/// The columns of the table that a trigger is on; none where there is no such table.
+#[tactic(auto, unfolding(iv_resolution::specs::Triggers::subject_of))]
+pub fn subject<'a>(trigger: &'a TriggerDefinition, catalogue: &'a Catalogue) -> Columns<'a>
+    ensures { columns_seen result ≡ subject_of catalogue.entry.now trigger.entry.now }
+{
+    Columns::Stored(stored_columns(catalogue.tables(), trigger.table.as_str()))
+}
 
 /// The tables that a trigger may name, where its items of REFERENCING are given with an index or without.
 #[tactic(auto, unfolding(iv_resolution::specs::Triggers::trigger_names, iv_resolution::specs::Triggers::trigger_variables, iv_resolution::specs::Triggers::subject_of))]

@@ -7,8 +7,8 @@ ghost use Rattle.iv_resolve_scope.specs.Seen.{names_seen, ranges_seen};
 use iv_catalogue::{BodyStatement, Catalogue, MOST_TABLES, Setting, Trigger, TriggerId};
 use iv_expr::TableId;
 use iv_resolve_changes::{bound_delete, bound_insert, bound_update};
-use iv_resolve_scope::{Names, Ranges, bound_expression, bound_filter, table_place};
-use iv_resolve_trigger_rules::{trigger_names, variables};
+use iv_resolve_scope::{Names, Ranges, bound_expression, bound_filter, places_of, table_place};
+use iv_resolve_trigger_rules::{subject, trigger_names, variables};
 use iv_syntax::{TriggerAction, TriggerDefinition};
 use sqlite_items::Items;
 use std::alloc::{AllocError, Global};
@@ -93,6 +93,11 @@ pub fn bound_trigger<'a>(
     let names = trigger_names(trigger, catalogue);
     let ranges = variables(&names);
     let name = trigger.name.clone()?;
+    let columns = places_of(
+        alloc,
+        &subject(trigger, catalogue),
+        trigger.columns.as_slice(),
+    )?;
     let body = bound_body(trigger.body.as_slice(), alloc, &names, &ranges);
     let (when, body) = both(bound_filter(&trigger.when, alloc, &names, &ranges), body)?;
     Ok(Trigger {
@@ -101,6 +106,7 @@ pub fn bound_trigger<'a>(
         table: subject_id(catalogue, trigger.table.as_str()),
         time: trigger.time,
         event: trigger.event,
+        columns,
         granularity: trigger.granularity,
         when,
         body,

@@ -7,7 +7,7 @@ ghost use Rattle.iv_resolution.specs.Triggers.{duplicate_action, duplicate_trigg
 
 use iv_catalogue::{Catalogue, Trigger};
 use iv_resolve_changes::{duplicate_insert, duplicate_update};
-use iv_resolve_scope::name_comes_twice;
+use iv_resolve_scope::{comes_twice, name_comes_twice};
 use iv_syntax::{TriggerAction, TriggerDefinition};
 use std::alloc::Global;
 
@@ -47,6 +47,7 @@ pub fn duplicate_trigger(alloc: Global, trigger: &TriggerDefinition, catalogue: 
     ensures { result ≡ duplicate_trigger catalogue.now trigger.now }
 {
     has_trigger(catalogue, trigger.name.as_str())
-        || (name_comes_twice(alloc, trigger.referencing.as_slice())
-            || duplicate_body(alloc, trigger.body.as_slice()))
+        || (comes_twice(alloc, trigger.columns.as_slice())
+            || (name_comes_twice(alloc, trigger.referencing.as_slice())
+                || duplicate_body(alloc, trigger.body.as_slice())))
 }

@@ -1,15 +1,17 @@
 //! Names in a CREATE TRIGGER that name nothing.
 ghost use Rattle.std.specs.Prelude.{◌≡◌, ◌≤◌, length};
 ghost use Rattle.std.specs.List.{list_any};
-ghost use Rattle.iv_resolution.specs.Triggers.{row_variables, unknown_action, unknown_set, unknown_trigger};
+ghost use Rattle.iv_resolution.specs.Triggers.{row_variables, subject_of, unknown_action, unknown_set, unknown_trigger};
+ghost use Rattle.iv_resolution.specs.Changes.{unknown_names};
 ghost use Rattle.iv_resolve_scope.specs.Seen.{columns_seen, items_seen, names_seen, ranges_seen};
 
 use iv_catalogue::{Catalogue, MOST_TABLES};
 use iv_resolve_changes::{is_table, unknown_delete, unknown_insert, unknown_update};
 use iv_resolve_scope::{
     Names, Ranges, ReferencingIndex, ReferencingItems, unknown_expression, unknown_filter,
+    unknown_names,
 };
-use iv_resolve_trigger_rules::{names_among, variable_named, variables};
+use iv_resolve_trigger_rules::{names_among, subject, variable_named, variables};
 use iv_syntax::{TriggerAction, TriggerDefinition};
 use std::alloc::Global;
 
@@ -56,7 +58,15 @@ fn unknown_body<'a>(body: &'a [TriggerAction], names: &'a Names<'a>, ranges: &'a
         .any(|action| unknown_action(action, &*names, &*ranges))
 }
 
-// The same, where the items of REFERENCING are given with an index or without.
+// Whether a column of UPDATE OF is none of the trigger's table.
+fn unknown_columns(trigger: &TriggerDefinition, catalogue: &Catalogue) -> bool
+    ensures { result
+        ≡ unknown_names (subject_of catalogue.now trigger.now) trigger.now.columns }
+{
+    unknown_names(&subject(trigger, catalogue), trigger.columns.as_slice())
+}
+
+// Whether a name of the trigger names nothing, where the items of REFERENCING are given with an index or without.
 fn unknown_among<'a>(
     trigger: &'a TriggerDefinition,
     catalogue: &'a Catalogue,
@@ -68,8 +78,9 @@ fn unknown_among<'a>(
     let names = names_among(trigger, catalogue, items);
     let ranges = variables(&names);
     !is_table(&names, trigger.table.as_str())
-        || (unknown_filter(&trigger.when, &names, &ranges)
-            || unknown_body(trigger.body.as_slice(), &names, &ranges))
+        || (unknown_columns(trigger, catalogue)
+            || (unknown_filter(&trigger.when, &names, &ranges)
+                || unknown_body(trigger.body.as_slice(), &names, &ranges)))
 }
 
 /// Whether a name of a CREATE TRIGGER names nothing. The items of REFERENCING are found by an index; where memory for it is refused,

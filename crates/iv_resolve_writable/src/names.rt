@@ -57,7 +57,8 @@ pub fn is_name_or_none(name: &Option<Name>) -> bool
     }
 }
 
-fn are_names(names: &[Name]) -> bool
+/// Whether all of them are names.
+pub fn are_names(names: &[Name]) -> bool
     ensures { result ≡ are_names names.now }
 {
     names.iter().all(|name| is_name(name.as_str()))

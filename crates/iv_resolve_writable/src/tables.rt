@@ -41,7 +41,7 @@ fn is_table_rule(rule: &TableRule) -> bool
     ensures { result ≡ is_rule (rule_of_table rule.now) }
 {
     match rule {
-        TableRule::Unique(names) => is_name_list(names.as_slice()),
+        TableRule::Unique(_, names) => is_name_list(names.as_slice()),
         TableRule::PrimaryKey(names) => is_name_list(names.as_slice()),
         TableRule::Check(condition) => is_condition(condition),
         TableRule::ForeignKey(names, references) => {
@@ -62,7 +62,7 @@ fn is_column_rule(column: &Name, rule: &ColumnRule) -> bool
 {
     match rule {
         ColumnRule::NotNull => is_name(column.as_str()),
-        ColumnRule::Unique => is_name(column.as_str()),
+        ColumnRule::Unique(_) => is_name(column.as_str()),
         ColumnRule::PrimaryKey => is_name(column.as_str()),
         ColumnRule::Check(condition) => is_condition(condition),
         ColumnRule::References(references) => {

@@ -1,12 +1,12 @@
 //! CREATE TRIGGER.
 ghost use Rattle.std.specs.Prelude.{◌≡◌, ◌&&◌, ◌==◌, length, not};
 ghost use Rattle.std.specs.List.{list_all};
-ghost use Rattle.iv_resolution.specs.Writable.{is_action, is_name, is_trigger_definition};
+ghost use Rattle.iv_resolution.specs.Writable.{are_event_columns, is_action, is_name, is_trigger_definition};
 
-use crate::names::is_name;
+use crate::names::{are_names, is_name};
 use crate::statements::{is_delete, is_insert, is_update};
 use crate::terms::{is_expression, is_filter};
-use iv_syntax::{Referencing, TriggerAction, TriggerDefinition};
+use iv_syntax::{Name, Referencing, TriggerAction, TriggerDefinition, TriggerEvent};
 
 fn is_action(action: &TriggerAction) -> bool
     ensures { result ≡ is_action action.now }
@@ -28,6 +28,17 @@ fn are_actions(body: &[TriggerAction]) -> bool
     body.iter().all(|action| is_action(action))
 }
 
+// UPDATE alone has a list of columns.
+fn are_event_columns(event: TriggerEvent, columns: &[Name]) -> bool
+    ensures { result ≡ are_event_columns event columns.now }
+{
+    match event {
+        TriggerEvent::Update => are_names(columns),
+        TriggerEvent::Insert => columns.len() == 0,
+        TriggerEvent::Delete => columns.len() == 0,
+    }
+}
+
 fn are_items(items: &[Referencing]) -> bool
     ensures { result ≡ list_all (λ i. is_name i.name) items.now }
 {
@@ -46,6 +57,7 @@ pub fn is_trigger_definition(trigger: &TriggerDefinition) -> bool
 {
     is_name(trigger.name.as_str())
         && (is_name(trigger.table.as_str())
-            && (are_items(trigger.referencing.as_slice())
-                && (is_filter(&trigger.when) && is_body(trigger.body.as_slice()))))
+            && (are_event_columns(trigger.event, trigger.columns.as_slice())
+                && (are_items(trigger.referencing.as_slice())
+                    && (is_filter(&trigger.when) && is_body(trigger.body.as_slice())))))
 }

@@ -42,7 +42,7 @@ trigger_is c x t a =
       room = limits.0;
       ever = limits.1;
       short = subst (λ n. n ≤ MOST_BODY_STATEMENTS) (sym (mapped_length (bound_action (trigger_names c x) (trigger_variables c x)) x.body)) limits.2;
-      free = (or_parts (has_trigger c x.name) (comes_twice (map (λ i. i.name) x.referencing) || list_any duplicate_action x.body) a.single).0;
+      free = (or_parts (has_trigger c x.name) (comes_twice x.columns || (comes_twice (map (λ i. i.name) x.referencing) || list_any duplicate_action x.body)) a.single).0;
     })
 
 no_trigger : (c : Schema) (place : ℕ) (k : WrittenConstraint) (t : Trigger) (P : Type 0) (o : Option Table) → alteration c place k o ≡ plan.Schema (schema.CreateTrigger t) → P

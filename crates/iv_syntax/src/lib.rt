@@ -16,7 +16,7 @@ pub use statement::{
 };
 pub use table::{
     ColumnConstraint, ColumnDefinition, ColumnRule, ColumnType, ConstraintTime, Literal, MatchType,
-    References, ReferentialAction, TableConstraint, TableElement, TableRule,
+    NullTreatment, References, ReferentialAction, TableConstraint, TableElement, TableRule,
 };
 pub use tree::{ColumnName, Condition, Expression, RangeName, Sign};
 pub use trigger::{

@@ -52,10 +52,17 @@ pub struct References {
     pub on_update: Option<ReferentialAction>,
 }
 
+/// Whether nulls are the same to a UNIQUE: NotDistinct where NULLS NOT DISTINCT is written ("unique null treatment").
+#[derive(Clone, Copy, Debug, PartialEq, Eq)]
+pub enum NullTreatment {
+    Distinct,
+    NotDistinct,
+}
+
 #[derive(Drop)]
 pub enum ColumnRule {
     NotNull,
-    Unique,
+    Unique(NullTreatment),
     PrimaryKey,
     Check(Condition),
     References(References),
@@ -70,7 +77,7 @@ pub struct ColumnConstraint {
 
 #[derive(Drop)]
 pub enum TableRule {
-    Unique(Items<Name>),
+    Unique(NullTreatment, Items<Name>),
     PrimaryKey(Items<Name>),
     Check(Condition),
     ForeignKey(Items<Name>, References),

@@ -64,6 +64,8 @@ pub struct TriggerDefinition {
     pub name: Name,
     pub time: ActionTime,
     pub event: TriggerEvent,
+    /// The columns of UPDATE OF; empty where there is no list.
+    pub columns: Items<Name>,
     pub table: Name,
     pub referencing: Items<Referencing>,
     /// STATEMENT where it is not written.

@@ -1,7 +1,7 @@
 //! Waves, and a database after one of them.
 ghost use Rattle.std.specs.Prelude.{◌≡◌};
 
-use iv_expr::{Change, Row, StoredRow, TableId, Wave};
+use iv_expr::{Change, Row, StoredRow, TableColumn, TableId, Wave, names_column};
 use iv_machine::{Database, database_after};
 use iv_value::Value;
 use sqlite_items::Items;
@@ -28,10 +28,21 @@ fn a_wave_is_made_of_changes_and_gives_them_back(rt: HostRuntime) -> Result<(), 
     let mut changes = Vec::new(rt.alloc());
     let added = change(0, 7, None, Some(row(rt.alloc(), 1)?));
     changes.push(added)?;
-    let wave = Wave::from_vec(changes);
+    let mut columns = Vec::new(rt.alloc());
+    columns.push(TableColumn {
+        table: TableId::new(0),
+        column: 3,
+    })?;
+    let wave = Wave::from_parts(changes, columns);
     assert_eq!(rt; wave.last_row(), 7);
     assert_eq!(rt; wave.changes().len(), 1);
-    assert_eq!(rt; wave.into_vec().len(), 1);
+    assert_eq!(rt; wave.columns().len(), 1);
+    assert!(rt; names_column(wave.columns(), TableId::new(0), 3));
+    assert!(rt; !names_column(wave.columns(), TableId::new(0), 2));
+    assert!(rt; !names_column(wave.columns(), TableId::new(1), 3));
+    let (changes, columns) = wave.into_parts();
+    assert_eq!(rt; changes.len(), 1);
+    assert_eq!(rt; columns.len(), 1);
     Ok(())
 }
 

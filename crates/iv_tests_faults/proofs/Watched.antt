@@ -5,6 +5,7 @@ use Rattle.iv_catalogue.specs.declared.constraint.Constraint.{Constraint}
 use Rattle.iv_catalogue.specs.declared.constraint.Rule.{Rule}
 use Rattle.iv_catalogue.specs.declared.constraint.ForeignKey.{ForeignKey}
 use Rattle.iv_catalogue.specs.declared.constraint.Rule.TheVariants as rule
+use Rattle.iv_syntax.specs.declared.table.NullTreatment.{NullTreatment}
 use Rattle.iv_store.specs.Stores.{has_key, is_named_key, unique_columns, are_same_columns}
 use Rattle.iv_machine.specs.ReferentialActions.{foreign_key}
 use Rattle.iv_index.specs.Groups.{Contents, GroupOf, groups_of}
@@ -27,8 +28,8 @@ nothing_shown groups = record {
 }
 
 -- a UNIQUE constraint names no key
-pub unique_is_named : (c : Constraint) (columns : List ℕ) → c.rule ≡ rule.Unique columns → AllNamed (c ∷ [])
-unique_is_named c columns e = ap (λ r. has_key (c ∷ []) (foreign_key r) && true) e
+pub unique_is_named : (c : Constraint) (nulls : NullTreatment) (columns : List ℕ) → c.rule ≡ rule.Unique nulls columns → AllNamed (c ∷ [])
+unique_is_named c nulls columns e = ap (λ r. has_key (c ∷ []) (foreign_key r) && true) e
 
 -- whether a constraint of this table and rule is the key that a foreign key names
 abbrev is_key : ForeignKey → ℕ → Rule → Bool

@@ -7,7 +7,7 @@ ghost use Rattle.iv_laws_levels.specs.FittingWaves.{old_row};
 ghost use Rattle.iv_machine.specs.Bounds.{last_row_number, most_changes_in_a_transaction};
 ghost use Rattle.iv_machine.specs.Databases.{row_at};
 ghost use Rattle.iv_machine.specs.Waves.{values_at};
-ghost use Rattle.iv_laws_kept.specs.Kept.{kept_key};
+ghost use Rattle.iv_laws_kept.specs.Kept.{kept_key, unique_key};
 ghost use Rattle.iv_laws_kept.specs.Moves.{taken_back};
 ghost use Rattle.iv_following.specs.Sides.{side_key};
 ghost use Rattle.iv_faults.specs.Watching.{AreWatched, HasRoomBack, IsShownBy};
@@ -19,6 +19,7 @@ use iv_index::Groups;
 use iv_key::Key;
 use iv_machine::{LAST_ROW_NUMBER, MOST_CHANGES_IN_A_TRANSACTION};
 use iv_rows::Versions;
+use iv_syntax::NullTreatment;
 use iv_value::Value;
 use std::alloc::{AllocError, Global};
 
@@ -84,13 +85,31 @@ fn has_room_under(groups: &Groups, id: usize, columns: &[u32], row: &[Value]) ->
     groups.room(id, &key) > 0
 }
 
-// Whether the rule is UNIQUE or PRIMARY KEY, and there is room under the row's key, which has no null.
+// Whether there is room under the key under which a UNIQUE keeps a row, which has no null unless nulls are not distinct.
+fn has_room_by(
+    groups: &Groups,
+    id: usize,
+    nulls: NullTreatment,
+    columns: &[u32],
+    row: &[Value],
+) -> bool
+    ensures { result ≡ true → (key : List Value) → unique_key nulls (key_of columns.now row.now) ≡ Some key
+        → 0 < room_of (groups_of groups.now.groups id) key }
+{
+    match nulls {
+        NullTreatment::Distinct => has_room_under(groups, id, columns, row),
+        NullTreatment::NotDistinct => groups.room(id, &Key::new(columns, row)) > 0,
+    }
+}
+
+// Whether the rule is UNIQUE or PRIMARY KEY, and there is room under the row's key, which has no null unless nulls are
+// not distinct.
 fn has_room_for(groups: &Groups, id: usize, rule: &Rule, row: &[Value]) -> bool
     ensures { result ≡ true → (key : List Value) → kept_key rule.now row.now ≡ Some key
         → 0 < room_of (groups_of groups.now.groups id) key }
 {
     match rule {
-        Rule::Unique(columns) => has_room_under(groups, id, columns.as_slice(), row),
+        Rule::Unique(nulls, columns) => has_room_by(groups, id, *nulls, columns.as_slice(), row),
         Rule::PrimaryKey(columns) => has_room_under(groups, id, columns.as_slice(), row),
         _ => false,
     }

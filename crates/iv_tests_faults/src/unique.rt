@@ -1,6 +1,7 @@
 //! A UNIQUE constraint that is watched from the first row: rows that share their value for a while.
 ghost use Rattle.std.specs.Prelude.{◌≡◌, ◌∷◌, [], OnOk, IfOk};
 ghost use Rattle.iv_catalogue.specs.declared.constraint.Rule.TheVariants as rule;
+ghost use Rattle.iv_syntax.specs.declared.table.NullTreatment.TheVariants.{Distinct};
 ghost use Rattle.iv_faults.specs.Watching.{AreWatched, IsShownBy};
 
 use crate::{rows, steps};
@@ -10,7 +11,7 @@ use iv_faults::Faults;
 use iv_index::Groups;
 use iv_modes::Modes;
 use iv_rows::Versions;
-use iv_syntax::{ConstraintMode, Name};
+use iv_syntax::{ConstraintMode, Name, NullTreatment};
 use iv_value::Text;
 use sqlite_items::Items;
 use std::alloc::{AllocError, Global};
@@ -18,7 +19,7 @@ use std::test::Fail;
 
 // UNIQUE over the first column of the first table.
 fn unique(alloc: Global) -> Result<Constraint, AllocError>
-    ensures { IfOk result (λ c. c.rule ≡ rule.Unique (0 ∷ [])) }
+    ensures { IfOk result (λ c. c.rule ≡ rule.Unique Distinct (0 ∷ [])) }
 {
     let name = Name::new(Text::new(alloc, "U")?);
     let mut columns = Vec::new(alloc);
@@ -26,7 +27,7 @@ fn unique(alloc: Global) -> Result<Constraint, AllocError>
     Ok(Constraint {
         name,
         table: TableId::new(0),
-        rule: Rule::Unique(Items::from_vec(columns)),
+        rule: Rule::Unique(NullTreatment::Distinct, Items::from_vec(columns)),
         deferrable: false,
         initially: ConstraintMode::Immediate,
     })

@@ -48,7 +48,7 @@ fn is_named_key(fk: &ForeignKey, constraint: &Constraint) -> bool
         return false;
     }
     match &constraint.rule {
-        Rule::Unique(columns) => are_same_columns(columns.as_slice(), fk.key.as_slice()),
+        Rule::Unique(_, columns) => are_same_columns(columns.as_slice(), fk.key.as_slice()),
         Rule::PrimaryKey(columns) => are_same_columns(columns.as_slice(), fk.key.as_slice()),
         _ => false,
     }

@@ -3,6 +3,7 @@ use crate::adding::{add_constraints, add_table};
 use crate::numbers::Numbers;
 use crate::schema::{
     Ends, check_above, deferrable, foreign_key, modes_of, not_null, primary_key, table_of, unique,
+    unique_nulls,
 };
 use crate::shown::{show_by_mode, show_numbers, show_rows};
 use crate::stopped::Stopped;
@@ -127,14 +128,14 @@ fn third_references(alloc: Global, constraints: &mut Vec<Constraint>) -> Result<
 
 fn third_constraints(alloc: Global) -> Result<Vec<Constraint>, Stopped> {
     let mut constraints = Vec::new(alloc);
-    constraints.push(unique(alloc, "K4", 2, &[0])?)?;
+    constraints.push(unique_nulls(alloc, "K4", 2, &[0])?)?;
     third_references(alloc, &mut constraints)?;
     constraints.push(check_above(alloc, "K7", 2, 0, 1)?)?;
     constraints.push(not_null(alloc, "K8", 2, 1)?)?;
     Ok(constraints)
 }
 
-// Table 0 also references table 2, and itself.
+// Table 0 also references table 2, whose key may be null once, and itself; its UNIQUE is there once more for nulls.
 fn last_constraints(alloc: Global) -> Result<Vec<Constraint>, Stopped> {
     let other = Ends {
         table: 0,
@@ -153,6 +154,7 @@ fn last_constraints(alloc: Global) -> Result<Vec<Constraint>, Stopped> {
     let mut constraints = Vec::new(alloc);
     constraints.push(deferrable(foreign_key(alloc, "K9", &other)?, Deferred))?;
     constraints.push(foreign_key(alloc, "K10", &own)?)?;
+    constraints.push(unique_nulls(alloc, "K11", 0, &[1, 2])?)?;
     Ok(constraints)
 }
 

@@ -10,7 +10,7 @@ use iv_catalogue::{
 use iv_copies::{copy_constraint, copy_table};
 use iv_expr::{Comparison, Cond, Expr, Row, TableId};
 use iv_modes::Modes;
-use iv_syntax::{ConstraintMode, MatchType, Name, ReferentialAction};
+use iv_syntax::{ConstraintMode, MatchType, Name, NullTreatment, ReferentialAction};
 use iv_value::{Kind, Text, Value};
 use sqlite_items::Items;
 use std::alloc::{AllocError, Global};
@@ -55,6 +55,18 @@ pub fn deferrable(constraint: Constraint, initially: ConstraintMode) -> Constrai
     deferrable
 }
 
+fn unique_by(
+    alloc: Global,
+    nulls: NullTreatment,
+    name: &str,
+    table: u32,
+    columns: &[u32],
+) -> Result<Constraint, Stopped> {
+    let name = named(alloc, name)?;
+    let columns = Items::from_slice(alloc, columns)?;
+    Ok(constraint_of(name, table, Rule::Unique(nulls, columns)))
+}
+
 /// UNIQUE.
 pub fn unique(
     alloc: Global,
@@ -62,9 +74,17 @@ pub fn unique(
     table: u32,
     columns: &[u32],
 ) -> Result<Constraint, Stopped> {
-    let name = named(alloc, name)?;
-    let columns = Items::from_slice(alloc, columns)?;
-    Ok(constraint_of(name, table, Rule::Unique(columns)))
+    unique_by(alloc, NullTreatment::Distinct, name, table, columns)
+}
+
+/// UNIQUE NULLS NOT DISTINCT.
+pub fn unique_nulls(
+    alloc: Global,
+    name: &str,
+    table: u32,
+    columns: &[u32],
+) -> Result<Constraint, Stopped> {
+    unique_by(alloc, NullTreatment::NotDistinct, name, table, columns)
 }
 
 /// PRIMARY KEY.

@@ -2,6 +2,7 @@
 use crate::adding::{add_constraints, add_table, only};
 use crate::schema::{
     Ends, check_above, foreign_key, modes_of, not_null, primary_key, row_of, table_of, unique,
+    unique_nulls,
 };
 use crate::shown::show_violations;
 use crate::stopped::Stopped;
@@ -203,6 +204,42 @@ fn rows_share_a_unique_pair_unless_a_part_is_null(rt: HostRuntime) -> Result<(),
     let shown = told::<UniquePair>(rt.alloc())?;
     let wanted = "0:1 0:2 | | | | | 0:1 0:2 | 0:1 0:2 0:3 | 0:1 0:3 | / \
                   0:1 0:2 0:3 | 0:1 0:2 | | | | | 0:1 0:2 | | ";
+    assert_eq!(rt; shown.as_str(), wanted);
+    Ok(())
+}
+
+struct NullsAreOne;
+
+impl Story for NullsAreOne {
+    fn tell<K: Keeper + Drop>(
+        alloc: Global,
+        store: &mut Tested<K>,
+        shown: &mut String,
+    ) -> Result<(), Stopped> {
+        add_tables(alloc, store)?;
+        add_constraints(store, only(alloc, unique_nulls(alloc, "U", 0, &[0, 1])))?;
+        add_constraints(store, only(alloc, unique(alloc, "V", 0, &[0, 1])))?;
+        let first = [put_one(1, Some(1))];
+        let steps = [
+            put_one(2, Some(1)),
+            gone(0, 1),
+            put_one(3, NULL),
+            put_one(4, NULL),
+            put_one(2, NULL),
+            put(0, 3, NULL, Some(1)),
+            put(0, 4, Some(1), Some(1)),
+            put(0, 2, Some(1), Some(1)),
+        ];
+        show_both_ways(alloc, store, &first, &steps, shown)
+    }
+}
+
+// Null is the same as null, in one of two constraints.
+#[test]
+fn rows_share_a_pair_with_nulls_for_a_while(rt: HostRuntime) -> Result<(), Fail> {
+    let shown = told::<NullsAreOne>(rt.alloc())?;
+    let wanted = "0:1 0:2 | | | 0:3 0:4 | 0:2 0:3 0:4 | 0:2 0:4 | | 0:2 0:4 1:2 1:4 | / \
+                  | 0:2 0:4 | 0:2 0:3 0:4 | 0:3 0:4 | | | 0:1 0:2 | | ";
     assert_eq!(rt; shown.as_str(), wanted);
     Ok(())
 }
@@ -432,6 +469,46 @@ impl Story for OwnTable {
 fn a_table_references_itself(rt: HostRuntime) -> Result<(), Fail> {
     let shown = told::<OwnTable>(rt.alloc())?;
     let wanted = "1:1 | | 1:2 | | | | 1:3 | | / 1:3 | | | | 1:2 | | 1:1 | | ";
+    assert_eq!(rt; shown.as_str(), wanted);
+    Ok(())
+}
+
+struct NullParent;
+
+impl Story for NullParent {
+    fn tell<K: Keeper + Drop>(
+        alloc: Global,
+        store: &mut Tested<K>,
+        shown: &mut String,
+    ) -> Result<(), Stopped> {
+        add_tables(alloc, store)?;
+        add_constraints(store, only(alloc, unique_nulls(alloc, "U", 0, &[0])))?;
+        let ends = Ends {
+            table: 1,
+            columns: &[0],
+            matching: MatchType::Simple,
+            referenced: 0,
+            key: &[0],
+        };
+        add_constraints(store, only(alloc, foreign_key(alloc, "FK", &ends)))?;
+        let first = [put_one(1, NULL), put(1, 2, NULL, NULL)];
+        let steps = [
+            put(1, 2, Some(1), NULL),
+            put_one(1, Some(1)),
+            put_one(3, NULL),
+            put_one(1, NULL),
+            gone(0, 3),
+            put(1, 2, NULL, NULL),
+        ];
+        show_both_ways(alloc, store, &first, &steps, shown)
+    }
+}
+
+// The key of a parent may be null, which no child refers to.
+#[test]
+fn a_parent_has_a_null_for_a_while(rt: HostRuntime) -> Result<(), Fail> {
+    let shown = told::<NullParent>(rt.alloc())?;
+    let wanted = "1:2 | | | 0:1 0:3 1:2 | 1:2 | | / 1:2 | 0:1 0:3 1:2 | | | 1:2 | | ";
     assert_eq!(rt; shown.as_str(), wanted);
     Ok(())
 }

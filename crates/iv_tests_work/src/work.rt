@@ -25,15 +25,24 @@ const NO_ROWS: &str =
 const CASCADE: &str =
     "CREATE TABLE p (k INT PRIMARY KEY); CREATE TABLE c (x INT REFERENCES p ON DELETE CASCADE); INSERT INTO p VALUES (1); INSERT INTO c VALUES (1); INSERT INTO c VALUES (1); INSERT INTO c VALUES (1); COMMIT; DELETE FROM p;";
 
-// A script, the budget of a statement, what its last statement answers, how many changes that makes and
-// undoes, and how many keys it looks up at most on a store that has groups of keys.
-const CASES: [(&str, u32, &str, u64, u64, u64); 6] = [
-    (SWAP, 65_536, "changed 2", 4, 0, 64),
-    (REFUSED_COMMIT, 65_536, "commit refused 1 row 1", 0, 1, 16),
-    (NESTED, 65_536, "depth limit 0", 16, 16, 256),
-    (NO_ROWS, 65_536, "changed 0", 1, 0, 0),
-    (CASCADE, 3, "too many changes", 1, 1, 32),
-    (CASCADE, 5, "changed 1", 4, 0, 64),
+// A script, how deep triggers may nest, the budget of a statement, what its last statement answers, how many changes
+// that makes and undoes, and how many keys it looks up at most on a store that has groups of keys.
+const CASES: [(&str, u8, u32, &str, u64, u64, u64); 7] = [
+    (SWAP, 16, 65_536, "changed 2", 4, 0, 64),
+    (
+        REFUSED_COMMIT,
+        16,
+        65_536,
+        "commit refused 1 row 1",
+        0,
+        1,
+        16,
+    ),
+    (NESTED, 16, 65_536, "depth limit 0", 16, 16, 256),
+    (NESTED, 64, 65_536, "depth limit 0", 64, 64, 1_024),
+    (NO_ROWS, 16, 65_536, "changed 0", 1, 0, 0),
+    (CASCADE, 16, 3, "too many changes", 1, 1, 32),
+    (CASCADE, 16, 5, "changed 1", 4, 0, 64),
 ];
 
 // The work of the last of these statements; its answer is shown.
@@ -49,14 +58,15 @@ fn run<K: Keeper + Drop>(
     Ok(session.work())
 }
 
-// So for the statements of a script, in which triggers nest 16 deep; nothing where there are no such limits.
+// So for the statements of a script; nothing where there are no such limits.
 fn run_text<K: Keeper + Drop>(
     alloc: Global,
     text: &str,
+    depth: u8,
     changes: u32,
     shown: &mut String,
 ) -> Result<Option<Work>, Fail> {
-    let Some(limits) = Limits::new(16, changes) else {
+    let Some(limits) = Limits::new(depth, changes) else {
         return Ok(None);
     };
     let parsed = script(alloc, text)?;
@@ -76,9 +86,9 @@ fn work_of(changes: u64, undone: u64, lookups: u64) -> Work {
 
 #[test]
 fn a_store_of_lists_looks_nothing_up(rt: HostRuntime) -> Result<(), Fail> {
-    for (text, limit, answer, changes, undone, _) in CASES {
+    for (text, depth, limit, answer, changes, undone, _) in CASES {
         let mut shown = String::new(rt.alloc());
-        let work = run_text::<PlainStore>(rt.alloc(), text, limit, &mut shown)?;
+        let work = run_text::<PlainStore>(rt.alloc(), text, depth, limit, &mut shown)?;
         assert_eq!(rt; shown.as_str(), answer, "{text} {limit}");
         assert_eq!(rt; work, Some(work_of(changes, undone, 0)), "{text} {limit}");
     }
@@ -87,9 +97,9 @@ fn a_store_of_lists_looks_nothing_up(rt: HostRuntime) -> Result<(), Fail> {
 
 #[test]
 fn a_store_of_groups_looks_few_keys_up(rt: HostRuntime) -> Result<(), Fail> {
-    for (text, limit, answer, changes, undone, most) in CASES {
+    for (text, depth, limit, answer, changes, undone, most) in CASES {
         let mut shown = String::new(rt.alloc());
-        let work = run_text::<IndexStore>(rt.alloc(), text, limit, &mut shown)?;
+        let work = run_text::<IndexStore>(rt.alloc(), text, depth, limit, &mut shown)?;
         assert_eq!(rt; shown.as_str(), answer, "{text} {limit}");
         let Some(work) = work else {
             return Ok(());
@@ -98,5 +108,14 @@ fn a_store_of_groups_looks_few_keys_up(rt: HostRuntime) -> Result<(), Fail> {
         assert_eq!(rt; work, work_of(changes, undone, lookups), "{text} {limit}");
         assert!(rt; lookups <= most, "{lookups} look-ups, {text} {limit}");
     }
+    Ok(())
+}
+
+#[test]
+fn limits_are_within_their_ranges(rt: HostRuntime) -> Result<(), Fail> {
+    assert!(rt; Limits::new(1, 1).is_some());
+    assert!(rt; Limits::new(64, 1).is_some());
+    assert!(rt; Limits::new(65, 1).is_none());
+    assert!(rt; Limits::new(0, 1).is_none());
     Ok(())
 }

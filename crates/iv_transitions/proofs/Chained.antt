@@ -138,6 +138,17 @@ across_wave db wave h k r current from = record {
       (λ c is. sym (row_of_table c c.old x (sym (current_at db.rows wave n c current is) ∙ e)) ∙ row_of_table c c.new y (sym (after_some db wave n c r is) ∙ f));
 }
 
+-- so of a wave with its columns
+across_one : (db : Database) (wave : Wave) → Across db (database_after db wave) (wave_of wave.changes ∷ []) → Across db (database_after db wave) (wave ∷ [])
+across_one db wave a = record {
+  numbered = a.numbered;
+  ends = a.ends;
+  next = a.next;
+  outside = a.outside;
+  added = a.added;
+  tables = a.tables;
+}
+
 in_waves_both : (xs ys : List Wave) (n : ℕ) → in_waves (xs ++ ys) n ≡ (in_waves xs n || in_waves ys n)
 in_waves_both [] ys n = refl
 in_waves_both (x ∷ xs) ys n =
@@ -171,7 +182,7 @@ pub across : (db last : Database) (waves : List Wave) → Chain db waves last �
 across db last [] h = subst (λ x. Across db x []) h.1 (across_nothing db h.0)
 across db last (wave ∷ waves) h =
     across_twice db (database_after db wave) last (wave ∷ []) waves
-    (across_wave db wave.changes h.0 (chain_begins (database_after db wave) last waves h.2) h.1.rising h.1.current h.1.new)
+    (across_one db wave (across_wave db wave.changes h.0 (chain_begins (database_after db wave) last waves h.2) h.1.rising h.1.current h.1.new))
     (across (database_after db wave) last waves h.2)
 
 -- a chain of some waves and others, in two

@@ -1,19 +1,20 @@
 -- Changes by table and event, and the firings of triggers on them.
-use Rattle.std.proofs.Common.{◌≡◌, refl, ℕ, zero, suc, ◌+◌, ◌*◌, ◌<◌, ◌≤◌, Bool, true, false, ◌&&◌, not, if◌then◌else◌, List, [], ◌∷◌, ◌++◌, length, filter, flat_map, get_or, replicate, drop, sym, ap, subst, ◌∙◌, arith}
+use Rattle.std.proofs.Common.{◌≡◌, refl, ℕ, zero, suc, ◌+◌, ◌*◌, ◌<◌, ◌≤◌, Bool, true, false, ◌&&◌, if◌then◌else◌, List, [], ◌∷◌, ◌++◌, length, filter, flat_map, get_or, replicate, drop, sym, ap, subst, ◌∙◌, arith}
 use Rattle.std.specs.Bool.{◌==◌}
 use Rattle.std.specs.List.{slice_set}
-use Rattle.std.proofs.lemmas.Bool.{eqb-true, eq-eqb, true≢false, not-true, not-false}
+use Rattle.std.proofs.lemmas.Bool.{eqb-true, eq-eqb, true≢false}
 use Rattle.std.proofs.lemmas.List.{get_or-set_same, get_or-set_other, append-nil}
 use Rattle.std.proofs.lemmas.List.Elements.{filter-append}
 use Rattle.iv_expr.specs.declared.row.Change.{Change}
+use Rattle.iv_expr.specs.declared.wave.TableColumn.{TableColumn}
 use Rattle.iv_expr.specs.Changes.{Wave}
 use Rattle.iv_syntax.specs.declared.trigger.TriggerEvent.{TriggerEvent}
 use Rattle.iv_syntax.specs.declared.trigger.TriggerEvent.TheVariants as event
 use Rattle.iv_catalogue.specs.declared.plan.DataStatement.{DataStatement}
 use Rattle.iv_catalogue.specs.declared.plan.Trigger.{Trigger}
 use Rattle.iv_machine.specs.Context.{Context}
-use Rattle.iv_machine.specs.BeforeTriggers.{is_before, is_on, event_of_change, same_event}
-use Rattle.iv_machine.specs.Levels.{Firing, firings_of, firings}
+use Rattle.iv_machine.specs.BeforeTriggers.{is_on, event_of_change, same_event}
+use Rattle.iv_machine.specs.Levels.{Firing, firings_of, firings, is_after_on}
 use Rattle.iv_transitions.specs.ByTable.{event_place, place_of, transitions_on, is_of, ByTableAndEvent, OfTablesBelow, after_firings, all_firings}
 
 -- ---- the firings
@@ -28,12 +29,12 @@ flat_filter p f g in_it out (t ∷ ts) =
     ] refl
 
 -- what fires by the parts is what the definition fires
-pub firings_parted : (w : Context) (statement : DataStatement) (parts : List (List Change)) (net : Wave) → ByTableAndEvent parts net.changes
-    → all_firings statement parts w.schema.triggers ≡ firings w statement net
-firings_parted w statement parts net h =
-    flat_filter (λ t. not (is_before t)) (λ t. firings_of statement t (filter (λ c. is_on c.table (event_of_change c) t) net.changes)) (after_firings statement parts)
-    (λ t e. ap (λ b. if b then [] else firings_of statement t (transitions_on parts t.table t.event)) (not-true (is_before t) e) ∙ ap (firings_of statement t) (h t.table t.event))
-    (λ t e. ap (λ b. if b then [] else firings_of statement t (transitions_on parts t.table t.event)) (not-false (is_before t) e))
+pub firings_parted : (w : Context) (statement : DataStatement) (columns : List TableColumn) (parts : List (List Change)) (net : Wave)
+    → ByTableAndEvent parts net.changes → all_firings statement columns parts w.schema.triggers ≡ firings w statement columns net
+firings_parted w statement columns parts net h =
+    flat_filter (is_after_on columns) (λ t. firings_of statement t (filter (λ c. is_on c.table (event_of_change c) t) net.changes)) (after_firings statement columns parts)
+    (λ t e. ap (λ b. if b then firings_of statement t (transitions_on parts t.table t.event) else []) e ∙ ap (firings_of statement t) (h t.table t.event))
+    (λ t e. ap (λ b. if b then firings_of statement t (transitions_on parts t.table t.event) else []) e)
     w.schema.triggers
 
 -- ---- the parts

@@ -3,4 +3,5 @@ pub mod Chained
 pub mod Nets
 pub mod Merges
 pub mod FiringsByTable
+pub mod NamedColumns
 pub mod NoneFires

@@ -247,8 +247,9 @@ net_of_none db last h = only_net db.rows last.rows [] (net_changes db last []) [
 -- those of one wave are its changes, but for those that leave nothing before and after
 net_of_one : (db last : Database) (wave : Wave) → Chain db (wave ∷ []) last → net_changes db last (wave ∷ []) ≡ filter_map kept wave.changes
 net_of_one db last wave h =
+    let own = net_of_changes db wave.changes h.1.rising h.1.current in
     only_net db.rows last.rows (wave ∷ []) (net_changes db last (wave ∷ [])) (filter_map kept wave.changes) (net_is db last (wave ∷ []) (across db last (wave ∷ []) h))
-    (subst (λ x. IsNet db.rows x.rows (wave ∷ []) (filter_map kept wave.changes)) h.2.1 (net_of_changes db wave.changes h.1.rising h.1.current))
+    (subst (λ x. IsNet db.rows x.rows (wave ∷ []) (filter_map kept wave.changes)) h.2.1 (record { rising = own.rising; each = own.each }))
 
 -- those of a chain in two parts are those of the parts, merged
 net_of_both : (db mid last : Database) (xs ys : List Wave) → Chain db xs mid → Chain mid ys last
@@ -266,20 +267,20 @@ net_of_both db mid last xs ys h k =
 abbrev pub AreNet : List Wave → Wave → Type 0
 AreNet waves net = (db last : Database) → Chain db waves last → net ≡ net_wave db.rows last.rows waves
 
-pub nets_of_none : (waves : List Wave) → length waves < 1 → (net : Wave) → net.changes ≡ [] → AreNet waves net
-nets_of_none [] less net is db last h = ap wave_of (is ∙ sym (net_of_none db last h))
+pub nets_of_none : (waves : List Wave) → length waves < 1 → (net : Wave) → net ≡ wave_of [] → AreNet waves net
+nets_of_none [] less net is db last h = is ∙ ap wave_of (sym (net_of_none db last h))
 nets_of_none (wave ∷ waves) less net is db last h = absurd (omega (arith, less))
 
 pub nets_of_one : (waves : List Wave) (wave : Wave) → 0 < length waves → length waves < 2 → wave ≡ get_or waves 0 wave
-    → (net : Wave) → net.changes ≡ filter_map kept wave.changes → AreNet waves net
+    → (net : Wave) → net ≡ wave_of (filter_map kept wave.changes) → AreNet waves net
 nets_of_one [] wave more less is net made db last h = absurd (omega (arith, more))
 nets_of_one (x ∷ []) wave more less is net made db last h =
-    ap wave_of (made ∙ ap (λ (w : Wave). filter_map kept w.changes) is ∙ sym (net_of_one db last x h))
+    made ∙ ap wave_of (ap (λ (w : Wave). filter_map kept w.changes) is ∙ sym (net_of_one db last x h))
 nets_of_one (x ∷ y ∷ waves) wave more less is net made db last h = absurd (omega (arith, less))
 
 pub nets_of_both : (waves xs ys : List Wave) (older newer : Wave) → xs ++ ys ≡ waves → AreNet xs older → AreNet ys newer
-    → (net : Wave) → net.changes ≡ merged older.changes newer.changes → AreNet waves net
+    → (net : Wave) → net ≡ wave_of (merged older.changes newer.changes) → AreNet waves net
 nets_of_both waves xs ys older newer e a b net made db last h =
     let parts = parted db last xs ys (subst (λ l. Chain db l last) (sym e) h) in
-    ap wave_of (made ∙ (λ i. merged ((a db parts.0 parts.1 i).changes) ((b parts.0 last parts.2 i).changes)) ∙ sym (net_of_both db parts.0 last xs ys parts.1 parts.2))
+    made ∙ ap wave_of ((λ i. merged ((a db parts.0 parts.1 i).changes) ((b parts.0 last parts.2 i).changes)) ∙ sym (net_of_both db parts.0 last xs ys parts.1 parts.2))
     ∙ ap (net_wave db.rows last.rows) e

@@ -1,15 +1,16 @@
 -- Where no trigger is on the table of a statement and on those that its waves change, none fires.
-use Rattle.std.proofs.Common.{◌≡◌, refl, ℕ, ◌==◌, nat_lt, Bool, true, false, ◌||◌, ◌&&◌, not, if◌then◌else◌, List, [], ◌∷◌, ◌++◌, filter, filter_map, flat_map, map, Some, None, is_none, ap, sym, ◌∙◌, arith}
+use Rattle.std.proofs.Common.{◌≡◌, refl, ◌==◌, nat_lt, Bool, true, false, ◌||◌, ◌&&◌, if◌then◌else◌, List, [], ◌∷◌, ◌++◌, filter, filter_map, flat_map, Some, None, is_none, ap, sym, ◌∙◌, arith}
 use Rattle.std.specs.List.{cons_option, list_any}
 use Rattle.std.proofs.lemmas.Bool.{or_parts, true≢false}
 use Rattle.iv_expr.specs.declared.row.Change.{Change}
+use Rattle.iv_expr.specs.declared.wave.TableColumn.{TableColumn}
 use Rattle.iv_expr.specs.Changes.{Wave, wave_of}
 use Rattle.iv_catalogue.specs.declared.plan.DataStatement.{DataStatement}
 use Rattle.iv_catalogue.specs.declared.plan.Trigger.{Trigger}
 use Rattle.iv_machine.specs.declared.database.Database.{Database}
-use Rattle.iv_machine.specs.BeforeTriggers.{event_of_change, for_each_row, is_before, is_on}
+use Rattle.iv_machine.specs.BeforeTriggers.{event_of_change, for_each_row, is_on}
 use Rattle.iv_machine.specs.Context.{Context}
-use Rattle.iv_machine.specs.Levels.{Firing, firings, firings_of, row_firing, statement_firing, transitions_of}
+use Rattle.iv_machine.specs.Levels.{Firing, firings, firings_of, is_after_on, statement_firing, transitions_of}
 use Rattle.iv_machine.specs.Proposals.{event_of, table_of}
 use Rattle.iv_machine.specs.Waves.{net_wave}
 use Rattle.iv_laws_levels.specs.FittingWaves.{Chain}
@@ -96,22 +97,23 @@ one_never statement net t own h =
     ap (firings_of statement t) (none_of t net.changes h)
     ∙ never statement t (is_on (table_of statement) (event_of statement) t) (not_on (table_of statement) (event_of statement) t own)
 
-none_fires : (statement : DataStatement) (net : Wave) (ts : List Trigger) → has_trigger ts (table_of statement) ≡ false → some_have_triggers ts net.changes ≡ false
-    → flat_map (λ t. firings_of statement t (transitions_of t net)) (filter (λ t. not (is_before t)) ts) ≡ []
-none_fires statement net [] own h = refl
-none_fires statement net (t ∷ ts) own h =
+none_fires : (statement : DataStatement) (columns : List TableColumn) (net : Wave) (ts : List Trigger)
+    → has_trigger ts (table_of statement) ≡ false → some_have_triggers ts net.changes ≡ false
+    → flat_map (λ t. firings_of statement t (transitions_of t net)) (filter (is_after_on columns) ts) ≡ []
+none_fires statement columns net [] own h = refl
+none_fires statement columns net (t ∷ ts) own h =
     let here = or_parts (t.table == table_of statement) (has_trigger ts (table_of statement)) own in
     let parts = apart_of_each t ts net.changes h in
-    let rest = none_fires statement net ts here.1 parts.1 in
-    let all = filter (λ x. not (is_before x)) ts in
-    elim (not (is_before t)) as (λ b. flat_map (λ x. firings_of statement x (transitions_of x net)) (if b then t ∷ all else all) ≡ []) [
+    let rest = none_fires statement columns net ts here.1 parts.1 in
+    let all = filter (is_after_on columns) ts in
+    elim (is_after_on columns t) as (λ b. flat_map (λ x. firings_of statement x (transitions_of x net)) (if b then t ∷ all else all) ≡ []) [
       | true ↦ ap (λ l. l ++ flat_map (λ x. firings_of statement x (transitions_of x net)) all) (one_never statement net t here.0 parts.0) ∙ rest
       | false ↦ rest
     ]
 
 pub nothing_fires : (context : Context) (statement : DataStatement) (waves : List Wave) → may_fire context statement waves ≡ false
-    → (db last : Database) → Chain db waves last → firings context statement (net_wave db.rows last.rows waves) ≡ []
-nothing_fires context statement waves e db last chain =
+    → (columns : List TableColumn) (db last : Database) → Chain db waves last → firings context statement columns (net_wave db.rows last.rows waves) ≡ []
+nothing_fires context statement waves e columns db last chain =
     let parts = or_parts (has_trigger context.schema.triggers (table_of statement)) (list_any (λ w. some_have_triggers context.schema.triggers w.changes) waves) e in
-    ap (firings context statement) (sym (are_nets waves db last chain))
-    ∙ none_fires statement (wave_of (nets waves)) context.schema.triggers parts.0 (nets_untriggered context.schema.triggers waves parts.1)
+    ap (firings context statement columns) (sym (are_nets waves db last chain))
+    ∙ none_fires statement columns (wave_of (nets waves)) context.schema.triggers parts.0 (nets_untriggered context.schema.triggers waves parts.1)

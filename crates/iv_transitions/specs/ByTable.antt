@@ -1,12 +1,13 @@
 -- The net changes of a level by their table and event, and which AFTER triggers fire on them.
 use Rattle.std.specs.Prelude.{◌≡◌, ◌<◌, ℕ, ◌+◌, ◌*◌, Bool, false, ◌&&◌, if◌then◌else◌, ◌==◌, List, [], ◌∷◌, map, filter, flat_map, get_or}
 use Rattle.iv_expr.specs.declared.row.Change.{Change}
+use Rattle.iv_expr.specs.declared.wave.TableColumn.{TableColumn}
 use Rattle.iv_syntax.specs.declared.trigger.TriggerEvent.{TriggerEvent}
 use Rattle.iv_syntax.specs.declared.trigger.TriggerEvent.TheVariants as event
 use Rattle.iv_catalogue.specs.declared.plan.DataStatement.{DataStatement}
 use Rattle.iv_catalogue.specs.declared.plan.Trigger.{Trigger}
-use Rattle.iv_machine.specs.BeforeTriggers.{is_before, event_of_change, for_each_row, same_event}
-use Rattle.iv_machine.specs.Levels.{Firing, row_firing, statement_firing, firings_of}
+use Rattle.iv_machine.specs.BeforeTriggers.{event_of_change, for_each_row, same_event}
+use Rattle.iv_machine.specs.Levels.{Firing, row_firing, statement_firing, firings_of, is_after_on}
 use Rattle.iv_transitions.specs.declared.fire.Fires.{Fires}
 use Rattle.iv_transitions.specs.declared.fire.Fires.TheVariants as fires
 
@@ -41,13 +42,13 @@ expanded t fires.Never = []
 expanded t (fires.Once transitions) = statement_firing t transitions.now ∷ []
 expanded t (fires.EachRow transitions) = map (row_firing t transitions.now) transitions.now
 
--- the firings of one trigger, where it is no BEFORE trigger
-abbrev pub after_firings : DataStatement → List (List Change) → Trigger → List Firing
-after_firings statement parts t = if is_before t then [] else firings_of statement t (transitions_on parts t.table t.event)
+-- the firings of one trigger, where it is an AFTER trigger, and on one of these columns where it lists columns
+abbrev pub after_firings : DataStatement → List TableColumn → List (List Change) → Trigger → List Firing
+after_firings statement columns parts t = if is_after_on columns t then firings_of statement t (transitions_on parts t.table t.event) else []
 
 -- the firings of triggers, by creation
-abbrev pub all_firings : DataStatement → List (List Change) → List Trigger → List Firing
-all_firings statement parts ts = flat_map (after_firings statement parts) ts
+abbrev pub all_firings : DataStatement → List TableColumn → List (List Change) → List Trigger → List Firing
+all_firings statement columns parts ts = flat_map (after_firings statement columns parts) ts
 
 -- A trigger fires on the changes of its table and event: once only if it isn't a row trigger.
 abbrev pub FiresOn : Trigger → List (List Change) → Fires → Type 0

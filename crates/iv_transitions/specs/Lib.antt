@@ -1,4 +1,5 @@
 pub mod Merging
 pub mod ByTable
+pub mod Distinct
 pub mod Laws
 pub mod MayFire

@@ -1,14 +1,15 @@
 //! Which AFTER triggers fire, and on what.
 ghost use Rattle.std.specs.Prelude.{◌≡◌};
 ghost use Rattle.iv_machine.specs.BeforeTriggers.{is_before, is_on, same_event, for_each_row};
+ghost use Rattle.iv_machine.specs.Levels.{is_after_on};
 ghost use Rattle.iv_machine.specs.Proposals.{table_of, event_of};
 ghost use Rattle.iv_transitions.specs.ByTable.{FiresOn, expanded, after_firings};
 
 use crate::by_table::Transitions;
 use iv_catalogue::{DataStatement, Trigger};
-use iv_expr::Change;
+use iv_expr::{Change, TableColumn};
 use iv_syntax::{ActionTime, Granularity};
-use iv_triggers::{event_of, is_on, table_of};
+use iv_triggers::{event_of, is_on, is_on_columns, table_of};
 
 /// How a trigger fires: not at all, once, or for each of the transitions of its table and event.
 #[derive(Clone, Copy)]
@@ -27,6 +28,13 @@ fn is_before(trigger: &Trigger) -> bool
     }
 }
 
+// Whether it is an AFTER trigger, and on one of these columns where it lists columns.
+fn is_after_on(columns: &[TableColumn], trigger: &Trigger) -> bool
+    ensures { result ≡ is_after_on columns.now trigger.now }
+{
+    !is_before(trigger) && is_on_columns(columns, trigger)
+}
+
 fn for_each_row(trigger: &Trigger) -> bool
     ensures { result ≡ for_each_row trigger.now }
 {
@@ -42,18 +50,19 @@ fn is_of_statement(statement: &DataStatement, trigger: &Trigger) -> bool
     is_on(table_of(statement), event_of(statement), trigger)
 }
 
-/// How a trigger fires after a data statement, and on which transitions. They are lent, and nothing is
-/// copied for a trigger.
+/// How a trigger fires after a data statement whose level has these columns, and on which transitions. They are lent,
+/// and nothing is copied for a trigger. One that lists columns, none of them the level's, fires never.
 pub fn firings<'a>(
     statement: &DataStatement,
     trigger: &Trigger,
+    columns: &[TableColumn],
     transitions: &'a Transitions,
 ) -> Fires<'a>
     ensures fires { expanded trigger.now result
-        ≡ after_firings statement.now transitions.entry.now trigger.now }
+        ≡ after_firings statement.now columns.now transitions.entry.now trigger.now }
     ensures lent { FiresOn trigger.now transitions.entry.now result }
 {
-    if is_before(trigger) {
+    if !is_after_on(columns, trigger) {
         return Fires::Never;
     }
     let changes = transitions.of(trigger.table, trigger.event);

@@ -1,6 +1,7 @@
 //! Whether a trigger may fire at all.
-ghost use Rattle.std.specs.Prelude.{◌≡◌, [], false};
+ghost use Rattle.std.specs.Prelude.{◌≡◌, List, [], false};
 ghost use Rattle.std.specs.List.{list_any};
+ghost use Rattle.iv_expr.specs.declared.wave.TableColumn.{TableColumn as Named};
 ghost use Rattle.iv_machine.specs.declared.database.Database.{Database};
 ghost use Rattle.iv_machine.specs.Levels.{firings};
 ghost use Rattle.iv_machine.specs.Waves.{net_wave};
@@ -31,8 +32,9 @@ fn some_have_triggers(context: &Context<'_>, waves: &[Wave]) -> bool
 /// fires, and the net changes needn't be made. It takes one look at each change.
 pub fn may_fire(context: &Context<'_>, statement: &DataStatement, waves: &[Wave]) -> bool
     ensures value { result ≡ may_fire context.now statement.now waves.now }
-    ensures quiet { result ≡ false → (db last : Database) → Chain db waves.now last
-        → firings context.now statement.now (net_wave db.rows last.rows waves.now) ≡ [] }
+    ensures quiet { result ≡ false → (columns : List Named) (db last : Database)
+        → Chain db waves.now last
+        → firings context.now statement.now columns (net_wave db.rows last.rows waves.now) ≡ [] }
 {
     context.has_trigger(table_of(statement)) || some_have_triggers(context, waves)
 }

@@ -1,7 +1,7 @@
 //! The net changes of the waves of a level.
 ghost use Rattle.std.specs.Prelude.{◌≡◌, ◌≤◌, ◌<◌, ◌++◌, [], IfOk, OnOk, filter_map, length, ◌⊎◌};
 ghost use Rattle.std.specs.List.{cons_option};
-ghost use Rattle.iv_expr.specs.Changes.{RisingChanges, RisingChangesFrom, last_row};
+ghost use Rattle.iv_expr.specs.Changes.{RisingChanges, RisingChangesFrom, last_row, wave_of};
 ghost use Rattle.iv_machine.specs.declared.database.Database.{Database};
 ghost use Rattle.iv_machine.specs.Waves.{net_wave};
 ghost use Rattle.iv_laws_levels.specs.FittingWaves.{Chain};
@@ -16,6 +16,7 @@ fn push_kept(net: &mut Wave, change: Change) -> Result<(), AllocError>
     requires { last_row net.old.changes < change.row }
     ensures changes { OnOk result (net.new.changes
         ≡ net.old.changes ++ cons_option (kept change) []) }
+    ensures columns { OnOk result (net.new.columns ≡ net.old.columns) }
     ensures last { OnOk result (last_row net.new.changes ≤ change.row) }
 {
     if change.old.is_none() && change.new.is_none() {
@@ -39,6 +40,7 @@ fn push_joined(net: &mut Wave, older: &Change, newer: &Change) -> Result<(), All
     requires { last_row net.old.changes < older.now.row }
     ensures changes { OnOk result (net.new.changes
         ≡ net.old.changes ++ cons_option (joined older.now newer.now) []) }
+    ensures columns { OnOk result (net.new.columns ≡ net.old.columns) }
     ensures last { OnOk result (last_row net.new.changes ≤ older.now.row) }
 {
     let old = copy_of(&older.old)?;
@@ -64,7 +66,8 @@ pub(crate) fn copy_change(change: &Change) -> Result<Change, AllocError>
 // Adds changes that come after those that are there.
 fn push_all(net: &mut Wave, more: &[Change]) -> Result<(), AllocError>
     requires { RisingChangesFrom (last_row net.old.changes) more.now }
-    ensures { OnOk result (net.new.changes ≡ net.old.changes ++ more.now) }
+    ensures changes { OnOk result (net.new.changes ≡ net.old.changes ++ more.now) }
+    ensures columns { OnOk result (net.new.columns ≡ net.old.columns) }
 {
     for change in more {
         let copy = copy_change(change)?;
@@ -76,7 +79,7 @@ fn push_all(net: &mut Wave, more: &[Change]) -> Result<(), AllocError>
 // The changes of a wave that leave something before or after them.
 fn left_of(alloc: Global, wave: &[Change]) -> Result<Wave, AllocError>
     requires { RisingChanges wave.now }
-    ensures { IfOk result (λ net. net.changes ≡ filter_map kept wave.now) }
+    ensures { IfOk result (λ net. net ≡ wave_of (filter_map kept wave.now)) }
 {
     let mut left = Wave::new(alloc);
     for change in wave {
@@ -90,7 +93,7 @@ fn left_of(alloc: Global, wave: &[Change]) -> Result<Wave, AllocError>
 fn merge(alloc: Global, older: &[Change], newer: &[Change]) -> Result<Wave, AllocError>
     requires older { RisingChanges older.now }
     requires newer { RisingChanges newer.now }
-    ensures { IfOk result (λ net. net.changes ≡ merged older.now newer.now) }
+    ensures { IfOk result (λ net. net ≡ wave_of (merged older.now newer.now)) }
 {
     let mut net = Wave::new(alloc);
     let mut at = 0usize;
@@ -126,7 +129,8 @@ fn push_rest(
 ) -> Result<(), AllocError>
     requires merging { Merging older.now newer.now at to net.old.changes }
     requires end { (at ≡ length older.now) ⊎ (to ≡ length newer.now) }
-    ensures { OnOk result (net.new.changes ≡ merged older.now newer.now) }
+    ensures changes { OnOk result (net.new.changes ≡ merged older.now newer.now) }
+    ensures columns { OnOk result (net.new.columns ≡ net.old.columns) }
 {
     if at < older.len() {
         push_all(net, &older[at..])
@@ -136,7 +140,7 @@ fn push_rest(
 }
 
 /// The net changes of the waves of a data statement, by row number: of each row its values before the
-/// first of its changes and after the last. The waves alone tell them, and no database is looked at. The
+/// first of its changes and after the last. They name no column. The waves alone tell them, and no database is looked at. The
 /// list of waves is halved and the halves merged, so the time is the number of changes times the logarithm
 /// of the number of waves. The rows are shared.
 pub fn transitions(alloc: Global, waves: &[Wave]) -> Result<Wave, AllocError>

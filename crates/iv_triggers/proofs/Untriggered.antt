@@ -1,14 +1,17 @@
 -- Tables without triggers.
-use Rattle.std.proofs.Common.{◌≡◌, refl, ℕ, ◌==◌, Bool, true, false, ◌&&◌, ◌||◌, if◌then◌else◌, List, [], ◌∷◌, filter, Result, Ok, ap, cond, sym, ◌∙◌}
+use Rattle.std.proofs.Common.{◌≡◌, refl, ℕ, ◌==◌, Bool, true, false, ◌&&◌, ◌||◌, if◌then◌else◌, List, [], ◌∷◌, filter, Ok, ap, cond, sym, ◌∙◌}
 use Rattle.std.specs.List.{list_any}
 use Rattle.std.proofs.lemmas.Bool.{or_parts}
 use Rattle.iv_expr.specs.declared.row.Change.{Change}
 use Rattle.iv_expr.specs.declared.row.StoredRow.{StoredRow}
+use Rattle.iv_expr.specs.declared.wave.TableColumn.{TableColumn}
 use Rattle.iv_expr.specs.Evaluation.{and_then}
 use Rattle.iv_syntax.specs.declared.trigger.TriggerEvent.{TriggerEvent}
+use Rattle.iv_catalogue.specs.declared.plan.DataStatement.{DataStatement}
 use Rattle.iv_catalogue.specs.declared.plan.Trigger.{Trigger}
-use Rattle.iv_machine.specs.BeforeTriggers.{before_row_run, before_statement, before_statement_run, change_after_trigger, changes_after_triggers, event_of_change, is_before_row, is_before_statement, is_on, same_event}
+use Rattle.iv_machine.specs.BeforeTriggers.{before_row_run, before_statement, before_statement_run, change_after_trigger, changes_after_triggers, event_of_change, is_before_row_on, is_before_statement, is_before_this, is_on, is_on_columns, same_event}
 use Rattle.iv_machine.specs.Context.{Context, each, in_turn, while_running}
+use Rattle.iv_machine.specs.Proposals.{event_of, set_columns, table_of}
 use Rattle.iv_triggers.specs.Triggered.{has_trigger, some_have_triggers}
 
 -- a trigger that isn't on the table is none of the table and an event
@@ -21,19 +24,18 @@ not_both false b e = refl
 
 -- ---- of a statement
 
-none_meant : (table : ℕ) (event : TriggerEvent) (triggers : List Trigger) → has_trigger triggers table ≡ false
-    → filter (λ t. is_before_statement t && is_on table event t) triggers ≡ []
-none_meant table event [] e = refl
-none_meant table event (t ∷ triggers) e =
-    let parts = or_parts (t.table == table) (has_trigger triggers table) e in
-    ap (λ b. cond b (t ∷ filter (λ x. is_before_statement x && is_on table event x) triggers) (filter (λ x. is_before_statement x && is_on table event x) triggers))
-    (not_both (is_before_statement t) (is_on table event t) (not_on table event t parts.0))
-    ∙ none_meant table event triggers parts.1
+none_meant : (d : DataStatement) (triggers : List Trigger) → has_trigger triggers (table_of d) ≡ false → filter (is_before_this d) triggers ≡ []
+none_meant d [] e = refl
+none_meant d (t ∷ triggers) e =
+    let parts = or_parts (t.table == table_of d) (has_trigger triggers (table_of d)) e in
+    ap (λ b. cond (b && is_on_columns (set_columns d) t) (t ∷ filter (is_before_this d) triggers) (filter (is_before_this d) triggers))
+    (not_both (is_before_statement t) (is_on (table_of d) (event_of d) t) (not_on (table_of d) (event_of d) t parts.0))
+    ∙ none_meant d triggers parts.1
 
-pub none_before_statement : (context : Context) (rows : List StoredRow) (table : ℕ) (event : TriggerEvent) → has_trigger context.schema.triggers table ≡ false
-    → Ok tt ≡ before_statement context rows table event
-none_before_statement context rows table event e =
-    ap (λ l. in_turn (λ (t : Trigger) (_ : Unit {0}). while_running t.id (before_statement_run rows t)) l tt) (sym (none_meant table event context.schema.triggers e))
+pub none_before_statement : (context : Context) (rows : List StoredRow) (d : DataStatement) → has_trigger context.schema.triggers (table_of d) ≡ false
+    → Ok tt ≡ before_statement context rows d
+none_before_statement context rows d e =
+    ap (λ l. in_turn (λ (t : Trigger) (_ : Unit {0}). while_running t.id (before_statement_run rows t)) l tt) (sym (none_meant d context.schema.triggers e))
 
 -- ---- of the rows of a wave
 
@@ -65,13 +67,15 @@ with_or_without context rows t triggers changes true e h =
     ap (λ r. and_then r (λ cs. changes_after_triggers context rows triggers cs)) (untouched context rows t changes e) ∙ h
 with_or_without context rows t triggers changes false e h = h
 
-all_untouched : (context : Context) (rows : List StoredRow) (triggers : List Trigger) (changes : List Change) → some_have_triggers triggers changes ≡ false
-    → changes_after_triggers context rows (filter is_before_row triggers) changes ≡ Ok changes
-all_untouched context rows [] changes e = refl
-all_untouched context rows (t ∷ triggers) changes e =
+all_untouched : (context : Context) (rows : List StoredRow) (columns : List TableColumn) (triggers : List Trigger) (changes : List Change)
+    → some_have_triggers triggers changes ≡ false → changes_after_triggers context rows (filter (is_before_row_on columns) triggers) changes ≡ Ok changes
+all_untouched context rows columns [] changes e = refl
+all_untouched context rows columns (t ∷ triggers) changes e =
     let parts = apart_of_each t triggers changes e in
-    with_or_without context rows t (filter is_before_row triggers) changes (is_before_row t) parts.0 (all_untouched context rows triggers changes parts.1)
+    with_or_without context rows t (filter (is_before_row_on columns) triggers) changes (is_before_row_on columns t) parts.0
+    (all_untouched context rows columns triggers changes parts.1)
 
-pub rows_untouched : (context : Context) (rows : List StoredRow) (changes : List Change) → some_have_triggers context.schema.triggers changes ≡ false
-    → changes_after_triggers context rows (filter is_before_row context.schema.triggers) changes ≡ Ok changes
-rows_untouched context rows changes e = all_untouched context rows context.schema.triggers changes e
+pub rows_untouched : (context : Context) (rows : List StoredRow) (columns : List TableColumn) (changes : List Change)
+    → some_have_triggers context.schema.triggers changes ≡ false
+    → changes_after_triggers context rows (filter (is_before_row_on columns) context.schema.triggers) changes ≡ Ok changes
+rows_untouched context rows columns changes e = all_untouched context rows columns context.schema.triggers changes e

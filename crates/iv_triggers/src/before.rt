@@ -5,17 +5,19 @@ ghost use Rattle.iv_catalogue.specs.Catalogues.{BodiesWithinLimit};
 ghost use Rattle.iv_catalogue.specs.declared.limits.TheConstants.{MOST_BODY_STATEMENTS};
 ghost use Rattle.iv_expr.specs.Evaluation.{value};
 ghost use Rattle.iv_expr.specs.Scopes.{no_frame, scope_of};
-ghost use Rattle.iv_machine.specs.BeforeTriggers.{before_row_run, before_statement, before_statement_run, change_after_set, change_after_statement, change_after_trigger, change_frame, changes_after_triggers, is_before_row, is_before_statement, is_on, is_signal, placed_statements, unless_signal, with_new_value};
+ghost use Rattle.iv_machine.specs.BeforeTriggers.{before_row_run, before_statement, before_statement_run, change_after_set, change_after_statement, change_after_trigger, change_frame, changes_after_triggers, is_before_row_on, is_before_this, is_signal, placed_statements, unless_signal, with_new_value};
 ghost use Rattle.iv_machine.specs.Context.{each, in_turn, while_running};
 ghost use Rattle.iv_machine.specs.Proposals.{holds, stored_value};
 ghost use Rattle.iv_triggers.specs.Answering.{AnswersCause, AnswersRefusal};
 
+use crate::columns::{is_on_columns, is_on_set_columns};
 use crate::context::Context;
-use crate::matching::{event_of_change, is_before_row, is_before_statement, is_on};
+use crate::matching::{
+    event_of, event_of_change, is_before_row, is_before_statement, is_on, table_of,
+};
 use crate::values::{holds, stored_value};
-use iv_catalogue::{BodyStatement, Cause, Refusal, Setting, Trigger};
-use iv_expr::{Change, Frame, Row, Rows, Scope, TableId};
-use iv_syntax::TriggerEvent;
+use iv_catalogue::{BodyStatement, Cause, DataStatement, Refusal, Setting, Trigger};
+use iv_expr::{Change, Frame, Row, Rows, Scope, TableColumn};
 use iv_value::Value;
 use std::alloc::{AllocError, Global};
 
@@ -216,48 +218,57 @@ fn run_at_each<R: Rows>(
     Ok(())
 }
 
-// Those of the triggers that are BEFORE row triggers, by creation, each at the changes.
+fn is_before_row_on(columns: &[TableColumn], trigger: &Trigger) -> bool
+    ensures { result ≡ is_before_row_on columns.now trigger.now }
+{
+    is_before_row(trigger) && is_on_columns(columns, trigger)
+}
+
+// Those of the triggers that are BEFORE row triggers, and on one of these columns where they list columns, by creation,
+// each at the changes.
 #[tactic(auto, using(crate::proofs::Answers::refusal_then))]
 fn run_all<R: Rows>(
     alloc: Global,
     context: &Context<'_>,
     rows: &R,
     triggers: &[Trigger],
+    columns: &[TableColumn],
     changes: &mut [Change],
 ) -> Result<(), Refusal>
     requires { BodiesWithinLimit triggers.now }
     ensures length { length changes.exit.now ≡ length changes.entry.now }
     ensures answer { AnswersRefusal (λ _. changes.exit.now) result
         (changes_after_triggers context.now (R.rows rows.now)
-        (filter is_before_row triggers.now) changes.entry.now) }
+        (filter (is_before_row_on columns.now) triggers.now) changes.entry.now) }
 {
     match triggers {
         [] => Ok(()),
         [trigger, rest @ ..] => {
-            if is_before_row(trigger) {
+            if is_before_row_on(columns, trigger) {
                 run_at_each(alloc, context, rows, trigger, changes)?;
-                run_all(alloc, context, rows, rest, changes)
+                run_all(alloc, context, rows, rest, columns, changes)
             } else {
-                run_all(alloc, context, rows, rest, changes)
+                run_all(alloc, context, rows, rest, columns, changes)
             }
         }
     }
 }
 
-/// The changes of a wave after its BEFORE row triggers, by their creation. They see the tables with these
-/// rows, as they are before the wave. Where they refuse it, nothing is said of the changes. Where no table of the
+/// The changes of a wave with these columns after its BEFORE row triggers, by their creation. They see the tables with
+/// these rows, as they are before the wave. Where they refuse it, nothing is said of the changes. Where no table of the
 /// changes has a trigger, it takes one look at each change.
 #[tactic(auto, using(crate::proofs::Untriggered::rows_untouched))]
 pub fn before_rows<R: Rows>(
     alloc: Global,
     context: &Context<'_>,
     rows: &R,
+    columns: &[TableColumn],
     changes: &mut [Change],
 ) -> Result<(), Refusal>
     ensures length { length changes.exit.now ≡ length changes.entry.now }
     ensures answer { AnswersRefusal (λ _. changes.exit.now) result
         (changes_after_triggers context.now (R.rows rows.now)
-        (filter is_before_row context.now.schema.triggers) changes.entry.now) }
+        (filter (is_before_row_on columns.now) context.now.schema.triggers) changes.entry.now) }
 {
     if !context.has_trigger_on(&*changes) {
         return Ok(());
@@ -267,6 +278,7 @@ pub fn before_rows<R: Rows>(
         context,
         rows,
         context.catalogue().triggers(),
+        columns,
         changes,
     )
 }
@@ -328,50 +340,51 @@ fn run_named<R: Rows>(rows: &R, trigger: &Trigger) -> Result<(), Refusal>
     }
 }
 
-fn is_meant(table: TableId, event: TriggerEvent, trigger: &Trigger) -> bool
-    ensures { result ≡ (is_before_statement trigger.now && is_on table event trigger.now) }
+fn is_before_this(statement: &DataStatement, trigger: &Trigger) -> bool
+    ensures { result ≡ is_before_this statement.now trigger.now }
 {
-    is_before_statement(trigger) && is_on(table, event, trigger)
+    is_before_statement(trigger)
+        && is_on(table_of(statement), event_of(statement), trigger)
+        && is_on_set_columns(statement, trigger)
 }
 
-// Those of the triggers that are BEFORE statement triggers of the table and event.
+// Those of the triggers that are BEFORE statement triggers of the statement's table and event, and of a column of its
+// SET list where they list columns.
 fn run_statement_triggers<R: Rows>(
     rows: &R,
     triggers: &[Trigger],
-    table: TableId,
-    event: TriggerEvent,
+    statement: &DataStatement,
 ) -> Result<(), Refusal>
     requires { BodiesWithinLimit triggers.now }
     ensures { result ≡ in_turn
         (λ t _. while_running t.id (before_statement_run (R.rows rows.now) t))
-        (filter (λ t. is_before_statement t && is_on table event t) triggers.now) tt }
+        (filter (is_before_this statement.now) triggers.now) tt }
 {
     match triggers {
         [] => Ok(()),
         [trigger, rest @ ..] => {
-            if is_meant(table, event, trigger) {
+            if is_before_this(statement, trigger) {
                 run_named(rows, trigger)?;
-                run_statement_triggers(rows, rest, table, event)
+                run_statement_triggers(rows, rest, statement)
             } else {
-                run_statement_triggers(rows, rest, table, event)
+                run_statement_triggers(rows, rest, statement)
             }
         }
     }
 }
 
-/// The BEFORE statement triggers of a table and event, by creation. They take no memory. Where the table has no
-/// trigger, that takes constant time.
+/// The BEFORE statement triggers of a statement, by creation. They take no memory. Where its table has no trigger,
+/// that takes constant time.
 #[tactic(auto, using(crate::proofs::Untriggered::none_before_statement))]
 pub fn before_statement<R: Rows>(
     context: &Context<'_>,
     rows: &R,
-    table: TableId,
-    event: TriggerEvent,
+    statement: &DataStatement,
 ) -> Result<(), Refusal>
-    ensures { result ≡ before_statement context.now (R.rows rows.now) table event }
+    ensures { result ≡ before_statement context.now (R.rows rows.now) statement.now }
 {
-    if !context.has_trigger(table) {
+    if !context.has_trigger(table_of(statement)) {
         return Ok(());
     }
-    run_statement_triggers(rows, context.catalogue().triggers(), table, event)
+    run_statement_triggers(rows, context.catalogue().triggers(), statement)
 }

@@ -4,7 +4,7 @@ use Rattle.std.specs.Bool.{nat_lt}
 use Rattle.std.proofs.lemmas.Bool.Decides.{nat_tests}
 use Rattle.std.proofs.lemmas.List.{drop_all, take_all, append-nil}
 use Rattle.iv_expr.specs.declared.row.Change.{Change}
-use Rattle.iv_expr.specs.Changes.{Wave, wave_of}
+use Rattle.iv_expr.specs.Changes.{Wave}
 use Rattle.iv_expr.specs.Evaluation.{and_then}
 use Rattle.iv_catalogue.specs.declared.cause.Cause.TheVariants.{TooManyChanges, TransactionTooLarge, Limit}
 use Rattle.iv_catalogue.specs.declared.cause.Refusal.{Refusal}
@@ -68,7 +68,7 @@ too_far w db budget wave fits room e =
 
 -- what is answered over rows is answered with the count of row changes
 pub counted : {A : Type 0} (db : Database) (wave : Wave) (view : A → List Change) (r : Result A Refusal) (said : Result (List Change) Refusal)
-    → AnswersRefusal view r said → AnswersAt (λ a. wave_of (view a)) db.count r (with_count db (and_then said (λ changes. Ok (record wave { changes = changes }))))
+    → AnswersRefusal view r said → AnswersAt (λ a. record wave { changes = view a }) db.count r (with_count db (and_then said (λ changes. Ok (record wave { changes = changes }))))
 counted db wave view (Ok a) said h = ap (λ s. with_count db (and_then s (λ changes. Ok (record wave { changes = changes })))) h
 counted db wave view (Err r) said h =
     unless_memory (is_memory_cause r.cause) (said ≡ Err r)
@@ -108,26 +108,26 @@ passed w db budget wave out e = by_budget (nat_lt budget (size wave)) e
         by_limits (nat_lt most_changes_in_a_transaction (db.count + size wave)) (is_beyond_last_row (with_numbers db.next wave.changes)) refl refl h
 
 -- An entered wave can be applied, and is no longer than the budget.
-pub record Enters (s : StoreState) (budget : ℕ) (changes : List Change) (out : Wave) : Type 0 where
+pub record Enters (s : StoreState) (budget : ℕ) (wave out : Wave) : Type 0 where
   pub applicable : Applicable s.tables s.base out.changes
   pub fits : size out ≤ budget
-  pub same : size out ≡ length changes
+  pub same : size out ≡ size wave
 
-pub enters : (w : Context) (s : StoreState) (budget : ℕ) (changes : List Change) (out : Wave) → Progress w s changes
-    → wave_as_applied w s.base budget (wave_of changes) ≡ Ok out → Enters s budget changes out
-enters w s budget changes out h e =
-    let is = applied_is w s.base budget (wave_of changes) out e in
-    let long = size_applied w s.base budget (wave_of changes) out is in
-    let fits = applied_fits w s.base budget (wave_of changes) out h.numbered h.ready e in
-    let limits = passed w s.base budget (wave_of changes) out e in
+pub enters : (w : Context) (s : StoreState) (budget : ℕ) (wave out : Wave) → Progress w s wave.changes
+    → wave_as_applied w s.base budget wave ≡ Ok out → Enters s budget wave out
+enters w s budget wave out h e =
+    let is = applied_is w s.base budget wave out e in
+    let long = size_applied w s.base budget wave out is in
+    let fits = applied_fits w s.base budget wave out h.numbered h.ready e in
+    let limits = passed w s.base budget wave out e in
     record {
       applicable = record {
         numbered = h.numbered;
         rising = fits.rising;
         current = fits.current;
-        small = sym (beyond_alike (with_numbers s.base.next changes) out.changes (applied_alike w s.base budget (wave_of changes) out e)) ∙ limits.small;
+        small = sym (beyond_alike (with_numbers s.base.next wave.changes) out.changes (applied_alike w s.base budget wave out e)) ∙ limits.small;
         room = omega (arith, limits.room, long);
-        fit = subst (λ tables. changes_fit tables out.changes ≡ true) (sym h.fits.tables) (applied_wave_fits w s budget changes out h e);
+        fit = subst (λ tables. changes_fit tables out.changes ≡ true) (sym h.fits.tables) (applied_wave_fits w s budget wave out h e);
       };
       fits = omega (arith, is.fits, long);
       same = long;

@@ -1,13 +1,13 @@
 //! A wave as it is applied: with numbers for its new rows, and after its BEFORE row triggers.
 ghost use Rattle.std.specs.Prelude.{◌≡◌, length};
-ghost use Rattle.iv_expr.specs.Changes.{wave_of};
 ghost use Rattle.iv_machine.specs.Waves.{wave_as_applied};
 ghost use Rattle.iv_laws_rows.specs.Changing.{AnswersAt};
 ghost use Rattle.iv_waves.specs.Progress.{Progress};
+ghost use Rattle.iv_waves.specs.Steps.{wave_with};
 
 use crate::numbering::number;
 use iv_catalogue::{Cause, Refusal};
-use iv_expr::{Change, Wave};
+use iv_expr::{Change, TableColumn, Wave};
 use iv_machine::MOST_CHANGES_IN_A_TRANSACTION;
 use iv_store::ChangeableRows;
 use iv_triggers::{Context, before_rows};
@@ -18,11 +18,14 @@ fn prepare<K: ChangeableRows>(
     store: &K,
     context: &Context<'_>,
     budget: u64,
+    columns: &[TableColumn],
     changes: &mut [Change],
 ) -> Result<(), Refusal>
     ensures length { length changes.exit.now ≡ length changes.entry.now }
-    ensures answer { AnswersAt (λ _. wave_of changes.exit.now) (K.view store.now).base.count result
-        (wave_as_applied context.now (K.view store.now).base budget (wave_of changes.entry.now)) }
+    ensures answer { AnswersAt (λ _. wave_with columns.now changes.exit.now)
+        (K.view store.now).base.count result
+        (wave_as_applied context.now (K.view store.now).base budget
+        (wave_with columns.now changes.entry.now)) }
 {
     let size = changes.len() as u64;
     if budget < size {
@@ -34,21 +37,23 @@ fn prepare<K: ChangeableRows>(
     if !number(store.next_row(), changes) {
         return Err(Refusal::of(Cause::Limit));
     }
-    before_rows(store.allocator(), context, store, changes)
+    before_rows(store.allocator(), context, store, columns, changes)
 }
 
-// The wave that is applied.
+// The wave of these changes and columns as it is applied.
 pub fn enter<K: ChangeableRows>(
     store: &K,
     context: &Context<'_>,
     budget: u64,
     changes: Vec<Change>,
+    columns: Vec<TableColumn>,
 ) -> Result<Wave, Refusal>
     requires { Progress context.now (K.view store.now) changes.items }
     ensures answer { AnswersAt (λ wave. wave) (K.view store.now).base.count result
-        (wave_as_applied context.now (K.view store.now).base budget (wave_of changes.items)) }
+        (wave_as_applied context.now (K.view store.now).base budget
+        (wave_with columns.items changes.items)) }
 {
     let mut changes = changes;
-    prepare(store, context, budget, changes.as_mut_slice())?;
-    Ok(Wave::from_vec(changes))
+    prepare(store, context, budget, &columns, changes.as_mut_slice())?;
+    Ok(Wave::from_parts(changes, columns))
 }

@@ -1,6 +1,5 @@
 //! Waves until nothing follows.
 ghost use Rattle.std.specs.Prelude.{◌≡◌, ◌+◌, ◌-◌, ◌*◌, ◌≤◌, ◌++◌, ◌∷◌, [], length, true, IfOk, OnOk};
-ghost use Rattle.iv_expr.specs.Changes.{wave_of};
 ghost use Rattle.iv_laws_levels.specs.FittingWaves.{Chain};
 ghost use Rattle.iv_machine.specs.Databases.{database_after};
 ghost use Rattle.iv_machine.specs.Waves.{one_wave, settled_waves};
@@ -9,13 +8,13 @@ ghost use Rattle.iv_laws_rows.specs.Changing.{AnswersAt, StoreFits};
 ghost use Rattle.iv_waves.specs.Applying.{Applicable, Proposes};
 ghost use Rattle.iv_waves.specs.Progress.{Progress};
 ghost use Rattle.iv_waves.specs.Running.{LeavesStore};
-ghost use Rattle.iv_waves.specs.Steps.{followed_by};
+ghost use Rattle.iv_waves.specs.Steps.{followed_by, wave_with};
 
 use crate::applying::apply_all;
 use crate::entering::enter;
 use iv_actions::next_wave;
 use iv_catalogue::Refusal;
-use iv_expr::{Change, Wave};
+use iv_expr::{Change, TableColumn, Wave};
 use iv_store::ChangeableRows;
 use iv_triggers::Context;
 use std::alloc::AllocError;
@@ -55,17 +54,19 @@ fn one_wave<K: ChangeableRows>(
     context: &Context<'_>,
     budget: u64,
     changes: Vec<Change>,
+    columns: Vec<TableColumn>,
 ) -> Result<AppliedWave, Refusal>
     requires { Progress context.now (K.view store.old) changes.items }
     ensures answer { AnswersAt (λ x. record { wave = x.wave; next = x.next })
         (K.view store.new).base.count result
-        (one_wave context.now (K.view store.old).base budget (wave_of changes.items)) }
+        (one_wave context.now (K.view store.old).base budget
+        (wave_with columns.items changes.items)) }
     ensures applied { IfOk result (λ x. (K.view store.new).base
         ≡ database_after (K.view store.old).base x.wave) }
     ensures store { LeavesStore context.now.schema result
         (K.view store.old) (K.lookups store.old) (K.view store.new) (K.lookups store.new) }
 {
-    let wave = enter(&*store, context, budget, changes)?;
+    let wave = enter(&*store, context, budget, changes, columns)?;
     follow(store, context, wave)
 }
 
@@ -77,13 +78,14 @@ fn add(waves: &mut Vec<Wave>, wave: Wave) -> Result<(), AllocError>
 }
 
 /// Applies the changes that a statement proposes, and what follows from them by referential actions, wave
-/// after wave, and answers the waves as they were applied. The budget is what the statement may still
-/// change. Where it is refused, some waves may have been applied, and the store is to be undone.
+/// after wave, and answers the waves as they were applied. The columns are those of the statement's SET list. The
+/// budget is what the statement may still change. Where it is refused, some waves may have been applied, and the store is to be undone.
 pub fn settle<K: ChangeableRows>(
     store: &mut K,
     context: &Context<'_>,
     budget: &mut u64,
     changes: Vec<Change>,
+    columns: Vec<TableColumn>,
 ) -> Result<Vec<Wave>, Refusal>
     requires store { StoreFits context.now.schema (K.view store.old) }
     requires fit { changes_fit context.now.schema.tables changes.items ≡ true }
@@ -94,7 +96,8 @@ pub fn settle<K: ChangeableRows>(
       rest = budget.new;
     })
         (K.view store.new).base.count result
-        (settled_waves context.now (K.view store.old).base budget.old (wave_of changes.items)) }
+        (settled_waves context.now (K.view store.old).base budget.old
+        (wave_with columns.items changes.items)) }
     ensures chain { IfOk result
         (λ waves. Chain (K.view store.old).base waves.items (K.view store.new).base) }
     ensures store { LeavesStore context.now.schema result
@@ -104,12 +107,15 @@ pub fn settle<K: ChangeableRows>(
     store.next_row();
     let mut waves = Vec::new(store.allocator());
     let mut changes = changes;
+    let mut columns = columns;
     while !changes.is_empty() {
-        let applied = one_wave(store, context, *budget, changes)?;
+        let applied = one_wave(store, context, *budget, changes, columns)?;
         let AppliedWave { wave, next } = applied;
         *budget -= wave.changes().len() as u64;
         add(&mut waves, wave)?;
-        changes = next.into_vec();
+        let (next_changes, next_columns) = next.into_parts();
+        changes = next_changes;
+        columns = next_columns;
     }
     Ok(waves)
 }

@@ -12,6 +12,8 @@ use Rattle.iv_worked_machine.specs.WorkedBeforeTriggers.{WorkedBeforeTriggers}
 use Rattle.iv_worked_machine.specs.WorkedTransitions.{WorkedTransitions}
 use Rattle.iv_worked_machine.specs.WorkedLimits.{WorkedLimits}
 use Rattle.iv_worked_machine.specs.WorkedOccasions.{WorkedOccasions}
+use Rattle.iv_worked_machine.specs.WorkedNulls.{WorkedNulls}
+use Rattle.iv_worked_machine.specs.WorkedColumns.{WorkedColumns}
 
 pub constraints : WorkedConstraints
 constraints = record {
@@ -54,6 +56,7 @@ triggers = record {
   trigger_depth_limit_undoes = refl;
   trigger_depth_limit_at_1 = refl;
   trigger_depth_limit_at_32 = refl;
+  trigger_depth_limit_at_64 = refl;
   before_trigger_fills_null = refl;
   check_before_after_triggers = refl;
   statement_trigger_without_rows = refl;
@@ -165,4 +168,31 @@ occasions = record {
   start_outside = refl;
   others_inside = refl;
   others_outside = refl;
+}
+
+pub nulls : WorkedNulls
+unfolding values_on_literals
+nulls = record {
+  nulls_not_distinct = refl;
+  nulls_not_distinct_parent = refl;
+  both_rows_violate = refl;
+  beside_a_plain_unique = refl;
+  simple_needs_none = refl;
+  full_refuses_it = refl;
+  added_over_nulls = refl;
+}
+
+pub columns : WorkedColumns
+unfolding values_on_literals
+columns = record {
+  update_of = refl;
+  set_list_without_rows = refl;
+  before_statement = refl;
+  before_row_in_a_later_wave = refl;
+  equal_values_count = refl;
+  a_set_adds_nothing = refl;
+  whole_key_counts = refl;
+  deleted_rows_name_no_columns = refl;
+  all_transitions_of_the_table = refl;
+  columns_of_later_waves = refl;
 }

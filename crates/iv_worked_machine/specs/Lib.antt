@@ -12,3 +12,5 @@ pub mod WorkedBeforeTriggers
 pub mod WorkedTransitions
 pub mod WorkedLimits
 pub mod WorkedOccasions
+pub mod WorkedNulls
+pub mod WorkedColumns

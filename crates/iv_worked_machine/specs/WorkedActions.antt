@@ -11,6 +11,7 @@ use Rattle.iv_worked_machine.specs.Words.referential_action.{NoAction, Restrict,
 use Rattle.iv_worked_machine.specs.Words.time.{After}
 use Rattle.iv_worked_machine.specs.Words.event
 use Rattle.iv_worked_machine.specs.Words.granularity.{Row, Statement}
+use Rattle.iv_worked_machine.specs.Words.nulls.{Distinct}
 use Rattle.iv_worked_machine.specs.Words.rule
 use Rattle.iv_worked_machine.specs.Words.cause
 use Rattle.iv_worked_machine.specs.Words.body
@@ -104,7 +105,7 @@ pub record WorkedActions : Type 0 where
   -- = 7; COMMIT;
   pub two_actions_on_one_column : answers (
       create_table (integer_column ∷ integer_column ∷ [])
-      (not_deferrable 0 (rule.Unique (0 ∷ [])) ∷ not_deferrable 0 (rule.Unique (1 ∷ [])) ∷ [])
+      (not_deferrable 0 (rule.Unique Distinct (0 ∷ [])) ∷ not_deferrable 0 (rule.Unique Distinct (1 ∷ [])) ∷ [])
       ∷ create_table (integer_column ∷ [])
       (not_deferrable 1 (references_rule 0 0 0 NoAction SetNull)
       ∷ not_deferrable 1 (references_rule 0 0 1 NoAction Cascade) ∷ [])

@@ -8,6 +8,7 @@ use Rattle.iv_worked_machine.specs.Words.cond.{Always}
 use Rattle.iv_worked_machine.specs.Words.mode.{Immediate, Deferred}
 use Rattle.iv_worked_machine.specs.Words.matching.{Simple, Full}
 use Rattle.iv_worked_machine.specs.Words.referential_action.{NoAction}
+use Rattle.iv_worked_machine.specs.Words.nulls.{Distinct}
 use Rattle.iv_worked_machine.specs.Words.rule
 use Rattle.iv_worked_machine.specs.Words.cause.{Violation, CommitRefused, UnknownSavepoint, NumberOutOfRange, AddRefused, NotDeferrable}
 use Rattle.iv_expr.specs.Trees.{plus}
@@ -59,7 +60,7 @@ pub record WorkedConstraints : Type 0 where
   -- CREATE TABLE t (a INT, b INT, UNIQUE (a, b)); INSERT .. (1, NULL), (1, NULL); INSERT .. (1, 2);
   -- INSERT .. (1, 2);
   pub unique_passes_over_nulls : answers (
-      create_table (integer_column ∷ integer_column ∷ []) (not_deferrable 0 (rule.Unique (0 ∷ 1 ∷ [])) ∷ [])
+      create_table (integer_column ∷ integer_column ∷ []) (not_deferrable 0 (rule.Unique Distinct (0 ∷ 1 ∷ [])) ∷ [])
       ∷ insert 0 ((number 1 ∷ null ∷ []) ∷ (number 1 ∷ null ∷ []) ∷ [])
       ∷ insert 0 ((number 1 ∷ number 2 ∷ []) ∷ []) ∷ insert 0 ((number 1 ∷ number 2 ∷ []) ∷ [])
       ∷ [])
@@ -67,7 +68,7 @@ pub record WorkedConstraints : Type 0 where
   -- CREATE TABLE t (k INT UNIQUE); INSERT .. (1), (2), (3); UPDATE t SET k = k + 1; SELECT k FROM t
   -- WHERE k > 2; COMMIT;
   pub unique_after_shift : answers (
-      create_table (integer_column ∷ []) (not_deferrable 0 (rule.Unique (0 ∷ [])) ∷ [])
+      create_table (integer_column ∷ []) (not_deferrable 0 (rule.Unique Distinct (0 ∷ [])) ∷ [])
       ∷ insert 0 ((number 1 ∷ []) ∷ (number 2 ∷ []) ∷ (number 3 ∷ []) ∷ [])
       ∷ update 0 (setting 0 (plus (column 0) (number 1)) ∷ []) Always
       ∷ select 0 (column 0 ∷ []) (where_column Greater 0 2) ∷ commit ∷ [])

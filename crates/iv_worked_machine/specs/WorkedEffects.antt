@@ -10,6 +10,7 @@ use Rattle.iv_worked_machine.specs.Words.referential_action.{NoAction, Restrict,
 use Rattle.iv_worked_machine.specs.Words.time.{Before}
 use Rattle.iv_worked_machine.specs.Words.event
 use Rattle.iv_worked_machine.specs.Words.granularity.{Row}
+use Rattle.iv_worked_machine.specs.Words.nulls.{Distinct}
 use Rattle.iv_worked_machine.specs.Words.rule
 use Rattle.iv_worked_machine.specs.Words.cause
 use Rattle.iv_expr.specs.Trees.{plus}
@@ -27,7 +28,7 @@ use Rattle.iv_worked_machine.specs.WorkedAnswers.{ok, ok_rows, int, rows, rows_o
 abbrev pub key_lost_by_two_rows : List Plan
 key_lost_by_two_rows =
     create_table (integer_column ∷ integer_column ∷ integer_column ∷ [])
-    (not_deferrable 0 (rule.PrimaryKey (0 ∷ [])) ∷ not_deferrable 0 (rule.Unique (1 ∷ []))
+    (not_deferrable 0 (rule.PrimaryKey (0 ∷ [])) ∷ not_deferrable 0 (rule.Unique Distinct (1 ∷ []))
     ∷ not_deferrable 0 (references_rule 2 0 0 NoAction Cascade) ∷ [])
     ∷ create_table (integer_column ∷ []) (initially_deferred 1 (references_rule 0 0 1 NoAction Cascade) ∷ [])
     ∷ create_trigger 0 0 Before event.Update Row (Compare Equal (old 1) (number 5))
@@ -63,8 +64,8 @@ abbrev pub three_foreign_keys : ReferentialAction → ReferentialAction → Refe
     → List Plan → List Plan
 three_foreign_keys first second third rest =
     create_table (integer_column ∷ integer_column ∷ integer_column ∷ [])
-    (not_deferrable 0 (rule.Unique (0 ∷ [])) ∷ not_deferrable 0 (rule.Unique (1 ∷ []))
-    ∷ not_deferrable 0 (rule.Unique (2 ∷ [])) ∷ [])
+    (not_deferrable 0 (rule.Unique Distinct (0 ∷ [])) ∷ not_deferrable 0 (rule.Unique Distinct (1 ∷ []))
+    ∷ not_deferrable 0 (rule.Unique Distinct (2 ∷ [])) ∷ [])
     ∷ create_table (integer_default 9 ∷ [])
     (not_deferrable 1 (references_rule 0 0 0 first first)
     ∷ not_deferrable 1 (references_rule 0 0 1 second second)

@@ -4,6 +4,7 @@ use Rattle.iv_worked_machine.specs.Words.{MatchType, Plan}
 use Rattle.iv_worked_machine.specs.Words.comparison.{Greater}
 use Rattle.iv_worked_machine.specs.Words.matching.{Simple, Full}
 use Rattle.iv_worked_machine.specs.Words.referential_action.{NoAction}
+use Rattle.iv_worked_machine.specs.Words.nulls.{Distinct}
 use Rattle.iv_worked_machine.specs.Words.rule
 use Rattle.iv_worked_machine.specs.Words.cause.{Violation, CommitRefused, AddRefused}
 use Rattle.iv_worked_machine.specs.WorkedPlans.{number, numbers, null, where_column, integer_column, not_deferrable, deferrable, initially_deferred, foreign_key_rule, create_table, add_constraint, insert, insert_row, insert_value, update_all, delete, commit}
@@ -15,7 +16,7 @@ use Rattle.iv_worked_machine.specs.WorkedAnswers.{ok, ok_rows, fault, refused, a
 -- (1, 2); INSERT INTO f VALUES (1, 3);
 abbrev pub nulls_in_a_foreign_key : MatchType → List Plan
 nulls_in_a_foreign_key matching =
-    create_table (integer_column ∷ integer_column ∷ []) (not_deferrable 0 (rule.Unique (0 ∷ 1 ∷ [])) ∷ [])
+    create_table (integer_column ∷ integer_column ∷ []) (not_deferrable 0 (rule.Unique Distinct (0 ∷ 1 ∷ [])) ∷ [])
     ∷ create_table (integer_column ∷ integer_column ∷ [])
     (not_deferrable 1 (foreign_key_rule (0 ∷ 1 ∷ []) 0 (0 ∷ 1 ∷ []) matching NoAction NoAction) ∷ [])
     ∷ insert 0 ((number 1 ∷ null ∷ []) ∷ numbers (1 ∷ 2 ∷ []) ∷ [])
@@ -28,7 +29,7 @@ nulls_in_a_foreign_key matching =
 abbrev pub duplicates : List Plan
 duplicates =
     create_table (integer_column ∷ integer_column ∷ [])
-    (initially_deferred 0 (rule.Unique (0 ∷ []))
+    (initially_deferred 0 (rule.Unique Distinct (0 ∷ []))
     ∷ not_deferrable 0 (rule.Check (where_column Greater 1 0)) ∷ [])
     ∷ insert 0
     (numbers (1 ∷ 1 ∷ []) ∷ numbers (2 ∷ 1 ∷ []) ∷ numbers (1 ∷ 1 ∷ []) ∷ (null ∷ number 1 ∷ [])

@@ -7,6 +7,7 @@ use Rattle.iv_worked_machine.specs.Words.mode.{Deferred}
 use Rattle.iv_worked_machine.specs.Words.insert.{DefaultValues}
 use Rattle.iv_worked_machine.specs.Words.select.{Count}
 use Rattle.iv_worked_machine.specs.Words.statement
+use Rattle.iv_worked_machine.specs.Words.nulls.{Distinct}
 use Rattle.iv_worked_machine.specs.Words.table_rule.{Unique}
 use Rattle.iv_worked_machine.specs.Words.time.{After}
 use Rattle.iv_worked_machine.specs.Words.event
@@ -20,7 +21,7 @@ abbrev pub alter_table : Statement
 alter_table =
     statement.AlterTable (codes "T") (record {
       name = None;
-      rule = Unique (codes "A" ∷ []);
+      rule = Unique Distinct (codes "A" ∷ []);
       time = record { deferrable = None; initially = None };
     })
 
@@ -31,6 +32,7 @@ trigger_created =
       name = codes "R";
       time = After;
       event = event.Insert;
+      columns = [];
       table = codes "T";
       referencing = [];
       granularity = granularity.Statement;

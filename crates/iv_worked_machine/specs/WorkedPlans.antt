@@ -20,6 +20,7 @@ use Rattle.iv_worked_machine.specs.Words.plan
 use Rattle.iv_worked_machine.specs.Words.schema
 use Rattle.iv_worked_machine.specs.Words.query
 use Rattle.iv_worked_machine.specs.Words.transaction
+use Rattle.iv_worked_machine.specs.Words.event
 
 -- ---- expressions and conditions
 
@@ -157,19 +158,31 @@ delete_all table = delete table Always
 
 -- ---- triggers
 
-abbrev pub create_trigger :
-    ℕ → ℕ → ActionTime → TriggerEvent → Granularity → Cond → List BodyStatement → Plan
-create_trigger id table time event granularity when_true statements =
+-- with the columns of UPDATE OF; none where there is no list
+abbrev pub create_listed :
+    ℕ → ℕ → ActionTime → TriggerEvent → List ℕ → Granularity → Cond → List BodyStatement → Plan
+create_listed id table time event columns granularity when_true statements =
     plan.Schema (schema.CreateTrigger (record {
       id = id;
       name = codes "R";
       table = table;
       time = time;
       event = event;
+      columns = columns;
       granularity = granularity;
       when = when_true;
       body = statements;
     }))
+
+abbrev pub create_trigger :
+    ℕ → ℕ → ActionTime → TriggerEvent → Granularity → Cond → List BodyStatement → Plan
+create_trigger id table time event granularity when_true statements =
+    create_listed id table time event [] granularity when_true statements
+
+-- a trigger of UPDATE OF these columns, without WHEN
+abbrev pub create_update_of : ℕ → ℕ → ActionTime → List ℕ → Granularity → List BodyStatement → Plan
+create_update_of id table time columns granularity statements =
+    create_listed id table time event.Update columns granularity Always statements
 
 abbrev pub drop_trigger : ℕ → Plan
 drop_trigger id = plan.Schema (schema.DropTrigger id)

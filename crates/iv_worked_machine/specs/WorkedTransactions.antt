@@ -5,6 +5,7 @@ use Rattle.iv_worked_machine.specs.Words.{Plan}
 use Rattle.iv_worked_machine.specs.Words.comparison.{Less, Greater}
 use Rattle.iv_worked_machine.specs.Words.mode.{Immediate, Deferred}
 use Rattle.iv_worked_machine.specs.Words.referential_action.{NoAction}
+use Rattle.iv_worked_machine.specs.Words.nulls.{Distinct}
 use Rattle.iv_worked_machine.specs.Words.rule
 use Rattle.iv_worked_machine.specs.Words.cause.{Violation, UnknownSavepoint, NotDeferrable}
 use Rattle.iv_worked_machine.specs.WorkedPlans.{number, numbers, where_column, integer_column, not_deferrable, deferrable, initially_deferred, references_rule, create_table, insert_row, insert_value, update_all, select_all, count_all, set_all, set_these, set_one, start, commit, rollback, savepoint, release, rollback_to}
@@ -102,7 +103,7 @@ pub record WorkedTransactions : Type 0 where
   pub refused_modes_stay : answers (
       create_table (integer_column ∷ [])
       (initially_deferred 0 (rule.Check (where_column Greater 0 0))
-      ∷ not_deferrable 0 (rule.Unique (0 ∷ [])) ∷ [])
+      ∷ not_deferrable 0 (rule.Unique Distinct (0 ∷ [])) ∷ [])
       ∷ insert_value 0 (number 0) ∷ set_these (0 ∷ 1 ∷ []) Immediate ∷ update_all 0 0 (number 0)
       ∷ update_all 0 0 (number 1) ∷ commit ∷ [])
       ≡ ok ∷ ok_rows 1 ∷ refused (NotDeferrable 1) ∷ ok_rows 1 ∷ ok_rows 1 ∷ ok ∷ []

@@ -44,6 +44,9 @@ pub record WorkedTriggers : Type 0 where
   pub trigger_depth_limit_at_32 : answers_deep 32 endless_trigger
       ≡ ok ∷ ok ∷ refused_in 0 (cause.DepthLimit 0) ∷ ok ∷ refused (cause.Violation (fault 0 1))
       ∷ []
+  pub trigger_depth_limit_at_64 : answers_deep 64 endless_trigger
+      ≡ ok ∷ ok ∷ refused_in 0 (cause.DepthLimit 0) ∷ ok ∷ refused (cause.Violation (fault 0 1))
+      ∷ []
   -- CREATE TABLE t (a INT NOT NULL); CREATE TRIGGER b BEFORE INSERT ON t REFERENCING NEW AS n FOR
   -- EACH ROW WHEN (n.a IS NULL) SET n.a = 9; INSERT INTO t VALUES (NULL); SELECT * FROM t; COMMIT;
   pub before_trigger_fills_null : answers (

@@ -7,6 +7,8 @@ ghost use Rattle.iv_worked_machine.specs.WorkedBeforeTriggers.{WorkedBeforeTrigg
 ghost use Rattle.iv_worked_machine.specs.WorkedTransitions.{WorkedTransitions};
 ghost use Rattle.iv_worked_machine.specs.WorkedLimits.{WorkedLimits};
 ghost use Rattle.iv_worked_machine.specs.WorkedOccasions.{WorkedOccasions};
+ghost use Rattle.iv_worked_machine.specs.WorkedNulls.{WorkedNulls};
+ghost use Rattle.iv_worked_machine.specs.WorkedColumns.{WorkedColumns};
 ghost use Rattle.iv_worked_machine.specs.WorkedActions.{WorkedActions};
 ghost use Rattle.iv_worked_machine.specs.WorkedConstraints.{WorkedConstraints};
 ghost use Rattle.iv_worked_machine.specs.WorkedTriggers.{WorkedTriggers};
@@ -24,4 +26,6 @@ pub fn worked_scripts()
     ensures transitions { WorkedTransitions }
     ensures limits { WorkedLimits }
     ensures occasions { WorkedOccasions }
+    ensures nulls { WorkedNulls }
+    ensures columns { WorkedColumns }
 {}

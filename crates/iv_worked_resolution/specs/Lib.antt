@@ -6,3 +6,5 @@ pub mod WorkedSchemaFaults
 pub mod WorkedShapes
 pub mod WorkedLimits
 pub mod WorkedOrder
+pub mod WorkedUpdateOf
+pub mod WorkedNulls

@@ -90,6 +90,7 @@ with_triggers n created = record {
         table = 0;
         time = time.After;
         event = event.Insert;
+        columns = [];
         granularity = granularity.Statement;
         when = cond.Always;
         body = body.Signal (codes "x") ∷ [];

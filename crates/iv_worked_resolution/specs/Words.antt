@@ -17,6 +17,7 @@ pub use Rattle.iv_syntax.specs.declared.table.ColumnType.TheVariants as type
 pub use Rattle.iv_syntax.specs.declared.table.ConstraintTime.{ConstraintTime}
 pub use Rattle.iv_syntax.specs.declared.table.Literal.{Literal}
 pub use Rattle.iv_syntax.specs.declared.table.Literal.TheVariants as literal
+pub use Rattle.iv_syntax.specs.declared.table.NullTreatment.TheVariants as nulls
 pub use Rattle.iv_syntax.specs.declared.table.References.{References}
 pub use Rattle.iv_syntax.specs.declared.table.TableConstraint.{TableConstraint}
 pub use Rattle.iv_syntax.specs.declared.table.TableElement.{TableElement}
@@ -51,6 +52,8 @@ pub use Rattle.iv_catalogue.specs.declared.catalogue.Table.{Table}
 pub use Rattle.iv_catalogue.specs.declared.cause.Cause.TheVariants as cause
 pub use Rattle.iv_catalogue.specs.declared.constraint.Rule.TheVariants as rule
 pub use Rattle.iv_catalogue.specs.declared.plan.BodyStatement.TheVariants as body
+pub use Rattle.iv_catalogue.specs.declared.plan.Plan.TheVariants as plan
+pub use Rattle.iv_catalogue.specs.declared.plan.SchemaPlan.TheVariants as schema_plan
 use Rattle.std.specs.Prelude.{ℕ, Bool, true, false, List, [], ◌∷◌, codes, Option, None}
 use Rattle.iv_catalogue.specs.Catalogues.{Schema}
 use Rattle.iv_resolution.specs.Worked.{a, b, k, p, t, z}
@@ -106,11 +109,11 @@ schema = record {
       ∷ [];
   constraints =
       record { name = codes "P_C1"; table = 1; rule = rule.PrimaryKey (0 ∷ []); deferrable = false; initially = mode.Immediate }
-      ∷ record { name = codes "V_C1"; table = 2; rule = rule.Unique (3 ∷ []); deferrable = false; initially = mode.Immediate }
+      ∷ record { name = codes "V_C1"; table = 2; rule = rule.Unique nulls.Distinct (3 ∷ []); deferrable = false; initially = mode.Immediate }
       ∷ record { name = codes "Q_C2"; table = 2; rule = rule.PrimaryKey (0 ∷ 1 ∷ []); deferrable = false; initially = mode.Immediate }
-      ∷ record { name = codes "D_C3"; table = 2; rule = rule.Unique (2 ∷ []); deferrable = true; initially = mode.Immediate }
+      ∷ record { name = codes "D_C3"; table = 2; rule = rule.Unique nulls.Distinct (2 ∷ []); deferrable = true; initially = mode.Immediate }
       ∷ record { name = codes "D_C1"; table = 3; rule = rule.PrimaryKey (0 ∷ []); deferrable = true; initially = mode.Immediate }
-      ∷ record { name = codes "D_C2"; table = 3; rule = rule.Unique (0 ∷ []); deferrable = false; initially = mode.Immediate } ∷ [];
+      ∷ record { name = codes "D_C2"; table = 3; rule = rule.Unique nulls.Distinct (0 ∷ []); deferrable = false; initially = mode.Immediate } ∷ [];
   triggers =
       record {
         id = 0;
@@ -118,6 +121,7 @@ schema = record {
         table = 0;
         time = time.After;
         event = event.Insert;
+        columns = [];
         granularity = granularity.Statement;
         when = cond.Always;
         body = body.Signal (codes "x") ∷ [];
@@ -157,4 +161,19 @@ constraint name rule time = record { name = name; rule = rule; time = time }
 
 abbrev pub trigger_of : List ℕ → ActionTime → TriggerEvent → List ℕ → List Referencing → Granularity → Option Condition → List TriggerAction → Statement
 trigger_of name time event table items granularity when actions =
-    statement.CreateTrigger (record { name = name; time = time; event = event; table = table; referencing = items; granularity = granularity; when = when; body = actions })
+    statement.CreateTrigger (record { name = name; time = time; event = event; columns = []; table = table; referencing = items; granularity = granularity; when = when; body = actions })
+
+-- CREATE TRIGGER name AFTER event OF columns ON table SIGNAL 'x'
+abbrev pub of_columns : List ℕ → TriggerEvent → List (List ℕ) → List ℕ → Statement
+of_columns name event columns table =
+    statement.CreateTrigger (record {
+      name = name;
+      time = time.After;
+      event = event;
+      columns = columns;
+      table = table;
+      referencing = [];
+      granularity = granularity.Statement;
+      when = None;
+      body = action.Signal (codes "x") ∷ [];
+    })

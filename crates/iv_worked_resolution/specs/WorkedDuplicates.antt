@@ -4,6 +4,7 @@ use Rattle.iv_worked_resolution.specs.Words.side.{Old, New}
 use Rattle.iv_worked_resolution.specs.Words.type
 use Rattle.iv_worked_resolution.specs.Words.column_rule
 use Rattle.iv_worked_resolution.specs.Words.table_rule
+use Rattle.iv_worked_resolution.specs.Words.nulls.{Distinct}
 use Rattle.iv_worked_resolution.specs.Words.mode
 use Rattle.iv_worked_resolution.specs.Words.constraints
 use Rattle.iv_worked_resolution.specs.Words.given
@@ -38,36 +39,36 @@ pub record WorkedDuplicates : Type 0 where
       least schema (create (defined a type.Integer None [] ∷ defined b type.Integer None [] ∷ defined a type.Integer None [] ∷ [])) ≡ Some Duplicate
   -- CREATE TABLE w (a INT CONSTRAINT p_c1 UNIQUE);
   pub given_name_in_use :
-      least schema (create (column_of a type.Integer None (in_column (Some (codes "P_C1")) column_rule.Unique any_time ∷ []) ∷ [])) ≡ Some Duplicate
+      least schema (create (column_of a type.Integer None (in_column (Some (codes "P_C1")) (column_rule.Unique Distinct) any_time ∷ []) ∷ [])) ≡ Some Duplicate
   -- CREATE TABLE w (a INT CONSTRAINT p_c2 UNIQUE);
-  pub given_name_not_in_use : least schema (create (column_of a type.Integer None (in_column (Some (codes "P_C2")) column_rule.Unique any_time ∷ []) ∷ [])) ≡ None
+  pub given_name_not_in_use : least schema (create (column_of a type.Integer None (in_column (Some (codes "P_C2")) (column_rule.Unique Distinct) any_time ∷ []) ∷ [])) ≡ None
   -- CREATE TABLE w (a INT, CONSTRAINT t UNIQUE (a));
-  pub constraint_called_as_a_table : least schema (create (defined a type.Integer None [] ∷ named t (table_rule.Unique (a ∷ [])) ∷ [])) ≡ None
+  pub constraint_called_as_a_table : least schema (create (defined a type.Integer None [] ∷ named t (table_rule.Unique Distinct (a ∷ [])) ∷ [])) ≡ None
   -- CREATE TABLE v (a INT NOT NULL);
   pub generated_name_in_use : least schema (statement.CreateTable v (defined a type.Integer None (column_rule.NotNull ∷ []) ∷ [])) ≡ Some Duplicate
   -- CREATE TABLE v (a INT CONSTRAINT x NOT NULL UNIQUE);
   pub generated_name_at_the_next_place :
-      least schema (statement.CreateTable v (column_of a type.Integer None (in_column (Some x) column_rule.NotNull any_time ∷ in_column None column_rule.Unique any_time ∷ []) ∷ [])) ≡ None
+      least schema (statement.CreateTable v (column_of a type.Integer None (in_column (Some x) column_rule.NotNull any_time ∷ in_column None (column_rule.Unique Distinct) any_time ∷ []) ∷ [])) ≡ None
   -- CREATE TABLE w (a INT CONSTRAINT x NOT NULL CONSTRAINT x UNIQUE);
   pub one_name_given_twice :
-      least schema (create (column_of a type.Integer None (in_column (Some x) column_rule.NotNull any_time ∷ in_column (Some x) column_rule.Unique any_time ∷ []) ∷ [])) ≡ Some Duplicate
+      least schema (create (column_of a type.Integer None (in_column (Some x) column_rule.NotNull any_time ∷ in_column (Some x) (column_rule.Unique Distinct) any_time ∷ []) ∷ [])) ≡ Some Duplicate
   -- CREATE TABLE w (a INT CONSTRAINT x NOT NULL CONSTRAINT y UNIQUE);
   pub two_names_given :
-      least schema (create (column_of a type.Integer None (in_column (Some x) column_rule.NotNull any_time ∷ in_column (Some y) column_rule.Unique any_time ∷ []) ∷ [])) ≡ None
+      least schema (create (column_of a type.Integer None (in_column (Some x) column_rule.NotNull any_time ∷ in_column (Some y) (column_rule.Unique Distinct) any_time ∷ []) ∷ [])) ≡ None
   -- CREATE TABLE w (a INT CONSTRAINT w_c2 NOT NULL UNIQUE);
   pub given_name_is_generated_later :
-      least schema (create (column_of a type.Integer None (in_column (Some (codes "W_C2")) column_rule.NotNull any_time ∷ in_column None column_rule.Unique any_time ∷ []) ∷ [])) ≡ Some Duplicate
+      least schema (create (column_of a type.Integer None (in_column (Some (codes "W_C2")) column_rule.NotNull any_time ∷ in_column None (column_rule.Unique Distinct) any_time ∷ []) ∷ [])) ≡ Some Duplicate
   -- CREATE TABLE w (a INT CONSTRAINT w_c1 NOT NULL UNIQUE);
   pub given_name_is_of_its_own_place :
-      least schema (create (column_of a type.Integer None (in_column (Some (codes "W_C1")) column_rule.NotNull any_time ∷ in_column None column_rule.Unique any_time ∷ []) ∷ [])) ≡ None
+      least schema (create (column_of a type.Integer None (in_column (Some (codes "W_C1")) column_rule.NotNull any_time ∷ in_column None (column_rule.Unique Distinct) any_time ∷ []) ∷ [])) ≡ None
   -- CREATE TABLE w (a INT NOT NULL CONSTRAINT w_c1 UNIQUE);
   pub given_name_was_generated :
-      least schema (create (column_of a type.Integer None (in_column None column_rule.NotNull any_time ∷ in_column (Some (codes "W_C1")) column_rule.Unique any_time ∷ []) ∷ [])) ≡ Some Duplicate
+      least schema (create (column_of a type.Integer None (in_column None column_rule.NotNull any_time ∷ in_column (Some (codes "W_C1")) (column_rule.Unique Distinct) any_time ∷ []) ∷ [])) ≡ Some Duplicate
   -- CREATE TABLE w (a INT, b INT, UNIQUE (a, b));
   pub unique_of_two_columns :
-      least schema (create (defined a type.Integer None [] ∷ defined b type.Integer None [] ∷ constrained (table_rule.Unique (a ∷ b ∷ [])) ∷ [])) ≡ None
+      least schema (create (defined a type.Integer None [] ∷ defined b type.Integer None [] ∷ constrained (table_rule.Unique Distinct (a ∷ b ∷ [])) ∷ [])) ≡ None
   -- CREATE TABLE w (a INT UNIQUE, UNIQUE (a));
-  pub column_in_two_keys : least schema (create (defined a type.Integer None (column_rule.Unique ∷ []) ∷ constrained (table_rule.Unique (a ∷ [])) ∷ [])) ≡ None
+  pub column_in_two_keys : least schema (create (defined a type.Integer None ((column_rule.Unique Distinct) ∷ []) ∷ constrained (table_rule.Unique Distinct (a ∷ [])) ∷ [])) ≡ None
   -- CREATE TABLE w (a INT, PRIMARY KEY (a, a));
   pub primary_key_column_twice : least schema (create (defined a type.Integer None [] ∷ constrained (table_rule.PrimaryKey (a ∷ a ∷ [])) ∷ [])) ≡ Some Duplicate
   -- CREATE TABLE w (a INT, b INT, PRIMARY KEY (a, b));
@@ -87,17 +88,17 @@ pub record WorkedDuplicates : Type 0 where
       least schema (create (defined a type.Integer None [] ∷ defined b (type.Varchar 2) None [] ∷ constrained (table_rule.ForeignKey (a ∷ b ∷ []) (refers q (Some (a ∷ b ∷ [])))) ∷ [])) ≡ None
   -- ---- ALTER TABLE
   -- ALTER TABLE t ADD CONSTRAINT p_c2 UNIQUE (a);
-  pub added_name_not_in_use : least schema (statement.AlterTable t (constraint (Some (codes "P_C2")) (table_rule.Unique (a ∷ [])) any_time)) ≡ None
+  pub added_name_not_in_use : least schema (statement.AlterTable t (constraint (Some (codes "P_C2")) (table_rule.Unique Distinct (a ∷ [])) any_time)) ≡ None
   -- ALTER TABLE d ADD UNIQUE (a);
-  pub added_name_is_generated_in_use : least schema (statement.AlterTable d (constraint None (table_rule.Unique (a ∷ [])) any_time)) ≡ Some Duplicate
+  pub added_name_is_generated_in_use : least schema (statement.AlterTable d (constraint None (table_rule.Unique Distinct (a ∷ [])) any_time)) ≡ Some Duplicate
   -- ALTER TABLE d ADD CONSTRAINT d_c4 UNIQUE (a);
-  pub added_name_is_given_instead : least schema (statement.AlterTable d (constraint (Some (codes "D_C4")) (table_rule.Unique (a ∷ [])) any_time)) ≡ None
+  pub added_name_is_given_instead : least schema (statement.AlterTable d (constraint (Some (codes "D_C4")) (table_rule.Unique Distinct (a ∷ [])) any_time)) ≡ None
   -- ALTER TABLE q ADD CONSTRAINT q_c3 UNIQUE (a);
-  pub added_name_is_generated_for_its_place : least schema (statement.AlterTable q (constraint (Some (codes "Q_C3")) (table_rule.Unique (a ∷ [])) any_time)) ≡ None
+  pub added_name_is_generated_for_its_place : least schema (statement.AlterTable q (constraint (Some (codes "Q_C3")) (table_rule.Unique Distinct (a ∷ [])) any_time)) ≡ None
   -- ALTER TABLE t ADD UNIQUE (a, a);
-  pub added_unique_column_twice : least schema (statement.AlterTable t (constraint None (table_rule.Unique (a ∷ a ∷ [])) any_time)) ≡ Some Duplicate
+  pub added_unique_column_twice : least schema (statement.AlterTable t (constraint None (table_rule.Unique Distinct (a ∷ a ∷ [])) any_time)) ≡ Some Duplicate
   -- ALTER TABLE t ADD UNIQUE (a, b);
-  pub added_unique_of_two_columns : least schema (statement.AlterTable t (constraint None (table_rule.Unique (a ∷ b ∷ [])) any_time)) ≡ None
+  pub added_unique_of_two_columns : least schema (statement.AlterTable t (constraint None (table_rule.Unique Distinct (a ∷ b ∷ [])) any_time)) ≡ None
   -- ALTER TABLE t ADD PRIMARY KEY (a, a);
   pub added_primary_key_column_twice : least schema (statement.AlterTable t (constraint None (table_rule.PrimaryKey (a ∷ a ∷ [])) any_time)) ≡ Some Duplicate
   -- ALTER TABLE t ADD PRIMARY KEY (a, b);

@@ -6,6 +6,7 @@ use Rattle.iv_worked_resolution.specs.Words.side.{New}
 use Rattle.iv_worked_resolution.specs.Words.type
 use Rattle.iv_worked_resolution.specs.Words.column_rule
 use Rattle.iv_worked_resolution.specs.Words.table_rule
+use Rattle.iv_worked_resolution.specs.Words.nulls.{Distinct}
 use Rattle.iv_worked_resolution.specs.Words.literal
 use Rattle.iv_worked_resolution.specs.Words.mode
 use Rattle.iv_worked_resolution.specs.Words.constraints
@@ -47,9 +48,9 @@ pub record WorkedLimits : Type 0 where
   -- CREATE TABLE w (a VARCHAR(1));
   pub text_of_one_character : least schema (create (defined a (type.Varchar 1) None [] ∷ [])) ≡ None
   -- CREATE TABLE w (.. 9 columns .., UNIQUE (.. the 9 ..));
-  pub unique_of_9_columns : least schema (create (constrained (table_rule.Unique (numbered 9)) ∷ columns 9)) ≡ Some Limit
+  pub unique_of_9_columns : least schema (create (constrained (table_rule.Unique Distinct (numbered 9)) ∷ columns 9)) ≡ Some Limit
   -- CREATE TABLE w (.. 9 columns .., UNIQUE (.. 8 of them ..));
-  pub unique_of_8_columns : least schema (create (constrained (table_rule.Unique (numbered 8)) ∷ columns 9)) ≡ None
+  pub unique_of_8_columns : least schema (create (constrained (table_rule.Unique Distinct (numbered 8)) ∷ columns 9)) ≡ None
   -- CREATE TABLE w (.. 9 columns .., PRIMARY KEY (.. the 9 ..));
   pub primary_key_of_9_columns : least schema (create (constrained (table_rule.PrimaryKey (numbered 9)) ∷ columns 9)) ≡ Some Limit
   -- CREATE TABLE w (.. 9 columns .., PRIMARY KEY (.. 8 of them ..));
@@ -64,9 +65,9 @@ pub record WorkedLimits : Type 0 where
   pub added_constraint_of_another_table :
       least (with_constraints 64) (statement.AlterTable p (constraint None (table_rule.Check (condition.Compare Equal one one)) any_time)) ≡ None
   -- ALTER TABLE t ADD UNIQUE (.. 9 columns ..);
-  pub added_unique_of_9_columns : least (wide 9) (statement.AlterTable t (constraint None (table_rule.Unique (numbered 9)) any_time)) ≡ Some Limit
+  pub added_unique_of_9_columns : least (wide 9) (statement.AlterTable t (constraint None (table_rule.Unique Distinct (numbered 9)) any_time)) ≡ Some Limit
   -- ALTER TABLE t ADD UNIQUE (.. 8 columns ..);
-  pub added_unique_of_8_columns : least (wide 9) (statement.AlterTable t (constraint None (table_rule.Unique (numbered 8)) any_time)) ≡ None
+  pub added_unique_of_8_columns : least (wide 9) (statement.AlterTable t (constraint None (table_rule.Unique Distinct (numbered 8)) any_time)) ≡ None
   -- ALTER TABLE t ADD PRIMARY KEY (.. 9 columns ..);
   pub added_primary_key_of_9_columns : least (wide 9) (statement.AlterTable t (constraint None (table_rule.PrimaryKey (numbered 9)) any_time)) ≡ Some Limit
   -- ALTER TABLE t ADD PRIMARY KEY (.. 8 columns ..);
@@ -123,12 +124,12 @@ pub record WorkedLimits : Type 0 where
   -- CREATE TABLE w (1a INT);
   pub name_of_a_column : least schema (create (defined first_digit type.Integer None [] ∷ [])) ≡ Some Limit
   -- CREATE TABLE w (a INT, CONSTRAINT 1a UNIQUE (a));
-  pub name_of_a_constraint : least schema (create (defined a type.Integer None [] ∷ named first_digit (table_rule.Unique (a ∷ [])) ∷ [])) ≡ Some Limit
+  pub name_of_a_constraint : least schema (create (defined a type.Integer None [] ∷ named first_digit (table_rule.Unique Distinct (a ∷ [])) ∷ [])) ≡ Some Limit
   -- CREATE TABLE w (a INT CONSTRAINT 1a UNIQUE);
   pub name_of_a_constraint_of_a_column :
-      least schema (create (column_of a type.Integer None (in_column (Some first_digit) column_rule.Unique any_time ∷ []) ∷ [])) ≡ Some Limit
+      least schema (create (column_of a type.Integer None (in_column (Some first_digit) (column_rule.Unique Distinct) any_time ∷ []) ∷ [])) ≡ Some Limit
   -- ALTER TABLE t ADD CONSTRAINT 1a UNIQUE (a);
-  pub name_of_an_added_constraint : least schema (statement.AlterTable t (constraint (Some first_digit) (table_rule.Unique (a ∷ [])) any_time)) ≡ Some Limit
+  pub name_of_an_added_constraint : least schema (statement.AlterTable t (constraint (Some first_digit) (table_rule.Unique Distinct (a ∷ [])) any_time)) ≡ Some Limit
   -- CREATE TRIGGER 1a AFTER INSERT ON t SIGNAL 'x';
   pub name_of_a_trigger : least schema (trigger_of first_digit time.After event.Insert t [] granularity.Statement None (signals 1)) ≡ Some Limit
   -- CREATE TRIGGER r AFTER INSERT ON t REFERENCING NEW TABLE AS 1a SIGNAL 'x';
@@ -274,7 +275,7 @@ pub record WorkedLimits : Type 0 where
   -- SELECT FROM t;
   pub selected_values : least schema (statement.Select (select.Rows (list.Values []) (from t) None)) ≡ Some Limit
   -- CREATE TABLE w (a INT, UNIQUE ());
-  pub unique_columns : least schema (create (defined a type.Integer None [] ∷ constrained (table_rule.Unique []) ∷ [])) ≡ Some Limit
+  pub unique_columns : least schema (create (defined a type.Integer None [] ∷ constrained (table_rule.Unique Distinct []) ∷ [])) ≡ Some Limit
   -- CREATE TABLE w (a INT, PRIMARY KEY ());
   pub primary_key_columns : least schema (create (defined a type.Integer None [] ∷ constrained (table_rule.PrimaryKey []) ∷ [])) ≡ Some Limit
   -- SET CONSTRAINTS DEFERRED;

@@ -5,6 +5,7 @@ use Rattle.iv_worked_resolution.specs.Words.side.{Old}
 use Rattle.iv_worked_resolution.specs.Words.type
 use Rattle.iv_worked_resolution.specs.Words.column_rule
 use Rattle.iv_worked_resolution.specs.Words.table_rule
+use Rattle.iv_worked_resolution.specs.Words.nulls.{Distinct}
 use Rattle.iv_worked_resolution.specs.Words.literal
 use Rattle.iv_worked_resolution.specs.Words.mode
 use Rattle.iv_worked_resolution.specs.Words.given
@@ -59,10 +60,10 @@ pub record WorkedOrder : Type 0 where
       least schema (statement.CreateTable t (defined a (type.Varchar 4097) (Some (literal.Number None 1)) [] ∷ constrained (table_rule.Check (condition.Compare Equal (column a) one)) ∷ constrained (table_rule.Check (condition.Compare Equal (column z) one)) ∷ [])) ≡ Some Unknown
   -- ---- ALTER TABLE
   -- ALTER TABLE t ADD CONSTRAINT p_c1 UNIQUE (z);
-  pub constraint_in_use_of_nothing : least schema (statement.AlterTable t (constraint (Some (codes "P_C1")) (table_rule.Unique (z ∷ [])) any_time)) ≡ Some Unknown
+  pub constraint_in_use_of_nothing : least schema (statement.AlterTable t (constraint (Some (codes "P_C1")) (table_rule.Unique Distinct (z ∷ [])) any_time)) ≡ Some Unknown
   -- ALTER TABLE w ADD CONSTRAINT p_c1 UNIQUE (a, a);
   pub constraint_in_use_of_no_table :
-      least schema (statement.AlterTable w (constraint (Some (codes "P_C1")) (table_rule.Unique (a ∷ a ∷ [])) any_time)) ≡ Some Unknown
+      least schema (statement.AlterTable w (constraint (Some (codes "P_C1")) (table_rule.Unique Distinct (a ∷ a ∷ [])) any_time)) ≡ Some Unknown
   -- ALTER TABLE t ADD CONSTRAINT p_c1 CHECK (EXISTS (SELECT * FROM p));
   pub constraint_in_use_with_exists :
       least schema (statement.AlterTable t (constraint (Some (codes "P_C1")) (table_rule.Check (condition.Exists (from p))) any_time)) ≡ Some Duplicate

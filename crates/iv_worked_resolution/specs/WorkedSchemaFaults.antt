@@ -6,6 +6,7 @@ use Rattle.iv_worked_resolution.specs.Words.element
 use Rattle.iv_worked_resolution.specs.Words.type
 use Rattle.iv_worked_resolution.specs.Words.column_rule
 use Rattle.iv_worked_resolution.specs.Words.table_rule
+use Rattle.iv_worked_resolution.specs.Words.nulls.{Distinct}
 use Rattle.iv_worked_resolution.specs.Words.literal
 use Rattle.iv_worked_resolution.specs.Words.mode
 use Rattle.iv_worked_resolution.specs.Words.given
@@ -51,26 +52,26 @@ pub record WorkedSchemaFaults : Type 0 where
   -- ---- CREATE TABLE: primary keys and when constraints are checked
   -- CREATE TABLE w (a INT PRIMARY KEY, UNIQUE (a));
   pub primary_key_and_unique :
-      least schema (create (defined a type.Integer None (column_rule.PrimaryKey ∷ []) ∷ constrained (table_rule.Unique (a ∷ [])) ∷ [])) ≡ None
+      least schema (create (defined a type.Integer None (column_rule.PrimaryKey ∷ []) ∷ constrained (table_rule.Unique Distinct (a ∷ [])) ∷ [])) ≡ None
   -- CREATE TABLE w (a INT PRIMARY KEY, PRIMARY KEY (a));
   pub primary_key_of_column_and_table :
       least schema (create (defined a type.Integer None (column_rule.PrimaryKey ∷ []) ∷ constrained (table_rule.PrimaryKey (a ∷ [])) ∷ [])) ≡ Some SchemaFault
   -- CREATE TABLE w (a INT UNIQUE NOT DEFERRABLE INITIALLY DEFERRED);
   pub not_deferrable_and_deferred :
-      least schema (create (column_of a type.Integer None (in_column None column_rule.Unique (checked (Some false) (Some mode.Deferred)) ∷ []) ∷ [])) ≡ Some SchemaFault
+      least schema (create (column_of a type.Integer None (in_column None (column_rule.Unique Distinct) (checked (Some false) (Some mode.Deferred)) ∷ []) ∷ [])) ≡ Some SchemaFault
   -- CREATE TABLE w (a INT, UNIQUE (a) INITIALLY DEFERRED NOT DEFERRABLE);
   pub deferred_and_not_deferrable :
-      least schema (create (defined a type.Integer None [] ∷ element.Constraint (constraint None (table_rule.Unique (a ∷ [])) (checked (Some false) (Some mode.Deferred))) ∷ [])) ≡ Some SchemaFault
+      least schema (create (defined a type.Integer None [] ∷ element.Constraint (constraint None (table_rule.Unique Distinct (a ∷ [])) (checked (Some false) (Some mode.Deferred))) ∷ [])) ≡ Some SchemaFault
   -- CREATE TABLE w (a INT UNIQUE NOT DEFERRABLE INITIALLY IMMEDIATE);
   pub not_deferrable_and_immediate :
-      least schema (create (column_of a type.Integer None (in_column None column_rule.Unique (checked (Some false) (Some mode.Immediate)) ∷ []) ∷ [])) ≡ None
+      least schema (create (column_of a type.Integer None (in_column None (column_rule.Unique Distinct) (checked (Some false) (Some mode.Immediate)) ∷ []) ∷ [])) ≡ None
   -- CREATE TABLE w (a INT UNIQUE NOT DEFERRABLE);
-  pub not_deferrable : least schema (create (column_of a type.Integer None (in_column None column_rule.Unique (checked (Some false) None) ∷ []) ∷ [])) ≡ None
+  pub not_deferrable : least schema (create (column_of a type.Integer None (in_column None (column_rule.Unique Distinct) (checked (Some false) None) ∷ []) ∷ [])) ≡ None
   -- CREATE TABLE w (a INT UNIQUE DEFERRABLE INITIALLY DEFERRED);
   pub deferrable_and_deferred :
-      least schema (create (column_of a type.Integer None (in_column None column_rule.Unique (checked (Some true) (Some mode.Deferred)) ∷ []) ∷ [])) ≡ None
+      least schema (create (column_of a type.Integer None (in_column None (column_rule.Unique Distinct) (checked (Some true) (Some mode.Deferred)) ∷ []) ∷ [])) ≡ None
   -- CREATE TABLE w (a INT UNIQUE INITIALLY DEFERRED);
-  pub deferred : least schema (create (column_of a type.Integer None (in_column None column_rule.Unique (checked None (Some mode.Deferred)) ∷ []) ∷ [])) ≡ None
+  pub deferred : least schema (create (column_of a type.Integer None (in_column None (column_rule.Unique Distinct) (checked None (Some mode.Deferred)) ∷ []) ∷ [])) ≡ None
   -- ---- CREATE TABLE: EXISTS in a CHECK
   -- CREATE TABLE w (a INT, CHECK (EXISTS (SELECT * FROM t WHERE b = 'x')));
   pub exists_where_in_a_check :
@@ -143,10 +144,10 @@ pub record WorkedSchemaFaults : Type 0 where
       least schema (create (defined a type.Integer None (column_rule.References (refers w (Some (k ∷ []))) ∷ []) ∷ defined k type.Integer None [] ∷ [])) ≡ Some SchemaFault
   -- CREATE TABLE w (a INT REFERENCES w (k), k INT UNIQUE);
   pub own_columns_of_a_key :
-      least schema (create (defined a type.Integer None (column_rule.References (refers w (Some (k ∷ []))) ∷ []) ∷ defined k type.Integer None (column_rule.Unique ∷ []) ∷ [])) ≡ None
+      least schema (create (defined a type.Integer None (column_rule.References (refers w (Some (k ∷ []))) ∷ []) ∷ defined k type.Integer None ((column_rule.Unique Distinct) ∷ []) ∷ [])) ≡ None
   -- CREATE TABLE w (a INT REFERENCES w (k), k INT UNIQUE DEFERRABLE);
   pub own_columns_of_a_deferrable_key :
-      least schema (create (defined a type.Integer None (column_rule.References (refers w (Some (k ∷ []))) ∷ []) ∷ column_of k type.Integer None (in_column None column_rule.Unique (checked (Some true) None) ∷ []) ∷ [])) ≡ Some SchemaFault
+      least schema (create (defined a type.Integer None (column_rule.References (refers w (Some (k ∷ []))) ∷ []) ∷ column_of k type.Integer None (in_column None (column_rule.Unique Distinct) (checked (Some true) None) ∷ []) ∷ [])) ≡ Some SchemaFault
   -- ---- CREATE TABLE: foreign keys without a list
   -- CREATE TABLE w (a INT REFERENCES d);
   pub primary_key_is_deferrable : least schema (create (defined a type.Integer None (column_rule.References (to_table d) ∷ []) ∷ [])) ≡ Some SchemaFault
@@ -165,7 +166,7 @@ pub record WorkedSchemaFaults : Type 0 where
       least schema (create (defined a type.Integer None [] ∷ defined b (type.Varchar 2) None [] ∷ constrained (table_rule.ForeignKey (b ∷ a ∷ []) (to_table q)) ∷ [])) ≡ Some SchemaFault
   -- CREATE TABLE w (a INT REFERENCES w, k INT UNIQUE);
   pub no_primary_key_of_its_own :
-      least schema (create (defined a type.Integer None (column_rule.References (to_table w) ∷ []) ∷ defined k type.Integer None (column_rule.Unique ∷ []) ∷ [])) ≡ Some SchemaFault
+      least schema (create (defined a type.Integer None (column_rule.References (to_table w) ∷ []) ∷ defined k type.Integer None ((column_rule.Unique Distinct) ∷ []) ∷ [])) ≡ Some SchemaFault
   -- CREATE TABLE w (a INT REFERENCES w, k INT PRIMARY KEY);
   pub primary_key_of_its_own :
       least schema (create (defined a type.Integer None (column_rule.References (to_table w) ∷ []) ∷ defined k type.Integer None (column_rule.PrimaryKey ∷ []) ∷ [])) ≡ None
@@ -182,13 +183,13 @@ pub record WorkedSchemaFaults : Type 0 where
   -- ALTER TABLE t ADD PRIMARY KEY (a);
   pub first_primary_key_added : least schema (statement.AlterTable t (constraint None (table_rule.PrimaryKey (a ∷ [])) any_time)) ≡ None
   -- ALTER TABLE p ADD UNIQUE (k);
-  pub unique_added_beside_the_primary_key : least schema (statement.AlterTable p (constraint None (table_rule.Unique (k ∷ [])) any_time)) ≡ None
+  pub unique_added_beside_the_primary_key : least schema (statement.AlterTable p (constraint None (table_rule.Unique Distinct (k ∷ [])) any_time)) ≡ None
   -- ALTER TABLE t ADD UNIQUE (a) NOT DEFERRABLE INITIALLY DEFERRED;
   pub added_as_not_deferrable_and_deferred :
-      least schema (statement.AlterTable t (constraint None (table_rule.Unique (a ∷ [])) (checked (Some false) (Some mode.Deferred)))) ≡ Some SchemaFault
+      least schema (statement.AlterTable t (constraint None (table_rule.Unique Distinct (a ∷ [])) (checked (Some false) (Some mode.Deferred)))) ≡ Some SchemaFault
   -- ALTER TABLE t ADD UNIQUE (a) DEFERRABLE INITIALLY DEFERRED;
   pub added_as_deferrable_and_deferred :
-      least schema (statement.AlterTable t (constraint None (table_rule.Unique (a ∷ [])) (checked (Some true) (Some mode.Deferred)))) ≡ None
+      least schema (statement.AlterTable t (constraint None (table_rule.Unique Distinct (a ∷ [])) (checked (Some true) (Some mode.Deferred)))) ≡ None
   -- ALTER TABLE t ADD CHECK (EXISTS (SELECT * FROM p));
   pub added_check_with_exists : least schema (statement.AlterTable t (constraint None (table_rule.Check (condition.Exists (from p))) any_time)) ≡ Some SchemaFault
   -- ALTER TABLE t ADD CHECK (a = 1);

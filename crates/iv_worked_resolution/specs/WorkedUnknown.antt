@@ -5,6 +5,7 @@ use Rattle.iv_worked_resolution.specs.Words.side.{New}
 use Rattle.iv_worked_resolution.specs.Words.type
 use Rattle.iv_worked_resolution.specs.Words.column_rule
 use Rattle.iv_worked_resolution.specs.Words.table_rule
+use Rattle.iv_worked_resolution.specs.Words.nulls.{Distinct}
 use Rattle.iv_worked_resolution.specs.Words.mode
 use Rattle.iv_worked_resolution.specs.Words.constraints
 use Rattle.iv_worked_resolution.specs.Words.given
@@ -30,9 +31,9 @@ use Rattle.iv_worked_resolution.specs.Words.{n, o, r, s, schema, sets, update_of
 pub record WorkedUnknown : Type 0 where
   -- ---- CREATE TABLE
   -- CREATE TABLE w (a INT, UNIQUE (z));
-  pub unique_of_nothing : least schema (create (defined a type.Integer None [] ∷ constrained (table_rule.Unique (z ∷ [])) ∷ [])) ≡ Some Unknown
+  pub unique_of_nothing : least schema (create (defined a type.Integer None [] ∷ constrained (table_rule.Unique Distinct (z ∷ [])) ∷ [])) ≡ Some Unknown
   -- CREATE TABLE w (a INT, UNIQUE (a));
-  pub unique_of_a_column : least schema (create (defined a type.Integer None [] ∷ constrained (table_rule.Unique (a ∷ [])) ∷ [])) ≡ None
+  pub unique_of_a_column : least schema (create (defined a type.Integer None [] ∷ constrained (table_rule.Unique Distinct (a ∷ [])) ∷ [])) ≡ None
   -- CREATE TABLE w (a INT, PRIMARY KEY (a, z));
   pub primary_key_of_nothing : least schema (create (defined a type.Integer None [] ∷ constrained (table_rule.PrimaryKey (a ∷ z ∷ [])) ∷ [])) ≡ Some Unknown
   -- CREATE TABLE w (a INT, z INT, PRIMARY KEY (a, z));
@@ -77,17 +78,17 @@ pub record WorkedUnknown : Type 0 where
       least schema (create (defined a type.Integer None (column_rule.References (to_table w) ∷ []) ∷ defined k type.Integer None (column_rule.PrimaryKey ∷ []) ∷ [])) ≡ None
   -- CREATE TABLE w (a INT REFERENCES w (z), k INT UNIQUE);
   pub reference_to_no_column_of_its_own :
-      least schema (create (defined a type.Integer None (column_rule.References (refers w (Some (z ∷ []))) ∷ []) ∷ defined k type.Integer None (column_rule.Unique ∷ []) ∷ [])) ≡ Some Unknown
+      least schema (create (defined a type.Integer None (column_rule.References (refers w (Some (z ∷ []))) ∷ []) ∷ defined k type.Integer None ((column_rule.Unique Distinct) ∷ []) ∷ [])) ≡ Some Unknown
   -- CREATE TABLE w (a INT REFERENCES w (k), k INT UNIQUE);
   pub reference_to_a_column_of_its_own :
-      least schema (create (defined a type.Integer None (column_rule.References (refers w (Some (k ∷ []))) ∷ []) ∷ defined k type.Integer None (column_rule.Unique ∷ []) ∷ [])) ≡ None
+      least schema (create (defined a type.Integer None (column_rule.References (refers w (Some (k ∷ []))) ∷ []) ∷ defined k type.Integer None ((column_rule.Unique Distinct) ∷ []) ∷ [])) ≡ None
   -- ---- ALTER TABLE
   -- ALTER TABLE w ADD UNIQUE (a);
-  pub alteration_of_nothing : least schema (statement.AlterTable w (constraint None (table_rule.Unique (a ∷ [])) any_time)) ≡ Some Unknown
+  pub alteration_of_nothing : least schema (statement.AlterTable w (constraint None (table_rule.Unique Distinct (a ∷ [])) any_time)) ≡ Some Unknown
   -- ALTER TABLE t ADD UNIQUE (a);
-  pub alteration_of_a_table : least schema (statement.AlterTable t (constraint None (table_rule.Unique (a ∷ [])) any_time)) ≡ None
+  pub alteration_of_a_table : least schema (statement.AlterTable t (constraint None (table_rule.Unique Distinct (a ∷ [])) any_time)) ≡ None
   -- ALTER TABLE t ADD UNIQUE (z);
-  pub added_unique_of_nothing : least schema (statement.AlterTable t (constraint None (table_rule.Unique (z ∷ [])) any_time)) ≡ Some Unknown
+  pub added_unique_of_nothing : least schema (statement.AlterTable t (constraint None (table_rule.Unique Distinct (z ∷ [])) any_time)) ≡ Some Unknown
   -- ALTER TABLE t ADD PRIMARY KEY (z);
   pub added_primary_key_of_nothing : least schema (statement.AlterTable t (constraint None (table_rule.PrimaryKey (z ∷ [])) any_time)) ≡ Some Unknown
   -- ALTER TABLE t ADD PRIMARY KEY (a);

@@ -5,6 +5,8 @@ ghost use Rattle.iv_worked_resolution.specs.WorkedSchemaFaults.{WorkedSchemaFaul
 ghost use Rattle.iv_worked_resolution.specs.WorkedShapes.{WorkedShapes};
 ghost use Rattle.iv_worked_resolution.specs.WorkedLimits.{WorkedLimits};
 ghost use Rattle.iv_worked_resolution.specs.WorkedOrder.{WorkedOrder};
+ghost use Rattle.iv_worked_resolution.specs.WorkedUpdateOf.{WorkedUpdateOf};
+ghost use Rattle.iv_worked_resolution.specs.WorkedNulls.{WorkedNulls};
 
 /// Each worked statement deserves the cause that is said of it, or none.
 pub fn worked_statements()
@@ -14,4 +16,6 @@ pub fn worked_statements()
     ensures shapes { WorkedShapes }
     ensures limits { WorkedLimits }
     ensures order { WorkedOrder }
+    ensures columns { WorkedUpdateOf }
+    ensures nulls { WorkedNulls }
 {}

@@ -8,7 +8,7 @@ use Rattle.iv_parse.specs.Words.event
 use Rattle.iv_parse.specs.Words.granularity
 use Rattle.iv_parse.specs.Words.action
 use Rattle.iv_parse_terms.specs.After.{after, if_some, then_read}
-use Rattle.iv_parse_data.specs.readers.Series.{read_sequence}
+use Rattle.iv_parse_data.specs.readers.Series.{read_series, read_sequence}
 use Rattle.iv_parse_data.specs.readers.Data.{FoundPart, then_word, read_name, read_shallow, read_check, read_insert, read_update, read_delete}
 use Rattle.iv_parse_data.specs.readers.Tables.{read_quoted}
 use Rattle.iv_parse_data.specs.readers.Items.{read_referencing_item}
@@ -93,29 +93,42 @@ read_action_time ws =
     if_some (after kind.Before ws) (λ rest. Some (action_time.Before, rest))
     (if_some (after kind.After ws) (λ rest. Some (action_time.After, rest)) None)
 
-unfoldable pub read_other_event : List Word → FoundPart TriggerEvent
+-- OF and names, where they are written
+unfoldable pub read_update_columns : List Word → FoundPart (List (List ℕ))
+read_update_columns ws = if_some (after kind.Of ws) (read_series read_name) (Some ([], ws))
+
+-- after UPDATE
+unfoldable pub read_update_event : List Word → FoundPart (TriggerEvent × List (List ℕ))
+read_update_event ws = then_read (read_update_columns ws) (λ ns rest. Some ((event.Update, ns), rest))
+
+unfoldable pub read_other_event : List Word → FoundPart (TriggerEvent × List (List ℕ))
 read_other_event ws =
-    if_some (after kind.Update ws) (λ rest. Some (event.Update, rest))
-    (if_some (after kind.Delete ws) (λ rest. Some (event.Delete, rest)) None)
+    if_some (after kind.Update ws) read_update_event
+    (if_some (after kind.Delete ws) (λ rest. Some ((event.Delete, []), rest)) None)
 
-unfoldable pub read_event : List Word → FoundPart TriggerEvent
-read_event ws = if_some (after kind.Insert ws) (λ rest. Some (event.Insert, rest)) (read_other_event ws)
+-- the event, and the columns of UPDATE OF
+unfoldable pub read_event : List Word → FoundPart (TriggerEvent × List (List ℕ))
+read_event ws = if_some (after kind.Insert ws) (λ rest. Some ((event.Insert, []), rest)) (read_other_event ws)
 
--- the time, the event and ON
-unfoldable pub read_occasion : List Word → FoundPart (ActionTime × TriggerEvent)
-read_occasion ws = then_read (read_action_time ws) (λ t rest. then_read (read_event rest) (λ e more. then_word kind.On more (λ left. Some ((t, e), left))))
+-- ON, after the time and the event with its columns
+abbrev pub with_on : ActionTime → TriggerEvent × List (List ℕ) → List Word → FoundPart (ActionTime × TriggerEvent × List (List ℕ))
+with_on t e ws = then_word kind.On ws (λ rest. Some ((t, e.0, e.1), rest))
+
+-- the time, the event with its columns, and ON
+unfoldable pub read_occasion : List Word → FoundPart (ActionTime × TriggerEvent × List (List ℕ))
+read_occasion ws = then_read (read_action_time ws) (λ t rest. then_read (read_event rest) (with_on t))
 
 -- what is between the table and the body
 unfoldable pub read_middle : List Word → FoundPart (List Referencing × Granularity × Option Condition)
 read_middle ws =
     then_read (read_referencing ws) (λ rs a. then_read (read_granularity a) (λ g b. then_read (read_when b) (λ w rest. Some ((rs, g, w), rest))))
 
-abbrev pub trigger_of : List ℕ → ActionTime × TriggerEvent → List ℕ → List Referencing × Granularity × Option Condition → List TriggerAction → TriggerDefinition
+abbrev pub trigger_of : List ℕ → ActionTime × TriggerEvent × List (List ℕ) → List ℕ → List Referencing × Granularity × Option Condition → List TriggerAction → TriggerDefinition
 trigger_of n o table m body =
-    record { name = n; time = o.0; event = o.1; table = table; referencing = m.0; granularity = m.1; when = m.2; body = body }
+    record { name = n; time = o.0; event = o.1; columns = o.2; table = table; referencing = m.0; granularity = m.1; when = m.2; body = body }
 
 -- from what follows the table on
-unfoldable pub read_trigger_rest : List ℕ → ActionTime × TriggerEvent → List ℕ → List Word
+unfoldable pub read_trigger_rest : List ℕ → ActionTime × TriggerEvent × List (List ℕ) → List ℕ → List Word
     → FoundPart TriggerDefinition
 read_trigger_rest n o table ws =
     then_read (read_middle ws) (λ m a. then_read (read_body a) (λ body rest. Some (trigger_of n o table m body, rest)))

@@ -3,12 +3,13 @@ use Rattle.std.specs.Prelude.{ℕ, Bool, true, false, Option, Some, None, List, 
 use Rattle.iv_lex.specs.declared.kind.TokenKind.{TokenKind}
 use Rattle.iv_lex.specs.declared.kind.TokenKind.TheVariants as kind
 use Rattle.iv_lex.specs.Words.{Word, name, number, quoted, plain}
-use Rattle.iv_parse_data.specs.Words.{ConstraintMode, Statement, Literal, ColumnType, ConstraintTime, MatchType, ReferentialAction, References, ColumnRule, ColumnConstraint, TableRule, TableConstraint, ColumnDefinition, TableElement}
+use Rattle.iv_parse_data.specs.Words.{ConstraintMode, Statement, Literal, ColumnType, ConstraintTime, MatchType, NullTreatment, ReferentialAction, References, ColumnRule, ColumnConstraint, TableRule, TableConstraint, ColumnDefinition, TableElement}
 use Rattle.iv_parse_data.specs.Words.mode.{Immediate, Deferred}
 use Rattle.iv_parse_data.specs.Words.statement
 use Rattle.iv_parse_data.specs.Words.literal
 use Rattle.iv_parse_data.specs.Words.type.{Integer, Varchar}
 use Rattle.iv_parse_data.specs.Words.matching.{Simple, Full}
+use Rattle.iv_parse_data.specs.Words.nulls.{Distinct, NotDistinct}
 use Rattle.iv_parse_data.specs.Words.referential_action.{NoAction, Restrict, Cascade, SetNull, SetDefault}
 use Rattle.iv_parse_data.specs.Words.column_rule
 use Rattle.iv_parse_data.specs.Words.table_rule
@@ -134,6 +135,13 @@ read_reference_columns t ws =
 unfoldable pub read_references : List Word → FoundPart References
 read_references ws = then_read (read_name ws) read_reference_columns
 
+-- NULLS NOT DISTINCT, where it is written
+unfoldable pub read_null_treatment : List Word → FoundPart NullTreatment
+read_null_treatment ws =
+    if_some (after kind.Nulls ws)
+    (λ rest. then_word kind.Not rest (λ more. then_word kind.Distinct more (λ left. Some (NotDistinct, left))))
+    (Some (Distinct, ws))
+
 -- after NOT
 unfoldable pub read_null_rule : List Word → FoundPart (Option ColumnRule)
 read_null_rule ws = then_word kind.Null ws (λ rest. Some (Some column_rule.NotNull, rest))
@@ -142,11 +150,15 @@ unfoldable pub read_primary_rule : List Word → FoundPart (Option ColumnRule)
 read_primary_rule ws =
     if_some (after kind.Primary ws) (λ rest. then_word kind.Key rest (λ more. Some (Some column_rule.PrimaryKey, more))) (Some (None, ws))
 
+-- after UNIQUE
+unfoldable pub read_unique_column : List Word → FoundPart (Option ColumnRule)
+read_unique_column ws = then_read (read_null_treatment ws) (λ nulls rest. Some (Some (column_rule.Unique nulls), rest))
+
 -- a rule that begins with NOT, UNIQUE or PRIMARY
 unfoldable pub read_plain_rule : List Word → FoundPart (Option ColumnRule)
 read_plain_rule ws =
     if_some (after kind.Not ws) read_null_rule
-    (if_some (after kind.Unique ws) (λ rest. Some (Some column_rule.Unique, rest))
+    (if_some (after kind.Unique ws) read_unique_column
     (read_primary_rule ws))
 
 unfoldable pub read_condition_rule : List Word → FoundPart (Option ColumnRule)
@@ -194,10 +206,13 @@ read_foreign_key ws =
 unfoldable pub read_check_rule : List Word → FoundPart TableRule
 read_check_rule ws = then_word kind.Check ws (λ rest. then_read (read_check rest) (λ c more. Some (table_rule.Check c, more)))
 
+-- after UNIQUE
+unfoldable pub read_unique_key : List Word → FoundPart TableRule
+read_unique_key ws =
+    then_read (read_null_treatment ws) (λ nulls rest. then_read (read_key rest) (λ ns more. Some (table_rule.Unique nulls ns, more)))
+
 unfoldable pub read_unique_rule : List Word → FoundPart TableRule
-read_unique_rule ws =
-    if_some (after kind.Unique ws) (λ rest. then_read (read_key rest) (λ ns more. Some (table_rule.Unique ns, more)))
-    (read_check_rule ws)
+read_unique_rule ws = if_some (after kind.Unique ws) read_unique_key (read_check_rule ws)
 
 unfoldable pub read_table_rule : List Word → FoundPart TableRule
 read_table_rule ws =

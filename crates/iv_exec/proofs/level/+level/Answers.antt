@@ -1,6 +1,8 @@
-use Rattle.std.proofs.Common.{ℕ, refl, ap, sym, subst, ◌∙◌, arith}
-use Rattle.iv_machine.specs.Levels.{Firing, nested_level}
-use Rattle.iv_exec.specs.Settled.{NetParts}
+use Rattle.std.proofs.Common.{ℕ, List, refl, ap, sym, subst, ◌∙◌, arith}
+use Rattle.iv_expr.specs.declared.wave.TableColumn.{TableColumn}
+use Rattle.iv_machine.specs.Levels.{Firing, firings_run, nested_level}
+use Rattle.iv_transitions.specs.ByTable.{all_firings}
+use Rattle.iv_exec.specs.Settled.{Tells}
 use Rattle.iv_exec.specs.Steps.{progress}
 use Rattle.iv_waves.proofs.Running.{left_by_both, left_by_refused}
 use Rattle.iv_waves.proofs.ToldOn.{told_on}
@@ -10,21 +12,23 @@ use Rattle.iv_exec.proofs.Turns.{rows_refused, rows_so_far, statements_refused, 
 use Rattle.iv_exec.proofs.level.+level.Goals as goal
 
 pub finish-returns-in-Some-clause-answer : goal.finish-returns-in-Some-clause-answer
-finish-returns-in-Some-clause-answer g t c net h =
+finish-returns-in-Some-clause-answer g t c columns net h =
     let later = g.K.ReferencingRows.view c.fire_all.new.store in
     answers_as (λ (u : Unit {0}). progress later.base c.fire_all.new.budget) later.base.count c.fire_all.result _ _
-    (sym (finished_is (nested_level c.args.deeper c.args.context.now) c.args.context.now c.args.statement.now c.in-Some.transitions net c.triggers.result.now
-    (progress (g.K.ReferencingRows.view c.args.store.now).base c.args.budget.now) _ c.in_ok-check.ensures (subst (λ x. NetParts c.args.context.now c.args.statement.now net x) c.in-Some.is h) (c.triggers.ensures.triggers ∙ ap (λ s. s.triggers) c.catalogue.ensures) refl)) c.fire_all.ensures.answer
+    (sym (finished_is (nested_level c.args.deeper c.args.context.now) c.args.context.now c.args.statement.now columns c.in-Some.changes net c.triggers.result.now
+    (progress (g.K.ReferencingRows.view c.args.store.now).base c.args.budget.now) _ c.in_ok-check.ensures (subst (λ x. Tells c.args.context.now c.args.statement.now columns net x) c.in-Some.is h) (c.triggers.ensures.triggers ∙ ap (λ s. s.triggers) c.catalogue.ensures)
+    (ap (λ (columns : List TableColumn). firings_run (nested_level c.args.deeper c.args.context.now) (all_firings c.args.statement.now columns c.in-Some.changes.transitions c.triggers.result.now)
+    (progress (g.K.ReferencingRows.view c.args.store.now).base c.args.budget.now)) (sym c.deref.ensures.value)))) c.fire_all.ensures.answer
 
 pub finish-returns-in-None-clause-answer : goal.finish-returns-in-None-clause-answer
-finish-returns-in-None-clause-answer g t c net h =
-    finished_quietly (nested_level c.args.deeper c.args.context.now) c.args.context.now c.args.statement.now net
-    (progress (g.K.ReferencingRows.view c.args.store.now).base c.args.budget.now) c.in_ok-check.ensures (subst (λ x. NetParts c.args.context.now c.args.statement.now net x) c.in-None.is h)
+finish-returns-in-None-clause-answer g t c columns net h =
+    finished_quietly (nested_level c.args.deeper c.args.context.now) c.args.context.now c.args.statement.now columns net
+    (progress (g.K.ReferencingRows.view c.args.store.now).base c.args.budget.now) c.in_ok-check.ensures (subst (λ x. Tells c.args.context.now c.args.statement.now columns net x) c.in-None.is h)
 
 pub fire_all-returns-in_err-fire_trigger-clause-answer : goal.fire_all-returns-in_err-fire_trigger-clause-answer
 fire_all-returns-in_err-fire_trigger-clause-answer g t c =
     told_on _ _ c.from_residual.result c.in_err-fire_trigger.field-0.0 _ c.from_residual.ensures.1
-    (triggers_refused _ (nested_level c.args.deeper c.args.context.now) c.args.statement.now c.args.transitions.now c.args.triggers.now c.loop-at.at c.trigger_at-trigger.result.now
+    (triggers_refused _ (nested_level c.args.deeper c.args.context.now) c.args.statement.now c.args.columns.now c.args.transitions.now c.args.triggers.now c.loop-at.at c.trigger_at-trigger.result.now
     (progress (g.K.ReferencingRows.view c.loop-at.store).base c.loop-at.budget) _ _ c.trigger_at-trigger.ensures.trigger c.loop-at.invariant.so_far c.in_err-fire_trigger.ensures.answer)
 
 pub fire_all-returns-in_err-fire_trigger-clause-store : goal.fire_all-returns-in_err-fire_trigger-clause-store
@@ -40,7 +44,7 @@ fire_all-loop-at-preserved g t c =
     let later = g.K.ReferencingRows.view c.fire_trigger.new.store in
     record {
       within = omega arith;
-      so_far = triggers_so_far (nested_level c.args.deeper c.args.context.now) c.args.statement.now c.args.transitions.now c.args.triggers.now c.loop-at.at c.trigger_at-trigger.result.now
+      so_far = triggers_so_far (nested_level c.args.deeper c.args.context.now) c.args.statement.now c.args.columns.now c.args.transitions.now c.args.triggers.now c.loop-at.at c.trigger_at-trigger.result.now
           (progress now.base c.loop-at.budget) _ _ c.trigger_at-trigger.ensures.trigger c.in_ok-fire_trigger.ensures.answer c.loop-at.invariant.so_far;
       left = left_by_both _ tt tt tt old now later (g.K.ReferencingRows.lookups c.args.store.now) (g.K.ReferencingRows.lookups c.loop-at.store) (g.K.ReferencingRows.lookups c.fire_trigger.new.store)
           c.loop-at.invariant.left c.in_ok-fire_trigger.ensures.store;
@@ -92,25 +96,25 @@ run_level-returns-clause-answer g t c =
 pub run_waves-returns-clause-answer : goal.run_waves-returns-clause-answer
 run_waves-returns-clause-answer g t c =
     waves_done (nested_level c.args.deeper c.args.context.now) c.args.context.now c.args.statement.now (g.K.ReferencingRows.view c.args.store.now).base (g.K.ReferencingRows.view c.settle_waves.new.store).base
-    c.args.budget.now c.settle_waves.new.budget c.args.changes.items c.in_ok-transitions.transitions _ _ c.in_ok-transitions.ensures.answer (c.len-size.ensures ∙ c.args.changes.ok.0) c.in_ok-finish.ensures.answer
+    c.args.budget.now c.settle_waves.new.budget c.args.changes.items c.in_ok-told.told _ _ c.in_ok-told.ensures.answer (c.len-size.ensures ∙ c.args.changes.ok.0) c.in_ok-finish.ensures.answer
 
 pub run_waves-returns-in_err-finish-clause-answer : goal.run_waves-returns-in_err-finish-clause-answer
 run_waves-returns-in_err-finish-clause-answer g t c =
     told_on _ _ c.from_residual-in_err-finish.result c.in_err-finish.field-0.0 _ c.from_residual-in_err-finish.ensures.1
     (waves_refused _ (nested_level c.args.deeper c.args.context.now) c.args.context.now c.args.statement.now (g.K.ReferencingRows.view c.args.store.now).base (g.K.ReferencingRows.view c.settle_waves.new.store).base
-    c.args.budget.now c.settle_waves.new.budget c.args.changes.items c.in_ok-transitions.transitions _ c.in_ok-transitions.ensures.answer c.in_err-finish.ensures.answer)
+    c.args.budget.now c.settle_waves.new.budget c.args.changes.items c.in_ok-told.told _ c.in_ok-told.ensures.answer c.in_err-finish.ensures.answer)
 
 pub run_waves-returns-clause-store : goal.run_waves-returns-clause-store
 run_waves-returns-clause-store g t c =
-    left_by_both _ c.in_ok-transitions.transitions tt c.len-size.result (g.K.ReferencingRows.view c.args.store.now) (g.K.ReferencingRows.view c.settle_waves.new.store) (g.K.ReferencingRows.view c.finish.new.store)
+    left_by_both _ c.in_ok-told.told tt c.len-size.result (g.K.ReferencingRows.view c.args.store.now) (g.K.ReferencingRows.view c.settle_waves.new.store) (g.K.ReferencingRows.view c.finish.new.store)
     (g.K.ReferencingRows.lookups c.args.store.now) (g.K.ReferencingRows.lookups c.settle_waves.new.store) (g.K.ReferencingRows.lookups c.finish.new.store)
-    c.in_ok-transitions.ensures.store c.in_ok-finish.ensures.store
+    c.in_ok-told.ensures.store c.in_ok-finish.ensures.store
 
 pub run_waves-returns-in_err-finish-clause-store : goal.run_waves-returns-in_err-finish-clause-store
 run_waves-returns-in_err-finish-clause-store g t c =
-    left_by_refused _ c.in_ok-transitions.transitions c.from_residual-in_err-finish.result c.in_err-finish.field-0.0 (g.K.ReferencingRows.view c.args.store.now) (g.K.ReferencingRows.view c.settle_waves.new.store)
+    left_by_refused _ c.in_ok-told.told c.from_residual-in_err-finish.result c.in_err-finish.field-0.0 (g.K.ReferencingRows.view c.args.store.now) (g.K.ReferencingRows.view c.settle_waves.new.store)
     (g.K.ReferencingRows.view c.finish.new.store) (g.K.ReferencingRows.lookups c.args.store.now) (g.K.ReferencingRows.lookups c.settle_waves.new.store) (g.K.ReferencingRows.lookups c.finish.new.store)
-    c.from_residual-in_err-finish.ensures.1 c.in_ok-transitions.ensures.store c.in_err-finish.ensures.store
+    c.from_residual-in_err-finish.ensures.1 c.in_ok-told.ensures.store c.in_err-finish.ensures.store
 
 pub run_body-returns-in_err-run_statement-clause-answer : goal.run_body-returns-in_err-run_statement-clause-answer
 run_body-returns-in_err-run_statement-clause-answer g t c =

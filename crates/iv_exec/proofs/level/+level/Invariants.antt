@@ -52,8 +52,8 @@ invariant-fire_all-loop-at g l =
     let now = g.K.ReferencingRows.view l.store in
     record {
       within : l.at ≤ length l.triggers;
-      so_far : firings_run run (all_firings l.statement l.transitions (drop l.at l.triggers)) (progress now.base l.budget)
-          ≡ firings_run run (all_firings l.statement l.transitions l.triggers) (progress old.base l.initial.budget);
+      so_far : firings_run run (all_firings l.statement l.columns l.transitions (drop l.at l.triggers)) (progress now.base l.budget)
+          ≡ firings_run run (all_firings l.statement l.columns l.transitions l.triggers) (progress old.base l.initial.budget);
       left : LeavesStore l.context.schema (Ok (tt {0})) old (g.K.ReferencingRows.lookups l.initial.store) now (g.K.ReferencingRows.lookups l.store);
     }
 

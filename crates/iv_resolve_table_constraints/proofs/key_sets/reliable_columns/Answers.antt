@@ -12,7 +12,7 @@ returns-then-is_deferrable c columns names =
 pub returns-in-Unique : goal.returns-in-Unique
 returns-in-Unique c columns names =
     ap (λ (r : WrittenRule). some_reliable columns (constraint_of c.args.constraint.now.name.now (rule_seen r) c.args.constraint.now.time ∷ []) names) c.in-Unique.is
-    ∙ unique_alone columns c.args.constraint.now.name.now c.in-Unique.names.now c.args.constraint.now.time names (sym c.is_deferrable.ensures ∙ c.if-is_deferrable.false)
+    ∙ unique_alone columns c.args.constraint.now.name.now _ c.in-Unique.names.now c.args.constraint.now.time names (sym c.is_deferrable.ensures ∙ c.if-is_deferrable.false)
 
 pub returns-in-PrimaryKey : goal.returns-in-PrimaryKey
 returns-in-PrimaryKey c columns names =

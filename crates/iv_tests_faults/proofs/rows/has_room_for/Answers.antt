@@ -1,17 +1,12 @@
-use Rattle.std.proofs.Common.{Some, None, sym, ap, ◌∙◌}
+use Rattle.std.proofs.Common.{Some, sym, ap, ◌∙◌}
 use Rattle.iv_key.specs.Keys.{key_of}
 use Rattle.iv_index.specs.Groups.{groups_of, room_of}
 use Rattle.iv_laws_kept.specs.Kept.{kept_key, key_or, null_key}
 use Rattle.iv_tests_faults.proofs.TakenBack.{room_under}
 use Rattle.iv_tests_faults.proofs.rows.has_room_for.Goals as goal
 
-pub returns-in-Unique : goal.returns-in-Unique
-returns-in-Unique c = λ e key is.
-    room_under (room_of (groups_of c.args.groups.now.groups c.args.id)) (key_of c.as_slice.result.now c.args.row.now) key None (c.has_room_under.ensures.no_null e) (c.has_room_under.ensures.room e)
-    (ap (λ columns. key_or (key_of columns c.args.row.now) None) c.as_slice.ensures ∙ sym (ap (λ r. kept_key r c.args.row.now) c.in-Unique.is) ∙ is)
-
 pub returns-in-PrimaryKey : goal.returns-in-PrimaryKey
 returns-in-PrimaryKey c = λ e key is.
     room_under (room_of (groups_of c.args.groups.now.groups c.args.id)) (key_of c.as_slice-in-PrimaryKey.result.now c.args.row.now) key (Some null_key)
-    (c.has_room_under-in-PrimaryKey.ensures.no_null e) (c.has_room_under-in-PrimaryKey.ensures.room e)
+    (c.has_room_under.ensures.no_null e) (c.has_room_under.ensures.room e)
     (ap (λ columns. key_or (key_of columns c.args.row.now) (Some null_key)) c.as_slice-in-PrimaryKey.ensures ∙ sym (ap (λ r. kept_key r c.args.row.now) c.in-PrimaryKey.is) ∙ is)

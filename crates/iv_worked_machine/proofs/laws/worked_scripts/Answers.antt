@@ -1,4 +1,4 @@
-use Rattle.iv_worked_machine.proofs.Worked.{constraints, actions, triggers, statements, keys, transactions, effects, before_triggers, transitions, limits, occasions}
+use Rattle.iv_worked_machine.proofs.Worked.{constraints, actions, triggers, statements, keys, transactions, effects, before_triggers, transitions, limits, occasions, nulls, columns}
 use Rattle.iv_worked_machine.proofs.laws.worked_scripts.Goals as goal
 
 pub returns-clause-constraints : goal.returns-clause-constraints
@@ -33,3 +33,9 @@ returns-clause-limits c = limits
 
 pub returns-clause-occasions : goal.returns-clause-occasions
 returns-clause-occasions c = occasions
+
+pub returns-clause-nulls : goal.returns-clause-nulls
+returns-clause-nulls c = nulls
+
+pub returns-clause-columns : goal.returns-clause-columns
+returns-clause-columns c = columns

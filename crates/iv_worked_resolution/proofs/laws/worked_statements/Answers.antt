@@ -1,4 +1,4 @@
-use Rattle.iv_worked_resolution.proofs.Computed.{unknown, duplicates, faults, shapes, limits, order}
+use Rattle.iv_worked_resolution.proofs.Computed.{unknown, duplicates, faults, shapes, limits, order, update_of, nulls}
 use Rattle.iv_worked_resolution.proofs.laws.worked_statements.Goals as goal
 
 pub returns-clause-unknown : goal.returns-clause-unknown
@@ -18,3 +18,9 @@ returns-clause-limits c = limits
 
 pub returns-clause-order : goal.returns-clause-order
 returns-clause-order c = order
+
+pub returns-clause-columns : goal.returns-clause-columns
+returns-clause-columns c = update_of
+
+pub returns-clause-nulls : goal.returns-clause-nulls
+returns-clause-nulls c = nulls
