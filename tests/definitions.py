@@ -20,7 +20,7 @@ from edits import bare, read, write
 
 HERE = os.path.dirname(os.path.abspath(__file__))
 CRATES = os.path.join(HERE, '..', 'crates')
-BELOW = ['iv_value', 'iv_expr', 'iv_syntax', 'iv_catalogue', 'iv_key']
+BELOW = ['iv_value', 'iv_numbers', 'iv_expr', 'iv_syntax', 'iv_catalogue', 'iv_key']
 CHANGES = os.path.join(HERE, 'definitions.edits')
 DIGEST = os.path.join(HERE, 'definitions.digest')
 DIGESTED = ['iv_key/specs', 'iv_machine/specs', 'iv_worked_machine/specs', 'iv_worked_machine/proofs', 'iv_worked_machine/src']

@@ -1,7 +1,7 @@
 -- The first number above one: in one part, in two parts, and among rising numbers.
 use Rattle.std.specs.Prelude.{nat_lt, leb, ◌||◌, slice_get}
 use Rattle.std.specs.List.Sorted.{IsPartitionPoint}
-use Rattle.std.proofs.Common.{◌≡◌, ◌≢◌, ℕ, zero, suc, ◌<◌, ◌≤◌, ◌⊎◌, inl, inr, Some, None, List, [], ◌∷◌, ◌++◌, length, drop, filter, get_or, true, false, cond, if◌then◌else◌, arith, refl, ap, sym, ◌∙◌, ⊎_elim, length-append}
+use Rattle.std.proofs.Common.{◌≡◌, ◌≢◌, ℕ, zero, suc, ◌+◌, ◌<◌, ◌≤◌, ◌⊎◌, inl, inr, Some, None, List, [], ◌∷◌, ◌++◌, length, drop, filter, get_or, true, false, cond, if◌then◌else◌, arith, refl, ap, sym, ◌∙◌, ⊎_elim, length-append}
 use Rattle.std.proofs.lemmas.Bool.{cases_lt, cases_eq, false≢true}
 use Rattle.std.proofs.lemmas.Bool.Decides.{nat_tests}
 use Rattle.std.proofs.lemmas.Grind.{get_or_default_zero}
@@ -56,6 +56,12 @@ never_falls (x ∷ xs) rising zero (suc j) d le l = let lt : x < get_or xs j 0 =
     let same : get_or xs j 0 ≡ get_or xs j d = sym (get_or_default_zero xs j d (omega arith)) in omega arith
 never_falls (x ∷ xs) rising (suc i) zero d le l = absurd (omega arith)
 never_falls (x ∷ xs) rising (suc i) (suc j) d le l = never_falls xs (rising_rest x xs rising) i j d (omega arith) (omega arith)
+
+-- behind a number that is among them
+pub above_found : (after i : ℕ) (xs : List ℕ) → IsRising xs → i < length xs → get_or xs i 0 ≡ after → slice_get xs (i + 1) ≡ number_above after xs
+above_found after i xs rising l is =
+    above_place after (i + 1) xs (omega (arith, l)) (λ k m. (let n : get_or xs k 0 ≤ get_or xs i 0 = never_falls xs rising k i 0 (omega (arith, m)) l in omega (arith, n, is)))
+    (λ m. (let n : get_or xs i 0 < get_or xs (i + 1) 0 = rising i (i + 1) (omega arith) m in omega (arith, n, is)))
 
 -- ---- in two parts
 

@@ -100,11 +100,33 @@ fn find(front: &[u64], back: &[u64], row: u64) -> Result<usize, usize>
     front.binary_search(&row)
 }
 
-// The first of some numbers above one.
+// The place of a number, if no number from the first one on is missing.
+fn likely_place(rows: &[u64], row: u64) -> usize {
+    match rows {
+        [first, ..] => row.saturating_sub(*first) as usize,
+        [] => 0,
+    }
+}
+
+// Whether a number is at this place.
+fn is_at(rows: &[u64], place: usize, row: u64) -> bool
+    ensures { result ≡ true → (place < length rows.now) × (slice_index rows.now place ≡ row) }
+{
+    match rows.get(place) {
+        Some(other) => *other == row,
+        None => false,
+    }
+}
+
+// The first of some numbers above one. Where no number up to it is missing, that takes constant time; else it halves.
 fn above(rows: &[u64], row: u64) -> Option<u64>
     requires { IsRising rows.now }
     ensures { result ≡ number_above row rows.now }
 {
+    let likely = likely_place(rows, row);
+    if is_at(rows, likely, row) {
+        return first_of(&rows[likely + 1..]);
+    }
     let place = rows.partition_point(|other| *other <= row);
     first_of(&rows[place..])
 }

@@ -172,6 +172,25 @@ by_point number n i xs d le point =
 abbrev pub has_at : {A : Type 0} → (A → ℕ) → List A → ℕ → ℕ → Bool
 has_at number xs k n = unwrap_or (option_map (λ x. number x == n) (slice_get xs k)) false
 
+is_same : (a b : ℕ) → (a == b) ≡ true → a ≡ b
+is_same a b e = grind (arith, nat_tests)
+
+isnt_less : (a b : ℕ) → a ≡ b → nat_lt a b ≡ false
+isnt_less a b e = grind (arith, nat_tests)
+
+-- an item of this number stands above where the numbers rise from
+above_found : {A : Type 0} (number : A → ℕ) (low n k : ℕ) (xs : List A) → RiseBy number low xs → has_at number xs k n ≡ true → low < n
+above_found number low n k [] h e = cc
+above_found number low n zero (x ∷ xs) h e = omega (arith, h.0, is_same (number x) n e)
+above_found number low n (suc k) (x ∷ xs) h e = let more : number x < n = above_found number (number x) n k xs h.2 e in omega (arith, h.0, more)
+
+-- an item of this number is at its place
+pub found_at : {A : Type 0} (number : A → ℕ) (low n k : ℕ) (xs : List A) → RiseBy number low xs → has_at number xs k n ≡ true → k ≡ place_by number n xs
+found_at number low n k [] h e = cc
+found_at number low n zero (x ∷ xs) h e = sym (place_here number n x xs (isnt_less (number x) n (is_same (number x) n e)))
+found_at number low n (suc k) (x ∷ xs) h e =
+    ap suc (found_at number (number x) n k xs h.2 e) ∙ sym (place_further number n x xs (less (number x) n (above_found number (number x) n k xs h.2 e)).0)
+
 pub adds : {A : Type 0} (number : A → ℕ) (x : A) (xs : List A) → has_at number xs (place_by number (number x) xs) (number x) ≡ false
     → with_item number x xs ≡ insert xs (place_by number (number x) xs) x
 adds number x [] h = refl

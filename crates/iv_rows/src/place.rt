@@ -9,12 +9,25 @@ use crate::slot::Slot;
 use iv_expr::StoredRow;
 use sqlite_items::at;
 
-/// How many slots have numbers below this one. Where it is above the last one, the others aren't looked at.
+// The place of a number, if there is a slot for each number from the first one on.
+fn likely_place(slots: &[Slot], number: u64) -> usize {
+    match slots {
+        [first, ..] => number.saturating_sub(first.row.number) as usize,
+        [] => 0,
+    }
+}
+
+/// How many slots have numbers below this one. Where it is above the last one, or no number up to it is missing, that
+/// takes constant time; else it halves.
 pub fn place(slots: &[Slot], number: u64) -> usize
     requires { SlotsRise 0 slots.now }
     ensures value { result ≡ place_by slot_number number slots.now }
     ensures within { result ≤ length slots.now }
 {
+    let likely = likely_place(slots, number);
+    if has_number(slots, likely, number) {
+        return likely;
+    }
     match slots.last() {
         Some(slot) if slot.row.number < number => slots.len(),
         _ => slots.partition_point(|slot| slot.row.number < number),

@@ -8,7 +8,7 @@ use Rattle.iv_worked_machine.specs.Words.nulls.{Distinct, NotDistinct}
 use Rattle.iv_worked_machine.specs.Words.referential_action.{NoAction, Cascade}
 use Rattle.iv_worked_machine.specs.Words.rule
 use Rattle.iv_worked_machine.specs.Words.cause.{Violation, AddRefused}
-use Rattle.iv_worked_machine.specs.WorkedPlans.{number, numbers, null, where_column, integer_column, not_deferrable, initially_deferred, foreign_key_rule, references_rule, create_table, add_constraint, insert, insert_row, insert_value, update, update_all, setting, delete, delete_all, select_all, commit}
+use Rattle.iv_worked_machine.specs.WorkedPlans.{number, numbers, null, where_column, integer_column, not_deferrable, initially_deferred, foreign_key_rule, references_rule, create_table, add_constraint, insert, insert_row, update, setting, delete_all, select_all, commit}
 use Rattle.iv_worked_machine.specs.WorkedAnswers.{ok, ok_rows, rows, fault, refused, answers, pending_after}
 
 -- CREATE TABLE p (a INT, b INT, UNIQUE NULLS NOT DISTINCT (a, b)); CREATE TABLE f (a INT, b INT, FOREIGN KEY (a, b)

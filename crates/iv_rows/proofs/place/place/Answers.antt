@@ -1,9 +1,13 @@
-use Rattle.std.proofs.Common.{sym, rules, nat_lt}
+use Rattle.std.proofs.Common.{sym, rules, nat_lt, ◌∙◌}
 use Rattle.std.proofs.lemmas.List.Sorted.{IsPartitionPoint-from_clause, IsPartitionedBy-ltb}
 use Rattle.iv_rows.specs.InSlots.{slot_number}
-use Rattle.iv_rows.proofs.ByNumber.{all_below, by_point, never_falls}
+use Rattle.iv_rows.proofs.ByNumber.{all_below, by_point, found_at, never_falls}
 use Rattle.iv_rows.proofs.SlotLaws.{some_slot}
 use Rattle.iv_rows.proofs.place.place.Goals as goal
+
+pub returns-then-has_number-clause-value : goal.returns-then-has_number-clause-value
+returns-then-has_number-clause-value c =
+    found_at slot_number 0 c.args.number c.likely_place-likely.result c.args.slots.now c.requires (sym c.has_number.ensures.value ∙ c.if-has_number.true)
 
 pub returns-in-Some-clause-value : goal.returns-in-Some-clause-value
 returns-in-Some-clause-value c =
