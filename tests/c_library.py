@@ -96,7 +96,8 @@ def headers(room):
 
 
 def known(every=1):
-    """Each so-many-th script that has no words but limits: its name, text, transcript, standard error, status and words."""
+    """Each so-many-th script that has no words but limits: its name, text, transcript, standard error, status and words. Scripts
+    that can't be read, as one that is too long, are in the list of all of them alone."""
     found = []
     for folder in ('scripts', '../examples'):
         for name in sorted({file.split('.')[0] for file in run.files(folder)}):
@@ -105,7 +106,7 @@ def known(every=1):
                 status = run.read(folder, name + '.status')
                 err = run.read(folder, name + '.err') or (None if words and status == b'2\n' else b'')
                 found.append((name, run.stored(folder, name + '.sql'), run.stored(folder, name + '.out'), err, status, words.split()))
-    return found[::every]
+    return [script for script in found if every == 1 or not script[3]][::every]
 
 
 def scripts(what, program, every=1, words=()):

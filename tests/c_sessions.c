@@ -156,7 +156,7 @@ static int statuses(void) {
     WANT(run_text(&session, FIRST, &summary) == SQLKEEP_CLOSED && summary.accepted == 7);
     WANT(sqlkeep_transcript(&session, 0, &byte, 1, &copied) == SQLKEEP_CLOSED && copied == 7);
     WANT(sqlkeep_open(&session, 0, 1) == SQLKEEP_LIMITS);
-    WANT(sqlkeep_open(&session, 33, 1) == SQLKEEP_LIMITS);
+    WANT(sqlkeep_open(&session, 65, 1) == SQLKEEP_LIMITS);
     WANT(sqlkeep_open(&session, 1, 0) == SQLKEEP_LIMITS);
     WANT(sqlkeep_open(&session, 1, 65537) == SQLKEEP_LIMITS);
     WANT(sqlkeep_open(&session, 32, 65536) == SQLKEEP_OK);
