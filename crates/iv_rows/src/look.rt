@@ -23,8 +23,8 @@ fn row_of(slots: &[Slot], table: TableId, number: u64) -> Option<&StoredRow>
     }
 }
 
-/// The first row of a table above a number: that of the next number of the table. It halves once among the numbers and
-/// once among the slots.
+/// The first row of a table above a number: that of the next number of the table. It looks once among the numbers and
+/// once among the slots: at once where none is missing before it, else by halving.
 pub fn row_above<'a>(
     slots: &'a [Slot],
     numbers: &[RowNumbers],

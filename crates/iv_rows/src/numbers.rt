@@ -8,7 +8,7 @@ use iv_numbers::RowNumbers;
 use sqlite_items::at;
 use std::alloc::AllocError;
 
-/// The first number of a table above one. It halves.
+/// The first number of a table above one: at once where no number up to it is missing, else by halving.
 pub fn next_above(numbers: &[RowNumbers], table: TableId, number: u64) -> Option<u64>
     ensures next { result ≡ number_above number (held_for numbers.now table).rows }
     ensures rising { IsRising (held_for numbers.now table).rows }

@@ -56,7 +56,7 @@ impl Slots {
         let _ = &self.slots;
     }
 
-    /// The row of a number. It halves; the last row comes at once.
+    /// The row of a number: at once for the last row, and where no number up to it is missing; else it halves.
     pub fn row(&self, number: u64) -> Option<&StoredRow>
         ensures { option_copied result ≡ row_at (live_rows self.now.slots) number }
     {

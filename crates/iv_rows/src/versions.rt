@@ -133,7 +133,7 @@ impl Versions {
         self.journal.mark()
     }
 
-    /// The row of a number. It halves; the last row comes at once.
+    /// The row of a number: at once for the last row, and where no number up to it is missing; else it halves.
     pub fn row(&self, number: u64) -> Option<&StoredRow>
         ensures { option_copied result ≡ row_at self.now.rows number }
     {
