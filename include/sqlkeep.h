@@ -15,7 +15,8 @@
 
    The library is proved for callers that keep these rules. Nothing checks that a C program keeps them.
 
-   - No pointer is null, also where a length or a size is 0. A pointer to a handle or to a result leads to an object of
+   - No pointer is null, also where a length or a size is 0, but for one to a handle: that is answered by
+     SQLKEEP_NO_HANDLE, by this header, so in C and C++ alone. A pointer to a handle or to a result leads to an object of
      its type; `text` and `name` lead to `length` bytes that can be read, `buffer` to `size` bytes that can be written. A length or
      a size is less than 2 to the power of 63.
    - A handle is SQLKEEP_EMPTY, or what the functions of this library left in it. It may be moved to another place in
@@ -58,7 +59,9 @@ enum sqlkeep_status {
     /* The library wanted memory and got none. */
     SQLKEEP_NO_MEMORY = 6,
     /* There is nothing at this place. */
-    SQLKEEP_NOTHING = 7
+    SQLKEEP_NOTHING = 7,
+    /* The pointer to the handle is null. */
+    SQLKEEP_NO_HANDLE = 8
 };
 
 /* A handle of a session. */
@@ -148,9 +151,16 @@ uint32_t sqlkeep_open(sqlkeep *handle, uint8_t depth, uint32_t changes);
    database. SQLKEEP_CLOSED: the handle was empty. */
 uint32_t sqlkeep_close(sqlkeep *handle);
 
-/* Runs a whole script as the program does: in a new database of its own, with the limits of this session. The
-   transcript is kept in the handle for sqlkeep_transcript, in place of the last one. The database of the session is neither
-   read nor changed. A statement for which there is no memory is refused with cause 22.
+/* From now on an account of each statement is asked for, or isn't: 0 is no, all else is yes. An account says what happened
+   in a statement, line by line: rows that changed, foreign keys that acted, triggers that ran, and the rows that a refusal is
+   about (docs/language/accounts.md). sqlkeep_run and sqlkeep_lines write it. Where memory for it is refused, the statement is
+   refused with cause 22; a COMMIT is as without one then, and has no account. SQLKEEP_CLOSED. */
+uint32_t sqlkeep_explain(sqlkeep *handle, uint32_t asked);
+
+/* Runs a whole script as the program does: in a new database of its own, with the limits of this session, and with
+   accounts where they are asked for. The transcript is kept in the handle for sqlkeep_transcript, in place of the last
+   one. The database of the session is neither read nor changed. A statement for which there is no memory is refused with
+   cause 22.
    SQLKEEP_CLOSED, SQLKEEP_NOT_UTF8, SQLKEEP_TOO_LONG, SQLKEEP_NO_MEMORY: the last transcript stays. */
 uint32_t sqlkeep_run(sqlkeep *handle, const uint8_t *text, size_t length, sqlkeep_summary *summary);
 
@@ -173,8 +183,8 @@ uint32_t sqlkeep_read(sqlkeep *handle, const uint8_t *text, size_t length, sqlke
    SQLKEEP_CLOSED; SQLKEEP_NOTHING: there are fewer statements. */
 uint32_t sqlkeep_execute(sqlkeep *handle, size_t at, sqlkeep_outcome *outcome);
 
-/* Writes the lines of the last outcome as the program does, with this number in front, and keeps them for
-   sqlkeep_transcript. It is to be called before the next statement. SQLKEEP_CLOSED, SQLKEEP_NO_MEMORY. */
+/* Writes the lines of the last outcome as the program does, with this number in front, then those of its account where one
+   was asked for, and keeps them for sqlkeep_transcript. It is to be called before the next statement. SQLKEEP_CLOSED, SQLKEEP_NO_MEMORY. */
 uint32_t sqlkeep_lines(sqlkeep *handle, uint64_t number);
 
 /* ---- the rows of a query
@@ -234,6 +244,101 @@ uint32_t sqlkeep_pending(sqlkeep *handle, size_t *count);
 /* The number of the row of a violation that was found, and the name of its constraint as far as it fits. It is to be called
    before the next statement. SQLKEEP_CLOSED; SQLKEEP_NOTHING: there is no violation at this place. */
 uint32_t sqlkeep_violation(sqlkeep *handle, size_t at, uint64_t *row, uint8_t *buffer, size_t size, size_t *copied);
+
+/* ---- a handle that is null
+
+   From here on each name above is a function of this header, which answers SQLKEEP_NO_HANDLE where the pointer to the handle
+   is null, and otherwise calls the function of the library. */
+
+static inline uint32_t sqlkeep_tested_open(sqlkeep *handle, uint8_t depth, uint32_t changes) {
+    return handle == NULL ? (uint32_t)SQLKEEP_NO_HANDLE : sqlkeep_open(handle, depth, changes);
+}
+static inline uint32_t sqlkeep_tested_close(sqlkeep *handle) {
+    return handle == NULL ? (uint32_t)SQLKEEP_NO_HANDLE : sqlkeep_close(handle);
+}
+static inline uint32_t sqlkeep_tested_explain(sqlkeep *handle, uint32_t asked) {
+    return handle == NULL ? (uint32_t)SQLKEEP_NO_HANDLE : sqlkeep_explain(handle, asked);
+}
+static inline uint32_t sqlkeep_tested_run(sqlkeep *handle, const uint8_t *text, size_t length, sqlkeep_summary *summary) {
+    return handle == NULL ? (uint32_t)SQLKEEP_NO_HANDLE : sqlkeep_run(handle, text, length, summary);
+}
+static inline uint32_t sqlkeep_tested_transcript(sqlkeep *handle, size_t from, uint8_t *buffer, size_t size, size_t *copied) {
+    return handle == NULL ? (uint32_t)SQLKEEP_NO_HANDLE : sqlkeep_transcript(handle, from, buffer, size, copied);
+}
+static inline uint32_t sqlkeep_tested_read(sqlkeep *handle, const uint8_t *text, size_t length, sqlkeep_script *script) {
+    return handle == NULL ? (uint32_t)SQLKEEP_NO_HANDLE : sqlkeep_read(handle, text, length, script);
+}
+static inline uint32_t sqlkeep_tested_execute(sqlkeep *handle, size_t at, sqlkeep_outcome *outcome) {
+    return handle == NULL ? (uint32_t)SQLKEEP_NO_HANDLE : sqlkeep_execute(handle, at, outcome);
+}
+static inline uint32_t sqlkeep_tested_lines(sqlkeep *handle, uint64_t number) {
+    return handle == NULL ? (uint32_t)SQLKEEP_NO_HANDLE : sqlkeep_lines(handle, number);
+}
+static inline uint32_t sqlkeep_tested_columns(sqlkeep *handle, size_t row, size_t *count) {
+    return handle == NULL ? (uint32_t)SQLKEEP_NO_HANDLE : sqlkeep_columns(handle, row, count);
+}
+static inline uint32_t sqlkeep_tested_value(sqlkeep *handle, size_t row, size_t column, sqlkeep_cell *value) {
+    return handle == NULL ? (uint32_t)SQLKEEP_NO_HANDLE : sqlkeep_value(handle, row, column, value);
+}
+static inline uint32_t sqlkeep_tested_value_text(sqlkeep *handle, size_t row, size_t column, size_t from, uint8_t *buffer, size_t size, size_t *copied) {
+    return handle == NULL ? (uint32_t)SQLKEEP_NO_HANDLE : sqlkeep_value_text(handle, row, column, from, buffer, size, copied);
+}
+static inline uint32_t sqlkeep_tested_cause(sqlkeep *handle, size_t from, uint8_t *buffer, size_t size, size_t *copied) {
+    return handle == NULL ? (uint32_t)SQLKEEP_NO_HANDLE : sqlkeep_cause(handle, from, buffer, size, copied);
+}
+static inline uint32_t sqlkeep_tested_constraint(sqlkeep *handle, size_t from, uint8_t *buffer, size_t size, size_t *copied) {
+    return handle == NULL ? (uint32_t)SQLKEEP_NO_HANDLE : sqlkeep_constraint(handle, from, buffer, size, copied);
+}
+static inline uint32_t sqlkeep_tested_trigger(sqlkeep *handle, size_t from, uint8_t *buffer, size_t size, size_t *copied) {
+    return handle == NULL ? (uint32_t)SQLKEEP_NO_HANDLE : sqlkeep_trigger(handle, from, buffer, size, copied);
+}
+static inline uint32_t sqlkeep_tested_signal(sqlkeep *handle, size_t from, uint8_t *buffer, size_t size, size_t *copied) {
+    return handle == NULL ? (uint32_t)SQLKEEP_NO_HANDLE : sqlkeep_signal(handle, from, buffer, size, copied);
+}
+static inline uint32_t sqlkeep_tested_commit(sqlkeep *handle, sqlkeep_outcome *outcome) {
+    return handle == NULL ? (uint32_t)SQLKEEP_NO_HANDLE : sqlkeep_commit(handle, outcome);
+}
+static inline uint32_t sqlkeep_tested_rollback(sqlkeep *handle) {
+    return handle == NULL ? (uint32_t)SQLKEEP_NO_HANDLE : sqlkeep_rollback(handle);
+}
+static inline uint32_t sqlkeep_tested_rollback_to(sqlkeep *handle, const uint8_t *name, size_t length, sqlkeep_outcome *outcome) {
+    return handle == NULL ? (uint32_t)SQLKEEP_NO_HANDLE : sqlkeep_rollback_to(handle, name, length, outcome);
+}
+static inline uint32_t sqlkeep_tested_in_transaction(sqlkeep *handle, bool *is_open) {
+    return handle == NULL ? (uint32_t)SQLKEEP_NO_HANDLE : sqlkeep_in_transaction(handle, is_open);
+}
+static inline uint32_t sqlkeep_tested_work(sqlkeep *handle, sqlkeep_done *work) {
+    return handle == NULL ? (uint32_t)SQLKEEP_NO_HANDLE : sqlkeep_work(handle, work);
+}
+static inline uint32_t sqlkeep_tested_pending(sqlkeep *handle, size_t *count) {
+    return handle == NULL ? (uint32_t)SQLKEEP_NO_HANDLE : sqlkeep_pending(handle, count);
+}
+static inline uint32_t sqlkeep_tested_violation(sqlkeep *handle, size_t at, uint64_t *row, uint8_t *buffer, size_t size, size_t *copied) {
+    return handle == NULL ? (uint32_t)SQLKEEP_NO_HANDLE : sqlkeep_violation(handle, at, row, buffer, size, copied);
+}
+
+#define sqlkeep_open sqlkeep_tested_open
+#define sqlkeep_close sqlkeep_tested_close
+#define sqlkeep_explain sqlkeep_tested_explain
+#define sqlkeep_run sqlkeep_tested_run
+#define sqlkeep_transcript sqlkeep_tested_transcript
+#define sqlkeep_read sqlkeep_tested_read
+#define sqlkeep_execute sqlkeep_tested_execute
+#define sqlkeep_lines sqlkeep_tested_lines
+#define sqlkeep_columns sqlkeep_tested_columns
+#define sqlkeep_value sqlkeep_tested_value
+#define sqlkeep_value_text sqlkeep_tested_value_text
+#define sqlkeep_cause sqlkeep_tested_cause
+#define sqlkeep_constraint sqlkeep_tested_constraint
+#define sqlkeep_trigger sqlkeep_tested_trigger
+#define sqlkeep_signal sqlkeep_tested_signal
+#define sqlkeep_commit sqlkeep_tested_commit
+#define sqlkeep_rollback sqlkeep_tested_rollback
+#define sqlkeep_rollback_to sqlkeep_tested_rollback_to
+#define sqlkeep_in_transaction sqlkeep_tested_in_transaction
+#define sqlkeep_work sqlkeep_tested_work
+#define sqlkeep_pending sqlkeep_tested_pending
+#define sqlkeep_violation sqlkeep_tested_violation
 
 #ifdef __cplusplus
 }

@@ -119,6 +119,15 @@ def scripts(what, program, every=1, words=()):
         yield from pool.map(one, known(every))
 
 
+def accounts(what, program, words=()):
+    """Whether a program writes the accounts of the examples as `sqlkeep` does."""
+    for name in sorted({file.split('.')[0] for file in run.files('../examples')}):
+        want = run.read('../examples', name + '.account')
+        if want is not None:
+            text = run.stored('../examples', name + '.sql')
+            yield '%s, with accounts: %s' % (what, name), run.judge(program, text, want, b'', None, ['--explain', *words])
+
+
 def refused(program, words=()):
     """One script with each of its requests for memory refused in turn."""
     script = run.stored('scripts', REFUSED + '.sql')
@@ -171,6 +180,7 @@ def by_c(room, program):
     """What is tried with the C example alone: refused memory, and bad accesses and leaks."""
     yield from refused(program)
     yield from refused(program, ['--statements'])
+    yield from refused(program, ['--explain'])
     if shutil.which('valgrind'):
         checked = room.starter('checked', 'valgrind -q --leak-check=full --show-leak-kinds=all --error-exitcode=99 ' + program)
         yield from scripts('C under valgrind', checked, 10)
@@ -185,6 +195,8 @@ def tried(room):
         if not why:
             yield from scripts(what, program)
             yield from scripts(what + ', statement by statement', program, 10, ['--statements'])
+            yield from accounts(what, program)
+            yield from accounts(what + ', statement by statement', program, ['--statements'])
             if what == 'C':
                 yield from by_c(room, program)
     yield from firsts(room)

@@ -128,6 +128,7 @@ static int empty(void) {
     bool is_open = false;
     WANT(read_text(&session, KEYS, &script) == SQLKEEP_CLOSED);
     WANT(sqlkeep_execute(&session, 0, &outcome) == SQLKEEP_CLOSED);
+    WANT(sqlkeep_explain(&session, 1) == SQLKEEP_CLOSED);
     WANT(sqlkeep_lines(&session, 1) == SQLKEEP_CLOSED);
     WANT(sqlkeep_columns(&session, 0, &count) == SQLKEEP_CLOSED);
     WANT(sqlkeep_value(&session, 0, 0, &cell) == SQLKEEP_CLOSED);
@@ -143,6 +144,79 @@ static int empty(void) {
     WANT(sqlkeep_work(&session, &work) == SQLKEEP_CLOSED);
     WANT(sqlkeep_pending(&session, &count) == SQLKEEP_CLOSED);
     WANT(sqlkeep_violation(&session, 0, &row, text, 1, &count) == SQLKEEP_CLOSED);
+    return 0;
+}
+
+/* Every function with no handle. */
+static int absent(void) {
+    sqlkeep_summary summary;
+    sqlkeep_script script;
+    sqlkeep_outcome outcome;
+    sqlkeep_cell cell;
+    sqlkeep_done work;
+    uint8_t text[1];
+    size_t count = 0;
+    uint64_t row = 0;
+    bool is_open = false;
+    WANT(sqlkeep_open(NULL, 16, 65536) == SQLKEEP_NO_HANDLE);
+    WANT(sqlkeep_close(NULL) == SQLKEEP_NO_HANDLE);
+    WANT(run_text(NULL, KEYS, &summary) == SQLKEEP_NO_HANDLE);
+    WANT(sqlkeep_transcript(NULL, 0, text, 1, &count) == SQLKEEP_NO_HANDLE);
+    WANT(read_text(NULL, KEYS, &script) == SQLKEEP_NO_HANDLE);
+    WANT(sqlkeep_execute(NULL, 0, &outcome) == SQLKEEP_NO_HANDLE);
+    WANT(sqlkeep_explain(NULL, 1) == SQLKEEP_NO_HANDLE);
+    WANT(sqlkeep_lines(NULL, 1) == SQLKEEP_NO_HANDLE);
+    WANT(sqlkeep_columns(NULL, 0, &count) == SQLKEEP_NO_HANDLE);
+    WANT(sqlkeep_value(NULL, 0, 0, &cell) == SQLKEEP_NO_HANDLE);
+    WANT(sqlkeep_value_text(NULL, 0, 0, 0, text, 1, &count) == SQLKEEP_NO_HANDLE);
+    WANT(sqlkeep_cause(NULL, 0, text, 1, &count) == SQLKEEP_NO_HANDLE);
+    WANT(sqlkeep_constraint(NULL, 0, text, 1, &count) == SQLKEEP_NO_HANDLE);
+    WANT(sqlkeep_trigger(NULL, 0, text, 1, &count) == SQLKEEP_NO_HANDLE);
+    WANT(sqlkeep_signal(NULL, 0, text, 1, &count) == SQLKEEP_NO_HANDLE);
+    WANT(sqlkeep_commit(NULL, &outcome) == SQLKEEP_NO_HANDLE);
+    WANT(sqlkeep_rollback(NULL) == SQLKEEP_NO_HANDLE);
+    WANT(sqlkeep_rollback_to(NULL, text, 0, &outcome) == SQLKEEP_NO_HANDLE);
+    WANT(sqlkeep_in_transaction(NULL, &is_open) == SQLKEEP_NO_HANDLE);
+    WANT(sqlkeep_work(NULL, &work) == SQLKEEP_NO_HANDLE);
+    WANT(sqlkeep_pending(NULL, &count) == SQLKEEP_NO_HANDLE);
+    WANT(sqlkeep_violation(NULL, 0, &row, text, 1, &count) == SQLKEEP_NO_HANDLE);
+    return 0;
+}
+
+static const char LOGGED[] =
+    "CREATE TABLE t (a INT CONSTRAINT known CHECK (a > 0)); CREATE TABLE log (a INT);"
+    "CREATE TRIGGER note AFTER INSERT ON t REFERENCING NEW AS n FOR EACH ROW INSERT INTO log VALUES (n.a);"
+    "INSERT INTO t VALUES (7); INSERT INTO t VALUES (0);";
+
+/* The accounts of statements, by a script and one after the other. */
+static int accounts(void) {
+    sqlkeep session = SQLKEEP_EMPTY;
+    sqlkeep_summary summary;
+    sqlkeep_script script;
+    sqlkeep_outcome outcome;
+    size_t at;
+    WANT(sqlkeep_open(&session, 16, 65536) == SQLKEEP_OK);
+    WANT(sqlkeep_explain(&session, 1) == SQLKEEP_OK);
+    WANT(run_text(&session, LOGGED, &summary) == SQLKEEP_OK && summary.accepted == 4 && summary.refused == 1);
+    WANT(has_transcript(&session,
+        "1 ok\n2 ok\n3 ok\n4 ok 1\n  insert T row 1 (7)\n  trigger NOTE NEW (7)\n  statement 1\n    insert LOG row 2 (7)\n"
+        "5 refused 13 Violation KNOWN row 3\n  insert T row 3 (0)\n  KNOWN: T row 3 (0) makes its condition false\nend rolled back\n"));
+    WANT(read_text(&session, LOGGED, &script) == SQLKEEP_OK && script.statements == 5);
+    for (at = 0; at < 4; at++) {
+        WANT(sqlkeep_execute(&session, at, &outcome) == SQLKEEP_OK && outcome.kind != SQLKEEP_REFUSED);
+    }
+    WANT(sqlkeep_lines(&session, 9) == SQLKEEP_OK);
+    WANT(has_transcript(&session, "9 ok 1\n  insert T row 1 (7)\n  trigger NOTE NEW (7)\n  statement 1\n    insert LOG row 2 (7)\n"));
+    WANT(sqlkeep_explain(&session, 0) == SQLKEEP_OK);
+    WANT(sqlkeep_execute(&session, 4, &outcome) == SQLKEEP_OK && outcome.kind == SQLKEEP_REFUSED && outcome.row == 3);
+    WANT(sqlkeep_lines(&session, 5) == SQLKEEP_OK);
+    WANT(has_transcript(&session, "5 refused 13 Violation KNOWN row 3\n"));
+    WANT(sqlkeep_explain(&session, 1) == SQLKEEP_OK);
+    WANT(sqlkeep_execute(&session, 4, &outcome) == SQLKEEP_OK);
+    WANT(sqlkeep_rollback(&session) == SQLKEEP_OK);
+    WANT(sqlkeep_lines(&session, 5) == SQLKEEP_OK);
+    WANT(has_transcript(&session, "5 refused 13 Violation KNOWN row 3\n"));
+    WANT(sqlkeep_close(&session) == SQLKEEP_OK);
     return 0;
 }
 
@@ -176,5 +250,7 @@ int main(void) {
     int failed = side_by_side();
     failed = failed ? failed : statuses();
     failed = failed ? failed : statements();
+    failed = failed ? failed : accounts();
+    failed = failed ? failed : absent();
     return failed ? failed : empty();
 }

@@ -1,29 +1,36 @@
 #!/usr/bin/env python3
-"""Changes the machine's definitions, one change at a time on a copy, and looks whether a worked script notices.
+"""Changes the definitions of the machine and of accounts, one change at a time on a copy, and looks whether a worked script notices.
 
-  tests/definitions.py [--only WORD] [--all]
-The changes are those of definitions.edits beside this file. Each takes a quarter of a minute; `out/` of the crates
-below iv_machine has to be there, as `rt all check` leaves it. The last line is `N passed, N failed`.
+  tests/definitions.py [--only WORD] [--all] [--jobs N]
+The changes are those of definitions.edits beside this file; a file there is of iv_machine, or of the crate whose name it begins with. Each
+takes a quarter of a minute or more, N of them side by side, each on a copy of its own; `out/` of the crates below iv_machine has to be there, as `rt all check` leaves it. The last line is
+`N passed, N failed`.
 
 The file definitions.digest has a digest of the changes, and of the definitions, the types that they name and the worked scripts without
 comments, where all changes were noticed. While it is still the same they aren't tried again, except with --all or --only; where all are tried and
 noticed it is written anew."""
 import argparse
+import contextlib
 import hashlib
 import os
+import queue
 import re
 import shutil
 import subprocess
 import tempfile
+from concurrent.futures import ThreadPoolExecutor
 
 from edits import bare, read, write
 
 HERE = os.path.dirname(os.path.abspath(__file__))
 CRATES = os.path.join(HERE, '..', 'crates')
 BELOW = ['iv_value', 'iv_numbers', 'iv_expr', 'iv_syntax', 'iv_catalogue', 'iv_key']
+# The crates whose definitions are changed, and the crate that has to notice.
+DEFINED = ['iv_machine', 'iv_account']
+WORKED = 'iv_worked_machine'
 CHANGES = os.path.join(HERE, 'definitions.edits')
 DIGEST = os.path.join(HERE, 'definitions.digest')
-DIGESTED = ['iv_key/specs', 'iv_machine/specs', 'iv_worked_machine/specs', 'iv_worked_machine/proofs', 'iv_worked_machine/src']
+DIGESTED = ['iv_key/specs', 'iv_machine/specs', 'iv_account/specs', 'iv_worked_machine/specs', 'iv_worked_machine/proofs', 'iv_worked_machine/src']
 
 
 def changes():
@@ -34,7 +41,7 @@ def changes():
         if key == 'change':
             pairs = found[text] = []
         elif key == 'file':
-            path = text
+            path = text if text.split('/')[0] in DEFINED else 'iv_machine/' + text
         elif key == 'old':
             old = text
         elif key == 'new':
@@ -42,16 +49,16 @@ def changes():
     return found
 
 
-def declared():
-    """The modules of iv_machine whose types the definitions and the worked scripts name."""
-    folders = [os.path.join(CRATES, name, 'specs') for name in ('iv_machine', 'iv_worked_machine')]
-    texts = [read(os.path.join(folder, name)) for folder in folders for name in os.listdir(folder)]
-    return set(re.findall(r'Rattle\.iv_machine\.specs\.declared\.(\w+)\.', '\n'.join(texts)))
+def declared(name):
+    """The modules of a crate whose types the definitions and the worked scripts name."""
+    folders = [os.path.join(CRATES, crate, 'specs') for crate in DEFINED + [WORKED]]
+    texts = [read(os.path.join(folder, file)) for folder in folders for file in os.listdir(folder)]
+    return set(re.findall(r'Rattle\.%s\.specs\.declared\.(\w+)\.' % name, '\n'.join(texts)))
 
 
 def digest_of_sources():
     """A digest of the changes, and of the definitions and the worked scripts that they are tried over."""
-    paths = [CHANGES] + [os.path.join(CRATES, 'iv_machine/src', name + '.rt') for name in declared()]
+    paths = [CHANGES] + [os.path.join(CRATES, crate, 'src', name + '.rt') for crate in DEFINED for name in declared(crate)]
     for folder in DIGESTED:
         for place, _, files in os.walk(os.path.join(CRATES, folder)):
             paths += [os.path.join(place, file) for file in files if file != 'tests.rt']
@@ -61,23 +68,35 @@ def digest_of_sources():
     return digest.hexdigest()
 
 
-def copied(room):
-    """The repository as far as iv_worked_machine, where iv_machine has its definitions and the types that they name, without proofs."""
-    listed = [line for line in read(os.path.join(HERE, '../crates.txt')).splitlines() if line.split(':')[0] in BELOW + ['iv_machine', 'iv_worked_machine']]
-    write(os.path.join(room, 'crates.txt'), '\n'.join(listed) + '\n')
-    for name in BELOW:
-        shutil.copytree(os.path.join(CRATES, name), os.path.join(room, 'crates', name), symlinks=True)
-    machine, worked = os.path.join(room, 'crates/iv_machine'), os.path.join(room, 'crates/iv_worked_machine')
-    shutil.copytree(os.path.join(CRATES, 'iv_machine/specs'), machine + '/specs')
-    shutil.copytree(os.path.join(CRATES, 'iv_worked_machine'), worked, ignore=shutil.ignore_patterns('out'))
-    modules = declared()
-    os.mkdir(machine + '/src')
-    for name in modules:
-        shutil.copy(os.path.join(CRATES, 'iv_machine/src', name + '.rt'), machine + '/src')
-    library = read(os.path.join(CRATES, 'iv_machine/src/lib.rt'))
+def listed(names):
+    """The lines of crates.txt of these crates, with those of them that they name, and those of the kit."""
+    lines = [line.split(':') for line in read(os.path.join(HERE, '../crates.txt')).splitlines() if line.split(':')[0] in names]
+    kept = [(name, [word for word in words.split() if word in names or not word.startswith('iv_')]) for name, words in lines]
+    return ''.join('%s: %s\n' % (name, ' '.join(words)) for name, words in kept)
+
+
+def copy_definitions(crates, name):
+    """A crate's definitions and the types that they name, without code and proofs."""
+    crate, modules = os.path.join(crates, name), declared(name)
+    shutil.copytree(os.path.join(CRATES, name, 'specs'), crate + '/specs')
+    os.mkdir(crate + '/src')
+    for module in modules:
+        shutil.copy(os.path.join(CRATES, name, 'src', module + '.rt'), crate + '/src')
+    library = read(os.path.join(CRATES, name, 'src/lib.rt'))
     items = re.findall(r'^(?://!.*|#!\[.*\]|(?:mod|pub use) (?:%s)\b[^;]*;)$' % '|'.join(modules), library, re.M)
-    write(machine + '/src/lib.rt', '\n'.join(items) + '\n')
-    return machine, worked
+    write(crate + '/src/lib.rt', '\n'.join(items) + '\n')
+
+
+def copied(room):
+    """The repository as far as the worked scripts, where the crates that are changed have their definitions alone."""
+    crates = os.path.join(room, 'crates')
+    write(os.path.join(room, 'crates.txt'), listed(BELOW + DEFINED + [WORKED]))
+    for name in BELOW:
+        shutil.copytree(os.path.join(CRATES, name), os.path.join(crates, name), symlinks=True)
+    for name in DEFINED:
+        copy_definitions(crates, name)
+    shutil.copytree(os.path.join(CRATES, WORKED), os.path.join(crates, WORKED), ignore=shutil.ignore_patterns('out'))
+    return crates, os.path.join(crates, WORKED)
 
 
 def checked(worked):
@@ -89,12 +108,12 @@ def checked(worked):
     return done.returncode == 0, names
 
 
-def tried(machine, worked, pairs):
+def tried(crates, worked, pairs):
     """The scripts that notice the change, or why it can't be made."""
     kept = {}
     try:
         for path, old, new in pairs:
-            path = os.path.join(machine, path)
+            path = os.path.join(crates, path)
             text = read(path)
             kept.setdefault(path, text)
             if text.count(old) != 1:
@@ -107,10 +126,36 @@ def tried(machine, worked, pairs):
             write(path, text)
 
 
+def prepared(stack):
+    """A copy in which the worked scripts are proved."""
+    crates, worked = copied(stack.enter_context(tempfile.TemporaryDirectory(prefix='definitions-')))
+    if not checked(worked)[0]:
+        raise SystemExit('the worked scripts are not proved as they are')
+    return crates, worked
+
+
+def all_tried(chosen, jobs):
+    """The changes, each with what `tried` says of it, in their order."""
+    with contextlib.ExitStack() as stack, ThreadPoolExecutor(jobs) as pool:
+        free = queue.Queue()
+        for room in pool.map(prepared, [stack] * min(jobs, len(chosen))):
+            free.put(room)
+
+        def one(pairs):
+            room = free.get()
+            try:
+                return tried(*room, pairs)
+            finally:
+                free.put(room)
+
+        yield from zip(chosen, pool.map(one, chosen.values()))
+
+
 def main():
     parser = argparse.ArgumentParser()
     parser.add_argument('--only', default='')
     parser.add_argument('--all', action='store_true')
+    parser.add_argument('--jobs', type=int, default=max(1, (os.cpu_count() or 1) - 1))
     words = parser.parse_args()
     chosen = {name: pairs for name, pairs in changes().items() if words.only in name}
     digest, passed, failed = digest_of_sources(), 0, 0
@@ -118,15 +163,10 @@ def main():
         print('%d changes were noticed over these sources already' % len(chosen))
         print('%d passed, 0 failed' % len(chosen))
         return
-    with tempfile.TemporaryDirectory(prefix='definitions-') as room:
-        machine, worked = copied(room)
-        if not checked(worked)[0]:
-            raise SystemExit('the worked scripts are not proved as they are')
-        for name, pairs in chosen.items():
-            said = tried(machine, worked, pairs)
-            good = isinstance(said, list)
-            passed, failed = passed + good, failed + (not good)
-            print('%s: %s' % (name, 'noticed by ' + ', '.join(said) if good else 'FAILED: ' + said), flush=True)
+    for name, said in all_tried(chosen, words.jobs):
+        good = isinstance(said, list)
+        passed, failed = passed + good, failed + (not good)
+        print('%s: %s' % (name, 'noticed by ' + ', '.join(said) if good else 'FAILED: ' + said), flush=True)
     if not failed and not words.only:
         write(DIGEST, digest + '\n')
     print('%d passed, %d failed' % (passed, failed))

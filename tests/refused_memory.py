@@ -10,12 +10,13 @@ for memory in it, and each time another request is refused. Each run has to be o
   same     the run is as without refusal: the memory was for speed alone
   refused  one statement answers 22, and all else is the transcript of the script without that statement, which is run too. It is never COMMIT or ROLLBACK, nor
            over the index store ROLLBACK TO, nor a statement that would be answered 4, 5 or 6
+  untold   with --explain, the run is as without refusal, but a COMMIT that is refused has no account
 
 Words with which no script is run are tried in the same way. 100 random scripts are run too, with ten of their requests refused. Without --all the plain one
 has five of their requests refused, and 60 of each other script, not all. With --all there are, besides: some scripts more; all these with each statement
 twice, so that the statement that was refused is given once more; with what all tables hold after each statement; with a request and all that come after it
-refused, where several statements may answer 22; and five times as many requests of each random script. The last line is `N passed, N failed`; the status is 1
-where something failed."""
+refused, where several statements may answer 22; and five times as many requests of each random script. The scripts of
+the tour are run with --explain as well. The last line is `N passed, N failed`; the status is 1 where something failed."""
 import argparse
 import collections
 import os
@@ -82,6 +83,16 @@ class Trial:
         return text + b''.join(others) + (b'end rolled back\n' if self.shorter(places)[0].endswith(b'end rolled back\n') else b'')
 
 
+def untold(whole, out):
+    """Whether a transcript is another one in which a COMMIT that is refused has no account."""
+    outcomes, _, _ = run.groups(whole)
+    for outcome in outcomes:
+        line, _, account = outcome.partition(b'\n')
+        if account and re.match(rb'\d+ refused 19 ', line) and whole.replace(outcome, line + b'\n', 1) == out:
+            return True
+    return False
+
+
 def judge(trial, got, is_one):
     """What became of a run, in one word, and why it isn't as it should be."""
     if got == ENDED:
@@ -89,6 +100,8 @@ def judge(trial, got, is_one):
     if got == trial.whole:
         return 'same', []
     out, status, errors = got
+    if '--explain' in trial.words and (status, errors) == trial.whole[1:] and untold(trial.whole[0], out):
+        return 'untold', []
     outcomes, _, _ = run.groups(out)
     places = tuple(place for place, one in enumerate(outcomes, 1) if REFUSED.fullmatch(one))
     why = run.compare('standard error', b'', errors) + ([] if status == 1 else ['status %d' % status])
@@ -119,6 +132,7 @@ def named(is_all):
     for file in run.files('../examples'):
         if file.endswith('.sql'):
             yield 'the tour: ' + file, run.read('../examples', file), []
+            yield 'the tour with accounts: ' + file, run.read('../examples', file), ['--explain']
 
 
 # Words with which no script is run: such a run ends with the line, or is as without refusal.
@@ -157,8 +171,8 @@ def tried(library, program, is_plain, given):
             if why:
                 failed += 1
                 print('FAILED %s, %s over %s: %s' % (name, request, program, '; '.join(why)), flush=True)
-    print('%s: %d runs ended with the line, %d were as without refusal, %d had statements that answered 22' % (
-        os.path.basename(program), became['ended'], became['same'], became['refused']), flush=True)
+    print('%s: %d runs ended with the line, %d were as without refusal, %d had statements that answered 22, %d a COMMIT without its account' % (
+        os.path.basename(program), became['ended'], became['same'], became['refused'], became['untold']), flush=True)
     return sum(became.values()) - failed, failed
 
 

@@ -75,7 +75,7 @@ def judge(program, script, want, err=b'', status=None, words=()):
 
 
 def scripts(program):
-    """Whole scripts with their transcript, status and standard error: those of tests and of examples."""
+    """Whole scripts with their transcript, status and standard error, and with accounts: those of tests and of examples."""
     for directory in ('scripts', '../examples'):
         for name in sorted({file.split('.')[0] for file in files(directory)}):
             script, want = stored(directory, name + '.sql'), stored(directory, name + '.out')
@@ -84,6 +84,9 @@ def scripts(program):
             # a fault of the command line is written in the words of the library that reads it
             err = err or (None if words and status == b'2\n' else b'')
             why = judge(program, script, want, err, status, words)
+            account = read(directory, name + '.account')
+            if account is not None:
+                why += judge(program, script, account, err, status, [*words, '--explain'])
             there = read(directory, name + '.nofile') is not None and os.path.exists(os.path.join(HERE, directory, words[-1]))
             yield directory + '/' + name, why + (['%s is there' % words[-1]] if there else [])
 
@@ -91,7 +94,7 @@ def scripts(program):
 def options(program):
     """The text of --help, which names every option, and nothing else."""
     out, status, err = run(program, b'SELECT * FROM t;', ['--help'])
-    good = status == 0 and err == b'' and all(word in out for word in (b'--depth', b'--changes', b'FILE'))
+    good = status == 0 and err == b'' and all(word in out for word in (b'--depth', b'--changes', b'--explain', b'FILE'))
     yield 'options: --help', [] if good else ['status %d, got %r, standard error %r' % (status, out[:200], err[:200])]
 
 
@@ -128,8 +131,8 @@ def ends(script):
 
 
 def groups(transcript):
-    """The outcomes, each with its rows; the faults; and whether the transcript is made of these alone."""
-    shape = rb'(\d+ (?:ok|rows|refused)[^\n]*\n(?:\| [^\n]*\n)*)|(\d+ fault \d+\n)|(end rolled back\n\Z)'
+    """The outcomes, each with its rows and its account; the faults; and whether the transcript is made of these alone."""
+    shape = rb'(\d+ (?:ok|rows|refused)[^\n]*\n(?:(?:\||  )[^\n]*\n)*)|(\d+ fault \d+\n)|(end rolled back\n\Z)'
     found = list(re.finditer(shape, transcript))
     outcomes, faults = ([f[part] for f in found if f[part]] for part in (1, 2))
     return outcomes, faults, b''.join(f[0] for f in found) == transcript

@@ -2,7 +2,7 @@
    every statement was accepted, 1 where one was refused or the script has a fault, and 2 where nothing ran.
 
        cc -I ../../include script.c ../../out/libsqlkeep.a -o script
-       ./script [--depth N] [--changes N] [--statements] < ../authors.sql
+       ./script [--depth N] [--changes N] [--explain] [--statements] < ../authors.sql
 
    With --statements the script is read into statements, which are executed one after the other in the session. */
 #include "sqlkeep.h"
@@ -109,6 +109,9 @@ int main(int count, char **words) {
     uint32_t status = SQLKEEP_LIMITS;
     if (depth <= UINT8_MAX && changes <= UINT32_MAX) {
         status = sqlkeep_open(&session, (uint8_t)depth, (uint32_t)changes);
+    }
+    if (status == SQLKEEP_OK && is_given(count, words, "--explain", &unused)) {
+        status = sqlkeep_explain(&session, 1);
     }
     if (status == SQLKEEP_OK) {
         status = is_given(count, words, "--statements", &unused) ? run_statements(&session, length, &refused) : run_whole(&session, length, &refused);

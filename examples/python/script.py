@@ -1,6 +1,6 @@
 """Runs the script on standard input, as the program does; its transcript goes to standard output.
 
-    python3 script.py [--depth N] [--changes N] [--statements] < ../authors.sql
+    python3 script.py [--depth N] [--changes N] [--explain] [--statements] < ../authors.sql
 
 With --statements the script is read into statements, which are executed one after the other in the session."""
 import argparse
@@ -26,10 +26,12 @@ def main():
     parser = argparse.ArgumentParser()
     parser.add_argument("--depth", type=int, default=16)
     parser.add_argument("--changes", type=int, default=65536)
+    parser.add_argument("--explain", action="store_true")
     parser.add_argument("--statements", action="store_true")
     given, script = parser.parse_args(), sys.stdin.buffer.read()
     try:
         with sqlkeep.open(given.depth, given.changes) as session:
+            session.explain(given.explain)
             if given.statements:
                 transcript, refused = run_statements(session, script)
             else:

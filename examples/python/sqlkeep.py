@@ -77,6 +77,7 @@ PARAMETERS = {
     "close": [HANDLE],
     "run": [HANDLE, c_void_p, c_size_t, POINTER(Summary)],
     "transcript": [HANDLE, c_size_t, c_void_p, c_size_t, SIZE],
+    "explain": [HANDLE, c_uint32],
     "read": [HANDLE, c_void_p, c_size_t, POINTER(Script)],
     "execute": [HANDLE, c_size_t, POINTER(Outcome)],
     "lines": [HANDLE, c_uint64],
@@ -149,6 +150,10 @@ class Session:
         script, summary = bytes_of(text), Summary()
         self.call("run", script, len(script), byref(summary))
         return self.copied("transcript"), summary
+
+    def explain(self, asked=True):
+        """From now on the lines of a statement have its account, or don't."""
+        self.call("explain", int(asked))
 
     def read(self, text):
         """Reads the statements of a text: how many they are, and the byte where no further one begins, or None."""

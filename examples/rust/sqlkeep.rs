@@ -58,6 +58,7 @@ mod c {
     extern "C" {
         pub fn sqlkeep_open(handle: *mut Handle, depth: u8, changes: u32) -> u32;
         pub fn sqlkeep_close(handle: *mut Handle) -> u32;
+        pub fn sqlkeep_explain(handle: *mut Handle, asked: u32) -> u32;
         pub fn sqlkeep_run(handle: *mut Handle, text: *const u8, length: usize, summary: *mut Summary) -> u32;
         pub fn sqlkeep_transcript(handle: *mut Handle, from: usize, buffer: *mut u8, size: usize, copied: *mut usize) -> u32;
         pub fn sqlkeep_read(handle: *mut Handle, text: *const u8, length: usize, script: *mut Script) -> u32;
@@ -163,6 +164,11 @@ impl Session {
         let mut session = Session { handle, not_send: PhantomData };
         checked(unsafe { c::sqlkeep_open(&mut session.handle, depth, changes) })?;
         Ok(session)
+    }
+
+    /// From now on the lines of a statement have its account, or don't.
+    pub fn explain(&mut self, asked: bool) -> Result<(), Error> {
+        checked(unsafe { c::sqlkeep_explain(&mut self.handle, u32::from(asked)) })
     }
 
     // A text that a call copies piece by piece.
@@ -355,6 +361,7 @@ fn script(words: &[String]) -> Result<bool, Error> {
     let mut bytes = Vec::new();
     std::io::stdin().read_to_end(&mut bytes).expect("standard input can be read");
     let mut session = Session::open(depth, changes)?;
+    session.explain(words.iter().any(|word| word == "--explain"))?;
     let (transcript, accepted) = if words.iter().any(|word| word == "--statements") {
         statements(&mut session, &bytes)?
     } else {

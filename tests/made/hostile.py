@@ -469,6 +469,18 @@ def one_parent(rows):
     return ';'.join(texts) + ';', answered(*answers, 'refused 13 Violation C_C1 row %d' % (half + 3), 'end rolled back')
 
 
+def explained_cascade(rows):
+    """So many children of one parent, which CASCADE deletes with it, and a trigger for each statement that sees them; with accounts."""
+    texts = ['CREATE TABLE p (k INT PRIMARY KEY)', 'CREATE TABLE c (x INT CONSTRAINT f REFERENCES p ON DELETE CASCADE)']
+    texts += ['CREATE TABLE log (n INT)', 'CREATE TRIGGER gone AFTER DELETE ON c INSERT INTO log VALUES (1)', 'INSERT INTO p VALUES (7)']
+    texts += ['INSERT INTO c VALUES ' + ','.join(['(7)'] * rows), 'DELETE FROM p', 'ROLLBACK']
+    children = range(2, rows + 2)
+    lines = ['1 ok', '2 ok', '3 ok', '4 ok', '5 ok 1', '  insert P row 1 (7)', '6 ok %d' % rows, *['  insert C row %d (7)' % n for n in children]]
+    lines += ['7 ok 1', '  delete P row 1 (7)', *['  F CASCADE on C row %d' % n for n in children], *['  delete C row %d (7)' % n for n in children]]
+    lines += ['  trigger GONE', *['    saw delete C row %d (7)' % n for n in children], '  statement 1', '    insert LOG row %d (1)' % (rows + 2), '8 ok']
+    return ';'.join(texts) + ';', '\n'.join(lines) + '\n'
+
+
 def few_left(rows):
     """So many rows, of which all but each 4,000th are deleted; statements that look through those that are left, in the same transaction; then all come
     back."""
@@ -569,6 +581,7 @@ def cases():
     yield Case('expressions and conditions of depth 64', deepest_expressions)
     yield Case('8,000 rows that violate 64 constraints each', many_violations)
     yield Case('10,000 children of one parent', lambda: one_parent(10_000))
+    yield Case('an account of a cascade over 60,000 rows', lambda: explained_cascade(60_000), words=['--explain'])
     yield Case('60,000 rows of which 15 are left, looked through 24,000 times', lambda: few_left(60_000))
     yield Case('30,000 rows that violate one constraint, the later half mended', lambda: mended(30_000))
     yield Case('4,096 constraints', many_constraints)

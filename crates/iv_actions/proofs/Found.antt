@@ -22,7 +22,8 @@ use Rattle.iv_laws_levels.proofs.RowNumbers.{some_none, some_same}
 use Rattle.iv_laws_levels.proofs.Keys.{false_true, all_same_itself, all_same_is}
 use Rattle.iv_laws_levels.proofs.Members.{In, in_filter, any_in, of_filter_map, in_flat_map, in_rows}
 use Rattle.iv_laws_actions.specs.RowByRow.{is_among, EachReference, IsIdle, IsIdleElsewhere, FindsRows}
-use Rattle.iv_actions.specs.AffectedForeignKey.{AffectedForeignKey, under_wave, acts, action_for, acts_on, acts_in, key_taken}
+use Rattle.iv_account.specs.Accounts.{acts}
+use Rattle.iv_actions.specs.AffectedForeignKey.{AffectedForeignKey, under_wave, action_for, acts_on, acts_in, key_taken}
 use Rattle.iv_actions.specs.Finding.{leads, found_by, found_by_all, found}
 use Rattle.iv_actions.proofs.Taking.{loses_is}
 use Rattle.iv_actions.proofs.Numbers.{any_of_both}

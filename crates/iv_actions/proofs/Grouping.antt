@@ -25,7 +25,7 @@ find_within p q h (x ∷ xs) = by (q x) refl (find_within p q h xs)
     by true e rest = ap (λ o. if p x then Some x else o) rest
     by false e rest = rest ∙ sym (ap (λ b. if b then Some x else find p xs) (h x e))
 
-filter_within : {A : Type 0} (p q : A → Bool) → ((x : A) → q x ≡ false → p x ≡ false) → (xs : List A) → filter p (filter q xs) ≡ filter p xs
+pub filter_within : {A : Type 0} (p q : A → Bool) → ((x : A) → q x ≡ false → p x ≡ false) → (xs : List A) → filter p (filter q xs) ≡ filter p xs
 filter_within p q h [] = refl
 filter_within p q h (x ∷ xs) = by (q x) refl (filter_within p q h xs)
   where
@@ -50,7 +50,7 @@ first_at_places xs places table row is at =
     ap (find (restricts row)) (at ∙ ap (λ t. on_table t xs) is)
     ∙ find_within (restricts row) (λ x. x.reference.table == row.table) (restricts_apart row) xs
 
-kept_apart : (before after : StoredRow) (x : AffectedForeignKey) → (x.reference.table == before.table) ≡ false → keeps_reference before after x.reference ≡ false
+pub kept_apart : (before after : StoredRow) (x : AffectedForeignKey) → (x.reference.table == before.table) ≡ false → keeps_reference before after x.reference ≡ false
 kept_apart before after x e =
     ap (λ b. b && all_same (key_of x.reference.key.columns before.values) (key_of x.reference.key.columns after.values)) e
 

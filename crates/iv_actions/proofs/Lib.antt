@@ -8,3 +8,4 @@ pub mod Answering
 pub mod Tables
 pub mod Nothing
 pub mod Grouping
+pub mod ActingKeys

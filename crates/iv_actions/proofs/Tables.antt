@@ -7,7 +7,8 @@ use Rattle.std.proofs.lemmas.Bool.{eqb-true, or_parts}
 use Rattle.iv_expr.specs.declared.row.Change.{Change}
 use Rattle.iv_catalogue.specs.declared.constraint.ForeignKey.{ForeignKey}
 use Rattle.iv_laws_actions.specs.RowByRow.{is_among}
-use Rattle.iv_actions.specs.AffectedForeignKey.{taken_from, acts, action_for, acts_on}
+use Rattle.iv_account.specs.Accounts.{acts}
+use Rattle.iv_actions.specs.AffectedForeignKey.{taken_from, action_for, acts_on}
 use Rattle.iv_actions.proofs.Numbers.{any_of_both}
 use Rattle.iv_actions.proofs.Taking.{left_from}
 

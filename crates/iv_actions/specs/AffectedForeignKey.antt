@@ -1,17 +1,17 @@
 -- Foreign keys whose referenced keys a wave took away.
-use Rattle.std.specs.Prelude.{ℕ, ◌+◌, Bool, true, false, ◌&&◌, if◌then◌else◌, ◌==◌, List, [], ◌∷◌, find, Option, Some, None, is_some}
+use Rattle.std.specs.Prelude.{ℕ, ◌+◌, Bool, ◌&&◌, if◌then◌else◌, ◌==◌, List, [], ◌∷◌, find, Option, Some, None, is_some}
 use Rattle.std.specs.List.{list_any, cons_option}
 use Rattle.iv_value.specs.declared.value.Value.{Value}
 use Rattle.iv_expr.specs.declared.row.StoredRow.{StoredRow}
 use Rattle.iv_expr.specs.declared.row.Change.{Change}
 use Rattle.iv_expr.specs.Changes.{wave_of}
 use Rattle.iv_syntax.specs.declared.table.ReferentialAction.{ReferentialAction}
-use Rattle.iv_syntax.specs.declared.table.ReferentialAction.TheVariants as action
 use Rattle.iv_catalogue.specs.declared.constraint.Constraint.{Constraint}
 use Rattle.iv_catalogue.specs.declared.constraint.ForeignKey.{ForeignKey}
 use Rattle.iv_key.specs.Keys.{key_of, none_null}
 use Rattle.iv_machine.specs.ReferentialActions.{Reference, reference, LostKeys, action_on}
 use Rattle.iv_laws_levels.specs.Holders.{leaves_key, loses_key, loss_of_new, keys_lost_by}
+use Rattle.iv_account.specs.Accounts.{acts}
 
 -- ---- what a change takes away
 
@@ -29,11 +29,6 @@ first_taking fk key place [] = None
 first_taking fk key place (c ∷ changes) = if loses_key fk key c then Some place else first_taking fk key (place + 1) changes
 
 -- ---- actions
-
--- all actions but NO ACTION do something
-abbrev pub acts : ReferentialAction → Bool
-acts action.NoAction = false
-acts _ = true
 
 -- the action of a foreign key for a key that this change took away
 abbrev pub action_for : ForeignKey → Change → ReferentialAction

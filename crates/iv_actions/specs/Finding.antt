@@ -3,7 +3,8 @@ use Rattle.std.specs.Prelude.{ℕ, Bool, false, ◌&&◌, if◌then◌else◌, �
 use Rattle.iv_value.specs.declared.value.Value.{Value}
 use Rattle.iv_expr.specs.declared.row.Change.{Change}
 use Rattle.iv_store.specs.Stores.{StoreState, children_of}
-use Rattle.iv_actions.specs.AffectedForeignKey.{AffectedForeignKey, acts, action_for, key_taken, change_taking}
+use Rattle.iv_account.specs.Accounts.{acts}
+use Rattle.iv_actions.specs.AffectedForeignKey.{AffectedForeignKey, action_for, key_taken, change_taking}
 
 -- the first change that takes this key away is of this change's row, and the foreign key does something then
 abbrev pub leads : AffectedForeignKey → Change → List Value → Bool

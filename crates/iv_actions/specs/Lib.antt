@@ -3,3 +3,4 @@ pub mod ByTable
 pub mod Following
 pub mod Finding
 pub mod Answers
+pub mod RowActions

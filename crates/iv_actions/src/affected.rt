@@ -8,7 +8,8 @@ ghost use Rattle.iv_machine.specs.ReferentialActions.{reference};
 ghost use Rattle.iv_laws_levels.specs.Holders.{leaves_key};
 ghost use Rattle.iv_laws_actions.specs.RowByRow.{is_among};
 ghost use Rattle.iv_key.specs.KeyOrder.{key_cmp};
-ghost use Rattle.iv_actions.specs.AffectedForeignKey.{key_taken, first_taking, acts, action_for, acts_on, under_wave, affected_where, affected_from, change_taking};
+ghost use Rattle.iv_account.specs.Accounts.{acts};
+ghost use Rattle.iv_actions.specs.AffectedForeignKey.{key_taken, first_taking, action_for, acts_on, under_wave, affected_where, affected_from, change_taking};
 
 use iv_catalogue::{Constraint, ForeignKey, Rule};
 use iv_expr::{Change, Row, TableId};

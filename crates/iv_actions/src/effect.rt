@@ -167,8 +167,8 @@ fn effect_for(
     }
 }
 
-// Whether a row refers by a foreign key of its table to the same key before and after.
-fn keeps_reference(
+/// Whether a row refers by a foreign key of its table to the same key before and after.
+pub fn keeps_reference(
     before: &LentRow<'_>,
     after: &LentRow<'_>,
     affected: &AffectedForeignKey<'_>,

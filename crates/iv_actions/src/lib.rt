@@ -1,6 +1,7 @@
 //! Referential actions: the wave that follows from a wave.
 #![tactic(auto)]
 
+mod acting;
 mod affected;
 mod by_table;
 mod change;
@@ -12,4 +13,5 @@ mod restrict;
 mod row;
 mod setting;
 
+pub use acting::{row_actions, row_then};
 pub use next::next_wave;

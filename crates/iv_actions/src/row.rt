@@ -1,5 +1,5 @@
 //! Rows before and after a wave, without a copy of their values.
-ghost use Rattle.std.specs.Prelude.{◌≡◌, ◌==◌, find};
+ghost use Rattle.std.specs.Prelude.{◌≡◌, ◌==◌, find, IfOk};
 ghost use Rattle.std.specs.Option.{option_copied};
 ghost use Rattle.iv_expr.specs.Changes.{RisingChanges, wave_of};
 ghost use Rattle.iv_machine.specs.Databases.{row_at};
@@ -9,6 +9,7 @@ ghost use Rattle.iv_laws_levels.specs.Holders.{row_before};
 use iv_expr::{Change, StoredRow, TableId};
 use iv_store::ReferencingRows;
 use iv_value::Value;
+use std::alloc::AllocError;
 use std::marker::Model;
 
 /// A row whose values are borrowed. Contracts see it as the row.
@@ -120,5 +121,48 @@ pub fn row_before<'a, K: ReferencingRows>(
     match change_of(changes, number) {
         Some(change) => old_row(change),
         None => row_after(store, number),
+    }
+}
+
+// A copy of the row that a change takes away; its values are shared.
+fn copy_of_old_row(change: &Change) -> Result<Option<StoredRow>, AllocError>
+    ensures { IfOk result (λ r. r ≡ old_row change.now) }
+{
+    match &change.old {
+        Some(old) => Ok(Some(StoredRow {
+            table: change.table,
+            number: change.row,
+            values: old.clone()?,
+        })),
+        None => Ok(None),
+    }
+}
+
+// So of the row of a number after the wave.
+fn copy_of_row_after<K: ReferencingRows>(
+    store: &K,
+    number: u64,
+) -> Result<Option<StoredRow>, AllocError>
+    ensures { IfOk result (λ r. r ≡ row_at (K.view store.now).base.rows number) }
+{
+    match store.row(number) {
+        Some(row) => Ok(Some(row.clone()?)),
+        None => Ok(None),
+    }
+}
+
+/// A copy of the row of a number before the wave.
+pub fn copy_of_row_before<K: ReferencingRows>(
+    store: &K,
+    changes: &[Change],
+    number: u64,
+) -> Result<Option<StoredRow>, AllocError>
+    requires { RisingChanges changes.now }
+    ensures { IfOk result (λ r. r ≡
+        row_before (wave_of changes.now) (K.view store.now).base.rows number) }
+{
+    match change_of(changes, number) {
+        Some(change) => copy_of_old_row(change),
+        None => copy_of_row_after(store, number),
     }
 }

@@ -1,9 +1,10 @@
-//! A program that uses the library: accounts, a transfer that is refused at COMMIT, and one that is not.
+//! A program that uses the library: bank accounts, a transfer that is refused at COMMIT, one that is not, and what happened
+//! in a statement that is refused.
 #![tactic(auto)]
 
 mod showing;
 
-use crate::showing::{show_outcome, show_pending};
+use crate::showing::{show_account, show_outcome, show_pending};
 use iv_index_store::IndexStore;
 use iv_parse::script;
 use iv_session::{Limits, Session};
@@ -58,7 +59,10 @@ fn transfers(rt: &HostRuntime, database: &mut Database) -> io::Result<()> {
     let work = database.work();
     println!(rt; "undone {}, keys looked up {}", work.undone, work.lookups)?;
     commit(rt, database)?;
+    database.explain(true);
     run(rt, database, TWICE)?;
+    show_account(rt, database.catalogue(), database.account())?;
+    database.explain(false);
     run(rt, database, BALANCES)
 }
 

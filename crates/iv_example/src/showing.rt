@@ -1,4 +1,5 @@
 //! Answers of statements in words.
+use iv_account::Entry;
 use iv_catalogue::{Catalogue, Cause, Fault, Refusal};
 use iv_expr::Row;
 use iv_session::{Answer, Outcome};
@@ -60,4 +61,27 @@ pub fn show_outcome(rt: &HostRuntime, catalogue: &Catalogue, outcome: &Outcome) 
         Ok(Answer::Rows(rows)) => show_rows(rt, rows.as_slice()),
         Err(refusal) => show_refusal(rt, catalogue, refusal),
     }
+}
+
+// An entry of an account.
+fn show_entry(rt: &HostRuntime, catalogue: &Catalogue, entry: &Entry) -> io::Result<()> {
+    match entry {
+        Entry::Changed(changes) => println!(rt; "rows that changed: {}", changes.len()),
+        Entry::Acted(actions) => println!(rt;
+            "rows on which a foreign key acts: {}",
+            actions.len()
+        ),
+        Entry::Ran(trigger, _) => println!(rt; "trigger {} runs", trigger.place()),
+        Entry::Began(place) => println!(rt; "statement {place} of it begins"),
+        Entry::Ended => println!(rt; "it ends"),
+        Entry::Faulted(fault, _) => show_fault(rt, catalogue, fault),
+    }
+}
+
+/// What happened in a statement.
+pub fn show_account(rt: &HostRuntime, catalogue: &Catalogue, entries: &[Entry]) -> io::Result<()> {
+    for entry in entries {
+        show_entry(rt, catalogue, entry)?;
+    }
+    Ok(())
 }

@@ -31,7 +31,7 @@ use Rattle.iv_waves.specs.Steps.{wave_with}
 abbrev then_fired : Runs → Context → DataStatement → List TableColumn → Wave → Progress → Result (Unit {0}) Failure → Result Progress Failure
 then_fired run w d columns net at r = and_then r (λ _. firings_run run (firings w d columns net) at)
 
-same_firings : (w : Context) (d : DataStatement) (own columns : List TableColumn) (parts : List (List Change)) (net : Wave) (triggers : List Trigger)
+pub same_firings : (w : Context) (d : DataStatement) (own columns : List TableColumn) (parts : List (List Change)) (net : Wave) (triggers : List Trigger)
     → SameColumns own columns → ByTableAndEvent parts net.changes → triggers ≡ w.schema.triggers → all_firings d own parts triggers ≡ firings w d columns net
 same_firings w d own columns parts net triggers same h e =
     ap (all_firings d own parts) e ∙ firings_parted w d own parts net h ∙ firings_by_name w d own columns net same

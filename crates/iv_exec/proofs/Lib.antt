@@ -2,3 +2,5 @@ pub mod Lending
 pub mod Refusing
 pub mod Turns
 pub mod Levels
+pub mod ToldTurns
+pub mod ToldLevels

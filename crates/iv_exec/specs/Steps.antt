@@ -12,6 +12,8 @@ use Rattle.iv_machine.specs.Databases.{size}
 use Rattle.iv_machine.specs.Levels.{Finished, Firing, Runs, Progress, body_run, firings, firings_run, immediate_check, level_columns}
 use Rattle.iv_machine.specs.Proposals.{holds, proposed_wave}
 use Rattle.iv_machine.specs.Waves.{net_wave, settled_waves}
+use Rattle.iv_account.specs.declared.entry.Entry.{Entry}
+use Rattle.iv_account.specs.Accounts.{before_statement_told, unless_refused}
 
 abbrev pub progress : Database → ℕ → Progress
 progress db budget = record { database = db; budget = budget }
@@ -27,6 +29,11 @@ abbrev pub allowed_wave : Context → DataStatement → Frame → Database → R
 allowed_wave context statement frame db =
     and_then (over db (proposed_wave context db frame statement)) (λ wave.
     and_then (with_count db (before_statement context db.rows statement)) (λ _. Ok wave))
+
+-- what is told of that
+abbrev pub allowed_told : Context → DataStatement → Frame → Database → List Entry
+allowed_told context statement frame db =
+    unless_refused (proposed_wave context db frame statement) (λ wave. before_statement_told context db.rows statement)
 
 -- the innermost trigger of a refusal that comes while this one runs
 abbrev pub innermost : ℕ → Option ℕ → Option ℕ

@@ -15,6 +15,8 @@ ghost use Rattle.iv_laws_rows.specs.Changing.{AnswersAt, StoreFits, UnlessMemory
 ghost use Rattle.iv_waves.specs.Applying.{Proposes};
 ghost use Rattle.iv_waves.specs.Running.{LeavesStore};
 ghost use Rattle.iv_store.specs.Lookups.{LooksUp};
+ghost use Rattle.iv_account.specs.Accounts.{account as account_of, body_told, finished_told, firing_told, firings_told, level_told, nested_told, statement_told, waves_and_after_told};
+ghost use Rattle.iv_account.specs.Telling.{and_told};
 ghost use Rattle.iv_exec.specs.Firing.{ActionFits, AreParts, AreTransitions, CanFire, MayBeParts};
 ghost use Rattle.iv_exec.specs.Settled.{Tells};
 ghost use Rattle.iv_waves.specs.Steps.{wave_with};
@@ -23,6 +25,7 @@ ghost use Rattle.iv_exec.specs.Steps.{body_run_where_true, finished, innermost, 
 
 use crate::lent::{are_transitions, row_frame, statement_at, statement_frame, trigger_at};
 use crate::start::{LevelChanges, allowed, check, settle_waves, takes_effect};
+use iv_account::Account;
 use iv_catalogue::{BodyStatement, Catalogue, Cause, DataStatement, Refusal, Trigger, TriggerId};
 use iv_expr::{Change, Frame, TableColumn};
 use iv_machine::Limits;
@@ -31,7 +34,8 @@ use iv_store::ChangeableRows;
 use iv_transitions::{Fires, Transitions, firings};
 use iv_triggers::Context;
 
-// A statement at a place of a trigger's body. SET is for BEFORE triggers alone.
+// A statement at a place of a trigger's body. SET is for BEFORE triggers alone. A data statement is told to begin, and
+// to end unless it is refused.
 #[cycle(level)]
 fn run_statement<K: ChangeableRows>(
     store: &mut K,
@@ -42,6 +46,7 @@ fn run_statement<K: ChangeableRows>(
     statement: &BodyStatement,
     deeper: u8,
     budget: &mut u64,
+    account: &mut Account,
 ) -> Result<(), Refusal>
     requires store { StoreFits context.now.schema (K.view store.old) }
     requires statement { ActionFits context.now.schema.tables frame.now statement.now }
@@ -52,12 +57,18 @@ fn run_statement<K: ChangeableRows>(
         (progress (K.view store.old).base budget.old)) }
     ensures store { LeavesStore context.now.schema result
         (K.view store.old) (K.lookups store.old) (K.view store.new) (K.lookups store.new) }
+    ensures told { UnlessMemory result (account.new ≡ and_told account.old
+        (statement_told (nested_level deeper context.now) (nested_told deeper context.now)
+        (record { trigger = trigger.now; frame = frame.now }) place statement.now
+        (progress (K.view store.old).base budget.old))) }
 {
     match statement {
         BodyStatement::Data(statement) => {
+            account.began(place)?;
             nested(
-                store, &*context, trigger.id, statement, &*frame, deeper, budget,
+                store, &*context, trigger.id, statement, &*frame, deeper, budget, account,
             )?;
+            account.ended()?;
             Ok(())
         }
         BodyStatement::Signal(_) => Err(Refusal::of(Cause::Signal(trigger.id, place))),
@@ -75,6 +86,7 @@ fn nested<K: ChangeableRows>(
     frame: &Frame<'_>,
     deeper: u8,
     budget: &mut u64,
+    account: &mut Account,
 ) -> Result<u64, Refusal>
     requires store { StoreFits context.now.schema (K.view store.old) }
     requires statement { StatementFits context.now.schema.tables frame.now statement.now }
@@ -85,11 +97,22 @@ fn nested<K: ChangeableRows>(
         (K.view store.old).base budget.old) }
     ensures store { LeavesStore context.now.schema result
         (K.view store.old) (K.lookups store.old) (K.view store.new) (K.lookups store.new) }
+    ensures told { UnlessMemory result (account.new ≡ and_told account.old
+        (nested_told deeper context.now trigger statement.now frame.now
+        (K.view store.old).base budget.old)) }
 {
     if deeper == 0 {
         return Err(Refusal::of(Cause::DepthLimit(trigger)));
     }
-    run_level(store, &*context, statement, &*frame, deeper - 1, budget)
+    run_level(
+        store,
+        &*context,
+        statement,
+        &*frame,
+        deeper - 1,
+        budget,
+        account,
+    )
 }
 
 // The statements of a trigger's body, in their order.
@@ -101,6 +124,7 @@ fn run_body<K: ChangeableRows>(
     frame: &Frame<'_>,
     deeper: u8,
     budget: &mut u64,
+    account: &mut Account,
 ) -> Result<(), Refusal>
     requires store { StoreFits context.now.schema (K.view store.old) }
     requires fires { CanFire context.now.schema.tables trigger.now }
@@ -112,6 +136,10 @@ fn run_body<K: ChangeableRows>(
         (progress (K.view store.old).base budget.old)) }
     ensures store { LeavesStore context.now.schema result
         (K.view store.old) (K.lookups store.old) (K.view store.new) (K.lookups store.new) }
+    ensures told { UnlessMemory result (account.new ≡ and_told account.old
+        (body_told (nested_level deeper context.now) (nested_told deeper context.now)
+        (record { trigger = trigger.now; frame = frame.now }) (placed_statements trigger.now)
+        (progress (K.view store.old).base budget.old))) }
 {
     let body = trigger.body.as_slice();
     let mut at = 0usize;
@@ -119,7 +147,7 @@ fn run_body<K: ChangeableRows>(
     while at < body.len() {
         let statement = statement_at(&*context, &*frame, body, at);
         run_statement(
-            store, &*context, trigger, &*frame, place, statement, deeper, budget,
+            store, &*context, trigger, &*frame, place, statement, deeper, budget, account,
         )?;
         at += 1;
         place += 1;
@@ -127,7 +155,7 @@ fn run_body<K: ChangeableRows>(
     Ok(())
 }
 
-// The body of a trigger, where its WHEN is true.
+// The body of a trigger, where its WHEN is true. That the trigger runs is told before its body runs.
 #[cycle(level)]
 fn run_where_true<K: ChangeableRows>(
     store: &mut K,
@@ -136,6 +164,7 @@ fn run_where_true<K: ChangeableRows>(
     frame: &Frame<'_>,
     deeper: u8,
     budget: &mut u64,
+    account: &mut Account,
 ) -> Result<(), Refusal>
     requires store { StoreFits context.now.schema (K.view store.old) }
     requires fires { CanFire context.now.schema.tables trigger.now }
@@ -147,9 +176,16 @@ fn run_where_true<K: ChangeableRows>(
         (progress (K.view store.old).base budget.old)) }
     ensures store { LeavesStore context.now.schema result
         (K.view store.old) (K.lookups store.old) (K.view store.new) (K.lookups store.new) }
+    ensures told { UnlessMemory result (account.new ≡ and_told account.old
+        (firing_told (nested_level deeper context.now) (nested_told deeper context.now)
+        (record { trigger = trigger.now; frame = frame.now })
+        (progress (K.view store.old).base budget.old))) }
 {
     match takes_effect(&*store, trigger, &*frame) {
-        Ok(true) => run_body(store, &*context, trigger, &*frame, deeper, budget),
+        Ok(true) => {
+            account.ran(trigger, &*frame)?;
+            run_body(store, &*context, trigger, &*frame, deeper, budget, account)
+        }
         Ok(false) => Ok(()),
         Err(cause) => Err(Refusal::of(cause)),
     }
@@ -174,6 +210,7 @@ fn fire<K: ChangeableRows>(
     frame: &Frame<'_>,
     deeper: u8,
     budget: &mut u64,
+    account: &mut Account,
 ) -> Result<(), Refusal>
     requires store { StoreFits context.now.schema (K.view store.old) }
     requires fires { CanFire context.now.schema.tables trigger.now }
@@ -185,8 +222,12 @@ fn fire<K: ChangeableRows>(
         (progress (K.view store.old).base budget.old)) }
     ensures store { LeavesStore context.now.schema result
         (K.view store.old) (K.lookups store.old) (K.view store.new) (K.lookups store.new) }
+    ensures told { UnlessMemory result (account.new ≡ and_told account.old
+        (firing_told (nested_level deeper context.now) (nested_told deeper context.now)
+        (record { trigger = trigger.now; frame = frame.now })
+        (progress (K.view store.old).base budget.old))) }
 {
-    match run_where_true(store, &*context, trigger, &*frame, deeper, budget) {
+    match run_where_true(store, &*context, trigger, &*frame, deeper, budget, account) {
         Ok(()) => Ok(()),
         Err(refusal) => Err(Refusal {
             cause: refusal.cause,
@@ -204,6 +245,7 @@ fn fire_rows<K: ChangeableRows>(
     transitions: &[Change],
     deeper: u8,
     budget: &mut u64,
+    account: &mut Account,
 ) -> Result<(), Refusal>
     requires store { StoreFits context.now.schema (K.view store.old) }
     requires fires { CanFire context.now.schema.tables trigger.now }
@@ -215,11 +257,15 @@ fn fire_rows<K: ChangeableRows>(
         (progress (K.view store.old).base budget.old)) }
     ensures store { LeavesStore context.now.schema result
         (K.view store.old) (K.lookups store.old) (K.view store.new) (K.lookups store.new) }
+    ensures told { UnlessMemory result (account.new ≡ and_told account.old
+        (firings_told (nested_level deeper context.now) (nested_told deeper context.now)
+        (map (row_firing trigger.now transitions.now) transitions.now)
+        (progress (K.view store.old).base budget.old))) }
 {
     let mut at = 0usize;
     while at < transitions.len() {
         let frame = row_frame(&*context, trigger, transitions, at);
-        fire(store, &*context, trigger, &frame, deeper, budget)?;
+        fire(store, &*context, trigger, &frame, deeper, budget, account)?;
         at += 1;
     }
     Ok(())
@@ -234,6 +280,7 @@ fn fire_once<K: ChangeableRows>(
     transitions: &[Change],
     deeper: u8,
     budget: &mut u64,
+    account: &mut Account,
 ) -> Result<(), Refusal>
     requires store { StoreFits context.now.schema (K.view store.old) }
     requires fires { CanFire context.now.schema.tables trigger.now }
@@ -245,9 +292,13 @@ fn fire_once<K: ChangeableRows>(
         (progress (K.view store.old).base budget.old)) }
     ensures store { LeavesStore context.now.schema result
         (K.view store.old) (K.lookups store.old) (K.view store.new) (K.lookups store.new) }
+    ensures told { UnlessMemory result (account.new ≡ and_told account.old
+        (firing_told (nested_level deeper context.now) (nested_told deeper context.now)
+        (statement_firing trigger.now transitions.now)
+        (progress (K.view store.old).base budget.old))) }
 {
     let frame = statement_frame(&*context, trigger, transitions);
-    fire(store, &*context, trigger, &frame, deeper, budget)
+    fire(store, &*context, trigger, &frame, deeper, budget, account)
 }
 
 // A trigger, as often as it fires.
@@ -261,6 +312,7 @@ fn fire_trigger<K: ChangeableRows>(
     transitions: &Transitions,
     deeper: u8,
     budget: &mut u64,
+    account: &mut Account,
 ) -> Result<(), Refusal>
     requires store { StoreFits context.now.schema (K.view store.old) }
     requires fires { CanFire context.now.schema.tables trigger.now }
@@ -272,16 +324,20 @@ fn fire_trigger<K: ChangeableRows>(
         (progress (K.view store.old).base budget.old)) }
     ensures store { LeavesStore context.now.schema result
         (K.view store.old) (K.lookups store.old) (K.view store.new) (K.lookups store.new) }
+    ensures told { UnlessMemory result (account.new ≡ and_told account.old
+        (firings_told (nested_level deeper context.now) (nested_told deeper context.now)
+        (after_firings statement.now columns.now transitions.now trigger.now)
+        (progress (K.view store.old).base budget.old))) }
 {
     match firings(statement, trigger, columns, &*transitions) {
         Fires::Never => Ok(()),
         Fires::Once(changes) => {
             are_transitions(&*context, trigger, &*transitions, changes);
-            fire_once(store, &*context, trigger, changes, deeper, budget)
+            fire_once(store, &*context, trigger, changes, deeper, budget, account)
         }
         Fires::EachRow(changes) => {
             are_transitions(&*context, trigger, &*transitions, changes);
-            fire_rows(store, &*context, trigger, changes, deeper, budget)
+            fire_rows(store, &*context, trigger, changes, deeper, budget, account)
         }
     }
 }
@@ -297,6 +353,7 @@ fn fire_all<K: ChangeableRows>(
     transitions: &Transitions,
     deeper: u8,
     budget: &mut u64,
+    account: &mut Account,
 ) -> Result<(), Refusal>
     requires store { StoreFits context.now.schema (K.view store.old) }
     requires short { BodiesWithinLimit triggers.now }
@@ -309,6 +366,10 @@ fn fire_all<K: ChangeableRows>(
         (progress (K.view store.old).base budget.old)) }
     ensures store { LeavesStore context.now.schema result
         (K.view store.old) (K.lookups store.old) (K.view store.new) (K.lookups store.new) }
+    ensures told { UnlessMemory result (account.new ≡ and_told account.old
+        (firings_told (nested_level deeper context.now) (nested_told deeper context.now)
+        (all_firings statement.now columns.now transitions.now triggers.now)
+        (progress (K.view store.old).base budget.old))) }
 {
     let mut at = 0usize;
     while at < triggers.len() {
@@ -322,6 +383,7 @@ fn fire_all<K: ChangeableRows>(
             &*transitions,
             deeper,
             budget,
+            account,
         )?;
         at += 1;
     }
@@ -337,6 +399,7 @@ fn finish<K: ChangeableRows>(
     told: &Option<LevelChanges>,
     deeper: u8,
     budget: &mut u64,
+    account: &mut Account,
 ) -> Result<(), Refusal>
     requires store { StoreFits context.now.schema (K.view store.old) }
     requires parts { MayBeParts context.now.schema.tables told.now }
@@ -348,8 +411,14 @@ fn finish<K: ChangeableRows>(
         (progress (K.view store.old).base budget.old)) }
     ensures store { LeavesStore context.now.schema result
         (K.view store.old) (K.lookups store.old) (K.view store.new) (K.lookups store.new) }
+    ensures told { (columns : List Column) (net : Changes)
+        → Tells context.now statement.now columns net told.now
+        → UnlessMemory result (account.new ≡ and_told account.old
+        (finished_told (nested_level deeper context.now) (nested_told deeper context.now)
+        context.now statement.now columns net
+        (progress (K.view store.old).base budget.old))) }
 {
-    check(&*store, &*context)?;
+    check(&*store, &*context, account)?;
     match told {
         None => Ok(()),
         Some(changes) => fire_all(
@@ -361,6 +430,7 @@ fn finish<K: ChangeableRows>(
             &changes.transitions,
             deeper,
             budget,
+            account,
         ),
     }
 }
@@ -374,6 +444,7 @@ fn run_waves<K: ChangeableRows>(
     changes: Vec<Change>,
     deeper: u8,
     budget: &mut u64,
+    account: &mut Account,
 ) -> Result<u64, Refusal>
     requires store { StoreFits context.now.schema (K.view store.old) }
     requires fit { changes_fit context.now.schema.tables changes.items ≡ true }
@@ -385,10 +456,14 @@ fn run_waves<K: ChangeableRows>(
         (K.view store.old).base budget.old (wave_with (set_columns statement.now) changes.items)) }
     ensures store { LeavesStore context.now.schema result
         (K.view store.old) (K.lookups store.old) (K.view store.new) (K.lookups store.new) }
+    ensures told { UnlessMemory result (account.new ≡ and_told account.old
+        (waves_and_after_told (nested_level deeper context.now) (nested_told deeper context.now)
+        context.now statement.now (K.view store.old).base budget.old
+        (wave_with (set_columns statement.now) changes.items))) }
 {
     let size = changes.len() as u64;
-    let told = settle_waves(store, &*context, statement, budget, changes)?;
-    finish(store, &*context, statement, &told, deeper, budget)?;
+    let told = settle_waves(store, &*context, statement, budget, changes, account)?;
+    finish(store, &*context, statement, &told, deeper, budget, account)?;
     Ok(size)
 }
 
@@ -401,6 +476,7 @@ fn run_level<K: ChangeableRows>(
     frame: &Frame<'_>,
     deeper: u8,
     budget: &mut u64,
+    account: &mut Account,
 ) -> Result<u64, Refusal>
     requires store { StoreFits context.now.schema (K.view store.old) }
     requires statement { StatementFits context.now.schema.tables frame.now statement.now }
@@ -410,25 +486,31 @@ fn run_level<K: ChangeableRows>(
         (level deeper context.now statement.now frame.now (K.view store.old).base budget.old) }
     ensures store { LeavesStore context.now.schema result
         (K.view store.old) (K.lookups store.old) (K.view store.new) (K.lookups store.new) }
+    ensures told { UnlessMemory result (account.new ≡ and_told account.old
+        (level_told (nested_level deeper context.now) (nested_told deeper context.now)
+        context.now statement.now frame.now (K.view store.old).base budget.old)) }
 {
     if *budget == 0 {
         return Err(Refusal::of(Cause::TooManyChanges));
     }
     *budget -= 1;
-    let changes = allowed(&*store, &*context, statement, &*frame)?;
-    run_waves(store, &*context, statement, changes, deeper, budget)
+    let changes = allowed(&*store, &*context, statement, &*frame, account)?;
+    run_waves(
+        store, &*context, statement, changes, deeper, budget, account,
+    )
 }
 
 /// INSERT, UPDATE or DELETE of a script, with all that follows from it, and how many rows it changed itself
 /// ("Insert statement", "Update statement: searched", "Delete statement: searched"). Where it is refused,
 /// the store is left with what it changed so far, so that the count of its changes is exact; the caller undoes
-/// it to a mark that it made before.
+/// it to a mark that it made before. What happens is told in its order, also of a statement that is refused.
 pub fn change<K: ChangeableRows>(
     store: &mut K,
     statement: &DataStatement,
     catalogue: &Catalogue,
     modes: &Modes,
     limits: Limits,
+    account: &mut Account,
 ) -> Result<u64, Refusal>
     requires store { StoreFits catalogue.now (K.view store.old) }
     requires statement { data_suits catalogue.now.tables
@@ -442,6 +524,10 @@ pub fn change<K: ChangeableRows>(
     ensures looked_up { UnlessMemory result (LooksUp
         (K.view store.old) (K.lookups store.old) (K.view store.new) (K.lookups store.new)) }
     ensures store { OnOk result (StoreFits catalogue.now (K.view store.new)) }
+    ensures told { UnlessMemory result (account.new ≡ and_told account.old
+        (account_of (limits.depth - 1)
+        (record { schema = catalogue.now; modes = modes.now.modes }) statement.now no_frame
+        (K.view store.old).base limits.changes)) }
 {
     let context = Context::new(catalogue, modes);
     let frame = Frame::none();
@@ -453,5 +539,6 @@ pub fn change<K: ChangeableRows>(
         &frame,
         limits.depth() - 1,
         &mut budget,
+        account,
     )
 }

@@ -7,14 +7,17 @@ ghost use Rattle.iv_machine.specs.Levels.{immediate_check, level_columns};
 ghost use Rattle.iv_machine.specs.Proposals.{holds, set_columns};
 ghost use Rattle.iv_machine.specs.Waves.{net_wave};
 ghost use Rattle.iv_laws_rows.specs.RowFits.{StatementFits, changes_fit};
-ghost use Rattle.iv_laws_rows.specs.Changing.{AnswersAt, StoreFits};
+ghost use Rattle.iv_laws_rows.specs.Changing.{AnswersAt, StoreFits, UnlessMemory};
 ghost use Rattle.iv_waves.specs.Applying.{Proposes};
 ghost use Rattle.iv_waves.specs.Running.{LeavesStore};
+ghost use Rattle.iv_account.specs.Accounts.{check_told, waves_told};
+ghost use Rattle.iv_account.specs.Telling.{and_told};
 ghost use Rattle.iv_exec.specs.Firing.{MayBeParts};
 ghost use Rattle.iv_waves.specs.Steps.{wave_with};
 ghost use Rattle.iv_exec.specs.Settled.{Settles, Tells};
-ghost use Rattle.iv_exec.specs.Steps.{allowed_wave};
+ghost use Rattle.iv_exec.specs.Steps.{allowed_told, allowed_wave};
 
+use iv_account::Account;
 use iv_catalogue::{Cause, DataStatement, Refusal, Trigger};
 use iv_expr::{Change, Frame, Scope, TableColumn, Wave};
 use iv_machine::Which;
@@ -31,6 +34,7 @@ pub fn allowed<'x, K: ChangeableRows>(
     context: &Context<'_>,
     statement: &DataStatement,
     frame: &'x Frame<'x>,
+    account: &mut Account,
 ) -> Result<Vec<Change>, Refusal>
     requires store { StoreFits context.now.schema (K.view store.now) }
     requires statement { StatementFits context.now.schema.tables frame.now statement.now }
@@ -41,24 +45,35 @@ pub fn allowed<'x, K: ChangeableRows>(
         ≡ true) }
     ensures proposed { IfOk result
         (λ changes. Proposes context.now (K.view store.now).base changes.items) }
+    ensures told { UnlessMemory result (account.new ≡ and_told account.old
+        (allowed_told context.now statement.now frame.now (K.view store.now).base)) }
 {
     match proposed(store, context, frame, statement) {
         Ok(changes) => {
-            before_statement(context, store, statement)?;
+            before_statement(context, store, statement, account)?;
             Ok(changes)
         }
         Err(cause) => Err(Refusal::of(cause)),
     }
 }
 
-/// Refused with the first violation of an immediate constraint.
-pub fn check<K: ChangeableRows>(store: &K, context: &Context<'_>) -> Result<(), Refusal>
+/// Refused with the first violation of an immediate constraint, which is told.
+pub fn check<K: ChangeableRows>(
+    store: &K,
+    context: &Context<'_>,
+    account: &mut Account,
+) -> Result<(), Refusal>
     requires { (K.view store.now).constraints ≡ context.now.schema.constraints }
-    ensures { AnswersAt (λ _. tt) (K.view store.now).base.count result
+    ensures answer { AnswersAt (λ _. tt) (K.view store.now).base.count result
         (immediate_check context.now (K.view store.now).base) }
+    ensures told { UnlessMemory result (account.new ≡ and_told account.old
+        (check_told context.now (K.view store.now).base)) }
 {
     match store.first_fault(context.modes(), Which::Immediate) {
-        Some(fault) => Err(Refusal::of(Cause::Violation(fault))),
+        Some(fault) => {
+            account.violated(store, context.catalogue(), &fault)?;
+            Err(Refusal::of(Cause::Violation(fault)))
+        }
         None => Ok(()),
     }
 }
@@ -102,6 +117,7 @@ pub fn settle_waves<K: ChangeableRows>(
     statement: &DataStatement,
     budget: &mut u64,
     changes: Vec<Change>,
+    account: &mut Account,
 ) -> Result<Option<LevelChanges>, Refusal>
     requires store { StoreFits context.now.schema (K.view store.old) }
     requires fit { changes_fit context.now.schema.tables changes.items ≡ true }
@@ -111,9 +127,12 @@ pub fn settle_waves<K: ChangeableRows>(
     ensures parts { IfOk result (λ told. MayBeParts context.now.schema.tables told) }
     ensures store { LeavesStore context.now.schema result
         (K.view store.old) (K.lookups store.old) (K.view store.new) (K.lookups store.new) }
+    ensures told { UnlessMemory result (account.new ≡ and_told account.old
+        (waves_told context.now (K.view store.old).base budget.old
+        (wave_with (set_columns statement.now) changes.items))) }
 {
     let columns = set_columns(store.allocator(), statement)?;
-    let waves = settle(store, context, budget, changes, columns)?;
+    let waves = settle(store, context, budget, changes, columns, account)?;
     Ok(level_changes(store.allocator(), context, statement, waves.as_slice())?)
 }
 

@@ -1,7 +1,10 @@
 -- The command line of `sqlkeep` as clap's definitions read it, and what its matches mean.
-use Rattle.std.specs.Prelude.{ℕ, List, Option, Some, None, codes, pos}
+use Rattle.std.specs.Prelude.{ℕ, Bool, false, List, Option, Some, None, codes, pos}
+use Rattle.std.specs.Option.{option_map_or}
+use Rattle.std.specs.Str.{bytes_eq}
 use Rattle.std.specs.Str.Parse.{digits_value, without_leading_plus}
 use Rattle.clap.specs.Words.{App, Row, Rule, Text, first_of, new_app, new_rule, one_of, with_rule}
+use Rattle.clap.specs.declared.builder.action.ArgAction.TheVariants.{SetTrue}
 use Rattle.clap.specs.declared.builder.value_parser.ValueParser.TheVariants as parser
 use Rattle.iv_machine.specs.declared.limits.TheConstants.{MOST_CHANGES_IN_A_STATEMENT}
 use Rattle.iv_machine.specs.Bounds.{Bounds, least_depth, greatest_depth, fewest_changes_in_a_statement, most_changes_in_a_statement}
@@ -24,13 +27,21 @@ changes_rule = record (new_rule (codes "changes")) {
       Some (parser.Signed (pos fewest_changes_in_a_statement) (pos most_changes_in_a_statement));
 }
 
+-- --explain
+abbrev pub explain_rule : Rule
+explain_rule = record (new_rule (codes "explain")) {
+  long = Some (codes "explain");
+  action = Some SetTrue;
+}
+
 -- FILE
 abbrev pub file_rule : Rule
 file_rule = record (new_rule (codes "file")) { value_names = 1 }
 
--- sqlkeep [--depth N] [--changes N] [FILE]
+-- sqlkeep [--depth N] [--changes N] [--explain] [FILE]
 abbrev pub command_line : App
-command_line = with_rule (with_rule (with_rule (new_app (codes "sqlkeep")) depth_rule) changes_rule) file_rule
+command_line =
+    with_rule (with_rule (with_rule (with_rule (new_app (codes "sqlkeep")) depth_rule) changes_rule) explain_rule) file_rule
 
 -- the number that a text's digits write, or another one where there is no text
 abbrev pub number_or : ℕ → Option Text → ℕ
@@ -43,6 +54,14 @@ limits_of rows = record {
   depth = number_or USUAL_DEPTH (one_of (codes "depth") rows);
   changes = number_or MOST_CHANGES_IN_A_STATEMENT (one_of (codes "changes") rows);
 }
+
+-- the text of a flag that is given; of one that isn't given it is "false"
+abbrev pub is_given : Text → Bool
+is_given text = bytes_eq text (codes "true")
+
+-- whether they say that accounts are written
+abbrev pub explains_of : List Row → Bool
+explains_of rows = option_map_or is_given (one_of (codes "explain") rows) false
 
 -- the file that they give
 abbrev pub file_of : List Row → Option Text

@@ -1,9 +1,9 @@
 //! The command that `clap` reads words for.
 ghost use Rattle.std.specs.Prelude.{◌≡◌, false, IfOk};
 ghost use Rattle.clap.specs.Words.{app_of, rule_of};
-ghost use Rattle.iv_options.specs.CommandLine.{changes_rule, command_line, depth_rule, file_rule};
+ghost use Rattle.iv_options.specs.CommandLine.{changes_rule, command_line, depth_rule, explain_rule, file_rule};
 
-use clap::{Arg, Command, value_parser};
+use clap::{Arg, ArgAction, Command, value_parser};
 use iv_machine::{
     FEWEST_CHANGES_IN_A_STATEMENT, GREATEST_DEPTH, LEAST_DEPTH, MOST_CHANGES_IN_A_STATEMENT,
 };
@@ -35,6 +35,16 @@ fn changes<'a>(alloc: Global) -> Arg<'a>
         .help("How many row changes one statement may make, 65536 if not given")
 }
 
+fn explain<'a>(alloc: Global) -> Arg<'a>
+    ensures rule { rule_of result ≡ explain_rule }
+    ensures local { result.global ≡ false }
+{
+    Arg::new(alloc, "explain")
+        .long("explain")
+        .action(ArgAction::SetTrue)
+        .help("Writes after each statement's line what happened in it")
+}
+
 fn file<'a>(alloc: Global) -> Arg<'a>
     ensures rule { rule_of result ≡ file_rule }
     ensures local { result.global ≡ false }
@@ -44,7 +54,7 @@ fn file<'a>(alloc: Global) -> Arg<'a>
         .help("The script, standard input if not given")
 }
 
-/// `sqlkeep [--depth N] [--changes N] [FILE]`.
+/// `sqlkeep [--depth N] [--changes N] [--explain] [FILE]`.
 pub fn command<'a>(alloc: Global) -> Result<Command<'a>, AllocError>
     ensures { IfOk result (λ c. app_of c ≡ command_line) }
 {
@@ -52,5 +62,6 @@ pub fn command<'a>(alloc: Global) -> Result<Command<'a>, AllocError>
         .about("Runs a script of SQL statements in a new database and writes its transcript")
         .arg(depth(alloc))?
         .arg(changes(alloc))?
+        .arg(explain(alloc))?
         .arg(file(alloc))
 }

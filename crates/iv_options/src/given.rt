@@ -7,6 +7,8 @@ use std::alloc::AllocError;
 #[derive(Clone, Copy, Debug)]
 pub struct Options<'a> {
     pub limits: Limits,
+    /// Whether the account of each statement is written.
+    pub explain: bool,
     /// The file of the script; standard input where there is none.
     pub file: Option<&'a str>,
 }

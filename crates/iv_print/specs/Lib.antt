@@ -4,3 +4,5 @@ pub mod Devices
 pub mod Buffering
 pub mod Writing
 pub mod Lines
+pub mod AccountLines
+pub mod WorkedAccounts

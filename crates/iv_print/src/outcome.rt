@@ -1,6 +1,7 @@
 //! The text of an outcome.
 ghost use Rattle.std.specs.Prelude.{◌≡◌, ℕ, ◌++◌, length, slice_get, codes};
 ghost use Rattle.std.specs.List.{flat_map};
+ghost use Rattle.iv_value.specs.References.{value_of};
 ghost use Rattle.iv_catalogue.specs.Catalogues.{trigger_numbered};
 ghost use Rattle.iv_print.specs.Writing.{Writes};
 ghost use Rattle.iv_print.specs.Lines.{quote_doubled, value_text, further_text, values_text, row_text, name_of, constraint_text, row_number_text, fault_text, trigger_text, body_statement, signal_text, signal_details, cause_words, details, inside_trigger, inside_text, answer_text, refusal_text, line};
@@ -13,7 +14,7 @@ use iv_catalogue::{
 };
 use iv_expr::Row;
 use iv_machine::Answer;
-use iv_value::Value;
+use iv_value::{Value, ValueRef};
 
 fn write_byte<W: Sink>(sink: &mut W, byte: u8) -> Result<(), DeviceFault>
     ensures { Writes (W.state sink.old) (W.state sink.new) result (quote_doubled byte) }
@@ -47,17 +48,24 @@ fn write_text<W: Sink>(sink: &mut W, text: &str) -> Result<(), DeviceFault>
     write_all(sink, b"'")
 }
 
+pub(crate) fn write_borrowed<W: Sink>(sink: &mut W, value: ValueRef<'_>) -> Result<(), DeviceFault>
+    ensures { Writes (W.state sink.old) (W.state sink.new) result
+        (value_text (value_of value.entry)) }
+{
+    match value {
+        ValueRef::Null => write_all(sink, b"NULL"),
+        ValueRef::Int(number) => {
+            let mut buffer = Buffer::new();
+            write_all(sink, buffer.format(number).as_bytes())
+        }
+        ValueRef::Text(text) => write_text(sink, text.as_str()),
+    }
+}
+
 fn write_value<W: Sink>(sink: &mut W, value: &Value) -> Result<(), DeviceFault>
     ensures { Writes (W.state sink.old) (W.state sink.new) result (value_text value.now) }
 {
-    match value {
-        Value::Null => write_all(sink, b"NULL"),
-        Value::Int(number) => {
-            let mut buffer = Buffer::new();
-            write_all(sink, buffer.format(*number).as_bytes())
-        }
-        Value::Text(text) => write_text(sink, text.as_str()),
-    }
+    write_borrowed(sink, value.as_ref())
 }
 
 fn write_further<W: Sink>(sink: &mut W, value: &Value) -> Result<(), DeviceFault>
@@ -80,7 +88,7 @@ fn write_more<W: Sink>(sink: &mut W, values: &[Value]) -> Result<(), DeviceFault
     Ok(())
 }
 
-fn write_values<W: Sink>(sink: &mut W, values: &[Value]) -> Result<(), DeviceFault>
+pub(crate) fn write_values<W: Sink>(sink: &mut W, values: &[Value]) -> Result<(), DeviceFault>
     ensures { Writes (W.state sink.old) (W.state sink.new) result (values_text values.now) }
 {
     match values {
@@ -111,7 +119,7 @@ fn write_rows<W: Sink>(sink: &mut W, rows: &[Row]) -> Result<(), DeviceFault>
     Ok(())
 }
 
-fn write_name<W: Sink>(
+pub(crate) fn write_name<W: Sink>(
     sink: &mut W,
     constraints: &[Constraint],
     id: ConstraintId,
@@ -137,7 +145,7 @@ fn write_constraint<W: Sink>(
     write_name(sink, catalogue.constraints(), id)
 }
 
-fn write_row_number<W: Sink>(sink: &mut W, row: u64) -> Result<(), DeviceFault>
+pub(crate) fn write_row_number<W: Sink>(sink: &mut W, row: u64) -> Result<(), DeviceFault>
     ensures { Writes (W.state sink.old) (W.state sink.new) result (row_number_text row) }
 {
     write_all(sink, b" row ")?;
@@ -185,7 +193,7 @@ fn cause_words(cause: &Cause) -> &'static str
     }
 }
 
-fn write_trigger<W: Sink>(
+pub(crate) fn write_trigger<W: Sink>(
     sink: &mut W,
     catalogue: &Catalogue,
     id: TriggerId,

@@ -1,5 +1,5 @@
 -- What the status of the program means, and what it writes on standard error.
-use Rattle.std.specs.Prelude.{◌≡◌, ℕ, ◌<◌, ◌≤◌, ◌==◌, ◌&&◌, if◌then◌else◌, List, ◌++◌, codes, length, Option, Result, is_none, IfSome}
+use Rattle.std.specs.Prelude.{◌≡◌, ℕ, ◌<◌, ◌≤◌, ◌==◌, ◌&&◌, Bool, if◌then◌else◌, List, ◌++◌, codes, length, Option, Result, is_none, IfSome}
 use Rattle.std.specs.Str.{IsUtf8}
 use Rattle.iv_machine.specs.Bounds.{Bounds}
 use Rattle.iv_print.specs.Counts.{counted}
@@ -18,11 +18,11 @@ use Rattle.iv_script.specs.declared.summary.Summary.{Summary}
 abbrev pub status_of : Summary → ℕ
 status_of summary = if (summary.refused == 0) && is_none summary.fault then 0 else 1
 
--- The transcript of these bytes under these limits was appended, for some choice of statements that were
--- refused memory, and the status says whether all was accepted.
-pub record WroteTranscript (bytes : List ℕ) (limits : Bounds) (status : ℕ) (before after : SinkState) : Type 0 where
+-- The transcript of these bytes under these limits was appended, with accounts where they are asked for, for some choice of statements
+-- that were refused memory, and the status says whether all was accepted.
+pub record WroteTranscript (bytes : List ℕ) (limits : Bounds) (asked : Bool) (status : ℕ) (before after : SinkState) : Type 0 where
   pub summary : Summary
-  pub ran : RanScript bytes limits summary before after
+  pub ran : RanScript bytes limits asked summary before after
   pub status_is : status ≡ status_of summary
 
 -- What is known where a run did not end because of this fault: of the bytes of its script, of the

@@ -44,12 +44,26 @@ fn run_options<X: Executor + Drop, H: Files + Input, W: Sink, E: Sink>(
     let limits = options.limits;
     let Some(file) = options.file else {
         let mut reader = Std::new(rt.reader());
-        return run_script::<X, Std<H::Reader>, W, E>(alloc, limits, &mut reader, writer, faults);
+        return run_script::<X, Std<H::Reader>, W, E>(
+            alloc,
+            limits,
+            options.explain,
+            &mut reader,
+            writer,
+            faults,
+        );
     };
     match File::open(rt, file) {
         Ok(file) => {
             let mut reader = Std::new(file);
-            run_script::<X, Std<H::File>, W, E>(alloc, limits, &mut reader, writer, faults)
+            run_script::<X, Std<H::File>, W, E>(
+                alloc,
+                limits,
+                options.explain,
+                &mut reader,
+                writer,
+                faults,
+            )
         }
         Err(_) => status(faults, Err(RunFault::Read)),
     }

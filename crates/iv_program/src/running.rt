@@ -45,19 +45,20 @@ pub fn status<E: Sink>(faults: &mut E, done: Result<Summary, RunFault>) -> u8
     }
 }
 
-/// Runs the script that the reader gives, under these limits, and writes its transcript. The answer is the
-/// status: 0 where every statement was accepted, 1 where one was refused or the script has a fault, and 2 where it
+/// Runs the script that the reader gives, under these limits, and writes its transcript, with the account of each
+/// statement where that is asked for. The answer is the status: 0 where every statement was accepted, 1 where one was refused or the script has a fault, and 2 where it
 /// did not run to its end, which alone has a line on `faults`.
 pub fn run_script<X: Executor + Drop, R: Source, W: Sink, E: Sink>(
     alloc: Global,
     limits: Limits,
+    explain: bool,
     reader: &mut R,
     writer: &mut W,
     faults: &mut E,
 ) -> u8
     // What was written is the transcript, and the status is 0 where all was accepted and else 1.
     ensures transcript { result < 2 → IfSome (R.remaining reader.old) (λ bytes.
-        WroteTranscript bytes limits result (W.state writer.old) (W.state writer.new)) }
+        WroteTranscript bytes limits explain result (W.state writer.old) (W.state writer.new)) }
     ensures fits { result < 2 → IfSome (R.remaining reader.old) (λ bytes. Fits LONGEST bytes) }
     ensures bound { result ≤ 2 }
     // A run that did not reach its end wrote nothing, unless a write failed.
@@ -74,6 +75,6 @@ pub fn run_script<X: Executor + Drop, R: Source, W: Sink, E: Sink>(
         × WritesLine fault (E.state faults.old) (E.state faults.new) }
     ensures quiet { result < 2 → faults.new ≡ faults.old }
 {
-    let done = run::<X, R, W>(alloc, reader, writer, limits);
+    let done = run::<X, R, W>(alloc, reader, writer, limits, explain);
     status(faults, done)
 }

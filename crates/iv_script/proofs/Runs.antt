@@ -1,8 +1,10 @@
 -- One statement after another.
-use Rattle.std.proofs.Common.{◌≡◌, ℕ, ◌+◌, ◌≤◌, Bool, true, false, if◌then◌else◌, List, [], ◌∷◌, ◌++◌, Option, None, Result, Ok, Err, ◌∙◌, sym, ap, subst, refl, append_assoc, append-nil, length, length-append, arith}
+use Rattle.std.proofs.Common.{◌≡◌, inl, inr, ℕ, ◌+◌, ◌≤◌, Bool, true, false, if◌then◌else◌, List, [], ◌∷◌, ◌++◌, Option, None, Result, Ok, Err, ◌∙◌, sym, ap, subst, refl, append_assoc, append-nil, length, length-append, arith}
 use Rattle.std.specs.Io.KnownBytes.{Appends}
 use Rattle.std.proofs.KnownBytes.{Appends-trans, Appends-nil}
 use Rattle.iv_syntax.specs.declared.statement.Statement.{Statement}
+use Rattle.iv_account.specs.declared.entry.Entry.{Entry}
+use Rattle.iv_account.specs.Telling.{Account, MayTell, no_account}
 use Rattle.iv_catalogue.specs.Catalogues.{Schema}
 use Rattle.iv_catalogue.specs.declared.cause.Cause.{Cause}
 use Rattle.iv_catalogue.specs.declared.cause.Cause.TheVariants as cause
@@ -10,27 +12,70 @@ use Rattle.iv_catalogue.specs.declared.cause.Refusal.{Refusal}
 use Rattle.iv_machine.specs.declared.answer.Answer.{Answer}
 use Rattle.iv_catalogue.specs.Refusals.{is_memory}
 use Rattle.iv_machine.specs.Machine.{State, Outcome, IsMemoryRefusal, MemoryRefused, changes_rows, may_tell}
+use Rattle.iv_resolution.specs.Resolution.{resolution}
 use Rattle.iv_step.specs.Step.{step, takes_no_memory, Executes}
+use Rattle.iv_step.specs.Telling.{Tells, commits, statement_told}
+use Rattle.iv_print.specs.AccountLines.{account_text}
 use Rattle.iv_print.specs.Lines.{line}
 use Rattle.iv_print.specs.Sinks.{SinkState, FailsNever}
 use Rattle.iv_print.specs.Writing.{Writes}
 use Rattle.iv_print.proofs.WriteLemmas.{never_then}
 use Rattle.iv_script.specs.declared.statements.Tally.{Tally}
-use Rattle.iv_script.specs.Transcript.{Memory, IsDue, AreDue, granted, denied, Ran, following, outcome, lines, accepted_of, refused_of, run_from, memory_refusals}
+use Rattle.iv_script.specs.Transcript.{Memory, IsDue, AreDue, granted, denied, untold, Ran, following, outcome, lines, accepted_of, refused_of, run_from, told_with, memory_refusals}
 use Rattle.iv_script.specs.Running.{RanOne, RanAll}
 
 -- ---- one statement
 
--- the answer and the state are those of the machine, with the memory that this says
-pub record Did (old new : State) (st : Statement) (r : Result Answer Refusal) : Type 0 where
+-- the answer, the state and the account are those of the machine, with the memory that this says
+pub record Did (asked : Bool) (old new : State) (st : Statement) (r : Result Answer Refusal) (account : Account) : Type 0 where
   pub memory : Memory
   pub due : IsDue memory old st
   pub counted : (if is_memory r then 1 else 0) ≡ memory_refusals (memory ∷ [])
   pub answer_is : r ≡ (outcome memory old st).answer
   pub state_is : new ≡ (outcome memory old st).state
+  pub told_is : account ≡ record { asked = asked; entries = told_with asked memory old st }
 
-did_plain : (old new : State) (st : Statement) (r : Result Answer Refusal) → is_memory r ≡ false → (r ≡ (step old st).answer) × (new ≡ (step old st).state) → Did old new st r
-did_plain old new st r m e = record { memory = granted; due = tt; counted = ap (λ b. if b then 1 else 0) m; answer_is = e.0; state_is = e.1 }
+-- what is told after nothing was
+abbrev told_alone : Bool → List Entry → Account
+told_alone asked entries = record { asked = asked; entries = if asked then entries else [] }
+
+alone : (asked : Bool) (old : State) (st : Statement) → told_alone asked (statement_told old st) ≡ record { asked = asked; entries = told_with asked granted old st }
+alone true old st = refl
+alone false old st = refl
+
+none_denied : (asked : Bool) (old : State) (st : Statement) (t : Option ℕ) → no_account asked ≡ record { asked = asked; entries = told_with asked (denied t) old st }
+none_denied true old st t = refl
+none_denied false old st t = refl
+
+none_told : (asked : Bool) (old : State) (st : Statement) → no_account asked ≡ record { asked = asked; entries = told_with asked untold old st }
+none_told true old st = refl
+none_told false old st = refl
+
+did_plain : (asked : Bool) (old new : State) (st : Statement) (r : Result Answer Refusal) (account : Account) → is_memory r ≡ false
+    → (r ≡ (step old st).answer) × (new ≡ (step old st).state) → MayTell (commits (resolution old.schema st)) (no_account asked) account (statement_told old st)
+    → Did asked old new st r account
+did_plain asked old new st r account m e told = by (commits (resolution old.schema st)) refl told where
+  as_told : account ≡ told_alone asked (statement_told old st) → Did asked old new st r account
+  as_told told = record {
+    memory = granted;
+    due = tt;
+    counted = ap (λ b. if b then 1 else 0) m;
+    answer_is = e.0;
+    state_is = e.1;
+    told_is = told ∙ alone asked old st;
+  }
+
+  by : (b : Bool) → commits (resolution old.schema st) ≡ b → MayTell b (no_account asked) account (statement_told old st) → Did asked old new st r account
+  by false c told = as_told told
+  by true c (inl told) = as_told told
+  by true c (inr none) = record {
+    memory = untold;
+    due = c;
+    counted = ap (λ b. if b then 1 else 0) m;
+    answer_is = e.0;
+    state_is = e.1;
+    told_is = none ∙ none_told asked old st;
+  }
 
 abbrev told_by : Result Answer Refusal → Option ℕ
 told_by (Ok a) = None
@@ -51,46 +96,61 @@ is_due : (b : Bool) → (b ≡ true → true ≡ false) → b ≡ false
 is_due true sure = sure refl
 is_due false sure = refl
 
-did_denied : (old new : State) (st : Statement) (t : Option ℕ) → MemoryRefused old st (Err (record { cause = cause.OutOfMemory; trigger = t })) new
-    → (takes_no_memory old st ≡ true → true ≡ false) → Did old new st (Err (record { cause = cause.OutOfMemory; trigger = t }))
-did_denied old new st t e sure = record { memory = denied t; due = is_due (takes_no_memory old st) sure; counted = refl; answer_is = denied_is (changes_rows st) old.schema t e.1; state_is = e.0 }
+did_denied : (asked : Bool) (old new : State) (st : Statement) (t : Option ℕ) (account : Account) → MemoryRefused old st (Err (record { cause = cause.OutOfMemory; trigger = t })) new
+    → (takes_no_memory old st ≡ true → true ≡ false) → account ≡ no_account asked → Did asked old new st (Err (record { cause = cause.OutOfMemory; trigger = t })) account
+did_denied asked old new st t account e sure none = record {
+  memory = denied t;
+  due = is_due (takes_no_memory old st) sure;
+  counted = refl;
+  answer_is = denied_is (changes_rows st) old.schema t e.1;
+  state_is = e.0;
+  told_is = none ∙ none_denied asked old st t;
+}
 
-did_refused : (old new : State) (st : Statement) (c : Cause) (t : Option ℕ) → Executes old st (Err (record { cause = c; trigger = t })) new
-    → (takes_no_memory old st ≡ true → is_memory {A = Answer} (Err (record { cause = c; trigger = t })) ≡ false) → Did old new st (Err (record { cause = c; trigger = t }))
-did_refused old new st cause.OutOfMemory t e sure = did_denied old new st t e sure
-did_refused old new st cause.Unknown t e sure = did_plain old new st (Err (record { cause = cause.Unknown; trigger = t })) refl e
-did_refused old new st cause.Duplicate t e sure = did_plain old new st (Err (record { cause = cause.Duplicate; trigger = t })) refl e
-did_refused old new st cause.SchemaFault t e sure = did_plain old new st (Err (record { cause = cause.SchemaFault; trigger = t })) refl e
-did_refused old new st cause.InTransaction t e sure = did_plain old new st (Err (record { cause = cause.InTransaction; trigger = t })) refl e
-did_refused old new st cause.NoTransaction t e sure = did_plain old new st (Err (record { cause = cause.NoTransaction; trigger = t })) refl e
-did_refused old new st cause.ActiveTransaction t e sure = did_plain old new st (Err (record { cause = cause.ActiveTransaction; trigger = t })) refl e
-did_refused old new st cause.UnknownSavepoint t e sure = did_plain old new st (Err (record { cause = cause.UnknownSavepoint; trigger = t })) refl e
-did_refused old new st (cause.NotDeferrable k) t e sure = did_plain old new st (Err (record { cause = cause.NotDeferrable k; trigger = t })) refl e
-did_refused old new st cause.WrongShape t e sure = did_plain old new st (Err (record { cause = cause.WrongShape; trigger = t })) refl e
-did_refused old new st cause.NumberOutOfRange t e sure = did_plain old new st (Err (record { cause = cause.NumberOutOfRange; trigger = t })) refl e
-did_refused old new st cause.TextTooLong t e sure = did_plain old new st (Err (record { cause = cause.TextTooLong; trigger = t })) refl e
-did_refused old new st (cause.Restrict f) t e sure = did_plain old new st (Err (record { cause = cause.Restrict f; trigger = t })) refl e
-did_refused old new st (cause.Violation f) t e sure = did_plain old new st (Err (record { cause = cause.Violation f; trigger = t })) refl e
-did_refused old new st (cause.ActionConflict f) t e sure = did_plain old new st (Err (record { cause = cause.ActionConflict f; trigger = t })) refl e
-did_refused old new st (cause.Signal k p) t e sure = did_plain old new st (Err (record { cause = cause.Signal k p; trigger = t })) refl e
-did_refused old new st (cause.DepthLimit k) t e sure = did_plain old new st (Err (record { cause = cause.DepthLimit k; trigger = t })) refl e
-did_refused old new st cause.TooManyChanges t e sure = did_plain old new st (Err (record { cause = cause.TooManyChanges; trigger = t })) refl e
-did_refused old new st cause.TransactionTooLarge t e sure = did_plain old new st (Err (record { cause = cause.TransactionTooLarge; trigger = t })) refl e
-did_refused old new st (cause.CommitRefused f) t e sure = did_plain old new st (Err (record { cause = cause.CommitRefused f; trigger = t })) refl e
-did_refused old new st (cause.AddRefused n) t e sure = did_plain old new st (Err (record { cause = cause.AddRefused n; trigger = t })) refl e
-did_refused old new st cause.Limit t e sure = did_plain old new st (Err (record { cause = cause.Limit; trigger = t })) refl e
+did_refused : (asked : Bool) (old new : State) (st : Statement) (c : Cause) (t : Option ℕ) (account : Account) → Executes old st (Err (record { cause = c; trigger = t })) new
+    → (takes_no_memory old st ≡ true → is_memory {A = Answer} (Err (record { cause = c; trigger = t })) ≡ false)
+    → Tells asked old st (Err (record { cause = c; trigger = t })) account → Did asked old new st (Err (record { cause = c; trigger = t })) account
+did_refused asked old new st cause.OutOfMemory t account e sure told = did_denied asked old new st t account e sure told
+did_refused asked old new st cause.Unknown t account e sure told = did_plain asked old new st (Err (record { cause = cause.Unknown; trigger = t })) account refl e told
+did_refused asked old new st cause.Duplicate t account e sure told = did_plain asked old new st (Err (record { cause = cause.Duplicate; trigger = t })) account refl e told
+did_refused asked old new st cause.SchemaFault t account e sure told = did_plain asked old new st (Err (record { cause = cause.SchemaFault; trigger = t })) account refl e told
+did_refused asked old new st cause.InTransaction t account e sure told = did_plain asked old new st (Err (record { cause = cause.InTransaction; trigger = t })) account refl e told
+did_refused asked old new st cause.NoTransaction t account e sure told = did_plain asked old new st (Err (record { cause = cause.NoTransaction; trigger = t })) account refl e told
+did_refused asked old new st cause.ActiveTransaction t account e sure told = did_plain asked old new st (Err (record { cause = cause.ActiveTransaction; trigger = t })) account refl e told
+did_refused asked old new st cause.UnknownSavepoint t account e sure told = did_plain asked old new st (Err (record { cause = cause.UnknownSavepoint; trigger = t })) account refl e told
+did_refused asked old new st (cause.NotDeferrable k) t account e sure told = did_plain asked old new st (Err (record { cause = cause.NotDeferrable k; trigger = t })) account refl e told
+did_refused asked old new st cause.WrongShape t account e sure told = did_plain asked old new st (Err (record { cause = cause.WrongShape; trigger = t })) account refl e told
+did_refused asked old new st cause.NumberOutOfRange t account e sure told = did_plain asked old new st (Err (record { cause = cause.NumberOutOfRange; trigger = t })) account refl e told
+did_refused asked old new st cause.TextTooLong t account e sure told = did_plain asked old new st (Err (record { cause = cause.TextTooLong; trigger = t })) account refl e told
+did_refused asked old new st (cause.Restrict f) t account e sure told = did_plain asked old new st (Err (record { cause = cause.Restrict f; trigger = t })) account refl e told
+did_refused asked old new st (cause.Violation f) t account e sure told = did_plain asked old new st (Err (record { cause = cause.Violation f; trigger = t })) account refl e told
+did_refused asked old new st (cause.ActionConflict f) t account e sure told = did_plain asked old new st (Err (record { cause = cause.ActionConflict f; trigger = t })) account refl e told
+did_refused asked old new st (cause.Signal k p) t account e sure told = did_plain asked old new st (Err (record { cause = cause.Signal k p; trigger = t })) account refl e told
+did_refused asked old new st (cause.DepthLimit k) t account e sure told = did_plain asked old new st (Err (record { cause = cause.DepthLimit k; trigger = t })) account refl e told
+did_refused asked old new st cause.TooManyChanges t account e sure told = did_plain asked old new st (Err (record { cause = cause.TooManyChanges; trigger = t })) account refl e told
+did_refused asked old new st cause.TransactionTooLarge t account e sure told = did_plain asked old new st (Err (record { cause = cause.TransactionTooLarge; trigger = t })) account refl e told
+did_refused asked old new st (cause.CommitRefused f) t account e sure told = did_plain asked old new st (Err (record { cause = cause.CommitRefused f; trigger = t })) account refl e told
+did_refused asked old new st (cause.AddRefused n) t account e sure told = did_plain asked old new st (Err (record { cause = cause.AddRefused n; trigger = t })) account refl e told
+did_refused asked old new st cause.Limit t account e sure told = did_plain asked old new st (Err (record { cause = cause.Limit; trigger = t })) account refl e told
 
-pub did : (old new : State) (st : Statement) (r : Result Answer Refusal) → Executes old st r new → (takes_no_memory old st ≡ true → is_memory r ≡ false) → Did old new st r
-did old new st (Ok a) e sure = did_plain old new st (Ok a) refl e
-did old new st (Err r) e sure = did_refused old new st r.cause r.trigger e sure
+pub did : (asked : Bool) (old new : State) (st : Statement) (r : Result Answer Refusal) (account : Account) → Executes old st r new
+    → (takes_no_memory old st ≡ true → is_memory r ≡ false) → Tells asked old st r account → Did asked old new st r account
+did asked old new st (Ok a) account e sure told = did_plain asked old new st (Ok a) account refl e told
+did asked old new st (Err r) account e sure told = did_refused asked old new st r.cause r.trigger account e sure told
+
+-- whether an account is asked for stays
+pub still_asked : (asked : Bool) (old new : State) (st : Statement) (r : Result Answer Refusal) (account : Account) → Executes old st r new
+    → (takes_no_memory old st ≡ true → is_memory r ≡ false) → Tells asked old st r account → account.asked ≡ asked
+still_asked asked old new st r account e sure told = ap (λ x. x.asked) (did asked old new st r account e sure told).told_is
 
 -- a statement's lines were written, and its outcome was counted
-pub ran_one : (n : ℕ) (old new : State) (st : Statement) (r : Result Answer Refusal) (schema : Schema) (tally tally_then : Tally) (before after : SinkState)
-    → Executes old st r new → (takes_no_memory old st ≡ true → is_memory r ≡ false) → schema ≡ new.schema → Writes before after (Ok tt) (line n r schema)
+pub ran_one : (asked : Bool) (n : ℕ) (old new : State) (st : Statement) (r : Result Answer Refusal) (account : Account) (tally tally_then : Tally) (before after : SinkState)
+    → Executes old st r new → (takes_no_memory old st ≡ true → is_memory r ≡ false) → Tells asked old st r account
+    → Writes before after (Ok tt) (line n r new.schema ++ account_text new.schema r account.entries)
     → tally_then.accepted ≡ tally.accepted + accepted_of r → tally_then.refused ≡ tally.refused + refused_of r → tally_then.memory_refused ≡ tally.memory_refused + (if is_memory r then 1 else 0)
-    → RanOne n old new st tally tally_then before after
-ran_one n old new st r schema tally tally_then before after e sure q w a f s =
-    let d : Did old new st r = did old new st r e sure in
+    → RanOne asked n old new st tally tally_then before after
+ran_one asked n old new st r account tally tally_then before after e sure told w a f s =
+    let d : Did asked old new st r account = did asked old new st r account e sure told in
     record {
       memory = d.memory;
       due = d.due;
@@ -99,7 +159,7 @@ ran_one n old new st r schema tally tally_then before after e sure q w a f s =
       refused_is = f ∙ ap (λ x. tally.refused + refused_of x) d.answer_is;
       memory_refusals_are = s ∙ ap (λ k. tally.memory_refused + k) d.counted;
       appended = subst (Appends before.contents after.contents)
-          (ap (λ x. line n x schema) d.answer_is ∙ ap (λ c. line n (outcome d.memory old st).answer c) (q ∙ ap (λ t. t.schema) d.state_is)) w.0;
+          ((λ i. line n (d.answer_is i) (d.state_is i).schema ++ account_text (d.state_is i).schema (d.answer_is i) (d.told_is i).entries)) w.0;
       works = w.1;
     }
 
@@ -128,60 +188,63 @@ following_none r =
 counted_more : (ms : List Memory) (m : Memory) → memory_refusals (ms ++ m ∷ []) ≡ memory_refusals ms + memory_refusals (m ∷ [])
 counted_more [] (denied t) = refl
 counted_more [] granted = refl
+counted_more [] untold = refl
 counted_more (denied t ∷ ms) m = omega (arith, counted_more ms m)
 counted_more (granted ∷ ms) m = counted_more ms m
+counted_more (untold ∷ ms) m = counted_more ms m
 
 -- these ran, and the rest is left
-pub record Onward (old now : State) (all rest : List Statement) (n : ℕ) (tally : Tally) (before after : SinkState) : Type 0 where
+pub record Onward (asked : Bool) (old now : State) (all rest : List Statement) (n : ℕ) (tally : Tally) (before after : SinkState) : Type 0 where
   pub memory : List Memory
   pub written : List ℕ
   pub each : length memory ≡ n
   pub due : (more : List Memory) → AreDue now rest more → AreDue old all (memory ++ more)
   pub memory_refusals_are : memory_refusals memory ≡ tally.memory_refused
   pub appended : Appends before.contents after.contents written
-  pub onward : (more : List Memory) → run_from old 0 all (memory ++ more) ≡ following written tally.accepted tally.refused (run_from now n rest more)
+  pub onward : (more : List Memory) → run_from asked old 0 all (memory ++ more) ≡ following written tally.accepted tally.refused (run_from asked now n rest more)
   pub works : FailsNever before after
 
-pub onward_start : (s : State) (all : List Statement) (tally : Tally) (a : SinkState) → tally.accepted ≡ 0 → tally.refused ≡ 0 → tally.memory_refused ≡ 0 → Onward s s all all 0 tally a a
-onward_start s all tally a p q z = record {
+pub onward_start : (asked : Bool) (s : State) (all : List Statement) (tally : Tally) (a : SinkState) → tally.accepted ≡ 0 → tally.refused ≡ 0 → tally.memory_refused ≡ 0 → Onward asked s s all all 0 tally a a
+onward_start asked s all tally a p q z = record {
   memory = [];
   written = [];
   each = refl;
   due = λ more left. left;
   memory_refusals_are = sym z;
   appended = Appends-nil a.contents;
-  onward = λ more. rw (p, q) (following_none (run_from s 0 all more));
+  onward = λ more. rw (p, q) (following_none (run_from asked s 0 all more));
   works = (refl, refl);
 }
 
-pub onward_more : (old now new : State) (all left rest : List Statement) (st : Statement) (n : ℕ) (t u : Tally) (a before after : SinkState)
-    → Onward old now all left n t a before → left ≡ st ∷ rest → RanOne (n + 1) now new st t u before after → Onward old new all rest (n + 1) u a after
-onward_more old now new all left rest st n t u a before after w e r =
+pub onward_more : (asked : Bool) (old now new : State) (all left rest : List Statement) (st : Statement) (n : ℕ) (t u : Tally) (a before after : SinkState)
+    → Onward asked old now all left n t a before → left ≡ st ∷ rest → RanOne asked (n + 1) now new st t u before after → Onward asked old new all rest (n + 1) u a after
+onward_more asked old now new all left rest st n t u a before after w e r =
     let o : Outcome = outcome r.memory now st in
+    let told : List Entry = told_with asked r.memory now st in
     record {
       memory = w.memory ++ r.memory ∷ [];
-      written = w.written ++ lines (n + 1) o;
+      written = w.written ++ lines (n + 1) o told;
       each = omega (arith, length-append w.memory (r.memory ∷ []), w.each);
       due = λ more left.
           subst (AreDue old all) (sym (append_assoc w.memory (r.memory ∷ []) more))
           (w.due (r.memory ∷ more) (subst (λ l. AreDue now l (r.memory ∷ more)) (sym e) (r.due, subst (λ s. AreDue s rest more) r.state_is left)));
       memory_refusals_are = counted_more w.memory r.memory ∙ ap (λ z. z + memory_refusals (r.memory ∷ [])) w.memory_refusals_are ∙ sym r.memory_refusals_are;
-      appended = Appends-trans a.contents before.contents after.contents w.written (lines (n + 1) o) w.appended r.appended;
+      appended = Appends-trans a.contents before.contents after.contents w.written (lines (n + 1) o told) w.appended r.appended;
       onward = λ more.
-          ap (λ l. run_from old 0 all l) (append_assoc w.memory (r.memory ∷ []) more)
+          ap (λ l. run_from asked old 0 all l) (append_assoc w.memory (r.memory ∷ []) more)
           ∙ w.onward (r.memory ∷ more)
-          ∙ ap (λ l. following w.written t.accepted t.refused (run_from now n l (r.memory ∷ more))) e
-          ∙ following_twice w.written (lines (n + 1) o) t.accepted (accepted_of o.answer) t.refused (refused_of o.answer) (run_from o.state (n + 1) rest more)
-          ∙ ap (λ z. following (w.written ++ lines (n + 1) o) z (t.refused + refused_of o.answer) (run_from o.state (n + 1) rest more)) (sym r.accepted_is)
-          ∙ ap (λ z. following (w.written ++ lines (n + 1) o) u.accepted z (run_from o.state (n + 1) rest more)) (sym r.refused_is)
-          ∙ ap (λ s. following (w.written ++ lines (n + 1) o) u.accepted u.refused (run_from s (n + 1) rest more)) (sym r.state_is);
+          ∙ ap (λ l. following w.written t.accepted t.refused (run_from asked now n l (r.memory ∷ more))) e
+          ∙ following_twice w.written (lines (n + 1) o told) t.accepted (accepted_of o.answer) t.refused (refused_of o.answer) (run_from asked o.state (n + 1) rest more)
+          ∙ ap (λ z. following (w.written ++ lines (n + 1) o told) z (t.refused + refused_of o.answer) (run_from asked o.state (n + 1) rest more)) (sym r.accepted_is)
+          ∙ ap (λ z. following (w.written ++ lines (n + 1) o told) u.accepted z (run_from asked o.state (n + 1) rest more)) (sym r.refused_is)
+          ∙ ap (λ s. following (w.written ++ lines (n + 1) o told) u.accepted u.refused (run_from asked s (n + 1) rest more)) (sym r.state_is);
       works = never_then a before after w.works r.works;
     }
 
-pub onward_end : (old now : State) (all rest : List Statement) (n : ℕ) (t : Tally) (a b : SinkState) → Onward old now all rest n t a b → rest ≡ [] → n ≡ length all → RanAll old now all t a b
-onward_end old now all rest n t a b w e q =
-    let done : run_from old 0 all w.memory ≡ following w.written t.accepted t.refused (record { text = []; state = now; accepted = 0; refused = 0 }) =
-    ap (run_from old 0 all) (sym (append-nil w.memory)) ∙ w.onward [] ∙ ap (λ l. following w.written t.accepted t.refused (run_from now n l [])) e in
+pub onward_end : (asked : Bool) (old now : State) (all rest : List Statement) (n : ℕ) (t : Tally) (a b : SinkState) → Onward asked old now all rest n t a b → rest ≡ [] → n ≡ length all → RanAll asked old now all t a b
+onward_end asked old now all rest n t a b w e q =
+    let done : run_from asked old 0 all w.memory ≡ following w.written t.accepted t.refused (record { text = []; state = now; accepted = 0; refused = 0 }) =
+    ap (run_from asked old 0 all) (sym (append-nil w.memory)) ∙ w.onward [] ∙ ap (λ l. following w.written t.accepted t.refused (run_from asked now n l [])) e in
     record {
       memory = w.memory;
       each = w.each ∙ q;
@@ -205,11 +268,12 @@ one_refused (Err r) = omega arith
 one_memory_refusal : (m : Memory) → memory_refusals (m ∷ []) ≤ 1
 one_memory_refusal (denied t) = omega arith
 one_memory_refusal granted = omega arith
+one_memory_refusal untold = omega arith
 
 -- a statement is counted once
-pub few_more : (n k : ℕ) (now new : State) (st : Statement) (t u : Tally) (before after : SinkState) → RanOne n now new st t u before after
+pub few_more : (asked : Bool) (n k : ℕ) (now new : State) (st : Statement) (t u : Tally) (before after : SinkState) → RanOne asked n now new st t u before after
     → t.accepted ≤ k → t.refused ≤ k → t.memory_refused ≤ k → (u.accepted ≤ k + 1) × (u.refused ≤ k + 1) × (u.memory_refused ≤ k + 1)
-few_more n k now new st t u before after r a f s = (
+few_more asked n k now new st t u before after r a f s = (
   omega (arith, r.accepted_is, one_accepted (outcome r.memory now st).answer, a),
   omega (arith, r.refused_is, one_refused (outcome r.memory now st).answer, f),
   omega (arith, r.memory_refusals_are, one_memory_refusal r.memory, s),

@@ -1,5 +1,5 @@
 -- A whole script.
-use Rattle.std.proofs.Common.{◌≡◌, ℕ, ◌+◌, List, [], ◌∷◌, ◌++◌, Option, ◌∙◌, ap, subst, refl, length, arith, is_some, Ok, option_map}
+use Rattle.std.proofs.Common.{◌≡◌, ℕ, ◌+◌, Bool, false, List, [], ◌∷◌, ◌++◌, Option, ◌∙◌, ap, subst, refl, length, arith, is_some, Ok, option_map}
 use Rattle.std.specs.Io.KnownBytes.{Appends}
 use Rattle.std.proofs.KnownBytes.{Appends-trans}
 use Rattle.iv_syntax.specs.declared.statement.Statement.{Statement}
@@ -13,13 +13,13 @@ use Rattle.iv_print.proofs.WriteLemmas.{never_then}
 use Rattle.iv_parse.specs.declared.parser.SyntaxFault.{SyntaxFault}
 use Rattle.iv_script.specs.declared.statements.Tally.{Tally}
 use Rattle.iv_script.specs.declared.summary.Summary.{Summary}
-use Rattle.iv_script.specs.Transcript.{Memory, granted, denied, Ran, following, outcome, lines, accepted_of, refused_of, run_from, memory_refusals, fault_line, end_line, closing_lines, fault_place, RanScript, RanWithMemory}
+use Rattle.iv_script.specs.Transcript.{Memory, granted, denied, untold, Ran, following, outcome, lines, accepted_of, refused_of, run_from, memory_refusals, fault_line, end_line, closing_lines, fault_place, RanScript, RanWithMemory}
 use Rattle.iv_script.specs.Running.{RanAll, RanParsed}
 
-pub ran_parsed : (old new : State) (sts : List Statement) (fault : Option ℕ) (tally : Tally) (b0 b1 b2 b3 : SinkState)
-    → RanAll old new sts tally b0 b1 → Writes b1 b2 (Ok tt) (fault_line (length sts) fault) → Writes b2 b3 (Ok tt) (end_line (is_some new.start))
-    → RanParsed old sts fault tally b0 b3
-ran_parsed old new sts fault tally b0 b1 b2 b3 r p q = record {
+pub ran_parsed : (asked : Bool) (old new : State) (sts : List Statement) (fault : Option ℕ) (tally : Tally) (b0 b1 b2 b3 : SinkState)
+    → RanAll asked old new sts tally b0 b1 → Writes b1 b2 (Ok tt) (fault_line (length sts) fault) → Writes b2 b3 (Ok tt) (end_line (is_some new.start))
+    → RanParsed asked old sts fault tally b0 b3
+ran_parsed asked old new sts fault tally b0 b1 b2 b3 r p q = record {
   memory = r.memory;
   each = r.each;
   due = r.due;
@@ -36,10 +36,10 @@ ran_parsed old new sts fault tally b0 b1 b2 b3 r p q = record {
 abbrev pub summary_of : Tally → Option SyntaxFault → Summary
 summary_of tally fault = record { accepted = tally.accepted; refused = tally.refused; memory_refused = tally.memory_refused; fault = fault }
 
-pub ran_script : (bytes : List ℕ) (limits : Bounds) (sts : List Statement) (fault : Option SyntaxFault) (tally : Tally) (a b : SinkState)
-    → IsScript bytes sts (option_map (λ f. f.at) fault) → RanParsed (empty_state limits) sts (option_map (λ f. f.at) fault) tally a b
-    → RanScript bytes limits (summary_of tally fault) a b
-ran_script bytes limits sts fault tally a b s r = record {
+pub ran_script : (bytes : List ℕ) (limits : Bounds) (asked : Bool) (sts : List Statement) (fault : Option SyntaxFault) (tally : Tally) (a b : SinkState)
+    → IsScript bytes sts (option_map (λ f. f.at) fault) → RanParsed asked (empty_state limits) sts (option_map (λ f. f.at) fault) tally a b
+    → RanScript bytes limits asked (summary_of tally fault) a b
+ran_script bytes limits asked sts fault tally a b s r = record {
   statements = sts;
   memory = r.memory;
   is_script = s;
@@ -51,16 +51,18 @@ ran_script bytes limits sts fault tally a b s r = record {
   appended = r.appended;
 }
 
--- where no statement wants memory, the run is the machine's
-run_with_memory : (s : State) (n : ℕ) (sts : List Statement) (memory : List Memory) → memory_refusals memory ≡ 0 → run_from s n sts memory ≡ run_from s n sts []
+-- where no account is asked for and no statement wants memory, the run is the machine's
+run_with_memory : (s : State) (n : ℕ) (sts : List Statement) (memory : List Memory) → memory_refusals memory ≡ 0 → run_from false s n sts memory ≡ run_from false s n sts []
 run_with_memory s n [] memory h = refl
 run_with_memory s n (st ∷ sts) [] h = refl
 run_with_memory s n (st ∷ sts) (denied t ∷ ms) h = absurd (omega (arith, h))
 run_with_memory s n (st ∷ sts) (granted ∷ ms) h =
-    ap (following (lines (n + 1) (outcome granted s st)) (accepted_of (step s st).answer) (refused_of (step s st).answer)) (run_with_memory (step s st).state (n + 1) sts ms h)
+    ap (following (lines (n + 1) (outcome granted s st) []) (accepted_of (step s st).answer) (refused_of (step s st).answer)) (run_with_memory (step s st).state (n + 1) sts ms h)
+run_with_memory s n (st ∷ sts) (untold ∷ ms) h =
+    ap (following (lines (n + 1) (outcome untold s st) []) (accepted_of (step s st).answer) (refused_of (step s st).answer)) (run_with_memory (step s st).state (n + 1) sts ms h)
 
 pub ran_with_memory : (bytes : List ℕ) (limits : Bounds) (summary : Summary) (a b : SinkState)
-    → RanScript bytes limits summary a b → summary.memory_refused ≡ 0 → RanWithMemory bytes limits (fault_place summary) a b
+    → RanScript bytes limits false summary a b → summary.memory_refused ≡ 0 → RanWithMemory bytes limits (fault_place summary) a b
 ran_with_memory bytes limits summary a b r z = record {
   statements = r.statements;
   is_script = r.is_script;

@@ -1,14 +1,14 @@
 -- What running statements and writing their lines does.
-use Rattle.std.specs.Prelude.{◌≡◌, ℕ, ◌+◌, List, Option, ◌++◌, [], ◌∷◌, length}
+use Rattle.std.specs.Prelude.{◌≡◌, ℕ, ◌+◌, Bool, List, Option, ◌++◌, [], ◌∷◌, length}
 use Rattle.std.specs.Io.KnownBytes.{Appends}
 use Rattle.iv_syntax.specs.declared.statement.Statement.{Statement}
 use Rattle.iv_machine.specs.Machine.{State}
 use Rattle.iv_print.specs.Sinks.{SinkState, FailsNever}
 use Rattle.iv_script.specs.declared.statements.Tally.{Tally}
-use Rattle.iv_script.specs.Transcript.{Memory, IsDue, AreDue, outcome, lines, accepted_of, refused_of, run_from, memory_refusals, closing_lines}
+use Rattle.iv_script.specs.Transcript.{Memory, IsDue, AreDue, outcome, lines, accepted_of, refused_of, run_from, told_with, memory_refusals, closing_lines}
 
 -- one statement ran, with or without memory: its lines were written, and this is the state after it
-pub record RanOne (n : ℕ) (old new : State) (st : Statement) (tally tally_then : Tally)
+pub record RanOne (asked : Bool) (n : ℕ) (old new : State) (st : Statement) (tally tally_then : Tally)
     (before after : SinkState) : Type 0 where
   pub memory : Memory
   pub due : IsDue memory old st
@@ -17,32 +17,32 @@ pub record RanOne (n : ℕ) (old new : State) (st : Statement) (tally tally_then
       ≡ tally.accepted + accepted_of (outcome memory old st).answer
   pub refused_is : tally_then.refused ≡ tally.refused + refused_of (outcome memory old st).answer
   pub memory_refusals_are : tally_then.memory_refused ≡ tally.memory_refused + memory_refusals (memory ∷ [])
-  pub appended : Appends before.contents after.contents (lines n (outcome memory old st))
+  pub appended : Appends before.contents after.contents (lines n (outcome memory old st) (told_with asked memory old st))
   pub works : FailsNever before after
 
 -- all statements ran; for each it is chosen whether it was refused memory
-pub record RanAll (old new : State) (sts : List Statement) (tally : Tally)
+pub record RanAll (asked : Bool) (old new : State) (sts : List Statement) (tally : Tally)
     (before after : SinkState) : Type 0 where
   pub memory : List Memory
   pub each : length memory ≡ length sts
   pub due : AreDue old sts memory
   pub memory_refusals_are : memory_refusals memory ≡ tally.memory_refused
-  pub accepted_is : (run_from old 0 sts memory).accepted ≡ tally.accepted
-  pub refused_is : (run_from old 0 sts memory).refused ≡ tally.refused
-  pub state_is : new ≡ (run_from old 0 sts memory).state
-  pub appended : Appends before.contents after.contents (run_from old 0 sts memory).text
+  pub accepted_is : (run_from asked old 0 sts memory).accepted ≡ tally.accepted
+  pub refused_is : (run_from asked old 0 sts memory).refused ≡ tally.refused
+  pub state_is : new ≡ (run_from asked old 0 sts memory).state
+  pub appended : Appends before.contents after.contents (run_from asked old 0 sts memory).text
   pub works : FailsNever before after
 
 -- the statements ran, and the lines of the script's end were written
-pub record RanParsed (old : State) (sts : List Statement) (fault : Option ℕ) (tally : Tally)
+pub record RanParsed (asked : Bool) (old : State) (sts : List Statement) (fault : Option ℕ) (tally : Tally)
     (before after : SinkState) : Type 0 where
   pub memory : List Memory
   pub each : length memory ≡ length sts
   pub due : AreDue old sts memory
   pub memory_refusals_are : memory_refusals memory ≡ tally.memory_refused
-  pub accepted_is : (run_from old 0 sts memory).accepted ≡ tally.accepted
-  pub refused_is : (run_from old 0 sts memory).refused ≡ tally.refused
+  pub accepted_is : (run_from asked old 0 sts memory).accepted ≡ tally.accepted
+  pub refused_is : (run_from asked old 0 sts memory).refused ≡ tally.refused
   pub appended : Appends before.contents after.contents
-      ((run_from old 0 sts memory).text
-      ++ closing_lines (length sts) fault (run_from old 0 sts memory).state)
+      ((run_from asked old 0 sts memory).text
+      ++ closing_lines (length sts) fault (run_from asked old 0 sts memory).state)
   pub works : FailsNever before after

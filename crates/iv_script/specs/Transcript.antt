@@ -8,7 +8,11 @@ use Rattle.iv_catalogue.specs.declared.cause.Refusal.{Refusal}
 use Rattle.iv_machine.specs.declared.answer.Answer.{Answer}
 use Rattle.iv_machine.specs.Bounds.{Bounds}
 use Rattle.iv_machine.specs.Machine.{State, Outcome, no_work, changes_rows, may_tell, empty_state}
+use Rattle.iv_resolution.specs.Resolution.{resolution}
+use Rattle.iv_account.specs.declared.entry.Entry.{Entry}
 use Rattle.iv_step.specs.Step.{step, takes_no_memory}
+use Rattle.iv_step.specs.Telling.{commits, statement_told}
+use Rattle.iv_print.specs.AccountLines.{account_text}
 use Rattle.iv_print.specs.Lines.{line}
 use Rattle.iv_print.specs.Sinks.{SinkState}
 use Rattle.iv_script.specs.declared.summary.Summary.{Summary}
@@ -38,10 +42,12 @@ abbrev pub refused_of : Result Answer Refusal → ℕ
 refused_of (Ok a) = 0
 refused_of (Err r) = 1
 
--- For a statement: it has the memory that it takes, or memory is refused, in this trigger or outside of every one.
+-- For a statement: it has the memory that it takes; or memory is refused, in this trigger or outside of every one; or it is refused to
+-- the account of a COMMIT alone.
 pub data Memory : Type 0 where
   granted : Memory
   denied : Option ℕ → Memory
+  untold : Memory
 
 -- Cause 22, which leaves the state. It names a trigger only where the statement changes rows and the catalogue has it.
 abbrev pub memory_refused_outcome : State → Statement → Option ℕ → Outcome
@@ -55,16 +61,23 @@ memory_refused_outcome s st trigger = record {
 abbrev pub outcome : Memory → State → Statement → Outcome
 outcome granted s st = step s st
 outcome (denied trigger) s st = memory_refused_outcome s st trigger
+outcome untold s st = step s st
 
 -- Memory is refused only to a statement that takes some: not to COMMIT or ROLLBACK, nor to one that is refused for the transaction
--- that is open or isn't.
+-- that is open or isn't. It is refused to the account of a COMMIT alone.
 abbrev pub IsDue : Memory → State → Statement → Type 0
 IsDue granted s st = Unit {0}
 IsDue (denied trigger) s st = takes_no_memory s st ≡ false
+IsDue untold s st = commits (resolution s.schema st) ≡ true
 
--- the lines of a statement's outcome, with the catalogue as it is directly after it
-abbrev pub lines : ℕ → Outcome → List ℕ
-lines n o = line n o.answer o.state.schema
+-- what is told of a statement, where an account is asked for
+abbrev pub told_with : Bool → Memory → State → Statement → List Entry
+told_with true granted s st = statement_told s st
+told_with _ _ s st = []
+
+-- the lines of a statement's outcome, and those of its account, with the catalogue as it is directly after it
+abbrev pub lines : ℕ → Outcome → List Entry → List ℕ
+lines n o told = line n o.answer o.state.schema ++ account_text o.state.schema o.answer told
 
 -- the memory of the first statement; it is granted where the list is empty
 abbrev pub first_memory : List Memory → Memory
@@ -75,13 +88,13 @@ abbrev pub later_memory : List Memory → List Memory
 later_memory [] = []
 later_memory (m ∷ ms) = ms
 
--- The run of statements after the n-th, where the list says which of them are refused memory.
-abbrev pub run_from : State → ℕ → List Statement → List Memory → Ran
-run_from s n [] memory = record { text = []; state = s; accepted = 0; refused = 0 }
-run_from s n (st ∷ sts) memory =
+-- The run of statements after the n-th, with accounts where they are asked for; the list says which of them are refused memory.
+abbrev pub run_from : Bool → State → ℕ → List Statement → List Memory → Ran
+run_from asked s n [] memory = record { text = []; state = s; accepted = 0; refused = 0 }
+run_from asked s n (st ∷ sts) memory =
     let o : Outcome = outcome (first_memory memory) s st in
-    following (lines (n + 1) o) (accepted_of o.answer) (refused_of o.answer)
-    (run_from o.state (n + 1) sts (later_memory memory))
+    following (lines (n + 1) o (told_with asked (first_memory memory) s st)) (accepted_of o.answer) (refused_of o.answer)
+    (run_from asked o.state (n + 1) sts (later_memory memory))
 
 -- so for each of the statements that run from this state
 abbrev pub AreDue : State → List Statement → List Memory → Type 0
@@ -103,10 +116,10 @@ abbrev pub closing_lines : ℕ → Option ℕ → State → List ℕ
 closing_lines n fault s = fault_line n fault ++ end_line (is_some s.start)
 
 -- The transcript of a script that has these statements and this fault, run in a new session with
--- these limits; the list says which statements are refused memory.
-abbrev pub transcript : Bounds → List Statement → Option ℕ → List Memory → List ℕ
-transcript limits statements fault memory =
-    let r : Ran = run_from (empty_state limits) 0 statements memory in
+-- these limits, with accounts where they are asked for; the list says which statements are refused memory.
+abbrev pub transcript : Bool → Bounds → List Statement → Option ℕ → List Memory → List ℕ
+transcript asked limits statements fault memory =
+    let r : Ran = run_from asked (empty_state limits) 0 statements memory in
     r.text ++ closing_lines (length statements) fault r.state
 
 -- how many statements are refused memory
@@ -114,6 +127,7 @@ abbrev pub memory_refusals : List Memory → ℕ
 memory_refusals [] = 0
 memory_refusals (denied trigger ∷ ms) = 1 + memory_refusals ms
 memory_refusals (granted ∷ ms) = memory_refusals ms
+memory_refusals (untold ∷ ms) = memory_refusals ms
 
 -- the place of the script's fault, where it has one
 abbrev pub fault_place : Summary → Option ℕ
@@ -122,7 +136,7 @@ fault_place summary = option_map (λ f. f.at) summary.fault
 -- The transcript of these bytes was appended, and the summary says how many statements were
 -- accepted and refused, and the fault. For each statement that takes memory it is chosen whether it
 -- is refused it, and as many are as the summary says.
-pub record RanScript (bytes : List ℕ) (limits : Bounds) (summary : Summary)
+pub record RanScript (bytes : List ℕ) (limits : Bounds) (asked : Bool) (summary : Summary)
     (before after : SinkState) : Type 0 where
   pub statements : List Statement
   pub memory : List Memory
@@ -130,14 +144,14 @@ pub record RanScript (bytes : List ℕ) (limits : Bounds) (summary : Summary)
   pub each : length memory ≡ length statements
   pub due : AreDue (empty_state limits) statements memory
   pub memory_refusals_are : memory_refusals memory ≡ summary.memory_refused
-  pub accepted_is : (run_from (empty_state limits) 0 statements memory).accepted ≡ summary.accepted
-  pub refused_is : (run_from (empty_state limits) 0 statements memory).refused ≡ summary.refused
+  pub accepted_is : (run_from asked (empty_state limits) 0 statements memory).accepted ≡ summary.accepted
+  pub refused_is : (run_from asked (empty_state limits) 0 statements memory).refused ≡ summary.refused
   pub appended : Appends before.contents after.contents
-      (transcript limits statements (fault_place summary) memory)
+      (transcript asked limits statements (fault_place summary) memory)
 
--- The transcript of these bytes was appended, and no statement was refused memory.
+-- The transcript of these bytes without accounts was appended, and no statement was refused memory.
 pub record RanWithMemory (bytes : List ℕ) (limits : Bounds) (fault : Option ℕ)
     (before after : SinkState) : Type 0 where
   pub statements : List Statement
   pub is_script : IsScript bytes statements fault
-  pub appended : Appends before.contents after.contents (transcript limits statements fault [])
+  pub appended : Appends before.contents after.contents (transcript false limits statements fault [])

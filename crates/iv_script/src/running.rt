@@ -1,5 +1,5 @@
 //! A script's run.
-ghost use Rattle.std.specs.Prelude.{◌≡◌, ◌≢◌, ◌+◌, ◌<◌, ◌≤◌, ◌^◌, length, max, option_map, MatchResult, IfErr, IfOk, IfSome, IsErrOf, OnOk};
+ghost use Rattle.std.specs.Prelude.{◌≡◌, ◌≢◌, ◌+◌, ◌<◌, ◌≤◌, ◌^◌, false, length, max, option_map, MatchResult, IfErr, IfOk, IfSome, IsErrOf, OnOk};
 ghost use Rattle.std.specs.Str.{IsUtf8};
 ghost use Rattle.iv_print.specs.Counts.{counted};
 ghost use Rattle.iv_print.specs.Sinks.{FailsOnce, FailsNever};
@@ -61,7 +61,7 @@ fn run_parsed<S: Executor, W: Sink>(
 ) -> Result<Tally, DeviceFault>
     requires { length statements.now < 2 ^ 63 }
     ensures { MatchResult result
-        (λ t. RanParsed (S.state session.old) statements.now (option_map (λ f. f.at) fault) t
+        (λ t. RanParsed (S.told session.old).asked (S.state session.old) statements.now (option_map (λ f. f.at) fault) t
         (W.state writer.old) (W.state writer.new))
         (λ _. FailsOnce (W.state writer.old) (W.state writer.new)) }
 {
@@ -80,7 +80,7 @@ fn run_buffered<S: Executor, W: Sink>(
 ) -> Result<Tally, DeviceFault>
     requires { length statements.now < 2 ^ 63 }
     ensures { MatchResult result
-        (λ t. RanParsed (S.state session.old) statements.now (option_map (λ f. f.at) fault) t
+        (λ t. RanParsed (S.told session.old).asked (S.state session.old) statements.now (option_map (λ f. f.at) fault) t
         (W.state writer.old) (W.state writer.new))
         (λ _. FailsOnce (W.state writer.old) (W.state writer.new)) }
 {
@@ -96,11 +96,12 @@ fn run_text<S: Executor + Drop, W: Sink>(
     text: &str,
     writer: &mut W,
     limits: Limits,
+    explain: bool,
 ) -> Result<Summary, RunFault>
     requires { length text.now ≤ LONGEST }
     ensures transcript { IfOk result (λ s.
-        RanScript text.now limits s (W.state writer.old) (W.state writer.new)) }
-    ensures with_memory { IfOk result (λ s. s.memory_refused ≡ 0
+        RanScript text.now limits explain s (W.state writer.old) (W.state writer.new)) }
+    ensures with_memory { IfOk result (λ s. explain ≡ false → s.memory_refused ≡ 0
         → RanWithMemory text.now limits (fault_place s) (W.state writer.old) (W.state writer.new)) }
     ensures kinds { IfErr result (λ e.
         (e ≢ RunFault.Read) × (e ≢ RunFault.TooLong) × (e ≢ RunFault.NotUtf8)) }
@@ -111,6 +112,7 @@ fn run_text<S: Executor + Drop, W: Sink>(
 {
     let Parsed { statements, fault } = script(alloc, text)?;
     let mut session = S::new(alloc, limits)?;
+    session.explain(explain);
     let done = run_buffered(&mut session, statements.as_slice(), fault, writer);
     drop(session);
     match done {
@@ -130,11 +132,12 @@ fn run_bytes<S: Executor + Drop, W: Sink>(
     bytes: &[u8],
     writer: &mut W,
     limits: Limits,
+    explain: bool,
 ) -> Result<Summary, RunFault>
     requires { length bytes.now ≤ LONGEST }
     ensures transcript { IfOk result (λ s.
-        RanScript bytes.now limits s (W.state writer.old) (W.state writer.new)) }
-    ensures with_memory { IfOk result (λ s. s.memory_refused ≡ 0
+        RanScript bytes.now limits explain s (W.state writer.old) (W.state writer.new)) }
+    ensures with_memory { IfOk result (λ s. explain ≡ false → s.memory_refused ≡ 0
         → RanWithMemory bytes.now limits (fault_place s) (W.state writer.old) (W.state writer.new)) }
     ensures utf8 { OnOk result (IsUtf8 bytes.now) }
     ensures write_utf8 { IsErrOf result RunFault.Write → IsUtf8 bytes.now }
@@ -146,14 +149,15 @@ fn run_bytes<S: Executor + Drop, W: Sink>(
     ensures works { OnOk result (FailsNever (W.state writer.old) (W.state writer.new)) }
 {
     match from_utf8(bytes) {
-        Ok(text) => run_text::<S, W>(alloc, text, writer, limits),
+        Ok(text) => run_text::<S, W>(alloc, text, writer, limits, explain),
         Err(_) => Err(RunFault::NotUtf8),
     }
 }
 
 /// Reads a whole script, runs it in a new database and writes its transcript. Until the script is
 /// read and parsed and the database is made nothing is run or written. Beside what each statement
-/// takes it takes time in proportion to the script and its transcript.
+/// takes it takes time in proportion to the script and its transcript. Where that is asked for, each statement's account
+/// follows its lines.
 ///
 /// The lines go through a buffer: where each write takes all that it is given, there is one for
 /// every 8,192 bytes of the transcript, and one at the end for the rest.
@@ -166,12 +170,13 @@ pub fn run<S: Executor + Drop, R: Source, W: Sink>(
     reader: &mut R,
     writer: &mut W,
     limits: Limits,
+    explain: bool,
 ) -> Result<Summary, RunFault>
     // What was written is the transcript, for some choice of the `memory_refused` statements.
     ensures transcript { IfOk result (λ s. IfSome (R.remaining reader.old) (λ bytes.
-        RanScript bytes limits s (W.state writer.old) (W.state writer.new))) }
-    // Where `memory_refused` is 0 it is the transcript of the machine.
-    ensures with_memory { IfOk result (λ s. s.memory_refused ≡ 0 → IfSome (R.remaining reader.old) (λ bytes.
+        RanScript bytes limits explain s (W.state writer.old) (W.state writer.new))) }
+    // Where no account is asked for and `memory_refused` is 0, it is the transcript of the machine.
+    ensures with_memory { IfOk result (λ s. explain ≡ false → s.memory_refused ≡ 0 → IfSome (R.remaining reader.old) (λ bytes.
         RanWithMemory bytes limits (fault_place s) (W.state writer.old) (W.state writer.new))) }
     // A script that ran is short enough and UTF-8, and so is one whose transcript couldn't be
     // written.
@@ -206,5 +211,5 @@ pub fn run<S: Executor + Drop, R: Source, W: Sink>(
     ensures ended_once { R.ends reader.new ≤ R.ends reader.old + 1 }
 {
     let bytes = read_script(alloc, reader)?;
-    run_bytes::<S, W>(alloc, bytes.as_slice(), writer, limits)
+    run_bytes::<S, W>(alloc, bytes.as_slice(), writer, limits, explain)
 }

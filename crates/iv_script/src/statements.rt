@@ -1,13 +1,15 @@
 //! The statements of a script, run one after the other, with the lines of their outcomes.
-ghost use Rattle.std.specs.Prelude.{◌≡◌, ◌+◌, ◌<◌, ◌^◌, MatchResult, if◌then◌else◌};
+ghost use Rattle.std.specs.Prelude.{◌≡◌, ◌+◌, ◌++◌, ◌<◌, ◌^◌, MatchResult, if◌then◌else◌};
 ghost use Rattle.iv_catalogue.specs.Refusals.{is_memory};
+ghost use Rattle.iv_print.specs.AccountLines.{account_text};
+ghost use Rattle.iv_print.specs.Lines.{line};
 ghost use Rattle.iv_print.specs.Sinks.{FailsOnce};
+ghost use Rattle.iv_print.specs.Writing.{Writes};
 ghost use Rattle.iv_script.specs.Transcript.{accepted_of, refused_of};
 ghost use Rattle.iv_script.specs.Running.{RanOne, RanAll};
 
-use iv_catalogue::Cause;
-use iv_print::{DeviceFault, Sink, write_outcome};
-use iv_step::{Executor, Outcome};
+use iv_print::{DeviceFault, Sink, write_account, write_outcome};
+use iv_step::{Executor, Outcome, is_memory_refused};
 use iv_syntax::Statement;
 
 /// How many statements were accepted and refused, and how many of the refused had cause 22.
@@ -16,15 +18,6 @@ pub struct Tally {
     pub accepted: u64,
     pub refused: u64,
     pub memory_refused: u64,
-}
-
-fn is_memory_refused(outcome: &Outcome) -> bool
-    ensures { result ≡ is_memory outcome.now }
-{
-    match outcome {
-        Ok(_) => false,
-        Err(refusal) => matches!(refusal.cause, Cause::OutOfMemory),
-    }
 }
 
 // The tally with an outcome more.
@@ -51,6 +44,21 @@ fn with(tally: Tally, outcome: &Outcome) -> Tally
     }
 }
 
+// Writes the lines of an outcome, and those of the account of its statement, which the session has.
+fn write_lines<S: Executor, W: Sink>(
+    writer: &mut W,
+    number: u64,
+    outcome: &Outcome,
+    session: &S,
+) -> Result<(), DeviceFault>
+    ensures { Writes (W.state writer.old) (W.state writer.new) result
+        (line number outcome.now (S.state session.now).schema
+        ++ account_text (S.state session.now).schema outcome.now (S.told session.now).entries) }
+{
+    write_outcome(writer, number, outcome, session.catalogue())?;
+    write_account(writer, session.catalogue(), outcome, session.account())
+}
+
 // Runs one statement and writes its lines.
 fn run_one<S: Executor, W: Sink>(
     session: &mut S,
@@ -62,13 +70,15 @@ fn run_one<S: Executor, W: Sink>(
     requires accepted { tally.accepted < 2 ^ 63 }
     requires refused { tally.refused < 2 ^ 63 }
     requires memory_refused { tally.memory_refused < 2 ^ 63 }
-    ensures { MatchResult result
-        (λ t. RanOne number (S.state session.old) (S.state session.new) statement.now tally t
+    ensures ran { MatchResult result
+        (λ t. RanOne (S.told session.old).asked number
+        (S.state session.old) (S.state session.new) statement.now tally t
         (W.state writer.old) (W.state writer.new))
         (λ _. FailsOnce (W.state writer.old) (W.state writer.new)) }
+    ensures asked { (S.told session.new).asked ≡ (S.told session.old).asked }
 {
     let outcome = session.execute(statement);
-    let written = write_outcome(writer, number, &outcome, session.catalogue());
+    let written = write_lines(writer, number, &outcome, &*session);
     let counted = with(tally, &outcome);
     drop(outcome);
     written?;
@@ -82,7 +92,7 @@ pub fn run_statements<S: Executor, W: Sink>(
     writer: &mut W,
 ) -> Result<Tally, DeviceFault>
     ensures { MatchResult result
-        (λ t. RanAll (S.state session.old) (S.state session.new) statements.now t
+        (λ t. RanAll (S.told session.old).asked (S.state session.old) (S.state session.new) statements.now t
         (W.state writer.old) (W.state writer.new))
         (λ _. FailsOnce (W.state writer.old) (W.state writer.new)) }
 {

@@ -1,3 +1,4 @@
 pub mod AllRan
 pub mod Sound
 pub mod Few
+pub mod Told

@@ -3,7 +3,9 @@ ghost use Rattle.std.specs.Prelude.{◌≡◌, ◌-◌, true, false, None, IfOk,
 ghost use Rattle.iv_catalogue.specs.Refusals.{is_memory};
 ghost use Rattle.iv_machine.specs.Machine.{is_open, occasion_of, resolution_outcome, transaction_cause};
 ghost use Rattle.iv_resolution.specs.Resolution.{resolution};
+ghost use Rattle.iv_account.specs.Telling.{MayTell};
 ghost use Rattle.iv_step.specs.Step.{Executes, step, takes_no_memory};
+ghost use Rattle.iv_step.specs.Telling.{Tells, commits, resolution_told, statement_told};
 ghost use Rattle.iv_state.specs.Performing.{Runs};
 ghost use Rattle.iv_session.specs.RunningAll.{IsRunOf};
 ghost use Rattle.iv_session.specs.FewLookups.{FewLookups, defines_schema};
@@ -16,7 +18,7 @@ use crate::session::Session;
 use iv_catalogue::Cause;
 use iv_resolve::resolve;
 use iv_resolve_writable::is_writable;
-use iv_step::Outcome;
+use iv_step::{Outcome, is_memory_refused};
 use iv_store::Keeper;
 use iv_syntax::Statement;
 use std::alloc::AllocError;
@@ -30,10 +32,14 @@ impl<K: Keeper + Drop> Session<K> {
             result self.new }
         ensures looked_up { defines_schema statement.now ≡ false
             → UnlessMemory result (LooksUpFew self.old self.new) }
+        ensures told { MatchBool (is_memory result) (Unit {0})
+            (MayTell (commits (resolution self.old.state.schema statement.now))
+            self.old.account self.new.account
+            (resolution_told self.old.state (resolution self.old.state.schema statement.now))) }
     {
         self.state.clear_work();
         match resolve(self.state.allocator(), self.state.catalogue(), statement) {
-            Ok(plan) => self.state.perform::<Levels>(plan),
+            Ok(plan) => self.state.perform::<Levels>(plan, &mut self.account),
             Err(refusal) => Err(refusal),
         }
     }
@@ -48,12 +54,15 @@ impl<K: Keeper + Drop> Session<K> {
             → is_memory result ≡ false }
         ensures sure_store { K.sure ≡ true → is_rollback_to statement.now ≡ true
             → is_memory result ≡ false }
+        ensures told { MatchBool (is_memory result) (Unit {0})
+            (MayTell (commits (resolution self.old.state.schema statement.now))
+            self.old.account self.new.account (statement_told self.old.state statement.now)) }
     {
         if let Some(cause) = self.state.transaction_cause(statement) {
             return self.state.refuse_now(cause);
         }
         match statement {
-            Statement::Commit => self.state.commit_statement(),
+            Statement::Commit => self.state.commit_statement(&mut self.account),
             Statement::Rollback => self.state.rollback_statement(),
             Statement::RollbackTo(name) => {
                 if is_writable(statement) {
@@ -66,8 +75,36 @@ impl<K: Keeper + Drop> Session<K> {
         }
     }
 
+    // The same, with what is told of the statement after what was told before.
+    fn execute_telling(&mut self, statement: &Statement) -> Outcome
+        ensures step { Executes self.old.state statement.now result self.new.state }
+        ensures sure { takes_no_memory self.old.state statement.now ≡ true
+            → is_memory result ≡ false }
+        // a store that goes back to a mark without memory
+        ensures sure_store { K.sure ≡ true → is_rollback_to statement.now ≡ true
+            → is_memory result ≡ false }
+        ensures work { MatchBool (is_memory result) (Unit {0}) (self.new.work
+            ≡ (step self.old.state statement.now).work) }
+        ensures lookups { self.new.lookups ≡ self.new.looked_up - self.old.looked_up }
+        // one that doesn't change the schema
+        ensures bounded { defines_schema statement.now ≡ false
+            → UnlessMemory result (FewLookups self.old.state self.new) }
+        // a store that counts no look-up
+        ensures not_looked_up { ((store : K) → K.lookups store ≡ 0) → self.new.lookups ≡ 0 }
+        ensures told { MatchBool (is_memory result) (Unit {0})
+            (MayTell (commits (resolution self.old.state.schema statement.now))
+            self.old.account self.new.account (statement_told self.old.state statement.now)) }
+    {
+        let looked_up = self.state.looked_up();
+        let answer = self.run(statement);
+        self.state.count_lookups(looked_up);
+        answer
+    }
+
     /// Runs a statement. The answer, the state after it and the work are those of the machine, or memory was
-    /// refused and the state is as before.
+    /// refused and the state is as before. Where an account is asked for, it is told what happens, which takes time and
+    /// memory in proportion to it. Where memory is refused to that of a COMMIT, the COMMIT is as without one, and the
+    /// account is empty.
     pub fn execute(&mut self, statement: &Statement) -> Outcome
         ensures step { Executes self.old.state statement.now result self.new.state }
         ensures sure { takes_no_memory self.old.state statement.now ≡ true
@@ -83,10 +120,16 @@ impl<K: Keeper + Drop> Session<K> {
             → UnlessMemory result (FewLookups self.old.state self.new) }
         // a store that counts no look-up
         ensures not_looked_up { ((store : K) → K.lookups store ≡ 0) → self.new.lookups ≡ 0 }
+        // what is told of this statement alone, where an account is asked for
+        ensures told { Tells self.old.account.asked self.old.state statement.now result
+            self.new.account }
     {
-        let looked_up = self.state.looked_up();
-        let answer = self.run(statement);
-        self.state.count_lookups(looked_up);
+        let asked = self.explains();
+        self.explain(asked);
+        let answer = self.execute_telling(statement);
+        if is_memory_refused(&answer) {
+            self.explain(asked);
+        }
         answer
     }
 

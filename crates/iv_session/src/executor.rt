@@ -1,6 +1,7 @@
 //! A session as what executes the statements of a script.
 
 use crate::session::Session;
+use iv_account::Entry;
 use iv_catalogue::Catalogue;
 use iv_machine::Limits;
 use iv_step::{Executor, Outcome};
@@ -11,8 +12,18 @@ use std::alloc::{AllocError, Global};
 impl<K: Keeper + Drop> Executor for Session<K> {
     ghost state = { λ s. s.state };
 
+    ghost told = { λ s. s.account };
+
     fn new(alloc: Global, limits: Limits) -> Result<Self, AllocError> {
         Session::<K>::new(alloc, limits)
+    }
+
+    fn explain(&mut self, asked: bool) {
+        self.explain(asked);
+    }
+
+    fn account(&self) -> &[Entry] {
+        self.account()
     }
 
     fn catalogue(&self) -> &Catalogue {

@@ -1,5 +1,6 @@
 //! INSERT, UPDATE and DELETE as levels.
 
+use iv_account::Account;
 use iv_catalogue::{Catalogue, DataStatement, Refusal};
 use iv_exec::change;
 use iv_machine::Limits;
@@ -17,7 +18,8 @@ impl DataStatements for Levels {
         catalogue: &Catalogue,
         modes: &Modes,
         limits: Limits,
+        account: &mut Account,
     ) -> Result<u64, Refusal> {
-        change(store, statement, catalogue, modes, limits)
+        change(store, statement, catalogue, modes, limits, account)
     }
 }

@@ -4,10 +4,14 @@ ghost use Rattle.iv_catalogue.specs.Refusals.{is_memory};
 ghost use Rattle.iv_machine.specs.declared.database.Which.TheVariants.{All, Deferred};
 ghost use Rattle.iv_machine.specs.Databases.{is_chosen, scan};
 ghost use Rattle.iv_machine.specs.Machine.{commit_outcome, empty_state, inside, is_open, no_work, outcome_unless, rollback_outcome, rollback_to_outcome, savepoint_named, transaction_cause};
+ghost use Rattle.iv_account.specs.Sessions.{commit_told};
+ghost use Rattle.iv_account.specs.Telling.{MayTell, no_account};
+ghost use Rattle.iv_state.specs.Kept.{with_account};
 ghost use Rattle.iv_state.specs.Ending.{commit_answer};
 ghost use Rattle.iv_state.specs.Performing.{Performs};
 ghost use Rattle.iv_session.specs.FewLookups.{FewLookups};
 
+use iv_account::{Account, Entry};
 use iv_catalogue::{Catalogue, Fault};
 use iv_machine::Limits;
 use iv_state::{SessionState, Work};
@@ -16,14 +20,16 @@ use iv_store::Keeper;
 use std::alloc::{AllocError, Global};
 use std::marker::Model;
 
-/// A session: the state of the machine, which contracts see, with the work of the last call.
+/// A session: the state of the machine, which contracts see, with the work of the last call, and the account of the last
+/// statement, where one is asked for.
 #[derive(Drop)]
 pub struct Session<K: Keeper + Drop> {
     pub(crate) state: SessionState<K>,
+    pub(crate) account: Account,
 }
 
 impl<K: Keeper + Drop> Model for Session<K> {
-    ghost use Rattle.iv_state.specs.Kept.{Seen};
+    ghost use Rattle.iv_state.specs.Kept.{Seen, with_account};
     ghost use Rattle.iv_expr.specs.contracts.tree.Cond as cond;
     ghost use Rattle.iv_expr.specs.contracts.tree.Expr as expr;
     ghost use Rattle.std.specs.Coded.{codes};
@@ -33,21 +39,51 @@ impl<K: Keeper + Drop> Model for Session<K> {
 
     ghost coded = { Prim.hlevel (codes, cond.the_row.coded, expr.the_row.coded) };
 
-    ghost view = { λ s. s.state };
+    ghost view = { λ s. with_account s.state s.account };
 
     // The state is one that statements reach from an empty one.
     ghost invariant = { λ s. IsReached s.state.state };
 }
 
 impl<K: Keeper + Drop> Session<K> {
-    /// A session over no table, with these limits.
+    /// A session over no table, with these limits. No account is asked for.
     pub fn new(alloc: Global, limits: Limits) -> Result<Self, AllocError>
         ensures { IfOk result (λ s. s
-            ≡ record { state = empty_state limits; work = no_work; lookups = 0; looked_up = 0 }) }
+            ≡ record {
+              state = empty_state limits;
+              work = no_work;
+              lookups = 0;
+              looked_up = 0;
+              account = no_account false;
+            }) }
     {
         Ok(Session {
             state: SessionState::new(alloc, limits)?,
+            account: Account::new(alloc, false),
         })
+    }
+
+    /// From now on an account of each statement is asked for, or isn't. That of the last statement goes. It takes no
+    /// memory.
+    pub fn explain(&mut self, asked: bool)
+        ensures { self.new ≡ with_account self.old (no_account asked) }
+    {
+        self.account = Account::new(self.state.allocator(), asked);
+    }
+
+    /// Whether an account of each statement is asked for.
+    pub fn explains(&self) -> bool
+        ensures { result ≡ self.now.account.asked }
+    {
+        self.account.is_asked()
+    }
+
+    /// What happened in the last statement that was executed, or in the last call of `commit`, in its order, where an
+    /// account was asked for, and otherwise nothing.
+    pub fn account(&self) -> &[Entry]
+        ensures { result.now ≡ self.now.account.entries }
+    {
+        self.account.entries()
     }
 
     /// The tables, constraints and triggers.
@@ -103,12 +139,15 @@ impl<K: Keeper + Drop> Session<K> {
         ensures bounded { FewLookups self.old.state self.new }
         ensures lookups { self.new.lookups ≡ self.new.looked_up - self.old.looked_up }
         ensures not_looked_up { ((store : K) → K.lookups store ≡ 0) → self.new.lookups ≡ 0 }
+        ensures account { self.new.account ≡ no_account self.old.account.asked }
     {
+        self.account = Account::new(self.state.allocator(), self.account.is_asked());
         self.state.rollback();
     }
 
     /// Ends the transaction: the database stays where no constraint is violated, and is otherwise the one
-    /// at the transaction's start. Outside a transaction it does nothing. It takes no memory.
+    /// at the transaction's start. Outside a transaction it does nothing. It takes no memory, but for an account that is
+    /// asked for: where memory is refused to it, it is empty.
     pub fn commit(&mut self) -> Result<(), Fault>
         ensures answer { commit_answer result ≡ (commit_outcome self.old.state).answer }
         ensures state { self.new.state ≡ (commit_outcome self.old.state).state }
@@ -123,7 +162,11 @@ impl<K: Keeper + Drop> Session<K> {
         ensures refused { OnErr result
             (scan self.old.state.database.rows self.old.state.schema.constraints
             (is_chosen self.old.state.modes All) ≢ []) }
+        ensures told { MayTell true (no_account self.old.account.asked) self.new.account
+            (commit_told self.old.state) }
     {
+        self.account = Account::new(self.state.allocator(), self.account.is_asked());
+        self.state.tell_commit(&mut self.account);
         self.state.commit()
     }
 
@@ -140,7 +183,9 @@ impl<K: Keeper + Drop> Session<K> {
             (outcome_unless self.old.state (transaction_cause (is_open self.old.state) inside)
             (rollback_to_outcome self.old.state
             (savepoint_named name.now self.old.state.savepoints))) result self.new }
+        ensures account { self.new.account ≡ no_account self.old.account.asked }
     {
+        self.account = Account::new(self.state.allocator(), self.account.is_asked());
         self.state.rollback_to(name)
     }
 }

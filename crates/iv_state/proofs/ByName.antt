@@ -1,12 +1,12 @@
 -- Savepoints whose names are distinct: the first one of a name is the last one.
-use Rattle.std.proofs.Common.{◌≡◌, ℕ, suc, ◌+◌, ◌<◌, Bool, true, false, cond, not, List, [], ◌∷◌, map, length, Option, Some, None, String, refl, sym, ap, subst, ◌∙◌, nat_lt, position, string_bytes, arith}
+use Rattle.std.proofs.Common.{◌≡◌, ℕ, suc, ◌+◌, Bool, true, false, cond, List, [], ◌∷◌, map, length, Option, Some, None, String, refl, sym, ap, ◌∙◌, nat_lt, position, string_bytes, arith}
 use Rattle.std.specs.Map.{keys_of, lookup}
 use Rattle.std.specs.List.{IsDistinct, AllByRecursion, position_or_len}
 use Rattle.std.specs.Str.{bytes_eq}
 use Rattle.std.proofs.lemmas.Bool.Decides.{nat_tests}
 use Rattle.std.proofs.lemmas.Slice.Eq.{bytes_eq-Decides}
 use Rattle.iv_modes.specs.ModeMaps.{ModeMap}
-use Rattle.iv_state.specs.Saved.{Saved, saved_of}
+use Rattle.iv_state.specs.Saved.{saved_of}
 use Rattle.iv_state.specs.Saving.{last_named}
 use Rattle.iv_state.proofs.TakenOut.{last_in, last_named_is, next_last, none_first}
 

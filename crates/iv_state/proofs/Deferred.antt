@@ -25,7 +25,7 @@ same_deferrable : (schema : Schema) (m : ModeMap) → m.deferrable ≡ map (λ c
 same_deferrable schema m e id =
     ap (λ (l : List Bool). elim (slice_get l id) as (λ _. Bool) [ Some b ↦ b | None ↦ false ]) e ∙ flag_at schema.constraints id
 
-first_same : (schema : Schema) (m : ModeMap) (ids : List ℕ) → m.deferrable ≡ map (λ c. c.deferrable) schema.constraints
+pub first_same : (schema : Schema) (m : ModeMap) (ids : List ℕ) → m.deferrable ≡ map (λ c. c.deferrable) schema.constraints
     → first_not_deferrable m ids ≡ find (λ id. not (is_deferrable schema id)) ids
 first_same schema m ids e = ap (λ (f : ℕ → Bool). find f ids) (λ i id. not (same_deferrable schema m e id i))
 
@@ -79,7 +79,7 @@ of_one rows chosen p id c = by (chosen id) where
 abbrev from : List StoredRow → (ℕ → Bool) → ℕ → List Constraint → List Fault
 from rows chosen id cs = flat_map (λ k. chosen_violations rows chosen k.0 k.1) (enumerate_from id cs)
 
-of_all : (rows : List StoredRow) (chosen p : ℕ → Bool) (id : ℕ) (cs : List Constraint)
+pub of_all : (rows : List StoredRow) (chosen p : ℕ → Bool) (id : ℕ) (cs : List Constraint)
     → filter (λ (f : Fault). p f.constraint) (from rows chosen id cs) ≡ from rows (λ i. chosen i && p i) id cs
 of_all rows chosen p id [] = refl
 of_all rows chosen p id (c ∷ cs) =

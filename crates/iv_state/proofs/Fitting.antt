@@ -10,7 +10,6 @@ use Rattle.iv_syntax.specs.declared.statement.Statement.TheVariants as statement
 use Rattle.iv_syntax.specs.declared.trigger.TriggerDefinition.{TriggerDefinition}
 use Rattle.iv_catalogue.specs.Catalogues.{Schema, has_trigger}
 use Rattle.iv_catalogue.specs.declared.limits.TheConstants.{MOST_BODY_STATEMENTS, MOST_TRIGGERS, MOST_TRIGGERS_EVER}
-use Rattle.iv_catalogue.specs.declared.plan.TransactionPlan.TheVariants as transaction
 use Rattle.iv_machine.specs.Machine.{State, is_open, occasion_of, transaction_cause, plan_occasion, changes_rows, outside, inside, beginning}
 use Rattle.iv_resolution.specs.Bound.{bound, bound_action, bound_trigger, table_id}
 use Rattle.iv_resolution.specs.Constraints.{WrittenConstraint, comes_twice, table_constraint}

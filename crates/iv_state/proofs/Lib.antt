@@ -8,3 +8,4 @@ pub mod Firsts
 pub mod Fitting
 pub mod Defined
 pub mod ByName
+pub mod Told

@@ -9,12 +9,18 @@ use Rattle.iv_machine.specs.Bounds.{Bounds}
 use Rattle.iv_machine.specs.Context.{Failure}
 use Rattle.iv_machine.specs.Levels.{level}
 use Rattle.iv_machine.specs.Machine.{State, Outcome, Work, with_transaction}
+use Rattle.iv_account.specs.declared.entry.Entry.{Entry}
+use Rattle.iv_account.specs.Accounts.{account}
 use Rattle.iv_store.specs.Stores.{StoreState}
 use Rattle.iv_laws_rows.specs.Changing.{database_and_size}
 
 -- what the level says of a statement
 abbrev pub said_of : Schema → List ConstraintMode → Bounds → DataStatement → Database → Result (Database × ℕ) Failure
 said_of schema modes limits d db = database_and_size (level (limits.depth - 1) (record { schema = schema; modes = modes }) d no_frame db limits.changes)
+
+-- what is told of it
+abbrev pub account_said : Schema → List ConstraintMode → Bounds → DataStatement → Database → List Entry
+account_said schema modes limits d db = account (limits.depth - 1) (record { schema = schema; modes = modes }) d no_frame db limits.changes
 
 -- how many rows the statement changed, or the refusal
 abbrev pub size_said : Result (Database × ℕ) Failure → Result ℕ Refusal

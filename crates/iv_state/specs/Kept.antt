@@ -2,6 +2,7 @@
 use Rattle.std.specs.Prelude.{◌≡◌, ℕ, ◌+◌, Bool, true, false, List, [], ◌∷◌, ◌++◌, map, length, Option, Some, None, is_some, IfSome}
 use Rattle.std.specs.List.{list_all}
 use Rattle.iv_catalogue.specs.Catalogues.{Schema}
+use Rattle.iv_account.specs.Telling.{Account, no_account}
 use Rattle.iv_state.specs.Words.{Table, Constraint, Database}
 use Rattle.iv_machine.specs.Bounds.{Bounds}
 use Rattle.iv_machine.specs.Machine.{Savepoint, State, Work}
@@ -12,13 +13,14 @@ use Rattle.iv_state.specs.declared.session_state.SessionState.TheInside.{Inside}
 use Rattle.iv_laws_rows.specs.Changing.{StoreFits}
 use Rattle.iv_laws_rows.specs.RowFits.{rows_fit}
 
--- A session: the state of the machine; the row changes that the last call made and undid, and the keys that it looked up; and the keys
--- that were looked up so far.
+-- A session: the state of the machine; the row changes that the last call made and undid, and the keys that it looked up; the keys
+-- that were looked up so far; and the account of the last statement, where one is asked for. The state of a session alone has none.
 pub record Seen : Type 0 where
   pub state : State
   pub work : Work
   pub lookups : ℕ
   pub looked_up : ℕ
+  pub account : Account
 
 -- ---- the parts
 
@@ -90,7 +92,12 @@ seen view lookups s = record {
   work = record { changes = s.work.changes; undone = s.work.undone };
   lookups = s.work.lookups;
   looked_up = lookups s.store;
+  account = no_account false;
 }
+
+-- a session with this account
+abbrev pub with_account : Seen → Account → Seen
+with_account s account = record s { account = account }
 
 -- ---- what holds of them
 

@@ -8,3 +8,4 @@ pub mod Kept
 pub mod Performing
 pub mod Saving
 pub mod Looking
+pub mod Telling

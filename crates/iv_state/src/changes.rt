@@ -4,7 +4,9 @@ ghost use Rattle.iv_catalogue.specs.Refusals.{is_memory_cause};
 ghost use Rattle.iv_catalogue.specs.declared.cause.Cause.TheVariants.{OutOfMemory};
 ghost use Rattle.iv_laws_fitting.specs.PlanShapes.{data_suits, plain_shape};
 ghost use Rattle.iv_machine.specs.Machine.{change_outcome, may_tell};
-ghost use Rattle.iv_state.specs.Changing.{Changes, said_of};
+ghost use Rattle.iv_account.specs.Sessions.{change_told};
+ghost use Rattle.iv_account.specs.Telling.{and_told};
+ghost use Rattle.iv_state.specs.Changing.{Changes, account_said, said_of};
 ghost use Rattle.iv_state.specs.Kept.{current};
 ghost use Rattle.iv_state.specs.Performing.{Follows};
 ghost use Rattle.iv_state.specs.Looking.{LookedUp, LooksUpFew};
@@ -12,6 +14,7 @@ ghost use Rattle.iv_store.specs.Lookups.{LooksUp};
 ghost use Rattle.iv_laws_rows.specs.Changing.{AnswersAt, StoreFits, UnlessMemory, with_database};
 
 use crate::session_state::{SessionState, Work};
+use iv_account::Account;
 use iv_catalogue::{Catalogue, Cause, DataStatement, Refusal, TriggerId};
 use iv_machine::{Answer, Limits};
 use iv_modes::Modes;
@@ -23,13 +26,15 @@ pub trait DataStatements {
     /// INSERT, UPDATE or DELETE of a script, with all that follows from it, and how many rows it changed itself
     /// ("Insert statement", "Update statement: searched", "Delete statement: searched"). Where it is refused,
     /// the store is left with what it changed so far, so that the count of its changes is exact; the caller
-    /// undoes it to a mark that it made before. What is lent has no call for marks.
+    /// undoes it to a mark that it made before. What is lent has no call for marks. The account is told what happens,
+    /// where it is asked for.
     fn change<K: ChangeableRows>(
         store: &mut K,
         statement: &DataStatement,
         catalogue: &Catalogue,
         modes: &Modes,
         limits: Limits,
+        account: &mut Account,
     ) -> Result<u64, Refusal>
         requires store { StoreFits catalogue.now (K.view store.old) }
         requires statement { data_suits catalogue.now.tables
@@ -40,7 +45,10 @@ pub trait DataStatements {
         ensures kept { K.view store.new ≡ with_database (K.view store.old) (K.view store.new).base }
         ensures looked_up { UnlessMemory result (LooksUp
             (K.view store.old) (K.lookups store.old) (K.view store.new) (K.lookups store.new)) }
-        ensures store { OnOk result (StoreFits catalogue.now (K.view store.new)) };
+        ensures store { OnOk result (StoreFits catalogue.now (K.view store.new)) }
+        ensures told { UnlessMemory result (account.new ≡ and_told account.old
+            (account_said catalogue.now modes.now.modes limits statement.now
+            (K.view store.old).base)) };
 }
 
 // The modes of the constraints.
@@ -62,6 +70,7 @@ fn run_change<D: DataStatements, K: Keeper>(
     modes: &Modes,
     limits: Limits,
     begins: bool,
+    account: &mut Account,
 ) -> Result<u64, Refusal>
     requires store { StoreFits catalogue.now (K.view store.old) }
     requires statement { data_suits catalogue.now.tables
@@ -74,10 +83,12 @@ fn run_change<D: DataStatements, K: Keeper>(
         (record { changes = work.new.changes; undone = work.new.undone })
         (K.lookups store.old) (K.lookups store.new)) }
     ensures store { StoreFits catalogue.now (K.view store.new) }
+    ensures told { UnlessMemory result (account.new ≡ and_told account.old
+        (account_said catalogue.now modes.now.modes limits statement.now (K.view store.old).base)) }
 {
     let before = store.change_count();
     let mark = store.mark()?;
-    match D::change(store, statement, catalogue, modes, limits) {
+    match D::change(store, statement, catalogue, modes, limits, account) {
         Ok(size) => {
             work.changes = store.change_count().saturating_sub(before);
             work.undone = 0;
@@ -124,12 +135,18 @@ fn told(catalogue: &Catalogue, refusal: Refusal) -> Refusal
 
 impl<K: Keeper + Drop> SessionState<K> {
     // INSERT, UPDATE and DELETE.
-    pub(crate) fn change<D: DataStatements>(&mut self, statement: &DataStatement) -> Outcome
+    pub(crate) fn change<D: DataStatements>(
+        &mut self,
+        statement: &DataStatement,
+        account: &mut Account,
+    ) -> Outcome
         requires { data_suits self.old.state.schema.tables
             (plain_shape self.old.state.schema.tables) statement.now ≡ true }
         ensures follows { Follows self.old.state
             (change_outcome self.old.state statement.now) result self.new }
         ensures looked_up { UnlessMemory result (LooksUpFew self.old self.new) }
+        ensures told { UnlessMemory result (account.new ≡ and_told account.old
+            (change_told self.old.state statement.now)) }
     {
         let begins = !self.active;
         match run_change::<D, K>(
@@ -140,6 +157,7 @@ impl<K: Keeper + Drop> SessionState<K> {
             modes_now(&self.initial, &self.changed),
             self.limits,
             begins,
+            account,
         ) {
             Ok(size) => {
                 self.active = true;

@@ -5,11 +5,15 @@ ghost use Rattle.iv_catalogue.specs.declared.plan.ConstraintSet.TheVariants as s
 ghost use Rattle.iv_catalogue.specs.declared.limits.TheConstants.{MOST_CONSTRAINTS, MOST_TABLES};
 ghost use Rattle.iv_machine.specs.Databases.{first, is_deferred};
 ghost use Rattle.iv_machine.specs.Machine.{constraints_meant, first_made_immediate, is_deferrable, is_open, set_constraints_outcome};
+ghost use Rattle.iv_account.specs.Sessions.{set_constraints_told};
+ghost use Rattle.iv_account.specs.Telling.{and_told};
+ghost use Rattle.iv_laws_rows.specs.Changing.{UnlessMemory};
 ghost use Rattle.iv_state.specs.Deferring.{DefersNoLess};
 ghost use Rattle.iv_state.specs.Performing.{Performs};
 
 use crate::savepoints::refuse;
 use crate::session_state::{SessionState, Work};
+use iv_account::Account;
 use iv_catalogue::{Catalogue, Cause, Constraint, ConstraintId, ConstraintSet, Fault};
 use iv_machine::Answer;
 use iv_modes::Modes;
@@ -92,17 +96,25 @@ impl<K: Keeper + Drop> SessionState<K> {
     }
 
     // Sets the modes of these constraints.
-    fn set_modes(&mut self, ids: &[ConstraintId], mode: ConstraintMode) -> Outcome
+    fn set_modes(
+        &mut self,
+        ids: &[ConstraintId],
+        mode: ConstraintMode,
+        account: &mut Account,
+    ) -> Outcome
         requires { is_open self.old.state ≡ true }
         ensures performs { Performs self.old.state
             (set_constraints_outcome self.old.state ids.now mode) result self.new }
         ensures still { self.new.looked_up ≡ self.old.looked_up }
+        ensures told { UnlessMemory result (account.new ≡ and_told account.old
+            (set_constraints_told self.old.state ids.now mode)) }
     {
         self.work = Work::none();
         let mut modes = self.modes().copy()?;
         if let Err(refused) = modes.set(ids, mode) {
             return refuse(Cause::NotDeferrable(refused.0));
         }
+        self.tell_modes(&modes, account)?;
         match self.first_made_immediate(&modes, mode)? {
             Some(fault) => refuse(Cause::Violation(fault)),
             None => {
@@ -113,19 +125,27 @@ impl<K: Keeper + Drop> SessionState<K> {
     }
 
     // SET CONSTRAINTS.
-    pub(crate) fn set_constraints(&mut self, set: &ConstraintSet, mode: ConstraintMode) -> Outcome
+    pub(crate) fn set_constraints(
+        &mut self,
+        set: &ConstraintSet,
+        mode: ConstraintMode,
+        account: &mut Account,
+    ) -> Outcome
         requires { is_open self.old.state ≡ true }
         ensures performs { Performs self.old.state
             (set_constraints_outcome self.old.state
             (constraints_meant self.old.state.schema set.now) mode) result self.new }
         ensures still { self.new.looked_up ≡ self.old.looked_up }
+        ensures told { UnlessMemory result (account.new ≡ and_told account.old
+            (set_constraints_told self.old.state
+            (constraints_meant self.old.state.schema set.now) mode)) }
     {
         match set {
             ConstraintSet::All => {
                 let ids = all_deferrable(self.store.allocator(), &self.catalogue)?;
-                self.set_modes(ids.as_slice(), mode)
+                self.set_modes(ids.as_slice(), mode, account)
             }
-            ConstraintSet::Named(ids) => self.set_modes(ids.as_slice(), mode),
+            ConstraintSet::Named(ids) => self.set_modes(ids.as_slice(), mode, account),
         }
     }
 }

@@ -10,6 +10,7 @@ mod savepoint_list;
 mod savepoints;
 mod schema;
 mod session_state;
+mod telling;
 mod transactions;
 
 pub use changes::DataStatements;

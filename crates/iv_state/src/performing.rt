@@ -3,7 +3,11 @@ ghost use Rattle.std.specs.Prelude.{◌≡◌, true, false, None};
 ghost use Rattle.iv_catalogue.specs.Refusals.{is_memory, refusal_answer};
 ghost use Rattle.iv_machine.specs.Machine.{change_outcome, commit_outcome, is_open, no_work, occasion_of, query_outcome, rollback_outcome, schema_outcome, transaction_cause, transaction_occasion, transaction_outcome};
 ghost use Rattle.iv_laws_fitting.specs.PlanShapes.{data_suits, plain_shape};
+ghost use Rattle.iv_account.specs.Sessions.{change_told, commit_told};
+ghost use Rattle.iv_account.specs.Telling.{MayTell, and_told};
+ghost use Rattle.iv_catalogue.specs.declared.plan.Plan.TheVariants as kind;
 ghost use Rattle.iv_laws_rows.specs.Changing.{UnlessMemory};
+ghost use Rattle.iv_state.specs.Telling.{TellsPlan};
 ghost use Rattle.iv_state.specs.Fits.{PlanFits, SchemaFits};
 ghost use Rattle.iv_state.specs.Looking.{LooksUpFew, is_definition};
 ghost use Rattle.iv_state.specs.Performing.{Follows, Performs, PerformsPlan};
@@ -11,6 +15,7 @@ ghost use Rattle.iv_state.specs.Performing.{Follows, Performs, PerformsPlan};
 use crate::changes::DataStatements;
 use crate::savepoints::refuse;
 use crate::session_state::{SessionState, Work};
+use iv_account::Account;
 use iv_catalogue::{Cause, DataStatement, Plan, QueryPlan, SchemaPlan, TransactionPlan};
 use iv_machine::Answer;
 use iv_step::Outcome;
@@ -18,12 +23,14 @@ use iv_store::Keeper;
 use iv_syntax::Statement;
 
 impl<K: Keeper + Drop> SessionState<K> {
-    /// COMMIT as a statement ("Commit statement").
-    pub fn commit_statement(&mut self) -> Outcome
+    /// COMMIT as a statement ("Commit statement"). Where memory for its account is refused, the account is empty.
+    pub fn commit_statement(&mut self, account: &mut Account) -> Outcome
         ensures performs { Performs self.old.state (commit_outcome self.old.state) result self.new }
         ensures looked_up { LooksUpFew self.old self.new }
         ensures sure { is_memory result ≡ false }
+        ensures told { MayTell true account.old account.new (commit_told self.old.state) }
     {
+        self.tell_commit(account);
         match self.commit() {
             Ok(()) => Ok(Answer::Done),
             Err(fault) => refuse(Cause::CommitRefused(fault)),
@@ -42,21 +49,25 @@ impl<K: Keeper + Drop> SessionState<K> {
     }
 
     // A statement of transaction management.
-    pub(crate) fn transact(&mut self, plan: &TransactionPlan) -> Outcome
+    pub(crate) fn transact(&mut self, plan: &TransactionPlan, account: &mut Account) -> Outcome
         requires { transaction_cause (is_open self.old.state) (transaction_occasion plan.now)
             ≡ None }
         ensures performs { Performs self.old.state
             (transaction_outcome self.old.state plan.now) result self.new }
         ensures looked_up { LooksUpFew self.old self.new }
+        ensures told { TellsPlan self.old.state (kind.Transaction plan.now) result
+            account.old account.new }
     {
         match plan {
             TransactionPlan::Start => self.start(),
-            TransactionPlan::Commit => self.commit_statement(),
+            TransactionPlan::Commit => self.commit_statement(account),
             TransactionPlan::Rollback => self.rollback_statement(),
             TransactionPlan::Savepoint(name) => self.savepoint(name),
             TransactionPlan::Release(name) => self.release(name),
             TransactionPlan::RollbackTo(name) => self.back_to(name.as_str()),
-            TransactionPlan::SetConstraints(set, mode) => self.set_constraints(set, *mode),
+            TransactionPlan::SetConstraints(set, mode) => {
+                self.set_constraints(set, *mode, account)
+            }
         }
     }
 
@@ -77,14 +88,20 @@ impl<K: Keeper + Drop> SessionState<K> {
     }
 
     // A data statement that is handed over.
-    fn change_whole<D: DataStatements>(&mut self, statement: DataStatement) -> Outcome
+    fn change_whole<D: DataStatements>(
+        &mut self,
+        statement: DataStatement,
+        account: &mut Account,
+    ) -> Outcome
         requires { data_suits self.old.state.schema.tables
             (plain_shape self.old.state.schema.tables) statement ≡ true }
         ensures follows { Follows self.old.state
             (change_outcome self.old.state statement) result self.new }
         ensures looked_up { UnlessMemory result (LooksUpFew self.old self.new) }
+        ensures told { UnlessMemory result (account.new ≡ and_told account.old
+            (change_told self.old.state statement)) }
     {
-        let answer = self.change::<D>(&statement);
+        let answer = self.change::<D>(&statement, account);
         drop(statement);
         answer
     }
@@ -101,30 +118,34 @@ impl<K: Keeper + Drop> SessionState<K> {
     }
 
     // A statement of transaction management that is handed over.
-    fn transact_whole(&mut self, plan: TransactionPlan) -> Outcome
+    fn transact_whole(&mut self, plan: TransactionPlan, account: &mut Account) -> Outcome
         requires { transaction_cause (is_open self.old.state) (transaction_occasion plan) ≡ None }
         ensures performs { Performs self.old.state
             (transaction_outcome self.old.state plan) result self.new }
         ensures looked_up { LooksUpFew self.old self.new }
+        ensures told { TellsPlan self.old.state (kind.Transaction plan) result
+            account.old account.new }
     {
-        let answer = self.transact(&plan);
+        let answer = self.transact(&plan, account);
         drop(plan);
         answer
     }
 
-    /// Does what a resolved statement means. Data statements run as `D` says.
+    /// Does what a resolved statement means. Data statements run as `D` says. What happens is told, where the account is
+    /// asked for.
     #[tactic(auto, using(crate::proofs::Performed::plan_performed))]
-    pub fn perform<D: DataStatements>(&mut self, plan: Plan) -> Outcome
+    pub fn perform<D: DataStatements>(&mut self, plan: Plan, account: &mut Account) -> Outcome
         requires { PlanFits self.old.state plan }
         ensures performs { PerformsPlan self.old.state plan result self.new }
         ensures looked_up { is_definition plan ≡ false
             → UnlessMemory result (LooksUpFew self.old self.new) }
+        ensures told { TellsPlan self.old.state plan result account.old account.new }
     {
         match plan {
             Plan::Schema(definition) => self.define(definition),
-            Plan::Change(statement) => self.change_whole::<D>(statement),
+            Plan::Change(statement) => self.change_whole::<D>(statement, account),
             Plan::Query(query) => self.query_whole(query),
-            Plan::Transaction(control) => self.transact_whole(control),
+            Plan::Transaction(control) => self.transact_whole(control, account),
         }
     }
 

@@ -1,5 +1,6 @@
 //! The parts of the state.
-ghost use Rattle.std.specs.Prelude.{◌≡◌, IfOk, is_some, ◌-◌};
+ghost use Rattle.std.specs.Prelude.{◌≡◌, false, IfOk, is_some, ◌-◌};
+ghost use Rattle.iv_account.specs.Telling.{no_account};
 ghost use Rattle.iv_machine.specs.Machine.{empty_state, no_work};
 ghost use Rattle.iv_laws_fitting.specs.ConstraintShapes.{SchemaSuits};
 
@@ -70,7 +71,13 @@ impl<K: Keeper + Drop> SessionState<K> {
     /// The state over no table, with these limits.
     pub fn new(alloc: Global, limits: Limits) -> Result<Self, AllocError>
         ensures { IfOk result (λ s. s
-            ≡ record { state = empty_state limits; work = no_work; lookups = 0; looked_up = 0 }) }
+            ≡ record {
+              state = empty_state limits;
+              work = no_work;
+              lookups = 0;
+              looked_up = 0;
+              account = no_account false;
+            }) }
     {
         let catalogue = Catalogue::new(alloc);
         let initial = match Modes::initial(alloc, &catalogue) {

@@ -2,3 +2,4 @@ pub mod Step
 pub mod Laws
 pub mod Refusals
 pub mod Worked
+pub mod Telling

@@ -2,9 +2,12 @@
 ghost use Rattle.std.specs.Prelude.{◌≡◌, true, false, IfOk, is_some};
 ghost use Rattle.iv_catalogue.specs.Refusals.{is_memory};
 ghost use Rattle.iv_machine.specs.Machine.{State, empty_state};
+ghost use Rattle.iv_account.specs.Telling.{Account, no_account};
 ghost use Rattle.iv_step.specs.Step.{Executes, takes_no_memory};
+ghost use Rattle.iv_step.specs.Telling.{Tells};
 
-use iv_catalogue::{Catalogue, Refusal};
+use iv_account::Entry;
+use iv_catalogue::{Catalogue, Cause, Refusal};
 use iv_machine::{Answer, Limits};
 use iv_syntax::Statement;
 use std::alloc::{AllocError, Global};
@@ -12,16 +15,39 @@ use std::alloc::{AllocError, Global};
 /// What a statement answers.
 pub type Outcome = Result<Answer, Refusal>;
 
+/// Whether memory was refused.
+pub fn is_memory_refused(outcome: &Outcome) -> bool
+    ensures { result ≡ is_memory outcome.now }
+{
+    match outcome {
+        Ok(_) => false,
+        Err(refusal) => matches!(refusal.cause, Cause::OutOfMemory),
+    }
+}
+
 /// A database that executes statements, one after another.
 pub trait Executor {
     /// The state of the machine.
     ghost state: { Self → State };
 
-    /// A database of no table, with these limits.
+    /// What is told of the last statement, where it is asked for.
+    ghost told: { Self → Account };
+
+    /// A database of no table, with these limits. No account is asked for.
     fn new(alloc: Global, limits: Limits) -> Result<Self, AllocError>
     where
         Self: Sized,
-        ensures { IfOk result (λ s. state s ≡ empty_state limits) };
+        ensures state { IfOk result (λ s. state s ≡ empty_state limits) }
+        ensures told { IfOk result (λ s. told s ≡ no_account false) };
+
+    /// From now on an account of each statement is asked for, or isn't. That of the last statement goes.
+    fn explain(&mut self, asked: bool)
+        ensures state { state self.new ≡ state self.old }
+        ensures told { told self.new ≡ no_account asked };
+
+    /// The account of the last statement, where it was asked for.
+    fn account(&self) -> &[Entry]
+        ensures { result.now ≡ (told self.now).entries };
 
     /// The tables, constraints and triggers.
     fn catalogue(&self) -> &Catalogue
@@ -36,5 +62,7 @@ pub trait Executor {
     fn execute(&mut self, statement: &Statement) -> Outcome
         ensures step { Executes (state self.old) statement.now result (state self.new) }
         ensures sure { takes_no_memory (state self.old) statement.now ≡ true
-            → is_memory result ≡ false };
+            → is_memory result ≡ false }
+        ensures told { Tells (told self.old).asked (state self.old) statement.now result
+            (told self.new) };
 }

@@ -86,6 +86,13 @@ fn laws_of_answers_are_called(rt: HostRuntime) {
 }
 
 #[test]
+fn laws_of_accounts_are_called(rt: HostRuntime) {
+    iv_laws_account::accounts_lead_on();
+    iv_laws_account::all_that_begins_ends();
+    iv_laws_account::accounts_tell_violations();
+}
+
+#[test]
 fn worked_scripts_are_called(rt: HostRuntime) {
     iv_worked_machine::worked_scripts();
 }

@@ -4,6 +4,7 @@ ghost use Rattle.std.specs.Prelude.{[]};
 use crate::parts::{
     NULL, Run, change, column, set_nine, shown, signal, statement, trigger, with_trigger,
 };
+use iv_account::Account;
 use iv_catalogue::{Catalogue, Cause, DataStatement, Refusal};
 use iv_expr::{Change, Cond, Expr, Rows, Side, TableColumn, TableId};
 use iv_modes::Modes;
@@ -71,7 +72,10 @@ fn asked(
 ) -> Result<String, AllocError> {
     let modes = Modes::initial(alloc, catalogue)?;
     let context = Context::new(catalogue, &modes);
-    shown_answer(alloc, before_statement(&context, &NoTables {}, statement))
+    let mut account = Account::new(alloc, false);
+    let answer = before_statement(&context, &NoTables {}, statement, &mut account);
+    drop(account);
+    shown_answer(alloc, answer)
 }
 
 // What is answered where such a trigger is there, to an UPDATE of a column, or to a DELETE.
@@ -132,7 +136,17 @@ fn filled(
 ) -> Result<String, AllocError> {
     let modes = Modes::initial(alloc, catalogue)?;
     let context = Context::new(catalogue, &modes);
-    match before_rows(alloc, &context, &NoTables {}, columns, changes) {
+    let mut account = Account::new(alloc, false);
+    let answer = before_rows(
+        alloc,
+        &context,
+        &NoTables {},
+        columns,
+        changes,
+        &mut account,
+    );
+    drop(account);
+    match answer {
         Ok(()) => shown(alloc, &*changes),
         Err(_) => String::from_str(alloc, "refused"),
     }

@@ -5,13 +5,14 @@ ghost use Rattle.iv_store.specs.Stores.{empty_store};
 ghost use Rattle.iv_laws_rows.specs.Changing.{StoreFits};
 ghost use Rattle.iv_tests_levels.specs.Small.{IsSmall, SuitsSmall, one_more, set_to, small_table, unique_key};
 
-use crate::parts::{name, show_values};
+use crate::parts::{name, show_values, shown};
+use iv_account::{Account, Entry};
 use iv_catalogue::{
     Catalogue, Cause, Column, Constraint, Constraints, DataStatement, InsertColumns, InsertRows,
     Outputs, QueryPlan, Refusal, Rule, Setting, Table,
 };
 use iv_exec::change;
-use iv_expr::{Comparison, Cond, Expr, TableId};
+use iv_expr::{Comparison, Cond, Expr, StoredRow, TableId};
 use iv_index_store::IndexStore;
 use iv_machine::Limits;
 use iv_modes::Modes;
@@ -158,7 +159,10 @@ fn run<K: Keeper>(
     requires statement { SuitsSmall statement.now }
     ensures { OnOk result (StoreFits catalogue.now (K.view store.new)) }
 {
-    change(store, statement, catalogue, modes, limits())
+    let mut account = Account::new(store.allocator(), false);
+    let ran = change(store, statement, catalogue, modes, limits(), &mut account);
+    drop(account);
+    ran
 }
 
 fn insert<K: Keeper>(
@@ -265,24 +269,97 @@ fn tell<K: Keeper>(
     Ok(())
 }
 
+// ---- an account
+
+fn show_row(row: &StoredRow, text: &mut String) -> Result<(), AllocError> {
+    write!(text, "{} {}:", row.table.place(), row.number)?;
+    show_values(row.values.values(), text)?;
+    text.push_str(", ")
+}
+
+fn show_entry(alloc: Global, entry: &Entry, text: &mut String) -> Result<(), AllocError> {
+    match entry {
+        Entry::Changed(changes) => {
+            let changes = shown(alloc, changes.as_slice())?;
+            write!(text, "changed {}", changes.as_str())
+        }
+        Entry::Faulted(fault, rows) => {
+            write!(
+                text,
+                "faulted {} at {}: ",
+                fault.constraint.place(),
+                fault.row
+            )?;
+            for row in rows.as_slice() {
+                show_row(row, text)?;
+            }
+            Ok(())
+        }
+        _ => text.push_str("another, "),
+    }
+}
+
+fn show_entries(alloc: Global, entries: &[Entry], text: &mut String) -> Result<(), AllocError> {
+    for entry in entries {
+        show_entry(alloc, entry, text)?;
+    }
+    Ok(())
+}
+
+// What is told of levelling the rows that were shifted.
+fn tell_account<K: Keeper>(
+    alloc: Global,
+    store: &mut K,
+    catalogue: &Catalogue,
+    text: &mut String,
+) -> Result<(), Refusal>
+    requires store { StoreFits catalogue.now (K.view store.old) }
+    requires small { IsSmall catalogue.now.tables }
+{
+    let modes = Modes::initial(alloc, catalogue)?;
+    shift(alloc, store, catalogue, &modes)?;
+    let levelling = levelling(alloc)?;
+    let mut account = Account::new(alloc, true);
+    let ran = change(
+        store,
+        levelling.get(),
+        catalogue,
+        &modes,
+        limits(),
+        &mut account,
+    );
+    let shown = show_entries(alloc, account.entries(), text);
+    drop(account);
+    shown?;
+    text.push_str(if ran.is_ok() { "done" } else { "refused" })?;
+    Ok(())
+}
+
+// ---- over a new store
+
 fn create_and_tell<K: Keeper>(
     alloc: Global,
     store: &mut K,
     catalogue: &mut Catalogue,
+    has_account: bool,
     text: &mut String,
 ) -> Result<(), Refusal>
     requires store { K.view store.old ≡ empty_store }
     requires catalogue { catalogue.old ≡ empty_schema }
 {
     create(alloc, store, catalogue)?;
-    tell(alloc, store, &*catalogue, text)
+    if has_account {
+        tell_account(alloc, store, &*catalogue, text)
+    } else {
+        tell(alloc, store, &*catalogue, text)
+    }
 }
 
-fn told<K: Keeper + Drop>(alloc: Global) -> Result<String, AllocError> {
+fn told<K: Keeper + Drop>(alloc: Global, has_account: bool) -> Result<String, AllocError> {
     let mut text = String::new(alloc);
     let mut store = K::new(alloc);
     let mut catalogue = Catalogue::new(alloc);
-    let told = create_and_tell(alloc, &mut store, &mut catalogue, &mut text);
+    let told = create_and_tell(alloc, &mut store, &mut catalogue, has_account, &mut text);
     drop(catalogue);
     drop(store);
     match told {
@@ -293,14 +370,32 @@ fn told<K: Keeper + Drop>(alloc: Global) -> Result<String, AllocError> {
 
 #[test]
 fn unique_after_a_shift_in_the_plain_store(rt: HostRuntime) -> Result<(), Fail> {
-    let found = told::<PlainStore>(rt.alloc())?;
+    let found = told::<PlainStore>(rt.alloc(), false)?;
     assert_eq!(rt; found.as_str(), "3: 3 4: 3: violates 0 at 1");
     Ok(())
 }
 
 #[test]
 fn unique_after_a_shift_in_the_index_store(rt: HostRuntime) -> Result<(), Fail> {
-    let found = told::<IndexStore>(rt.alloc())?;
+    let found = told::<IndexStore>(rt.alloc(), false)?;
     assert_eq!(rt; found.as_str(), "3: 3 4: 3: violates 0 at 1");
+    Ok(())
+}
+
+// Rows 1 to 3 hold 2 to 4, and become 7. Row 1 is then one of two with the key 7, and row 2 is the first other.
+const LEVELLED: &str =
+    "changed 0 1: 2 to 7, 0 2: 3 to 7, 0 3: 4 to 7, faulted 0 at 1: 0 1: 7, 0 2: 7, refused";
+
+#[test]
+fn an_account_of_a_refused_update_in_the_plain_store(rt: HostRuntime) -> Result<(), Fail> {
+    let found = told::<PlainStore>(rt.alloc(), true)?;
+    assert_eq!(rt; found.as_str(), LEVELLED);
+    Ok(())
+}
+
+#[test]
+fn an_account_of_a_refused_update_in_the_index_store(rt: HostRuntime) -> Result<(), Fail> {
+    let found = told::<IndexStore>(rt.alloc(), true)?;
+    assert_eq!(rt; found.as_str(), LEVELLED);
     Ok(())
 }

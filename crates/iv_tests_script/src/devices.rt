@@ -165,7 +165,7 @@ fn run_session<R: Source, W: Sink>(
     sink: &mut W,
     limits: Limits,
 ) -> Result<Summary, RunFault> {
-    run::<Session<PlainStore>, R, W>(alloc, source, sink, limits)
+    run::<Session<PlainStore>, R, W>(alloc, source, sink, limits, false)
 }
 
 // What a run over this source answers and writes.

@@ -1,5 +1,5 @@
 -- What a call that takes memory answers: what a definition says, unless memory was refused.
-use Rattle.std.specs.Prelude.{Result}
+use Rattle.std.specs.Prelude.{Result, Ok, Err, MatchBool}
 use Rattle.iv_catalogue.specs.Refusals.{Answers, is_memory_cause}
 use Rattle.iv_catalogue.specs.declared.cause.Cause.{Cause}
 use Rattle.iv_catalogue.specs.declared.cause.Refusal.{Refusal}
@@ -11,3 +11,8 @@ AnswersCause view r said = Answers is_memory_cause (λ cause. cause) view r said
 -- so for a refusal with its trigger
 abbrev pub AnswersRefusal : {A B : Type 0} → (A → B) → Result A Refusal → Result B Refusal → Type 0
 AnswersRefusal view r said = Answers (λ refusal. is_memory_cause refusal.cause) (λ refusal. refusal) view r said
+
+-- What holds unless memory was refused; `UnlessMemory` of `iv_laws_rows` says it of a refusal with its trigger.
+abbrev pub UnlessMemoryCause : {A : Type 0} → Result A Cause → Type 0 → Type 0
+UnlessMemoryCause (Ok a) P = P
+UnlessMemoryCause (Err cause) P = MatchBool (is_memory_cause cause) (Unit {0}) P

@@ -1,14 +1,17 @@
 //! BEFORE triggers: those of a statement, and those of the rows of a wave ("Execution of BEFORE triggers").
-ghost use Rattle.std.specs.Prelude.{◌≡◌, ◌≤◌, ◌<◌, ◌+◌, ◌^◌, ◌&&◌, length, slice_set, filter, IfOk, OnOk};
+ghost use Rattle.std.specs.Prelude.{◌≡◌, ◌≤◌, ◌<◌, ◌+◌, ◌^◌, ◌&&◌, false, [], ◌∷◌, length, slice_set, filter, IfOk, OnOk};
 ghost use Rattle.std.specs.List.{enumerate_from};
+ghost use Rattle.iv_account.specs.Accounts.{before_each_told, before_row_told, before_rows_told, before_statement_told, before_triggers_told, ran, ran_where_true, told_in_turn};
+ghost use Rattle.iv_account.specs.Telling.{and_told};
 ghost use Rattle.iv_catalogue.specs.Catalogues.{BodiesWithinLimit};
 ghost use Rattle.iv_catalogue.specs.declared.limits.TheConstants.{MOST_BODY_STATEMENTS};
 ghost use Rattle.iv_expr.specs.Evaluation.{value};
 ghost use Rattle.iv_expr.specs.Scopes.{no_frame, scope_of};
+ghost use Rattle.iv_laws_rows.specs.Changing.{UnlessMemory};
 ghost use Rattle.iv_machine.specs.BeforeTriggers.{before_row_run, before_statement, before_statement_run, change_after_set, change_after_statement, change_after_trigger, change_frame, changes_after_triggers, is_before_row_on, is_before_this, is_signal, placed_statements, unless_signal, with_new_value};
 ghost use Rattle.iv_machine.specs.Context.{each, in_turn, while_running};
 ghost use Rattle.iv_machine.specs.Proposals.{holds, stored_value};
-ghost use Rattle.iv_triggers.specs.Answering.{AnswersCause, AnswersRefusal};
+ghost use Rattle.iv_triggers.specs.Answering.{AnswersCause, AnswersRefusal, UnlessMemoryCause};
 
 use crate::columns::{is_on_columns, is_on_set_columns};
 use crate::context::Context;
@@ -16,6 +19,7 @@ use crate::matching::{
     event_of, event_of_change, is_before_row, is_before_statement, is_on, table_of,
 };
 use crate::values::{holds, stored_value};
+use iv_account::Account;
 use iv_catalogue::{BodyStatement, Cause, DataStatement, Refusal, Setting, Trigger};
 use iv_expr::{Change, Frame, Row, Rows, Scope, TableColumn};
 use iv_value::Value;
@@ -151,20 +155,32 @@ fn fires<'x, R: Rows>(rows: &'x R, trigger: &Trigger, change: &'x Change) -> Res
     holds(&trigger.when, &scope)
 }
 
-// A BEFORE row trigger at a change, where its WHEN is true.
-#[tactic(auto, using(crate::proofs::Answers::cause_exact))]
+// Tells that a BEFORE row trigger runs at a change.
+fn tell_at_row(trigger: &Trigger, change: &Change, account: &mut Account) -> Result<(), AllocError>
+    ensures told { OnOk result (account.new ≡ and_told account.old
+        (ran trigger.now (change_frame change.now) ∷ [])) }
+{
+    let frame = Frame::at(&[], change);
+    account.ran(trigger, &frame)
+}
+
+// A BEFORE row trigger at a change, where its WHEN is true. That it runs is told before its body runs.
 fn run_at_row<R: Rows>(
     alloc: Global,
     context: &Context<'_>,
     rows: &R,
     trigger: &Trigger,
     change: &mut Change,
+    account: &mut Account,
 ) -> Result<(), Cause>
     requires { length trigger.now.body ≤ MOST_BODY_STATEMENTS }
-    ensures { AnswersCause (λ _. change.exit.now) result
+    ensures answer { AnswersCause (λ _. change.exit.now) result
         (before_row_run context.now (R.rows rows.now) trigger.now change.entry.now) }
+    ensures told { UnlessMemoryCause result (account.new ≡ and_told account.old
+        (ran_where_true (R.rows rows.now) trigger.now (change_frame change.entry.now))) }
 {
     if fires(rows, trigger, &*change)? {
+        tell_at_row(trigger, &*change, account)?;
         run_body(alloc, context, rows, trigger, change)
     } else {
         Ok(())
@@ -179,13 +195,16 @@ fn run_at_change<R: Rows>(
     rows: &R,
     trigger: &Trigger,
     change: &mut Change,
+    account: &mut Account,
 ) -> Result<(), Refusal>
     requires { length trigger.now.body ≤ MOST_BODY_STATEMENTS }
-    ensures { AnswersRefusal (λ _. change.exit.now) result
+    ensures answer { AnswersRefusal (λ _. change.exit.now) result
         (change_after_trigger context.now (R.rows rows.now) trigger.now change.entry.now) }
+    ensures told { UnlessMemory result (account.new ≡ and_told account.old
+        (before_row_told (R.rows rows.now) trigger.now change.entry.now)) }
 {
     if is_on(change.table, event_of_change(&*change), trigger) {
-        match run_at_row(alloc, context, rows, trigger, change) {
+        match run_at_row(alloc, context, rows, trigger, change, account) {
             Ok(()) => Ok(()),
             Err(cause) => Err(Refusal {
                 cause,
@@ -204,15 +223,18 @@ fn run_at_each<R: Rows>(
     rows: &R,
     trigger: &Trigger,
     changes: &mut [Change],
+    account: &mut Account,
 ) -> Result<(), Refusal>
     requires { length trigger.now.body ≤ MOST_BODY_STATEMENTS }
     ensures length { length changes.exit.now ≡ length changes.entry.now }
     ensures answer { AnswersRefusal (λ _. changes.exit.now) result
         (each (change_after_trigger context.now (R.rows rows.now) trigger.now) changes.entry.now) }
+    ensures told { UnlessMemory result (account.new ≡ and_told account.old
+        (before_each_told context.now (R.rows rows.now) trigger.now changes.entry.now)) }
 {
     let mut at = 0usize;
     while at < changes.len() {
-        run_at_change(alloc, context, rows, trigger, &mut changes[at])?;
+        run_at_change(alloc, context, rows, trigger, &mut changes[at], account)?;
         at += 1;
     }
     Ok(())
@@ -234,41 +256,48 @@ fn run_all<R: Rows>(
     triggers: &[Trigger],
     columns: &[TableColumn],
     changes: &mut [Change],
+    account: &mut Account,
 ) -> Result<(), Refusal>
     requires { BodiesWithinLimit triggers.now }
     ensures length { length changes.exit.now ≡ length changes.entry.now }
     ensures answer { AnswersRefusal (λ _. changes.exit.now) result
         (changes_after_triggers context.now (R.rows rows.now)
         (filter (is_before_row_on columns.now) triggers.now) changes.entry.now) }
+    ensures told { UnlessMemory result (account.new ≡ and_told account.old
+        (before_triggers_told context.now (R.rows rows.now)
+        (filter (is_before_row_on columns.now) triggers.now) changes.entry.now)) }
 {
     match triggers {
         [] => Ok(()),
         [trigger, rest @ ..] => {
             if is_before_row_on(columns, trigger) {
-                run_at_each(alloc, context, rows, trigger, changes)?;
-                run_all(alloc, context, rows, rest, columns, changes)
+                run_at_each(alloc, context, rows, trigger, changes, account)?;
+                run_all(alloc, context, rows, rest, columns, changes, account)
             } else {
-                run_all(alloc, context, rows, rest, columns, changes)
+                run_all(alloc, context, rows, rest, columns, changes, account)
             }
         }
     }
 }
 
 /// The changes of a wave with these columns after its BEFORE row triggers, by their creation. They see the tables with
-/// these rows, as they are before the wave. Where they refuse it, nothing is said of the changes. Where no table of the
-/// changes has a trigger, it takes one look at each change.
-#[tactic(auto, using(crate::proofs::Untriggered::rows_untouched))]
+/// these rows, as they are before the wave. Where they refuse it, nothing is said of the changes. Each that runs is told
+/// before its body runs. Where no table of the changes has a trigger, it takes one look at each change.
+#[tactic(auto, using(crate::proofs::Untriggered::rows_untouched, crate::proofs::Untriggered::rows_untold))]
 pub fn before_rows<R: Rows>(
     alloc: Global,
     context: &Context<'_>,
     rows: &R,
     columns: &[TableColumn],
     changes: &mut [Change],
+    account: &mut Account,
 ) -> Result<(), Refusal>
     ensures length { length changes.exit.now ≡ length changes.entry.now }
     ensures answer { AnswersRefusal (λ _. changes.exit.now) result
         (changes_after_triggers context.now (R.rows rows.now)
         (filter (is_before_row_on columns.now) context.now.schema.triggers) changes.entry.now) }
+    ensures told { UnlessMemory result (account.new ≡ and_told account.old
+        (before_rows_told context.now (R.rows rows.now) columns.now changes.entry.now)) }
 {
     if !context.has_trigger_on(&*changes) {
         return Ok(());
@@ -280,6 +309,7 @@ pub fn before_rows<R: Rows>(
         context.catalogue().triggers(),
         columns,
         changes,
+        account,
     )
 }
 
@@ -314,24 +344,39 @@ fn unless_signal(trigger: &Trigger) -> Result<(), Cause>
     Ok(())
 }
 
-// A BEFORE statement trigger, where its WHEN is true.
-fn run_for_statement<R: Rows>(rows: &R, trigger: &Trigger) -> Result<(), Cause>
+// A BEFORE statement trigger, where its WHEN is true. That it runs is told before its body runs.
+fn run_for_statement<R: Rows>(
+    rows: &R,
+    trigger: &Trigger,
+    account: &mut Account,
+) -> Result<(), Cause>
     requires { length trigger.now.body ≤ MOST_BODY_STATEMENTS }
-    ensures { result ≡ before_statement_run (R.rows rows.now) trigger.now }
+    ensures answer { AnswersCause (λ _. tt) result
+        (before_statement_run (R.rows rows.now) trigger.now) }
+    ensures told { UnlessMemoryCause result (account.new ≡ and_told account.old
+        (ran_where_true (R.rows rows.now) trigger.now no_frame)) }
+    ensures unasked { account.old.asked ≡ false
+        → result ≡ before_statement_run (R.rows rows.now) trigger.now }
 {
     if fires_for_statement(rows, trigger)? {
+        let frame = Frame::none();
+        account.ran(trigger, &frame)?;
         unless_signal(trigger)
     } else {
         Ok(())
     }
 }
 
-fn run_named<R: Rows>(rows: &R, trigger: &Trigger) -> Result<(), Refusal>
+fn run_named<R: Rows>(rows: &R, trigger: &Trigger, account: &mut Account) -> Result<(), Refusal>
     requires { length trigger.now.body ≤ MOST_BODY_STATEMENTS }
-    ensures { result ≡ while_running trigger.now.id
+    ensures answer { AnswersRefusal (λ _. tt) result
+        (while_running trigger.now.id (before_statement_run (R.rows rows.now) trigger.now)) }
+    ensures told { UnlessMemory result (account.new ≡ and_told account.old
+        (ran_where_true (R.rows rows.now) trigger.now no_frame)) }
+    ensures unasked { account.old.asked ≡ false → result ≡ while_running trigger.now.id
         (before_statement_run (R.rows rows.now) trigger.now) }
 {
-    match run_for_statement(rows, trigger) {
+    match run_for_statement(rows, trigger, account) {
         Ok(()) => Ok(()),
         Err(cause) => Err(Refusal {
             cause,
@@ -350,13 +395,22 @@ fn is_before_this(statement: &DataStatement, trigger: &Trigger) -> bool
 
 // Those of the triggers that are BEFORE statement triggers of the statement's table and event, and of a column of its
 // SET list where they list columns.
+#[tactic(auto, using(crate::proofs::Answers::refusal_then))]
 fn run_statement_triggers<R: Rows>(
     rows: &R,
     triggers: &[Trigger],
     statement: &DataStatement,
+    account: &mut Account,
 ) -> Result<(), Refusal>
     requires { BodiesWithinLimit triggers.now }
-    ensures { result ≡ in_turn
+    ensures answer { AnswersRefusal (λ _. tt) result (in_turn
+        (λ t _. while_running t.id (before_statement_run (R.rows rows.now) t))
+        (filter (is_before_this statement.now) triggers.now) tt) }
+    ensures told { UnlessMemory result (account.new ≡ and_told account.old (told_in_turn
+        (λ t _. while_running t.id (before_statement_run (R.rows rows.now) t))
+        (λ t _. ran_where_true (R.rows rows.now) t no_frame)
+        (filter (is_before_this statement.now) triggers.now) tt)) }
+    ensures unasked { account.old.asked ≡ false → result ≡ in_turn
         (λ t _. while_running t.id (before_statement_run (R.rows rows.now) t))
         (filter (is_before_this statement.now) triggers.now) tt }
 {
@@ -364,27 +418,33 @@ fn run_statement_triggers<R: Rows>(
         [] => Ok(()),
         [trigger, rest @ ..] => {
             if is_before_this(statement, trigger) {
-                run_named(rows, trigger)?;
-                run_statement_triggers(rows, rest, statement)
+                run_named(rows, trigger, account)?;
+                run_statement_triggers(rows, rest, statement, account)
             } else {
-                run_statement_triggers(rows, rest, statement)
+                run_statement_triggers(rows, rest, statement, account)
             }
         }
     }
 }
 
-/// The BEFORE statement triggers of a statement, by creation. They take no memory. Where its table has no trigger,
-/// that takes constant time.
-#[tactic(auto, using(crate::proofs::Untriggered::none_before_statement))]
+/// The BEFORE statement triggers of a statement, by creation. Each that runs is told before its body runs. Where no
+/// account is asked for, they take no memory. Where the statement's table has no trigger, that takes constant time.
+#[tactic(auto, using(crate::proofs::Untriggered::none_before_statement, crate::proofs::Untriggered::none_told_before_statement))]
 pub fn before_statement<R: Rows>(
     context: &Context<'_>,
     rows: &R,
     statement: &DataStatement,
+    account: &mut Account,
 ) -> Result<(), Refusal>
-    ensures { result ≡ before_statement context.now (R.rows rows.now) statement.now }
+    ensures answer { AnswersRefusal (λ _. tt) result
+        (before_statement context.now (R.rows rows.now) statement.now) }
+    ensures told { UnlessMemory result (account.new ≡ and_told account.old
+        (before_statement_told context.now (R.rows rows.now) statement.now)) }
+    ensures unasked { account.old.asked ≡ false
+        → result ≡ before_statement context.now (R.rows rows.now) statement.now }
 {
     if !context.has_trigger(table_of(statement)) {
         return Ok(());
     }
-    run_statement_triggers(rows, context.catalogue().triggers(), statement)
+    run_statement_triggers(rows, context.catalogue().triggers(), statement, account)
 }

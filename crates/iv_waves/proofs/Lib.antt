@@ -6,3 +6,4 @@ pub mod ToldOn
 pub mod Rows
 pub mod Rounds
 pub mod Running
+pub mod WavesTold

@@ -3,6 +3,7 @@
 
 mod applying;
 mod entering;
+mod following;
 mod numbering;
 mod settling;
 

@@ -3,8 +3,10 @@ ghost use Rattle.std.specs.Prelude.{◌≡◌, ◌+◌, ◌-◌, ◌*◌, ◌≤
 ghost use Rattle.iv_laws_levels.specs.FittingWaves.{Chain};
 ghost use Rattle.iv_machine.specs.Databases.{database_after};
 ghost use Rattle.iv_machine.specs.Waves.{one_wave, settled_waves};
+ghost use Rattle.iv_account.specs.Accounts.{applied_told, one_wave_told, waves_told};
+ghost use Rattle.iv_account.specs.Telling.{and_told};
 ghost use Rattle.iv_laws_rows.specs.RowFits.{changes_fit};
-ghost use Rattle.iv_laws_rows.specs.Changing.{AnswersAt, StoreFits};
+ghost use Rattle.iv_laws_rows.specs.Changing.{AnswersAt, StoreFits, UnlessMemory};
 ghost use Rattle.iv_waves.specs.Applying.{Applicable, Proposes};
 ghost use Rattle.iv_waves.specs.Progress.{Progress};
 ghost use Rattle.iv_waves.specs.Running.{LeavesStore};
@@ -12,7 +14,8 @@ ghost use Rattle.iv_waves.specs.Steps.{followed_by, wave_with};
 
 use crate::applying::apply_all;
 use crate::entering::enter;
-use iv_actions::next_wave;
+use crate::following::next_wave_told;
+use iv_account::Account;
 use iv_catalogue::Refusal;
 use iv_expr::{Change, TableColumn, Wave};
 use iv_store::ChangeableRows;
@@ -26,11 +29,12 @@ struct AppliedWave {
     next: Wave,
 }
 
-// Applies a wave, and finds what follows it.
+// Applies a wave, tells it, and finds what follows it.
 fn follow<K: ChangeableRows>(
     store: &mut K,
     context: &Context<'_>,
     wave: Wave,
+    account: &mut Account,
 ) -> Result<AppliedWave, Refusal>
     requires applicable { Applicable (K.view store.old).tables
         (K.view store.old).base wave.changes }
@@ -42,9 +46,12 @@ fn follow<K: ChangeableRows>(
         ≡ database_after (K.view store.old).base x.wave) }
     ensures store { LeavesStore context.now.schema result
         (K.view store.old) (K.lookups store.old) (K.view store.new) (K.lookups store.new) }
+    ensures told { UnlessMemory result (account.new ≡ and_told account.old
+        (applied_told context.now (K.view store.old).base wave)) }
 {
     apply_all(store, wave.changes())?;
-    let next = next_wave(store, context.catalogue(), &wave)?;
+    account.changed(wave.changes())?;
+    let next = next_wave_told(store, context.catalogue(), &wave, account)?;
     Ok(AppliedWave { wave, next })
 }
 
@@ -55,6 +62,7 @@ fn one_wave<K: ChangeableRows>(
     budget: u64,
     changes: Vec<Change>,
     columns: Vec<TableColumn>,
+    account: &mut Account,
 ) -> Result<AppliedWave, Refusal>
     requires { Progress context.now (K.view store.old) changes.items }
     ensures answer { AnswersAt (λ x. record { wave = x.wave; next = x.next })
@@ -65,9 +73,12 @@ fn one_wave<K: ChangeableRows>(
         ≡ database_after (K.view store.old).base x.wave) }
     ensures store { LeavesStore context.now.schema result
         (K.view store.old) (K.lookups store.old) (K.view store.new) (K.lookups store.new) }
+    ensures told { UnlessMemory result (account.new ≡ and_told account.old
+        (one_wave_told context.now (K.view store.old).base budget
+        (wave_with columns.items changes.items))) }
 {
-    let wave = enter(&*store, context, budget, changes, columns)?;
-    follow(store, context, wave)
+    let wave = enter(&*store, context, budget, changes, columns, account)?;
+    follow(store, context, wave, account)
 }
 
 fn add(waves: &mut Vec<Wave>, wave: Wave) -> Result<(), AllocError>
@@ -79,13 +90,15 @@ fn add(waves: &mut Vec<Wave>, wave: Wave) -> Result<(), AllocError>
 
 /// Applies the changes that a statement proposes, and what follows from them by referential actions, wave
 /// after wave, and answers the waves as they were applied. The columns are those of the statement's SET list. The
-/// budget is what the statement may still change. Where it is refused, some waves may have been applied, and the store is to be undone.
+/// budget is what the statement may still change. Where it is refused, some waves may have been applied, and the store is
+/// to be undone. The account is told each wave and what follows it, up to a refusal.
 pub fn settle<K: ChangeableRows>(
     store: &mut K,
     context: &Context<'_>,
     budget: &mut u64,
     changes: Vec<Change>,
     columns: Vec<TableColumn>,
+    account: &mut Account,
 ) -> Result<Vec<Wave>, Refusal>
     requires store { StoreFits context.now.schema (K.view store.old) }
     requires fit { changes_fit context.now.schema.tables changes.items ≡ true }
@@ -102,6 +115,9 @@ pub fn settle<K: ChangeableRows>(
         (λ waves. Chain (K.view store.old).base waves.items (K.view store.new).base) }
     ensures store { LeavesStore context.now.schema result
         (K.view store.old) (K.lookups store.old) (K.view store.new) (K.lookups store.new) }
+    ensures told { UnlessMemory result (account.new ≡ and_told account.old
+        (waves_told context.now (K.view store.old).base budget.old
+        (wave_with columns.items changes.items))) }
 {
     // Called for what its contract says: the rows are numbered in rising order.
     store.next_row();
@@ -109,7 +125,7 @@ pub fn settle<K: ChangeableRows>(
     let mut changes = changes;
     let mut columns = columns;
     while !changes.is_empty() {
-        let applied = one_wave(store, context, *budget, changes, columns)?;
+        let applied = one_wave(store, context, *budget, changes, columns, account)?;
         let AppliedWave { wave, next } = applied;
         *budget -= wave.changes().len() as u64;
         add(&mut waves, wave)?;

@@ -14,6 +14,7 @@ use Rattle.iv_worked_machine.specs.WorkedLimits.{WorkedLimits}
 use Rattle.iv_worked_machine.specs.WorkedOccasions.{WorkedOccasions}
 use Rattle.iv_worked_machine.specs.WorkedNulls.{WorkedNulls}
 use Rattle.iv_worked_machine.specs.WorkedColumns.{WorkedColumns}
+use Rattle.iv_worked_machine.specs.WorkedAccounts.{WorkedAccounts}
 
 pub constraints : WorkedConstraints
 constraints = record {
@@ -195,4 +196,29 @@ columns = record {
   deleted_rows_name_no_columns = refl;
   all_transitions_of_the_table = refl;
   columns_of_later_waves = refl;
+}
+
+pub accounts : WorkedAccounts
+unfolding values_on_literals
+accounts = record {
+  insert_of_two_rows = refl;
+  update_of_two_rows = refl;
+  delete_of_no_row = refl;
+  delete_cascades = refl;
+  budget_ends_after_a_wave = refl;
+  delete_sets_null = refl;
+  two_keys_act_on_a_row = refl;
+  after_row_trigger_logs = refl;
+  before_row_triggers_set = refl;
+  trigger_whose_condition_is_false = refl;
+  budget_ends_before_triggers = refl;
+  check_is_violated = refl;
+  unique_is_violated = refl;
+  restrict_protects_a_row = refl;
+  two_levels_of_triggers = refl;
+  refusal_inside_a_body = refl;
+  before_statement_trigger_runs = refl;
+  commit_is_refused = refl;
+  set_constraints_is_refused = refl;
+  start_tells_nothing = refl;
 }

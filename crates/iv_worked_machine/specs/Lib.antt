@@ -14,3 +14,4 @@ pub mod WorkedLimits
 pub mod WorkedOccasions
 pub mod WorkedNulls
 pub mod WorkedColumns
+pub mod WorkedAccounts

@@ -1,13 +1,14 @@
--- Words for worked scripts: answers, and what the machine answers to a list of plans. No other file
--- of this crate names the machine's definitions.
+-- Words for worked scripts: answers, what the machine answers to a list of plans, and what is told of the
+-- last of them. No other file of this crate names the machine's definitions, and those of accounts.
 use Rattle.std.specs.Prelude.{ℕ, pos, Bool, List, [], ◌∷◌, map, Option, Some, None, Result, Ok, Err}
-use Rattle.iv_worked_machine.specs.Words.{Value, Statement, Cause, Fault, Refusal, Plan, Answer}
+use Rattle.iv_worked_machine.specs.Words.{Value, Statement, Cause, Fault, Refusal, Plan, Answer, Entry}
 use Rattle.iv_worked_machine.specs.Words.value.{Int}
 use Rattle.iv_worked_machine.specs.Words.answer.{Done, Changed, Rows}
 use Rattle.iv_worked_machine.specs.Words.which.{Deferred}
 use Rattle.iv_machine.specs.Bounds.{Bounds}
 use Rattle.iv_machine.specs.Databases.{scan, is_chosen}
 use Rattle.iv_machine.specs.Machine.{State, Outcome, Work, empty_state, plan_outcome, occasion_of, transaction_cause}
+use Rattle.iv_account.specs.Sessions.{plan_told}
 
 -- ---- answers
 
@@ -117,6 +118,22 @@ abbrev pub pending_after : List Plan → List Fault
 pending_after plans =
     let s : State = state_after (empty_state usual_limits) plans in
     scan s.database.rows s.schema.constraints (is_chosen s.modes Deferred)
+
+-- ---- accounts
+
+-- what is told of the last of these plans
+abbrev pub told_from : State → List Plan → List Entry
+told_from s [] = []
+told_from s (p ∷ []) = plan_told s p
+told_from s (p ∷ q ∷ ps) = told_from (plan_outcome s p).state (q ∷ ps)
+
+-- under the usual limits
+abbrev pub told : List Plan → List Entry
+told plans = told_from (empty_state usual_limits) plans
+
+-- under a budget of so many changes
+abbrev pub told_within : ℕ → List Plan → List Entry
+told_within changes plans = told_from (empty_state (record { depth = 16; changes = changes })) plans
 
 -- ---- what is refused before all else
 

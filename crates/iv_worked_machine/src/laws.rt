@@ -9,6 +9,7 @@ ghost use Rattle.iv_worked_machine.specs.WorkedLimits.{WorkedLimits};
 ghost use Rattle.iv_worked_machine.specs.WorkedOccasions.{WorkedOccasions};
 ghost use Rattle.iv_worked_machine.specs.WorkedNulls.{WorkedNulls};
 ghost use Rattle.iv_worked_machine.specs.WorkedColumns.{WorkedColumns};
+ghost use Rattle.iv_worked_machine.specs.WorkedAccounts.{WorkedAccounts};
 ghost use Rattle.iv_worked_machine.specs.WorkedActions.{WorkedActions};
 ghost use Rattle.iv_worked_machine.specs.WorkedConstraints.{WorkedConstraints};
 ghost use Rattle.iv_worked_machine.specs.WorkedTriggers.{WorkedTriggers};
@@ -28,4 +29,5 @@ pub fn worked_scripts()
     ensures occasions { WorkedOccasions }
     ensures nulls { WorkedNulls }
     ensures columns { WorkedColumns }
+    ensures accounts { WorkedAccounts }
 {}

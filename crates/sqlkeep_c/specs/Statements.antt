@@ -13,6 +13,7 @@ use Rattle.iv_session.specs.FewLookups.{FewLookups, defines_schema}
 use Rattle.iv_session.specs.Sure.{is_rollback_to}
 use Rattle.iv_state.specs.Kept.{Seen}
 use Rattle.iv_step.specs.Step.{Executes, step, takes_no_memory}
+use Rattle.iv_step.specs.Telling.{Tells}
 use Rattle.iv_syntax.specs.declared.statement.Statement.{Statement}
 use Rattle.sqlkeep_c.specs.declared.outcomes.ShownOutcome.{ShownOutcome}
 use Rattle.sqlkeep_c.specs.declared.statements.ReadScript.{ReadScript}
@@ -36,6 +37,7 @@ pub record Executed (old : Seen) (st : Statement) (r : Result Answer Refusal) (n
   pub sure_store : is_rollback_to st ≡ true → is_memory r ≡ false
   pub work : MatchBool (is_memory r) (Unit {0}) (new.work ≡ (step old.state st).work)
   pub bounded : defines_schema st ≡ false → UnlessMemory r (FewLookups old.state new)
+  pub told : Tells old.account.asked old.state st r new.account
 
 -- the number of a cause
 abbrev pub number_of : Cause → ℕ

@@ -1,5 +1,5 @@
 //! Whole scripts, and their transcripts.
-ghost use Rattle.std.specs.Prelude.{◌≡◌, ◌≢◌, ◌<◌, ◌≤◌, length, None, IfOk, IfSome, IsErrOf, OnErr, OnOk};
+ghost use Rattle.std.specs.Prelude.{◌≡◌, ◌≢◌, ◌<◌, ◌≤◌, false, length, None, IfOk, IfSome, IsErrOf, OnErr, OnOk};
 ghost use Rattle.std.specs.Str.{IsUtf8};
 ghost use Rattle.iv_script.specs.Lengths.{Fits};
 ghost use Rattle.iv_script.specs.declared.summary.Summary.{Summary as Counts};
@@ -18,9 +18,14 @@ use iv_script::{LONGEST, RunFault, Summary, run};
 use std::alloc::Global;
 
 // Runs a script in a new database, and gives its transcript.
-fn transcript(alloc: Global, text: &[u8], limits: Limits) -> Result<(Summary, Vec<u8>), RunFault>
-    ensures transcript { IfOk result (λ r. IsTranscript text.now limits r.0 r.1.items) }
-    ensures with_memory { IfOk result (λ r. r.0.memory_refused ≡ 0
+fn transcript(
+    alloc: Global,
+    text: &[u8],
+    limits: Limits,
+    explain: bool,
+) -> Result<(Summary, Vec<u8>), RunFault>
+    ensures transcript { IfOk result (λ r. IsTranscript text.now limits explain r.0 r.1.items) }
+    ensures with_memory { IfOk result (λ r. explain ≡ false → r.0.memory_refused ≡ 0
         → IsWithMemory text.now limits r.0 r.1.items) }
     ensures fits { OnOk result (Fits LONGEST text.now) }
     ensures too_long { IsErrOf result RunFault.TooLong → LONGEST < length text.now }
@@ -29,7 +34,7 @@ fn transcript(alloc: Global, text: &[u8], limits: Limits) -> Result<(Summary, Ve
 {
     let mut reader = Std::new(text);
     let mut writer = Std::new(Vec::new(alloc));
-    let summary = run::<Database, _, _>(alloc, &mut reader, &mut writer, limits)?;
+    let summary = run::<Database, _, _>(alloc, &mut reader, &mut writer, limits, explain)?;
     Ok((summary, writer.into_inner()))
 }
 
@@ -48,8 +53,9 @@ fn status_of(fault: &RunFault) -> u32
 
 // Runs a script, and keeps its transcript.
 fn run_kept(alloc: Global, opened: &mut Opened, text: &[u8]) -> Result<Summary, RunFault>
-    ensures transcript { IfOk result (λ s. IsTranscript text.now opened.old.limits s opened.new.transcript.items) }
-    ensures with_memory { IfOk result (λ s. s.memory_refused ≡ 0
+    ensures transcript { IfOk result (λ s. IsTranscript text.now opened.old.limits
+        opened.old.session.account.asked s opened.new.transcript.items) }
+    ensures with_memory { IfOk result (λ s. opened.old.session.account.asked ≡ false → s.memory_refused ≡ 0
         → IsWithMemory text.now opened.old.limits s opened.new.transcript.items) }
     ensures session { opened.new.session ≡ opened.old.session }
     ensures limits { opened.new.limits ≡ opened.old.limits }
@@ -59,12 +65,13 @@ fn run_kept(alloc: Global, opened: &mut Opened, text: &[u8]) -> Result<Summary, 
     ensures not_utf8 { IsErrOf result RunFault.NotUtf8
         → (length text.now ≤ LONGEST) × ¬ (IsUtf8 text.now) }
 {
-    let (summary, bytes) = transcript(alloc, text, opened.limits)?;
+    let (summary, bytes) = transcript(alloc, text, opened.limits, opened.session.explains())?;
     opened.transcript = bytes;
     Ok(summary)
 }
 
-/// Runs a whole script in a new database with the limits of the session, and keeps its transcript.
+/// Runs a whole script in a new database with the limits of the session, and keeps its transcript, with accounts where
+/// the session is asked for them.
 #[unsafe(no_mangle)]
 pub extern "C" fn sqlkeep_run(
     alloc: Global,
@@ -72,12 +79,12 @@ pub extern "C" fn sqlkeep_run(
     text: &[u8],
     summary: &mut RunSummary,
 ) -> u32
-    // What is kept is the transcript, for some choice of the statements that were refused memory; where there is none it is
-    // that of the machine.
+    // What is kept is the transcript, for some choice of the statements that were refused memory; where there is none and
+    // no account is asked for it is that of the machine.
     ensures transcript { Called handle.old.kept.behind handle.new.kept.behind (λ old new. result ≡ OK
         → (counts : Counts) × Shows counts summary.new
-        × IsTranscript text.now old.limits counts new.transcript.items
-        × (counts.memory_refused ≡ 0 → IsWithMemory text.now old.limits counts new.transcript.items)) }
+        × IsTranscript text.now old.limits old.session.account.asked counts new.transcript.items
+        × (old.session.account.asked ≡ false → counts.memory_refused ≡ 0 → IsWithMemory text.now old.limits counts new.transcript.items)) }
     ensures session { Called handle.old.kept.behind handle.new.kept.behind (λ old new.
         (new.session ≡ old.session) × (new.limits ≡ old.limits)) }
     ensures others { result ≢ OK → (handle.new.kept.behind ≡ handle.old.kept.behind)

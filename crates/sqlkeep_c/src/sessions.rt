@@ -1,5 +1,8 @@
 //! A session is opened and closed.
-ghost use Rattle.std.specs.Prelude.{◌≡◌, ◌≢◌, None, Some, false, true, is_some, IfOk, IfSome};
+ghost use Rattle.std.specs.Prelude.{◌≡◌, ◌≢◌, ◌==◌, not, None, Some, false, true, is_some, IfOk, IfSome};
+ghost use Rattle.iv_account.specs.Telling.{no_account};
+ghost use Rattle.iv_state.specs.Kept.{with_account};
+ghost use Rattle.sqlkeep_c.specs.Calls.{Called};
 ghost use Rattle.sqlkeep_c.specs.Sessions.{IsNew};
 
 use crate::handle::{Handle, put, take};
@@ -64,4 +67,23 @@ pub extern "C" fn sqlkeep_close(alloc: Global, handle: &mut Handle) -> u32
         }
         None => CLOSED,
     }
+}
+
+/// From now on an account of each statement is asked for, or isn't: 0 is no, all else is yes. It takes no memory.
+#[unsafe(no_mangle)]
+pub extern "C" fn sqlkeep_explain(alloc: Global, handle: &mut Handle, asked: u32) -> u32
+    ensures asked { Called handle.old.kept.behind handle.new.kept.behind (λ old new. new.session
+        ≡ with_account old.session (no_account (not (asked == 0)))) }
+    ensures kept { Called handle.old.kept.behind handle.new.kept.behind (λ old new.
+        (new.outcome ≡ old.outcome) × (new.statements ≡ old.statements) × (new.limits ≡ old.limits)
+        × (new.transcript ≡ old.transcript)) }
+    ensures closed { handle.old.kept.behind ≡ None → result ≡ CLOSED }
+    ensures was_open { is_some handle.old.kept.behind ≡ true → result ≡ OK }
+{
+    let Some(mut opened) = take(handle, alloc) else {
+        return CLOSED;
+    };
+    opened.session.explain(asked != 0);
+    put(handle, opened);
+    OK
 }

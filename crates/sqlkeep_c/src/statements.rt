@@ -1,7 +1,8 @@
 //! Statements, one after the other in the session.
-ghost use Rattle.std.specs.Prelude.{◌≡◌, ◌≢◌, ◌<◌, length, None, false, is_some, true, IfErr, IfOk, IfSome, OnOk, option_copied, option_map, slice_get};
+ghost use Rattle.std.specs.Prelude.{◌≡◌, ◌≢◌, ◌<◌, ◌++◌, length, None, false, is_some, true, IfErr, IfOk, IfSome, OnOk, option_copied, option_map, slice_get};
 ghost use Rattle.std.specs.Str.{IsUtf8};
 ghost use Rattle.iv_parse.specs.Script.{IsScript};
+ghost use Rattle.iv_print.specs.AccountLines.{account_text};
 ghost use Rattle.iv_print.specs.Lines.{line};
 ghost use Rattle.sqlkeep_c.specs.Calls.{Called};
 ghost use Rattle.sqlkeep_c.specs.Statements.{Executed, IsRead, outcome_shown, place_shown};
@@ -10,9 +11,10 @@ use crate::handle::{Handle, put, take};
 use crate::opened::{Database, Opened};
 use crate::outcomes::{ShownOutcome, outcome_shown};
 use crate::status::{CLOSED, NO_MEMORY, NOT_UTF8, NOTHING, OK};
+use iv_account::Entry;
 use iv_catalogue::Catalogue;
 use iv_parse::{Parsed, SyntaxFault, script};
-use iv_print::{DeviceFault, Std, write_outcome};
+use iv_print::{DeviceFault, Std, write_account, write_outcome};
 use iv_session::Outcome;
 use iv_syntax::Statement;
 use std::alloc::Global;
@@ -133,7 +135,7 @@ fn execute_kept(opened: &mut Opened, at: usize) -> bool
     }
 }
 
-/// Executes a statement of those that were read, and keeps its outcome.
+/// Executes a statement of those that were read, and keeps its outcome and, where one is asked for, its account.
 #[unsafe(no_mangle)]
 pub extern "C" fn sqlkeep_execute(
     alloc: Global,
@@ -164,25 +166,29 @@ pub extern "C" fn sqlkeep_execute(
     OK
 }
 
-// The lines of an outcome, as the program writes them.
+// The lines of an outcome, and those of an account, as the program writes them.
 fn lines(
     alloc: Global,
     number: u64,
     outcome: &Outcome,
     catalogue: &Catalogue,
+    account: &[Entry],
 ) -> Result<Vec<u8>, DeviceFault>
-    ensures { IfOk result (λ t. t.items ≡ line number outcome.now catalogue.now) }
+    ensures { IfOk result (λ t. t.items ≡ line number outcome.now catalogue.now
+        ++ account_text catalogue.now outcome.now account.now) }
 {
     let mut writer = Std::new(Vec::new(alloc));
     write_outcome(&mut writer, number, outcome, catalogue)?;
+    write_account(&mut writer, catalogue, outcome, account)?;
     Ok(writer.into_inner())
 }
 
-/// Writes the lines of the last outcome, and keeps them as a transcript.
+/// Writes the lines of the last outcome, and those of its account where one was asked for, and keeps them as a transcript.
 #[unsafe(no_mangle)]
 pub extern "C" fn sqlkeep_lines(alloc: Global, handle: &mut Handle, number: u64) -> u32
     ensures lines { Called handle.old.kept.behind handle.new.kept.behind (λ old new.
-        result ≡ OK → new.transcript.items ≡ line number old.outcome old.session.state.schema) }
+        result ≡ OK → new.transcript.items ≡ line number old.outcome old.session.state.schema
+        ++ account_text old.session.state.schema old.outcome old.session.account.entries) }
     ensures session { Called handle.old.kept.behind handle.new.kept.behind (λ old new.
         (new.session ≡ old.session) × (new.outcome ≡ old.outcome) × (new.statements ≡ old.statements)) }
     ensures closed { handle.old.kept.behind ≡ None → result ≡ CLOSED }
@@ -191,7 +197,13 @@ pub extern "C" fn sqlkeep_lines(alloc: Global, handle: &mut Handle, number: u64)
     let Some(mut opened) = take(handle, alloc) else {
         return CLOSED;
     };
-    let written = lines(alloc, number, &opened.outcome, opened.session.catalogue());
+    let written = lines(
+        alloc,
+        number,
+        &opened.outcome,
+        opened.session.catalogue(),
+        opened.session.account(),
+    );
     let status = match written {
         Ok(bytes) => {
             opened.transcript = bytes;

@@ -7,6 +7,7 @@ ghost use Rattle.iv_machine.specs.Machine.{rollback_outcome};
 ghost use Rattle.sqlkeep_c.specs.Calls.{Called};
 ghost use Rattle.sqlkeep_c.specs.Transactions.{Committed, RolledBackTo};
 ghost use Rattle.sqlkeep_c.specs.Statements.{outcome_shown};
+ghost use Rattle.iv_account.specs.Telling.{no_account};
 ghost use Rattle.iv_session.specs.FewLookups.{FewLookups};
 
 use crate::handle::{Handle, put, take};
@@ -44,7 +45,7 @@ fn commit_kept(opened: &mut Opened)
     opened.outcome = commit(&mut opened.session);
 }
 
-/// COMMIT: ends the transaction, and keeps the outcome. It takes no memory.
+/// COMMIT: ends the transaction, and keeps the outcome. It takes no memory, but for an account that is asked for.
 #[unsafe(no_mangle)]
 pub extern "C" fn sqlkeep_commit(
     alloc: Global,
@@ -75,6 +76,8 @@ pub extern "C" fn sqlkeep_rollback(alloc: Global, handle: &mut Handle) -> u32
         new.session.work ≡ (rollback_outcome old.session.state).work) }
     ensures bounded { Called handle.old.kept.behind handle.new.kept.behind (λ old new.
         FewLookups old.session.state new.session) }
+    ensures account { Called handle.old.kept.behind handle.new.kept.behind (λ old new.
+        new.session.account ≡ no_account old.session.account.asked) }
     ensures closed { is_some handle.old.kept.behind ≡ false → result ≡ CLOSED }
 {
     let Some(mut opened) = take(handle, alloc) else {

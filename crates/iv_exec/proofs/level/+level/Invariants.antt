@@ -4,6 +4,8 @@ use Rattle.iv_machine.specs.Levels.{Firing, body_run, firings_run, nested_level,
 use Rattle.iv_machine.specs.BeforeTriggers.{placed_statements}
 use Rattle.iv_transitions.specs.ByTable.{all_firings}
 use Rattle.iv_waves.specs.Running.{LeavesStore}
+use Rattle.iv_account.specs.Accounts.{body_told, firings_told, nested_told}
+use Rattle.iv_account.specs.Telling.{and_told}
 use Rattle.iv_exec.specs.Steps.{progress}
 use Rattle.iv_exec.proofs.level.+level.Given as goal
 
@@ -48,30 +50,37 @@ decreases-run_level g l = 11 * l.deeper + 10
 abbrev pub invariant-fire_all-loop-at : goal.invariant-fire_all-loop-at
 invariant-fire_all-loop-at g l =
     let run = nested_level l.deeper l.context in
+    let tell = nested_told l.deeper l.context in
     let old = g.K.ReferencingRows.view l.initial.store in
     let now = g.K.ReferencingRows.view l.store in
     record {
       within : l.at ≤ length l.triggers;
       so_far : firings_run run (all_firings l.statement l.columns l.transitions (drop l.at l.triggers)) (progress now.base l.budget)
           ≡ firings_run run (all_firings l.statement l.columns l.transitions l.triggers) (progress old.base l.initial.budget);
+      told : and_told l.account (firings_told run tell (all_firings l.statement l.columns l.transitions (drop l.at l.triggers)) (progress now.base l.budget))
+          ≡ and_told l.initial.account (firings_told run tell (all_firings l.statement l.columns l.transitions l.triggers) (progress old.base l.initial.budget));
       left : LeavesStore l.context.schema (Ok (tt {0})) old (g.K.ReferencingRows.lookups l.initial.store) now (g.K.ReferencingRows.lookups l.store);
     }
 
 abbrev pub invariant-fire_rows-loop-at : goal.invariant-fire_rows-loop-at
 invariant-fire_rows-loop-at g l =
     let run = nested_level l.deeper l.context in
+    let tell = nested_told l.deeper l.context in
     let old = g.K.ReferencingRows.view l.initial.store in
     let now = g.K.ReferencingRows.view l.store in
     record {
       within : l.at ≤ length l.transitions;
       so_far : firings_run run (map (row_firing l.trigger l.transitions) (drop l.at l.transitions)) (progress now.base l.budget)
           ≡ firings_run run (map (row_firing l.trigger l.transitions) l.transitions) (progress old.base l.initial.budget);
+      told : and_told l.account (firings_told run tell (map (row_firing l.trigger l.transitions) (drop l.at l.transitions)) (progress now.base l.budget))
+          ≡ and_told l.initial.account (firings_told run tell (map (row_firing l.trigger l.transitions) l.transitions) (progress old.base l.initial.budget));
       left : LeavesStore l.context.schema (Ok (tt {0})) old (g.K.ReferencingRows.lookups l.initial.store) now (g.K.ReferencingRows.lookups l.store);
     }
 
 abbrev pub invariant-run_body-loop-at : goal.invariant-run_body-loop-at
 invariant-run_body-loop-at g l =
     let run = nested_level l.deeper l.context in
+    let tell = nested_told l.deeper l.context in
     let x : Firing = record { trigger = l.trigger; frame = l.frame } in
     let old = g.K.ReferencingRows.view l.initial.store in
     let now = g.K.ReferencingRows.view l.store in
@@ -80,6 +89,8 @@ invariant-run_body-loop-at g l =
       counted : l.place ≡ 1 + l.at;
       so_far : body_run run x (enumerate_from l.place (drop l.at l.body)) (progress now.base l.budget)
           ≡ body_run run x (placed_statements l.trigger) (progress old.base l.initial.budget);
+      told : and_told l.account (body_told run tell x (enumerate_from l.place (drop l.at l.body)) (progress now.base l.budget))
+          ≡ and_told l.initial.account (body_told run tell x (placed_statements l.trigger) (progress old.base l.initial.budget));
       left : LeavesStore l.context.schema (Ok (tt {0})) old (g.K.ReferencingRows.lookups l.initial.store) now (g.K.ReferencingRows.lookups l.store);
     }
 

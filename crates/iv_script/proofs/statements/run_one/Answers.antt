@@ -1,9 +1,20 @@
-use Rattle.iv_script.proofs.Runs.{ran_one}
+use Rattle.iv_script.proofs.Runs.{ran_one, still_asked}
 use Rattle.iv_script.proofs.statements.run_one.Goals as goal
 
-pub returns : goal.returns
-returns g c =
-    ran_one c.args.number (g.S.Executor.state c.args.session.now) (g.S.Executor.state c.execute-outcome.new.self) c.args.statement.now c.execute-outcome.result c.catalogue.result.now
-    c.args.tally c.with-counted.result (g.W.Sink.state c.args.writer.now) (g.W.Sink.state c.write_outcome-written.new.sink)
-    c.execute-outcome.ensures.step c.execute-outcome.ensures.sure c.catalogue.ensures c.in_ok-written.ensures
+pub returns-clause-ran : goal.returns-clause-ran
+returns-clause-ran g c =
+    ran_one (g.S.Executor.told c.args.session.now).asked c.args.number (g.S.Executor.state c.args.session.now) (g.S.Executor.state c.execute-outcome.new.self) c.args.statement.now c.execute-outcome.result
+    (g.S.Executor.told c.execute-outcome.new.self)
+    c.args.tally c.with-counted.result (g.W.Sink.state c.args.writer.now) (g.W.Sink.state c.write_lines-written.new.writer)
+    c.execute-outcome.ensures.step c.execute-outcome.ensures.sure c.execute-outcome.ensures.told c.in_ok-written.ensures
     c.with-counted.ensures.accepted c.with-counted.ensures.refused c.with-counted.ensures.memory_refused
+
+pub returns-clause-asked : goal.returns-clause-asked
+returns-clause-asked g c =
+    still_asked (g.S.Executor.told c.args.session.now).asked (g.S.Executor.state c.args.session.now) (g.S.Executor.state c.execute-outcome.new.self) c.args.statement.now c.execute-outcome.result
+    (g.S.Executor.told c.execute-outcome.new.self) c.execute-outcome.ensures.step c.execute-outcome.ensures.sure c.execute-outcome.ensures.told
+
+pub returns-in_err-written-clause-asked : goal.returns-in_err-written-clause-asked
+returns-in_err-written-clause-asked g c =
+    still_asked (g.S.Executor.told c.args.session.now).asked (g.S.Executor.state c.args.session.now) (g.S.Executor.state c.execute-outcome.new.self) c.args.statement.now c.execute-outcome.result
+    (g.S.Executor.told c.execute-outcome.new.self) c.execute-outcome.ensures.step c.execute-outcome.ensures.sure c.execute-outcome.ensures.told

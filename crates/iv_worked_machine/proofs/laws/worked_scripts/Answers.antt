@@ -1,4 +1,4 @@
-use Rattle.iv_worked_machine.proofs.Worked.{constraints, actions, triggers, statements, keys, transactions, effects, before_triggers, transitions, limits, occasions, nulls, columns}
+use Rattle.iv_worked_machine.proofs.Worked.{constraints, actions, triggers, statements, keys, transactions, effects, before_triggers, transitions, limits, occasions, nulls, columns, accounts}
 use Rattle.iv_worked_machine.proofs.laws.worked_scripts.Goals as goal
 
 pub returns-clause-constraints : goal.returns-clause-constraints
@@ -39,3 +39,6 @@ returns-clause-nulls c = nulls
 
 pub returns-clause-columns : goal.returns-clause-columns
 returns-clause-columns c = columns
+
+pub returns-clause-accounts : goal.returns-clause-accounts
+returns-clause-accounts c = accounts

@@ -9,4 +9,5 @@ returns-in-Some-clause-executed c =
       sure_store = c.execute.ensures.sure_store refl;
       work = c.execute.ensures.work;
       bounded = c.execute.ensures.bounded;
+      told = c.execute.ensures.told;
     })

@@ -1,7 +1,7 @@
-use Rattle.std.proofs.Common.{◌≡◌, ◌∙◌, ap, sym, subst, None}
+use Rattle.std.proofs.Common.{◌≡◌, ◌∙◌, ap, sym, subst, None, Err}
 use Rattle.iv_catalogue.specs.Catalogues.{Schema}
 use Rattle.iv_machine.specs.Machine.{State, is_open, transaction_cause, occasion_of, resolution_outcome}
-use Rattle.iv_resolution.specs.Resolution.{resolution}
+use Rattle.iv_resolution.specs.Resolution.{Resolves, resolution}
 use Rattle.iv_state.specs.Kept.{Seen}
 use Rattle.iv_state.specs.Performing.{Runs}
 use Rattle.iv_state.proofs.Defined.{runs_of}
@@ -9,6 +9,7 @@ use Rattle.iv_state.proofs.Fitting.{plan_fits}
 use Rattle.iv_step.proofs.Occasions.{plans_keep}
 use Rattle.iv_step.proofs.Reached.{IsReached}
 use Rattle.iv_session.proofs.Few.{few_from, no_definition}
+use Rattle.iv_session.proofs.Told.{unresolved_untold}
 use Rattle.iv_session.proofs.Sound.{resolved_reached}
 use Rattle.iv_session.proofs.session.Session.resolve_and_perform.Goals as goal
 
@@ -41,3 +42,10 @@ returns-in-Ok-clause-looked_up g c = λ plain.
     let planned = sym {b = resolution c.clear_work.new.self.state.schema c.args.statement.now} (c.in-Ok.ensures ∙ ap (λ (x : Schema). resolution x c.args.statement.now) c.catalogue.ensures.now) in
     few_from c.perform.result c.args.self.now c.clear_work.new.self c.perform.new.self same (c.clear_work.ensures.looked_up ∙ ap (λ (x : Seen). x.looked_up) c.self.view_is)
     (c.perform.ensures.looked_up (no_definition c.in-Ok.plan c.args.statement.now (plans_keep c.clear_work.new.self.state.schema c.args.statement.now c.in-Ok.plan planned) plain))
+
+pub returns-in-Err-clause-told : goal.returns-in-Err-clause-told
+returns-in-Err-clause-told g c =
+    let same : c.clear_work.new.self.state ≡ c.args.self.now.state = c.clear_work.ensures.state ∙ ap (λ (x : Seen). x.state) c.self.view_is in
+    unresolved_untold c.args.self.now.state c.in-Err.refusal (resolution c.args.self.now.state.schema c.args.statement.now) c.args.self.now.account c.self.inside.account
+    (subst (λ (x : Schema). Resolves x c.args.statement.now (Err c.in-Err.refusal)) (c.catalogue.ensures.now ∙ ap (λ (y : State). y.schema) same) c.in-Err.ensures)
+    (ap (λ (x : Seen). x.account) c.self.view_is)

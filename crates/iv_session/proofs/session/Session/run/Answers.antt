@@ -1,7 +1,12 @@
-use Rattle.std.proofs.Common.{subst, sym}
+use Rattle.std.proofs.Common.{◌∙◌, ap, subst, sym, MatchBool}
 use Rattle.iv_syntax.specs.declared.statement.Statement.TheVariants as statement
-use Rattle.iv_machine.specs.Machine.{Outcome, State, commit_outcome, rollback_outcome}
+use Rattle.iv_account.specs.Telling.{MayTell}
+use Rattle.iv_catalogue.specs.Refusals.{is_memory}
+use Rattle.iv_machine.specs.Machine.{Outcome, State, commit_outcome, is_open, occasion_of, rollback_outcome, transaction_cause}
+use Rattle.iv_resolution.specs.Resolution.{resolution}
 use Rattle.iv_step.specs.Step.{step}
+use Rattle.iv_step.specs.Telling.{commits, statement_told}
+use Rattle.iv_session.proofs.Told.{barred_untold, commit_is_told}
 use Rattle.iv_session.specs.Words.{Statement}
 use Rattle.iv_state.specs.Kept.{Seen}
 use Rattle.iv_state.specs.Performing.{Performs, Runs}
@@ -47,3 +52,17 @@ invariant_of-self-in-Rollback g c =
 pub invariant_of-self-then-is_writable : goal.invariant_of-self-then-is_writable
 invariant_of-self-then-is_writable g c =
     performs_reached c.self.inside.state.state (transaction.RollbackTo c.as_str.result.now) c.rollback_to.result c.rollback_to.new.self c.self.invariant c.rollback_to.ensures.performs
+
+pub returns-in-Some-clause-told : goal.returns-in-Some-clause-told
+returns-in-Some-clause-told g c =
+    barred_untold c.args.self.now.state c.args.statement.now c.in-Some.cause (commits (resolution c.args.self.now.state.schema c.args.statement.now)) (is_memory c.refuse_now.result)
+    c.args.self.now.account c.self.inside.account
+    (c.in-Some.ensures ∙ ap (λ (x : Seen). transaction_cause (is_open x.state) (occasion_of c.args.statement.now)) c.self.view_is)
+    (ap (λ (x : Seen). x.account) c.self.view_is)
+
+pub returns-in-Commit-clause-told : goal.returns-in-Commit-clause-told
+returns-in-Commit-clause-told g c =
+    subst (λ (x : Seen). MatchBool (is_memory c.commit_statement.result) (Unit {0})
+    (MayTell (commits (resolution x.state.schema c.args.statement.now)) x.account c.commit_statement.new.account (statement_told x.state c.args.statement.now))) c.self.view_is
+    (commit_is_told c.self.inside.state.state c.args.statement.now (is_memory c.commit_statement.result) c.self.inside.account c.commit_statement.new.account
+    c.in-Commit.is c.commit_statement.ensures.told)

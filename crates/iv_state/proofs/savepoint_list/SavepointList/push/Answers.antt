@@ -1,7 +1,7 @@
-use Rattle.std.proofs.Common.{◌≡◌, ◌∙◌, ◌∷◌, ◌++◌, [], None, List, ap, sym, subst, map, string_bytes}
+use Rattle.std.proofs.Common.{◌≡◌, ◌∙◌, ◌∷◌, ◌++◌, [], None, ap, map, string_bytes}
 use Rattle.std.proofs.lemmas.List.{map-append}
 use Rattle.indexmap.proofs.CallerLemmas.{insert_entry-new}
-use Rattle.iv_state.specs.Saved.{Saved, Savepoints, saved_of}
+use Rattle.iv_state.specs.Saved.{Savepoints, saved_of}
 use Rattle.iv_state.specs.Saving.{last_named}
 use Rattle.iv_state.proofs.ByName.{no_key, same_name}
 use Rattle.iv_state.proofs.savepoint_list.SavepointList.push.Goals as goal

@@ -1,4 +1,5 @@
 use Rattle.std.proofs.Common.{◌≡◌, ◌∙◌, ap, sym, subst, false, None, Err}
+use Rattle.iv_account.specs.Telling.{no_account}
 use Rattle.iv_catalogue.specs.Catalogues.{with_constraint}
 use Rattle.iv_state.specs.Words.{Refusal}
 use Rattle.iv_state.specs.Words.answer.{Done}
@@ -14,7 +15,7 @@ pub returns-in-Ok : goal.returns-in-Ok
 returns-in-Ok g c =
     let h : Parts = parts g.K.ReferencingRows.view c.self.inside in
     let v : state_of h ≡ c.args.self.now.state = ap (λ x. x.state) c.self.view_is in
-    let x : Seen = record { state = state_of h; work = record { changes = c.none-self-inside.result.changes; undone = c.none-self-inside.result.undone }; lookups = c.none-self-inside.result.lookups; looked_up = g.K.ReferencingRows.lookups c.self.inside.store } in
+    let x : Seen = record { state = state_of h; work = record { changes = c.none-self-inside.result.changes; undone = c.none-self-inside.result.undone }; lookups = c.none-self-inside.result.lookups; looked_up = g.K.ReferencingRows.lookups c.self.inside.store; account = no_account false } in
     let w : x.work ≡ no_work = ap (λ w. record { changes = w.changes; undone = w.undone }) c.none-self-inside.ensures in
     let a : h.active ≡ false = shut_is h.active h.store (ap is_open v ∙ c.requires.outside) in
     let none : first_violating_row h.store c.args.constraint ≡ None = c.in-Ok.ensures.answer in
@@ -31,7 +32,7 @@ pub returns-in-Err : goal.returns-in-Err
 returns-in-Err g c =
     let h : Parts = parts g.K.ReferencingRows.view c.self.inside in
     let v : state_of h ≡ c.args.self.now.state = ap (λ x. x.state) c.self.view_is in
-    let x : Seen = record { state = state_of h; work = record { changes = c.none-self-inside.result.changes; undone = c.none-self-inside.result.undone }; lookups = c.none-self-inside.result.lookups; looked_up = g.K.ReferencingRows.lookups c.self.inside.store } in
+    let x : Seen = record { state = state_of h; work = record { changes = c.none-self-inside.result.changes; undone = c.none-self-inside.result.undone }; lookups = c.none-self-inside.result.lookups; looked_up = g.K.ReferencingRows.lookups c.self.inside.store; account = no_account false } in
     let w : x.work ≡ no_work = ap (λ w. record { changes = w.changes; undone = w.undone }) c.none-self-inside.ensures in
     let kept : state_of (defined h c.add_constraint.new.catalogue (g.K.ReferencingRows.view c.add_constraint.new.store) h.initial) ≡ state_of h =
     λ i. state_of (defined h (c.in-Err.ensures.same i) (c.in-Err.ensures.kept i) h.initial) in

@@ -1,7 +1,7 @@
 use Rattle.std.proofs.Common.{◌∙◌, ap}
 use Rattle.iv_state.specs.Kept.{Seen}
 use Rattle.iv_state.proofs.Defined.{executes_of, worked_of}
-use Rattle.iv_session.proofs.session.Session.execute.Goals as goal
+use Rattle.iv_session.proofs.session.Session.execute_telling.Goals as goal
 
 pub returns-clause-step : goal.returns-clause-step
 returns-clause-step g c =

@@ -1,0 +1,274 @@
+-- The account of a data statement: the waves as they were applied, with the foreign keys that act after each; the triggers that ran,
+-- with what they saw; the same of the data statements of their bodies; and the rows that a refusal is about.
+use Rattle.std.specs.Prelude.{ℕ, zero, suc, ◌+◌, ◌-◌, Bool, true, false, if◌then◌else◌, nat_lt, List, [], ◌∷◌, ◌++◌, filter, flat_map, find, slice_get, Option, Some, None, Result, Ok, Err}
+use Rattle.iv_machine.specs.Words.{StoredRow, Change, TableColumn, ReferentialAction, BodyStatement, DataStatement, Trigger, NullTreatment, Constraint, Rule, Cause, Fault}
+use Rattle.iv_machine.specs.declared.database.Database.{Database}
+use Rattle.iv_machine.specs.Words.referential_action as action
+use Rattle.iv_machine.specs.Words.rule
+use Rattle.iv_machine.specs.Words.nulls.{Distinct}
+use Rattle.iv_machine.specs.Words.body
+use Rattle.iv_machine.specs.declared.database.Which.TheVariants.{Immediate}
+use Rattle.iv_machine.specs.Words.cause.{Restrict, ActionConflict}
+use Rattle.iv_expr.specs.Changes.{Wave}
+use Rattle.iv_expr.specs.Scopes.{Frame, no_frame, scope_of, table_rows}
+use Rattle.iv_catalogue.specs.Catalogues.{Schema}
+use Rattle.iv_machine.specs.Bounds.{most_changes_in_a_transaction}
+use Rattle.iv_machine.specs.Databases.{row_at, shares_key, scan, is_chosen, first, size, database_after}
+use Rattle.iv_machine.specs.Context.{Context, while_running, each}
+use Rattle.iv_machine.specs.Proposals.{holds, proposed_wave}
+use Rattle.iv_machine.specs.BeforeTriggers.{for_each_row, is_before_row_on, is_before_this, is_on, event_of_change, placed_statements, before_statement_run, before_statement, change_frame, change_after_trigger}
+use Rattle.iv_machine.specs.ReferentialActions.{Reference, references, Loss, LostKeys, lost_keys, lost_reference, action_on, keeps_reference, following_wave}
+use Rattle.iv_machine.specs.Waves.{numbered_wave, is_beyond_last_row, wave_as_applied, is_empty, one_wave, settled_waves, net_wave}
+use Rattle.iv_machine.specs.Levels.{Firing, Progress, Runs, statement_run, firing_run, firings, level_columns, immediate_check, nested_level}
+use Rattle.iv_account.specs.declared.entry.RowAction.{RowAction}
+use Rattle.iv_account.specs.declared.entry.Seen.{Seen}
+use Rattle.iv_account.specs.declared.entry.Entry.{Entry}
+use Rattle.iv_account.specs.declared.entry.Entry.TheVariants.{Changed, Acted, Ran, Began, Ended, Faulted}
+
+-- ---- one after another
+
+-- what is told after a step, unless it is refused
+abbrev pub unless_refused : {A E : Type 0} → Result A E → (A → List Entry) → List Entry
+unless_refused (Ok a) rest = rest a
+unless_refused (Err e) rest = []
+
+-- what is told of each of `each`, and of each in turn of `in_turn`, as long as none is refused
+abbrev pub told_each : {A B E : Type 0} → (A → Result B E) → (A → List Entry) → List A → List Entry
+told_each f tell [] = []
+told_each f tell (x ∷ xs) = tell x ++ unless_refused (f x) (λ _. told_each f tell xs)
+
+abbrev pub told_in_turn : {A B E : Type 0} → (A → B → Result B E) → (A → B → List Entry) → List A → B → List Entry
+told_in_turn f tell [] b = []
+told_in_turn f tell (x ∷ xs) b = tell x b ++ unless_refused (f x b) (told_in_turn f tell xs)
+
+-- ---- rows that a refusal is about
+
+abbrev pub if_some : {A : Type 0} → Option A → List A
+if_some None = []
+if_some (Some a) = a ∷ []
+
+-- the first other row of the table that has a row's key
+abbrev pub equal_row : List StoredRow → ℕ → NullTreatment → List ℕ → StoredRow → List StoredRow
+equal_row rows table nulls columns row = if_some (find (shares_key nulls columns row) (table_rows rows table))
+
+-- so where a rule is about a key
+abbrev pub equal_row_by : List StoredRow → ℕ → Rule → StoredRow → List StoredRow
+equal_row_by rows table (rule.Unique nulls columns) row = equal_row rows table nulls columns row
+equal_row_by rows table (rule.PrimaryKey columns) row = equal_row rows table Distinct columns row
+equal_row_by rows table _ row = []
+
+-- a row that violates a constraint, and the one whose key it has, where it is about a key
+abbrev pub with_equal_row : List StoredRow → Option Constraint → StoredRow → List StoredRow
+with_equal_row rows None row = row ∷ []
+with_equal_row rows (Some constraint) row = row ∷ equal_row_by rows constraint.table constraint.rule row
+
+-- the rows of a violation
+abbrev pub rows_of_fault : Schema → List StoredRow → Fault → List StoredRow
+rows_of_fault schema rows fault =
+    elim (row_at rows fault.row) [ Some row ↦ with_equal_row rows (slice_get schema.constraints fault.constraint) row | None ↦ [] ]
+
+-- a violation, with its rows
+abbrev pub fault_told : Schema → List StoredRow → Fault → Entry
+fault_told schema rows fault = Faulted fault (rows_of_fault schema rows fault)
+
+-- the violations of these faults
+abbrev pub faults_told : Schema → List StoredRow → List Fault → List Entry
+faults_told schema rows faults = flat_map (λ fault. fault_told schema rows fault ∷ []) faults
+
+-- a row that refers to a key which RESTRICT protects, or on which two foreign keys disagree, as it was before the wave
+abbrev pub action_fault_told : List StoredRow → Cause → List Entry
+action_fault_told rows (Restrict fault) = Faulted fault (if_some (row_at rows fault.row)) ∷ []
+action_fault_told rows (ActionConflict fault) = Faulted fault (if_some (row_at rows fault.row)) ∷ []
+action_fault_told rows _ = []
+
+-- ---- BEFORE triggers
+
+-- What a trigger saw. One for each row is told its two sides alone, so that all of them together are no longer than the transitions.
+abbrev pub seen : Firing → Seen
+seen x = record { old = x.frame.old; new = x.frame.new; transition = if for_each_row x.trigger then [] else x.frame.transition }
+
+-- a trigger runs on this
+abbrev pub ran : Trigger → Frame → Entry
+ran t frame = Ran t.id (seen (record { trigger = t; frame = frame }))
+
+-- so where its WHEN is true
+abbrev pub ran_where_true : List StoredRow → Trigger → Frame → List Entry
+ran_where_true rows t frame = unless_refused (holds (scope_of frame rows) t.when) (λ fires. if fires then ran t frame ∷ [] else [])
+
+-- The BEFORE statement triggers of a statement, by creation.
+abbrev pub before_statement_told : Context → List StoredRow → DataStatement → List Entry
+before_statement_told context rows statement =
+    told_in_turn (λ t _. while_running t.id (before_statement_run rows t)) (λ t _. ran_where_true rows t no_frame)
+    (filter (is_before_this statement) context.schema.triggers) tt
+
+-- a BEFORE row trigger on a change, where it is on the change's table and event
+abbrev pub before_row_told : List StoredRow → Trigger → Change → List Entry
+before_row_told rows t c = if is_on c.table (event_of_change c) t then ran_where_true rows t (change_frame c) else []
+
+-- so on each of these changes
+abbrev pub before_each_told : Context → List StoredRow → Trigger → List Change → List Entry
+before_each_told context rows t changes = told_each (change_after_trigger context rows t) (before_row_told rows t) changes
+
+-- BEFORE row triggers on these changes, one trigger after the other
+abbrev pub before_triggers_told : Context → List StoredRow → List Trigger → List Change → List Entry
+before_triggers_told context rows triggers changes =
+    told_in_turn (λ t. each (change_after_trigger context rows t)) (before_each_told context rows) triggers changes
+
+-- The BEFORE row triggers of a wave with these columns and changes, by creation.
+abbrev pub before_rows_told : Context → List StoredRow → List TableColumn → List Change → List Entry
+before_rows_told context rows columns changes =
+    before_triggers_told context rows (filter (is_before_row_on columns) context.schema.triggers) changes
+
+-- ---- waves
+
+-- the BEFORE row triggers of a wave that the budget, the transaction and the row numbers allow, as `wave_as_applied` tests them
+abbrev pub entered_told : Context → Database → ℕ → Wave → List Entry
+entered_told context db budget wave =
+    if nat_lt budget (size wave) then []
+    else (if nat_lt most_changes_in_a_transaction (db.count + size wave) then []
+    else (if is_beyond_last_row (numbered_wave db.next wave).changes then []
+    else before_rows_told context db.rows wave.columns (numbered_wave db.next wave).changes))
+
+-- all actions but NO ACTION do something to the row
+abbrev pub acts : ReferentialAction → Bool
+acts action.NoAction = false
+acts _ = true
+
+-- what a foreign key has for a row, from how the key to which the row refers was lost, if it was
+abbrev pub action_for_loss : Reference → ℕ → Option Loss → List RowAction
+action_for_loss k row None = []
+action_for_loss k row (Some loss) =
+    if acts (action_on k.key loss) then record { constraint = k.id; action = action_on k.key loss; table = k.table; row = row } ∷ [] else []
+
+-- the foreign keys that act on a row: those of its table whose lost key it holds before and after, by creation
+abbrev pub actions_on : Schema → LostKeys → StoredRow → StoredRow → List RowAction
+actions_on schema lost before after =
+    flat_map (λ k. action_for_loss k before.number (lost_reference lost k.key before))
+    (filter (keeps_reference before after) (references schema.constraints))
+
+-- so on the row of this number, from one database to the next
+abbrev pub actions_at : Schema → List StoredRow → List StoredRow → ℕ → List RowAction
+actions_at schema rows later number = elim (row_at rows number) [
+  | Some before ↦ elim (row_at later number) [ Some after ↦ actions_on schema (lost_keys rows later) before after | None ↦ [] ]
+  | None ↦ []
+]
+
+-- the foreign keys that act on the rows of the next wave, by row
+abbrev pub acted_told : Schema → List StoredRow → List StoredRow → List Change → List Entry
+acted_told schema rows later [] = []
+acted_told schema rows later (c ∷ next) = Acted (flat_map (λ change. actions_at schema rows later change.row) (c ∷ next)) ∷ []
+
+-- what follows a wave that led from a database to a later one
+abbrev pub following_told : Context → Database → Database → List Entry
+following_told context db later = elim (following_wave context db later) [
+  | Ok next ↦ acted_told context.schema db.rows later.rows next.changes
+  | Err failure ↦ action_fault_told db.rows failure.cause
+]
+
+-- a wave as it was applied, and what follows it
+abbrev pub applied_told : Context → Database → Wave → List Entry
+applied_told context db wave = Changed wave.changes ∷ following_told context db (database_after db wave)
+
+abbrev pub one_wave_told : Context → Database → ℕ → Wave → List Entry
+one_wave_told context db budget wave =
+    entered_told context db budget wave ++ unless_refused (wave_as_applied context db budget wave) (applied_told context db)
+
+-- What tells of a wave in a database within a budget, and of those that follow it.
+abbrev pub TellsWaves : Type 0
+TellsWaves = Database → ℕ → Wave → List Entry
+
+-- An empty wave ends. Of another, it is told itself, and then the rest, as `settled_by` settles them.
+abbrev pub waves_told_by : TellsWaves → Context → TellsWaves
+waves_told_by others context db budget wave =
+    if is_empty wave.changes then []
+    else one_wave_told context db budget wave
+    ++ unless_refused (one_wave context db budget wave) (λ one. others (database_after db one.wave) (budget - size one.wave) one.next)
+
+abbrev pub no_waves_told : TellsWaves
+no_waves_told db budget wave = []
+
+-- so with at most so many waves
+abbrev pub waves_told_within : ℕ → Context → TellsWaves
+waves_told_within zero context db budget wave = waves_told_by no_waves_told context db budget wave
+waves_told_within (suc most) context db budget wave = waves_told_by (waves_told_within most context) context db budget wave
+
+-- The waves of a statement, as `settled_waves` makes them.
+abbrev pub waves_told : Context → TellsWaves
+waves_told context db budget wave = waves_told_within budget context db budget wave
+
+-- ---- AFTER triggers
+
+-- What tells of a data statement of a trigger's body: by what `Runs` runs it with.
+abbrev pub Tells : Type 0
+Tells = ℕ → DataStatement → Frame → Database → ℕ → List Entry
+
+-- a data statement at a place of a trigger's body
+abbrev pub statement_told : Runs → Tells → Firing → ℕ → BodyStatement → Progress → List Entry
+statement_told run tell x place (body.Data statement) at =
+    Began place
+    ∷ (tell x.trigger.id statement x.frame at.database at.budget
+    ++ unless_refused (run x.trigger.id statement x.frame at.database at.budget) (λ _. Ended ∷ []))
+statement_told run tell x place (body.Signal text) at = []
+statement_told run tell x place (body.Set _) at = []
+
+-- the body of a trigger, statement after statement
+abbrev pub body_told : Runs → Tells → Firing → List (ℕ × BodyStatement) → Progress → List Entry
+body_told run tell x statements at =
+    told_in_turn (λ s. statement_run run x s.0 s.1) (λ s. statement_told run tell x s.0 s.1) statements at
+
+-- a trigger that fires: itself and its body, where WHEN is true
+abbrev pub firing_told : Runs → Tells → Firing → Progress → List Entry
+firing_told run tell x at =
+    unless_refused (holds (scope_of x.frame at.database.rows) x.trigger.when) (λ fires.
+    if fires then ran x.trigger x.frame ∷ body_told run tell x (placed_statements x.trigger) at else [])
+
+-- all triggers that fire, one after another
+abbrev pub firings_told : Runs → Tells → List Firing → Progress → List Entry
+firings_told run tell xs at = told_in_turn (firing_run run) (firing_told run tell) xs at
+
+-- ---- a level
+
+-- the first violation of an immediate constraint, where there is one
+abbrev pub check_told : Context → Database → List Entry
+check_told context db = elim (first (scan db.rows context.schema.constraints (is_chosen context.modes Immediate))) [
+  | Some fault ↦ fault_told context.schema db.rows fault ∷ []
+  | None ↦ []
+]
+
+-- the check of the immediate constraints, and the AFTER triggers that these columns and net changes fire
+abbrev pub finished_told : Runs → Tells → Context → DataStatement → List TableColumn → Wave → Progress → List Entry
+finished_told run tell context statement columns net at =
+    check_told context at.database
+    ++ unless_refused (immediate_check context at.database) (λ _. firings_told run tell (firings context statement columns net) at)
+
+-- what a statement proposes, wave after wave, and what comes after the waves
+abbrev pub waves_and_after_told : Runs → Tells → Context → DataStatement → Database → ℕ → Wave → List Entry
+waves_and_after_told run tell context statement db budget wave =
+    waves_told context db budget wave
+    ++ unless_refused (settled_waves context db budget wave) (λ s.
+    finished_told run tell context statement (level_columns statement s.waves) (net_wave db.rows s.last.rows s.waves)
+    (record { database = s.last; budget = s.rest }))
+
+-- The steps of a level, in the order of `level_steps`: what the statement proposes; its BEFORE statement triggers; the waves; the
+-- check of the immediate constraints; and the AFTER triggers.
+abbrev pub level_steps_told : Runs → Tells → Context → DataStatement → Frame → Database → ℕ → List Entry
+level_steps_told run tell context statement frame db budget =
+    unless_refused (proposed_wave context db frame statement) (λ wave.
+    before_statement_told context db.rows statement
+    ++ unless_refused (before_statement context db.rows statement) (λ _.
+    waves_and_after_told run tell context statement db budget wave))
+
+abbrev pub level_told : Runs → Tells → Context → DataStatement → Frame → Database → ℕ → List Entry
+level_told run tell context statement frame db zero = []
+level_told run tell context statement frame db (suc budget) = level_steps_told run tell context statement frame db budget
+
+-- Of a data statement of a trigger's body, where so many levels may be nested from here on.
+abbrev pub nested_told : ℕ → Context → Tells
+nested_told zero context trigger statement frame db budget = []
+nested_told (suc depth) context trigger statement frame db budget =
+    level_told (nested_level depth context) (nested_told depth context) context statement frame db budget
+
+-- The account of a data statement of a script, where so many levels may be nested in it.
+abbrev pub account : ℕ → Context → DataStatement → Frame → Database → ℕ → List Entry
+account deeper context statement frame db budget =
+    level_told (nested_level deeper context) (nested_told deeper context) context statement frame db budget

@@ -1,0 +1,21 @@
+-- An account while it is told.
+use Rattle.std.specs.Prelude.{◌≡◌, Bool, true, false, if◌then◌else◌, List, [], ◌++◌, ◌⊎◌}
+use Rattle.iv_account.specs.declared.entry.Entry.{Entry}
+
+-- Whether an account is asked for, and what was told so far.
+pub record Account : Type 0 where
+  pub asked : Bool
+  pub entries : List Entry
+
+-- with these entries more, where it is asked for
+abbrev pub and_told : Account → List Entry → Account
+and_told account entries = record account { entries = if account.asked then account.entries ++ entries else account.entries }
+
+-- nothing told so far
+abbrev pub no_account : Bool → Account
+no_account asked = record { asked = asked; entries = [] }
+
+-- These entries are told; or, where that may be, memory for them was refused, and nothing is told.
+abbrev pub MayTell : Bool → Account → Account → List Entry → Type 0
+MayTell false old new entries = new ≡ and_told old entries
+MayTell true old new entries = (new ≡ and_told old entries) ⊎ (new ≡ no_account old.asked)

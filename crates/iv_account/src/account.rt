@@ -1,0 +1,183 @@
+//! The list that is told of a statement.
+ghost use Rattle.std.specs.Prelude.{◌≡◌, [], ◌∷◌, false, Ok, IfOk, OnOk};
+ghost use Rattle.std.specs.Option.{option_copied};
+ghost use Rattle.iv_machine.specs.BeforeTriggers.{for_each_row};
+ghost use Rattle.iv_account.specs.Accounts.{ran, seen};
+ghost use Rattle.iv_account.specs.Telling.{and_told, no_account};
+ghost use Rattle.iv_account.specs.declared.entry.Entry.TheVariants as entry;
+
+use crate::entry::{Entry, RowAction, Seen};
+use iv_catalogue::{Fault, Trigger};
+use iv_expr::{Change, Frame, Row, StoredRow};
+use iv_syntax::Granularity;
+use iv_value::Value;
+use sqlite_items::Items;
+use std::alloc::{AllocError, Global};
+use std::marker::Model;
+
+/// A row of these values.
+pub fn row_of(alloc: Global, values: &[Value]) -> Result<Row, AllocError>
+    ensures { IfOk result (λ r. r ≡ values.now) }
+{
+    let mut copies = Vec::new(alloc);
+    for value in values {
+        copies.push(value.clone()?)?;
+    }
+    Row::new(copies)
+}
+
+fn side_of(alloc: Global, side: Option<&[Value]>) -> Result<Option<Row>, AllocError>
+    ensures { IfOk result (λ r. r ≡ option_copied side.entry) }
+{
+    match side {
+        Some(values) => Ok(Some(row_of(alloc, values)?)),
+        None => Ok(None),
+    }
+}
+
+// The changes again; their rows are shared.
+fn changes_of(alloc: Global, changes: &[Change]) -> Result<Items<Change>, AllocError>
+    ensures { IfOk result (λ r. r ≡ changes.now) }
+{
+    let mut copies = Vec::new(alloc);
+    for change in changes {
+        copies.push(change.clone()?)?;
+    }
+    Ok(Items::from_vec(copies))
+}
+
+fn is_row(trigger: &Trigger) -> bool
+    ensures { result ≡ for_each_row trigger.now }
+{
+    match trigger.granularity {
+        Granularity::Row => true,
+        Granularity::Statement => false,
+    }
+}
+
+// What a trigger that runs saw.
+fn seen(alloc: Global, trigger: &Trigger, frame: &Frame<'_>) -> Result<Seen, AllocError>
+    ensures { IfOk result (λ s. s ≡ seen (record { trigger = trigger.now; frame = frame.now })) }
+{
+    let old = side_of(alloc, frame.old)?;
+    let new = side_of(alloc, frame.new)?;
+    let transition = if is_row(trigger) {
+        Items::new(alloc)
+    } else {
+        changes_of(alloc, frame.transition)?
+    };
+    Ok(Seen {
+        old,
+        new,
+        transition,
+    })
+}
+
+/// What was told so far, where an account is asked for, and otherwise nothing. Where none is asked for, no call takes
+/// memory. Where memory is refused, nothing is said of the entries.
+#[derive(Drop)]
+pub struct Account {
+    asked: bool,
+    entries: Vec<Entry>,
+}
+
+impl Model for Account {
+    ghost use Rattle.iv_account.specs.Telling.{Account as Told};
+
+    ghost Value = { Told };
+
+    ghost view = { λ a. record { asked = a.asked; entries = a.entries.items } };
+}
+
+impl Account {
+    /// An account of nothing. It takes no memory.
+    pub fn new(alloc: Global, asked: bool) -> Account
+        ensures { result ≡ no_account asked }
+    {
+        Account {
+            asked,
+            entries: Vec::new(alloc),
+        }
+    }
+
+    /// Whether one is asked for.
+    pub fn is_asked(&self) -> bool
+        ensures { result ≡ self.now.asked }
+    {
+        self.asked
+    }
+
+    /// What was told, in its order.
+    pub fn entries(&self) -> &[Entry]
+        ensures { result.now ≡ self.now.entries }
+    {
+        self.entries.as_slice()
+    }
+
+    // Adds an entry, where an account is asked for.
+    fn add(&mut self, entry: Entry) -> Result<(), AllocError>
+        ensures told { OnOk result (self.new ≡ and_told self.old (entry ∷ [])) }
+        ensures unasked { self.old.asked ≡ false → result ≡ Ok tt }
+    {
+        if self.asked {
+            self.entries.push(entry)?;
+        }
+        Ok(())
+    }
+
+    /// Tells that a wave of these changes was applied.
+    pub fn changed(&mut self, changes: &[Change]) -> Result<(), AllocError>
+        ensures told { OnOk result (self.new ≡ and_told self.old (entry.Changed changes.now ∷ [])) }
+        ensures unasked { self.old.asked ≡ false → result ≡ Ok tt }
+    {
+        if !self.asked {
+            return Ok(());
+        }
+        let copies = changes_of(*self.entries.allocator(), changes)?;
+        self.add(Entry::Changed(copies))
+    }
+
+    /// Tells that these foreign keys act on these rows.
+    pub fn acted(&mut self, actions: Vec<RowAction>) -> Result<(), AllocError>
+        ensures told { OnOk result (self.new ≡ and_told self.old (entry.Acted actions.items ∷ [])) }
+        ensures unasked { self.old.asked ≡ false → result ≡ Ok tt }
+    {
+        self.add(Entry::Acted(Items::from_vec(actions)))
+    }
+
+    /// Tells that a trigger runs on what it sees.
+    pub fn ran(&mut self, trigger: &Trigger, frame: &Frame<'_>) -> Result<(), AllocError>
+        ensures told { OnOk result (self.new ≡ and_told self.old (ran trigger.now frame.now ∷ [])) }
+        ensures unasked { self.old.asked ≡ false → result ≡ Ok tt }
+    {
+        if !self.asked {
+            return Ok(());
+        }
+        let seen = seen(*self.entries.allocator(), trigger, frame)?;
+        self.add(Entry::Ran(trigger.id, seen))
+    }
+
+    /// Tells that the data statement at this place of a trigger's body begins.
+    pub fn began(&mut self, place: u32) -> Result<(), AllocError>
+        ensures told { OnOk result (self.new ≡ and_told self.old (entry.Began place ∷ [])) }
+        ensures unasked { self.old.asked ≡ false → result ≡ Ok tt }
+    {
+        self.add(Entry::Began(place))
+    }
+
+    /// Tells that the data statement that began last ends.
+    pub fn ended(&mut self) -> Result<(), AllocError>
+        ensures told { OnOk result (self.new ≡ and_told self.old (entry.Ended ∷ [])) }
+        ensures unasked { self.old.asked ≡ false → result ≡ Ok tt }
+    {
+        self.add(Entry::Ended)
+    }
+
+    /// Tells the constraint and the row of a refusal, with these rows.
+    pub fn faulted(&mut self, fault: Fault, rows: Vec<StoredRow>) -> Result<(), AllocError>
+        ensures told { OnOk result (self.new ≡ and_told self.old (entry.Faulted fault rows.items ∷ [])) }
+        ensures unasked { self.old.asked ≡ false → result ≡ Ok tt }
+    {
+        self.add(Entry::Faulted(fault, Items::from_vec(rows)))
+    }
+}

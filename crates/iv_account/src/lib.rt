@@ -1,0 +1,9 @@
+//! Accounts: what is told of a statement, and the list that it is told in.
+#![tactic(auto)]
+
+mod account;
+mod entry;
+mod fault;
+
+pub use account::Account;
+pub use entry::{Entry, RowAction, Seen};

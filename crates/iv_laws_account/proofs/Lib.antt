@@ -1,0 +1,2 @@
+mod NoViolations
+mod Telling

@@ -1,0 +1,28 @@
+-- The worked lines compute.
+use Rattle.std.proofs.Common.{refl}
+use Rattle.std.specs.Fmt.{digits}
+use Rattle.iv_print.specs.WorkedAccounts.{WorkedAccounts}
+
+pub accounts : WorkedAccounts
+unfolding digits
+accounts = record {
+  nothing_is_told = refl;
+  changes = refl;
+  actions = refl;
+  triggers = refl;
+  statements_of_bodies_are_deeper = refl;
+  fault_in_a_body = refl;
+  key_is_missing = refl;
+  key_is_missing_at_the_end = refl;
+  key_is_missing_without_a_refusal = refl;
+  key_is_protected = refl;
+  actions_differ = refl;
+  key_of_two_columns = refl;
+  same_primary_key = refl;
+  null_in_a_primary_key = refl;
+  same_key = refl;
+  condition_is_false = refl;
+  column_is_null = refl;
+  no_row = refl;
+  no_constraint = refl;
+}

@@ -1,0 +1,542 @@
+//! The text of an account.
+ghost use Rattle.std.specs.Prelude.{◌≡◌, ◌<◌, ◌-◌, ◌^◌, slice_get};
+ghost use Rattle.std.specs.List.{flat_map};
+ghost use Rattle.std.specs.Option.{option_copied};
+ghost use Rattle.iv_value.specs.References.{value_of};
+ghost use Rattle.iv_key.specs.Keys.{key_of};
+ghost use Rattle.iv_machine.specs.BeforeTriggers.{event_of_change};
+ghost use Rattle.iv_print.specs.Writing.{Writes};
+ghost use Rattle.iv_print.specs.Lines.{value_text, further_text, values_text};
+ghost use Rattle.iv_print.specs.AccountLines.{spaces, indent, table_name, column_name, column_name_in, numbered_text, listed_text, side_text, verb, sides_text, change_text, change_line, change_lines, action_words, action_line, action_lines, ran_lines, began_line, reference_words_of, referenced_text, reference_text, equal_text, key_text, null_text, rule_text, constraint_rule_text, fault_rows_text, fault_line, entry_text, depth_after, account_text};
+
+use crate::device::{DeviceFault, Sink};
+use crate::outcome::{write_borrowed, write_name, write_row_number, write_trigger, write_values};
+use crate::write::{write_all, write_number};
+use iv_account::{Entry, RowAction, Seen};
+use iv_catalogue::{
+    Catalogue, Cause, Column, Constraint, ConstraintId, ForeignKey, Refusal, Rule, Table, TriggerId,
+};
+use iv_expr::{Change, Row, StoredRow, TableId};
+use iv_key::value_at;
+use iv_machine::Answer;
+use iv_syntax::ReferentialAction;
+use iv_value::{Value, ValueRef};
+
+fn write_spaces<W: Sink>(sink: &mut W, depth: usize) -> Result<(), DeviceFault>
+    ensures { Writes (W.state sink.old) (W.state sink.new) result (spaces depth) }
+{
+    let mut left = depth;
+    while left > 0 {
+        write_all(sink, b"  ")?;
+        left -= 1;
+    }
+    Ok(())
+}
+
+// The front of a line.
+fn write_indent<W: Sink>(sink: &mut W, depth: usize) -> Result<(), DeviceFault>
+    ensures { Writes (W.state sink.old) (W.state sink.new) result (indent depth) }
+{
+    write_all(sink, b"  ")?;
+    write_spaces(sink, depth)
+}
+
+fn write_table<W: Sink>(sink: &mut W, table: Option<&Table>) -> Result<(), DeviceFault>
+    ensures { Writes (W.state sink.old) (W.state sink.new) result
+        (table_name (option_copied table.entry)) }
+{
+    match table {
+        Some(table) => write_all(sink, table.name.as_str().as_bytes()),
+        None => write_all(sink, b""),
+    }
+}
+
+fn write_column<W: Sink>(sink: &mut W, columns: &[Column], column: u32) -> Result<(), DeviceFault>
+    ensures { Writes (W.state sink.old) (W.state sink.new) result
+        (column_name (slice_get columns.now column)) }
+{
+    match columns.get(column as usize) {
+        Some(column) => write_all(sink, column.name.as_str().as_bytes()),
+        None => write_all(sink, b""),
+    }
+}
+
+fn write_column_in<W: Sink>(
+    sink: &mut W,
+    table: Option<&Table>,
+    column: u32,
+) -> Result<(), DeviceFault>
+    ensures { Writes (W.state sink.old) (W.state sink.new) result
+        (column_name_in (option_copied table.entry) column) }
+{
+    match table {
+        Some(table) => write_column(sink, table.columns.as_slice(), column),
+        None => write_all(sink, b""),
+    }
+}
+
+// A table and the number of a row of it.
+fn write_numbered<W: Sink>(
+    sink: &mut W,
+    catalogue: &Catalogue,
+    table: TableId,
+    row: u64,
+) -> Result<(), DeviceFault>
+    ensures { Writes (W.state sink.old) (W.state sink.new) result
+        (numbered_text catalogue.now table row) }
+{
+    write_table(sink, catalogue.table(table))?;
+    write_row_number(sink, row)
+}
+
+fn write_listed<W: Sink>(sink: &mut W, values: &[Value]) -> Result<(), DeviceFault>
+    ensures { Writes (W.state sink.old) (W.state sink.new) result (listed_text values.now) }
+{
+    write_all(sink, b" (")?;
+    write_values(sink, values)?;
+    write_all(sink, b")")
+}
+
+// A row after these words, where there is one.
+fn write_side<W: Sink>(sink: &mut W, words: &[u8], side: &Option<Row>) -> Result<(), DeviceFault>
+    ensures { Writes (W.state sink.old) (W.state sink.new) result (side_text words.now side.now) }
+{
+    match side {
+        Some(row) => {
+            write_all(sink, words)?;
+            write_listed(sink, row.values())
+        }
+        None => write_all(sink, b""),
+    }
+}
+
+fn verb(change: &Change) -> &'static str
+    ensures { result.now ≡ verb (event_of_change change.now) }
+{
+    if change.old.is_none() {
+        "insert "
+    } else if change.new.is_none() {
+        "delete "
+    } else {
+        "update "
+    }
+}
+
+// What the row was and is.
+fn write_sides<W: Sink>(
+    sink: &mut W,
+    old: &Option<Row>,
+    new: &Option<Row>,
+) -> Result<(), DeviceFault>
+    ensures { Writes (W.state sink.old) (W.state sink.new) result (sides_text old.now new.now) }
+{
+    match old {
+        None => write_side(sink, b"", new),
+        Some(old) => {
+            write_listed(sink, old.values())?;
+            write_side(sink, b" to", new)
+        }
+    }
+}
+
+fn write_change<W: Sink>(
+    sink: &mut W,
+    catalogue: &Catalogue,
+    change: &Change,
+) -> Result<(), DeviceFault>
+    ensures { Writes (W.state sink.old) (W.state sink.new) result
+        (change_text catalogue.now change.now) }
+{
+    write_all(sink, verb(change).as_bytes())?;
+    write_numbered(sink, catalogue, change.table, change.row)?;
+    write_sides(sink, &change.old, &change.new)
+}
+
+// The line of a change after these words.
+fn write_change_line<W: Sink>(
+    sink: &mut W,
+    catalogue: &Catalogue,
+    depth: usize,
+    words: &[u8],
+    change: &Change,
+) -> Result<(), DeviceFault>
+    ensures { Writes (W.state sink.old) (W.state sink.new) result
+        (change_line catalogue.now depth words.now change.now) }
+{
+    write_indent(sink, depth)?;
+    write_all(sink, words)?;
+    write_change(sink, catalogue, change)?;
+    write_all(sink, b"\n")
+}
+
+// A line for each of the changes.
+fn write_changes<W: Sink>(
+    sink: &mut W,
+    catalogue: &Catalogue,
+    depth: usize,
+    words: &[u8],
+    changes: &[Change],
+) -> Result<(), DeviceFault>
+    ensures { Writes (W.state sink.old) (W.state sink.new) result
+        (change_lines catalogue.now depth words.now changes.now) }
+{
+    let mut rest = changes;
+    while let Some((change, others)) = rest.split_first() {
+        write_change_line(sink, catalogue, depth, words, change)?;
+        rest = others;
+    }
+    Ok(())
+}
+
+fn action_words(action: ReferentialAction) -> &'static str
+    ensures { result.now ≡ action_words action }
+{
+    match action {
+        ReferentialAction::NoAction => " NO ACTION on ",
+        ReferentialAction::Restrict => " RESTRICT on ",
+        ReferentialAction::Cascade => " CASCADE on ",
+        ReferentialAction::SetNull => " SET NULL on ",
+        ReferentialAction::SetDefault => " SET DEFAULT on ",
+    }
+}
+
+fn write_action<W: Sink>(
+    sink: &mut W,
+    catalogue: &Catalogue,
+    depth: usize,
+    acted: &RowAction,
+) -> Result<(), DeviceFault>
+    ensures { Writes (W.state sink.old) (W.state sink.new) result
+        (action_line catalogue.now depth acted.now) }
+{
+    write_indent(sink, depth)?;
+    write_name(sink, catalogue.constraints(), acted.constraint)?;
+    write_all(sink, action_words(acted.action).as_bytes())?;
+    write_numbered(sink, catalogue, acted.table, acted.row)?;
+    write_all(sink, b"\n")
+}
+
+// A line for each of the actions.
+fn write_actions<W: Sink>(
+    sink: &mut W,
+    catalogue: &Catalogue,
+    depth: usize,
+    actions: &[RowAction],
+) -> Result<(), DeviceFault>
+    ensures { Writes (W.state sink.old) (W.state sink.new) result
+        (action_lines catalogue.now depth actions.now) }
+{
+    let mut rest = actions;
+    while let Some((acted, others)) = rest.split_first() {
+        write_action(sink, catalogue, depth, acted)?;
+        rest = others;
+    }
+    Ok(())
+}
+
+// A trigger and what it saw.
+fn write_ran<W: Sink>(
+    sink: &mut W,
+    catalogue: &Catalogue,
+    depth: usize,
+    id: TriggerId,
+    seen: &Seen,
+) -> Result<(), DeviceFault>
+    ensures { Writes (W.state sink.old) (W.state sink.new) result
+        (ran_lines catalogue.now depth id seen.now) }
+{
+    write_indent(sink, depth)?;
+    write_all(sink, b"trigger")?;
+    write_trigger(sink, catalogue, id)?;
+    write_side(sink, b" OLD", &seen.old)?;
+    write_side(sink, b" NEW", &seen.new)?;
+    write_all(sink, b"\n")?;
+    write_changes(
+        sink,
+        catalogue,
+        depth,
+        b"  saw ",
+        seen.transition.as_slice(),
+    )
+}
+
+fn write_began<W: Sink>(sink: &mut W, depth: usize, place: u32) -> Result<(), DeviceFault>
+    ensures { Writes (W.state sink.old) (W.state sink.new) result (began_line depth place) }
+{
+    write_indent(sink, depth)?;
+    write_all(sink, b"statement ")?;
+    write_number(sink, u64::from(place))?;
+    write_all(sink, b"\n")
+}
+
+fn write_further_borrowed<W: Sink>(sink: &mut W, value: ValueRef<'_>) -> Result<(), DeviceFault>
+    ensures { Writes (W.state sink.old) (W.state sink.new) result
+        (further_text (value_of value.entry)) }
+{
+    write_all(sink, b", ")?;
+    write_borrowed(sink, value)
+}
+
+// The values of further columns, each with its comma.
+fn write_more_columns<W: Sink>(
+    sink: &mut W,
+    columns: &[u32],
+    row: &[Value],
+) -> Result<(), DeviceFault>
+    ensures { Writes (W.state sink.old) (W.state sink.new) result
+        (flat_map further_text (key_of columns.now row.now)) }
+{
+    let mut rest = columns;
+    while let Some((column, others)) = rest.split_first() {
+        write_further_borrowed(sink, value_at(row, *column))?;
+        rest = others;
+    }
+    Ok(())
+}
+
+// The values of some columns.
+fn write_columns<W: Sink>(sink: &mut W, columns: &[u32], row: &[Value]) -> Result<(), DeviceFault>
+    ensures { Writes (W.state sink.old) (W.state sink.new) result
+        (values_text (key_of columns.now row.now)) }
+{
+    match columns {
+        [] => write_all(sink, b""),
+        [column, more @ ..] => {
+            write_borrowed(sink, value_at(row, *column))?;
+            write_more_columns(sink, more, row)
+        }
+    }
+}
+
+fn write_listed_columns<W: Sink>(
+    sink: &mut W,
+    columns: &[u32],
+    row: &[Value],
+) -> Result<(), DeviceFault>
+    ensures { Writes (W.state sink.old) (W.state sink.new) result
+        (listed_text (key_of columns.now row.now)) }
+{
+    write_all(sink, b" (")?;
+    write_columns(sink, columns, row)?;
+    write_all(sink, b")")
+}
+
+// Why the key to which a row refers doesn't do.
+fn reference_words(outcome: &Result<Answer, Refusal>) -> &'static str
+    ensures { result.now ≡ reference_words_of outcome.now }
+{
+    match outcome {
+        Ok(_) => ", which isn't there",
+        Err(refusal) => match &refusal.cause {
+            Cause::Restrict(_) => ", which RESTRICT protects",
+            Cause::ActionConflict(_) => ", and another foreign key sets a column otherwise",
+            _ => ", which isn't there",
+        },
+    }
+}
+
+// The table and the key to which a row of these values refers.
+fn write_referenced<W: Sink>(
+    sink: &mut W,
+    catalogue: &Catalogue,
+    values: &[Value],
+    key: &ForeignKey,
+) -> Result<(), DeviceFault>
+    ensures { Writes (W.state sink.old) (W.state sink.new) result
+        (referenced_text catalogue.now values.now key.now) }
+{
+    write_all(sink, b" refers to ")?;
+    write_table(sink, catalogue.table(key.referenced))?;
+    write_listed_columns(sink, key.columns.as_slice(), values)
+}
+
+fn write_reference<W: Sink>(
+    sink: &mut W,
+    catalogue: &Catalogue,
+    outcome: &Result<Answer, Refusal>,
+    values: &[Value],
+    key: &ForeignKey,
+) -> Result<(), DeviceFault>
+    ensures { Writes (W.state sink.old) (W.state sink.new) result
+        (reference_text catalogue.now outcome.now values.now key.now) }
+{
+    write_referenced(sink, catalogue, values, key)?;
+    write_all(sink, reference_words(outcome).as_bytes())
+}
+
+// The row whose key another has.
+fn write_equal<W: Sink>(sink: &mut W, other: &StoredRow) -> Result<(), DeviceFault>
+    ensures { Writes (W.state sink.old) (W.state sink.new) result (equal_text other.now) }
+{
+    write_all(sink, b" has the key of")?;
+    write_row_number(sink, other.number)?;
+    write_listed(sink, other.values.values())
+}
+
+// The first of the rows that have a row's key, or the null in its key.
+fn write_key<W: Sink>(sink: &mut W, others: &[StoredRow]) -> Result<(), DeviceFault>
+    ensures { Writes (W.state sink.old) (W.state sink.new) result (key_text others.now) }
+{
+    match others {
+        [] => write_all(sink, b" has a null in its key"),
+        [other, ..] => write_equal(sink, other),
+    }
+}
+
+// The column that is null.
+fn write_null<W: Sink>(
+    sink: &mut W,
+    catalogue: &Catalogue,
+    table: TableId,
+    column: u32,
+) -> Result<(), DeviceFault>
+    ensures { Writes (W.state sink.old) (W.state sink.new) result
+        (null_text catalogue.now table column) }
+{
+    write_all(sink, b" has NULL in ")?;
+    write_column_in(sink, catalogue.table(table), column)
+}
+
+// What a rule finds wrong with a row.
+fn write_rule<W: Sink>(
+    sink: &mut W,
+    catalogue: &Catalogue,
+    outcome: &Result<Answer, Refusal>,
+    row: &StoredRow,
+    others: &[StoredRow],
+    constraint: &Constraint,
+) -> Result<(), DeviceFault>
+    ensures { Writes (W.state sink.old) (W.state sink.new) result
+        (rule_text catalogue.now outcome.now row.now others.now constraint.now.table
+        constraint.now.rule) }
+{
+    match &constraint.rule {
+        Rule::ForeignKey(key) => {
+            write_reference(sink, catalogue, outcome, row.values.values(), key)
+        }
+        Rule::PrimaryKey(_) => write_key(sink, others),
+        Rule::Unique(_, _) => write_key(sink, others),
+        Rule::Check(_) => write_all(sink, b" makes its condition false"),
+        Rule::NotNull(column) => write_null(sink, catalogue, constraint.table, *column),
+    }
+}
+
+fn write_constraint_rule<W: Sink>(
+    sink: &mut W,
+    catalogue: &Catalogue,
+    outcome: &Result<Answer, Refusal>,
+    row: &StoredRow,
+    others: &[StoredRow],
+    constraint: Option<&Constraint>,
+) -> Result<(), DeviceFault>
+    ensures { Writes (W.state sink.old) (W.state sink.new) result
+        (constraint_rule_text catalogue.now outcome.now row.now others.now
+        (option_copied constraint.entry)) }
+{
+    match constraint {
+        Some(constraint) => write_rule(sink, catalogue, outcome, row, others, constraint),
+        None => write_all(sink, b""),
+    }
+}
+
+// The first of the rows, and what is wrong with it.
+fn write_fault_rows<W: Sink>(
+    sink: &mut W,
+    catalogue: &Catalogue,
+    outcome: &Result<Answer, Refusal>,
+    constraint: ConstraintId,
+    rows: &[StoredRow],
+) -> Result<(), DeviceFault>
+    ensures { Writes (W.state sink.old) (W.state sink.new) result
+        (fault_rows_text catalogue.now outcome.now
+        (slice_get catalogue.now.constraints constraint) rows.now) }
+{
+    match rows {
+        [] => write_all(sink, b""),
+        [row, others @ ..] => {
+            let constraint = catalogue.constraint(constraint);
+            write_numbered(sink, catalogue, row.table, row.number)?;
+            write_listed(sink, row.values.values())?;
+            write_constraint_rule(sink, catalogue, outcome, row, others, constraint)
+        }
+    }
+}
+
+fn write_fault<W: Sink>(
+    sink: &mut W,
+    catalogue: &Catalogue,
+    outcome: &Result<Answer, Refusal>,
+    depth: usize,
+    constraint: ConstraintId,
+    rows: &[StoredRow],
+) -> Result<(), DeviceFault>
+    ensures { Writes (W.state sink.old) (W.state sink.new) result
+        (fault_line catalogue.now outcome.now depth constraint rows.now) }
+{
+    write_indent(sink, depth)?;
+    write_name(sink, catalogue.constraints(), constraint)?;
+    write_all(sink, b": ")?;
+    write_fault_rows(sink, catalogue, outcome, constraint, rows)?;
+    write_all(sink, b"\n")
+}
+
+// The lines of an entry.
+fn write_entry<W: Sink>(
+    sink: &mut W,
+    catalogue: &Catalogue,
+    outcome: &Result<Answer, Refusal>,
+    depth: usize,
+    entry: &Entry,
+) -> Result<(), DeviceFault>
+    ensures { Writes (W.state sink.old) (W.state sink.new) result
+        (entry_text catalogue.now outcome.now depth entry.now) }
+{
+    match entry {
+        Entry::Changed(changes) => write_changes(sink, catalogue, depth, b"", changes.as_slice()),
+        Entry::Acted(actions) => write_actions(sink, catalogue, depth, actions.as_slice()),
+        Entry::Ran(id, seen) => write_ran(sink, catalogue, depth, *id, seen),
+        Entry::Began(place) => write_began(sink, depth, *place),
+        Entry::Ended => write_all(sink, b""),
+        Entry::Faulted(fault, rows) => write_fault(
+            sink,
+            catalogue,
+            outcome,
+            depth,
+            fault.constraint,
+            rows.as_slice(),
+        ),
+    }
+}
+
+// How deep the entry after this one is.
+fn depth_after(depth: usize, entry: &Entry) -> usize
+    requires { depth < 2 ^ 64 - 1 }
+    ensures { result ≡ depth_after depth entry.now }
+{
+    match entry {
+        Entry::Began(_) => depth + 1,
+        Entry::Ended => depth.saturating_sub(1),
+        _ => depth,
+    }
+}
+
+/// Writes the lines of the account of a statement with this outcome, with the names of tables, columns, constraints
+/// and triggers as the catalogue has them. It takes no memory.
+pub fn write_account<W: Sink>(
+    sink: &mut W,
+    catalogue: &Catalogue,
+    outcome: &Result<Answer, Refusal>,
+    entries: &[Entry],
+) -> Result<(), DeviceFault>
+    ensures { Writes (W.state sink.old) (W.state sink.new) result
+        (account_text catalogue.now outcome.now entries.now) }
+{
+    let mut rest = entries;
+    let mut depth = 0usize;
+    while let Some((entry, others)) = rest.split_first() {
+        write_entry(sink, catalogue, outcome, depth, entry)?;
+        depth = depth_after(depth, entry);
+        rest = others;
+    }
+    Ok(())
+}

@@ -1,0 +1,91 @@
+//! The violations for which COMMIT and SET CONSTRAINTS are refused, as they are told.
+ghost use Rattle.std.specs.Prelude.{◌≡◌, filter, not, true, OnOk};
+ghost use Rattle.iv_account.specs.Accounts.{faults_told};
+ghost use Rattle.iv_account.specs.Sessions.{commit_told, modes_told};
+ghost use Rattle.iv_account.specs.Telling.{MayTell, and_told};
+ghost use Rattle.iv_machine.specs.Databases.{is_deferred};
+
+use crate::session_state::SessionState;
+use iv_account::Account;
+use iv_catalogue::{Catalogue, Fault};
+use iv_machine::Which;
+use iv_modes::Modes;
+use iv_store::{ChangeableRows, Keeper};
+use std::alloc::AllocError;
+
+// Tells these violations.
+fn tell_faults<K: ChangeableRows>(
+    store: &K,
+    catalogue: &Catalogue,
+    faults: &[Fault],
+    account: &mut Account,
+) -> Result<(), AllocError>
+    ensures { OnOk result (account.new ≡ and_told account.old
+        (faults_told catalogue.now (K.view store.now).base.rows faults.now)) }
+{
+    for fault in faults {
+        account.violated(store, catalogue, fault)?;
+    }
+    Ok(())
+}
+
+// Tells those of them whose constraint is immediate in these modes.
+fn tell_immediate<K: ChangeableRows>(
+    store: &K,
+    catalogue: &Catalogue,
+    faults: &[Fault],
+    modes: &Modes,
+    account: &mut Account,
+) -> Result<(), AllocError>
+    ensures { OnOk result (account.new ≡ and_told account.old
+        (faults_told catalogue.now (K.view store.now).base.rows
+        (filter (λ f. not (is_deferred modes.now.modes f.constraint)) faults.now))) }
+{
+    for fault in faults {
+        if !modes.is_deferred(fault.constraint) {
+            account.violated(store, catalogue, fault)?;
+        }
+    }
+    Ok(())
+}
+
+impl<K: Keeper + Drop> SessionState<K> {
+    // Tells all violations of the constraints that these modes make immediate, where an account is asked for.
+    pub(crate) fn tell_modes(&self, modes: &Modes, account: &mut Account) -> Result<(), AllocError>
+        ensures { OnOk result (account.new ≡ and_told account.old
+            (modes_told self.now.state modes.now.modes)) }
+    {
+        if !account.is_asked() {
+            return Ok(());
+        }
+        let faults = self.pending()?;
+        tell_immediate(
+            &self.store,
+            &self.catalogue,
+            faults.as_slice(),
+            modes,
+            account,
+        )
+    }
+
+    // Tells all violations, where a transaction is open and an account is asked for.
+    fn tell_violations(&self, account: &mut Account) -> Result<(), AllocError>
+        ensures { OnOk result (account.new ≡ and_told account.old (commit_told self.now.state)) }
+    {
+        if !account.is_asked() || !self.in_transaction() {
+            return Ok(());
+        }
+        let faults = self.store.list_faults(self.modes(), Which::All)?;
+        tell_faults(&self.store, &self.catalogue, faults.as_slice(), account)
+    }
+
+    /// Tells what COMMIT is refused for. Where memory is refused, the account is empty.
+    pub fn tell_commit(&self, account: &mut Account)
+        ensures { MayTell true account.old account.new (commit_told self.now.state) }
+    {
+        let asked = account.is_asked();
+        if self.tell_violations(account).is_err() {
+            *account = Account::new(self.allocator(), asked);
+        }
+    }
+}
