@@ -6,6 +6,8 @@ mod catalogue;
 #[cfg(test)]
 mod expressions;
 #[cfg(test)]
+mod names;
+#[cfg(test)]
 mod store;
 #[cfg(test)]
 mod tokens;

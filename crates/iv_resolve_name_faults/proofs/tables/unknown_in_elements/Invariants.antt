@@ -1,0 +1,15 @@
+use Rattle.std.proofs.Common.{◌≡◌, length}
+use Rattle.iv_resolution.specs.Constraints.{written_constraints}
+use Rattle.iv_resolve_table_constraints.specs.Seen.{names_of_own, own_seen}
+use Rattle.iv_resolve_table_constraints.specs.Left.{left_seen}
+use Rattle.iv_resolve_name_faults.specs.Items.{first_of}
+use Rattle.iv_resolve_name_faults.specs.NameFaults.{unknown_in_rule}
+use Rattle.iv_resolve_name_faults.proofs.tables.unknown_in_elements.Given as goal
+
+abbrev pub invariant-loop-constraint : goal.invariant-loop-constraint
+invariant-loop-constraint l =
+    first_of (λ k. unknown_in_rule l.fn.catalogue (names_of_own l.fn.catalogue l.fn.own) (own_seen l.fn.catalogue l.fn.own) k.rule) (written_constraints l.elements)
+    ≡ first_of (λ k. unknown_in_rule l.fn.catalogue (names_of_own l.fn.catalogue l.fn.own) (own_seen l.fn.catalogue l.fn.own) k.rule) (left_seen l.left)
+
+abbrev pub decreases-loop-constraint : goal.decreases-loop-constraint
+decreases-loop-constraint l = length (left_seen l.left)

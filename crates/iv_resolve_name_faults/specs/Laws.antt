@@ -1,0 +1,28 @@
+-- A name is told exactly where resolution finds the cause, and so of every refusal for Unknown or Duplicate.
+use Rattle.std.specs.Prelude.{◌≡◌, Bool, true, false, Some, is_some}
+use Rattle.iv_syntax.specs.declared.statement.Statement.{Statement}
+use Rattle.iv_catalogue.specs.declared.cause.Cause.TheVariants.{Unknown, Duplicate}
+use Rattle.iv_catalogue.specs.Catalogues.{Schema}
+use Rattle.iv_catalogue.specs.Refusals.{refusal_answer}
+use Rattle.iv_resolution.specs.Resolution.{is_unknown, is_duplicate, resolution}
+use Rattle.iv_resolve_name_faults.specs.Items.{Item, Fault, unknown_fault, in_use_fault, twice_fault}
+use Rattle.iv_resolve_name_faults.specs.NameFaults.{unknown_name, duplicate_name, name_fault}
+
+abbrev pub UnknownNamesAreTold : Type 0
+UnknownNamesAreTold = (schema : Schema) (s : Statement) → is_some (unknown_name schema s) ≡ is_unknown schema s
+
+abbrev pub DuplicateNamesAreTold : Type 0
+DuplicateNamesAreTold = (schema : Schema) (s : Statement) → is_some (duplicate_name schema s) ≡ is_duplicate schema s
+
+-- the name is in use, or comes twice
+abbrev pub is_duplicate_fault : Fault → Bool
+is_duplicate_fault (unknown_fault item) = false
+is_duplicate_fault (in_use_fault item) = true
+is_duplicate_fault (twice_fault item) = true
+
+-- Of a refusal for Unknown a name that names nothing is told, of one for Duplicate a name that is in use or comes twice.
+pub record RefusalsAreTold : Type 0 where
+  pub unknown : (schema : Schema) (s : Statement) → resolution schema s ≡ refusal_answer Unknown
+      → (item : Item) × (name_fault schema s Unknown ≡ Some (unknown_fault item))
+  pub duplicate : (schema : Schema) (s : Statement) → resolution schema s ≡ refusal_answer Duplicate
+      → (fault : Fault) × (name_fault schema s Duplicate ≡ Some fault) × (is_duplicate_fault fault ≡ true)

@@ -1,0 +1,5 @@
+pub mod Items
+pub mod NameFaults
+pub mod Seen
+pub mod Laws
+pub mod WorkedFaults
