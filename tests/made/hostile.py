@@ -481,6 +481,20 @@ def explained_cascade(rows):
     return ';'.join(texts) + ';', '\n'.join(lines) + '\n'
 
 
+def explained_keys(rows):
+    """So many rows that each have the key of another, and as many whose primary key is null, for which COMMIT is refused; with accounts."""
+    half = rows // 2
+    texts = ['CREATE TABLE t (a INT CONSTRAINT k UNIQUE INITIALLY DEFERRED)', 'CREATE TABLE p (a INT PRIMARY KEY INITIALLY DEFERRED)']
+    texts += ['INSERT INTO t VALUES ' + ','.join(numbered('({n})', half)), 'INSERT INTO t SELECT a FROM t', 'INSERT INTO p SELECT NULL FROM t', 'COMMIT']
+    lines = ['1 ok', '2 ok', '3 ok %d' % half, *numbered('  insert T row {n} ({n})', half)]
+    lines += ['4 ok %d' % half, *['  insert T row %d (%d)' % (n + half, n) for n in range(1, half + 1)]]
+    lines += ['5 ok %d' % rows, *['  insert P row %d (NULL)' % n for n in range(rows + 1, 2 * rows + 1)], '6 refused 19 CommitRefused K row 1']
+    lines += ['  K: T row %d (%d) has the key of row %d (%d)' % (n, n, n + half, n) for n in range(1, half + 1)]
+    lines += ['  K: T row %d (%d) has the key of row %d (%d)' % (n + half, n, n, n) for n in range(1, half + 1)]
+    lines += ['  P_C1: P row %d (NULL) has a null in its key' % n for n in range(rows + 1, 2 * rows + 1)]
+    return ';'.join(texts) + ';', '\n'.join(lines) + '\n'
+
+
 def few_left(rows):
     """So many rows, of which all but each 4,000th are deleted; statements that look through those that are left, in the same transaction; then all come
     back."""
@@ -582,6 +596,7 @@ def cases():
     yield Case('8,000 rows that violate 64 constraints each', many_violations)
     yield Case('10,000 children of one parent', lambda: one_parent(10_000))
     yield Case('an account of a cascade over 60,000 rows', lambda: explained_cascade(60_000), words=['--explain'])
+    yield Case('an account of 20,000 rows with the key of another, and 20,000 without one', lambda: explained_keys(20_000), words=['--explain'])
     yield Case('60,000 rows of which 15 are left, looked through 24,000 times', lambda: few_left(60_000))
     yield Case('30,000 rows that violate one constraint, the later half mended', lambda: mended(30_000))
     yield Case('4,096 constraints', many_constraints)

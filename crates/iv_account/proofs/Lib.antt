@@ -1,2 +1,3 @@
 pub mod Equals
+pub mod KeyAsked
 pub mod Telling

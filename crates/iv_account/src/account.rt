@@ -1,7 +1,6 @@
 //! The list that is told of a statement.
 ghost use Rattle.std.specs.Prelude.{◌≡◌, [], ◌∷◌, false, Ok, IfOk, OnOk};
 ghost use Rattle.std.specs.Option.{option_copied};
-ghost use Rattle.iv_machine.specs.BeforeTriggers.{for_each_row};
 ghost use Rattle.iv_account.specs.Accounts.{ran, seen};
 ghost use Rattle.iv_account.specs.Telling.{and_told, no_account};
 ghost use Rattle.iv_account.specs.declared.entry.Entry.TheVariants as entry;
@@ -19,10 +18,7 @@ use std::marker::Model;
 pub fn row_of(alloc: Global, values: &[Value]) -> Result<Row, AllocError>
     ensures { IfOk result (λ r. r ≡ values.now) }
 {
-    let mut copies = Vec::new(alloc);
-    for value in values {
-        copies.push(value.clone()?)?;
-    }
+    let copies = values.to_vec(alloc)?;
     Row::new(copies)
 }
 
@@ -39,20 +35,8 @@ fn side_of(alloc: Global, side: Option<&[Value]>) -> Result<Option<Row>, AllocEr
 fn changes_of(alloc: Global, changes: &[Change]) -> Result<Items<Change>, AllocError>
     ensures { IfOk result (λ r. r ≡ changes.now) }
 {
-    let mut copies = Vec::new(alloc);
-    for change in changes {
-        copies.push(change.clone()?)?;
-    }
+    let copies = changes.to_vec(alloc)?;
     Ok(Items::from_vec(copies))
-}
-
-fn is_row(trigger: &Trigger) -> bool
-    ensures { result ≡ for_each_row trigger.now }
-{
-    match trigger.granularity {
-        Granularity::Row => true,
-        Granularity::Statement => false,
-    }
 }
 
 // What a trigger that runs saw.
@@ -61,7 +45,7 @@ fn seen(alloc: Global, trigger: &Trigger, frame: &Frame<'_>) -> Result<Seen, All
 {
     let old = side_of(alloc, frame.old)?;
     let new = side_of(alloc, frame.new)?;
-    let transition = if is_row(trigger) {
+    let transition = if matches!(trigger.granularity, Granularity::Row) {
         Items::new(alloc)
     } else {
         changes_of(alloc, frame.transition)?

@@ -3,6 +3,7 @@
 
 mod account;
 mod entry;
+mod equal;
 mod fault;
 
 pub use account::Account;

@@ -1,0 +1,25 @@
+use Rattle.std.proofs.Common.{◌∙◌, List, Some, None, option_map, ap}
+use Rattle.iv_expr.specs.declared.row.StoredRow.{StoredRow}
+use Rattle.iv_expr.specs.Scopes.{numbered, row_above, table_rows}
+use Rattle.iv_expr.proofs.Scan.{table_rises}
+use Rattle.iv_expr.proofs.Sought.{next_found, there_rise}
+use Rattle.iv_account.proofs.equal.next_row.Goals as goal
+
+pub next_above-requires : goal.next_above-requires
+next_above-requires g c =
+    there_rise c.args.found.now c.in-Some.numbers _
+    c.in-Some.is c.requires (table_rises 0 c.args.table _ c.known.ensures)
+
+pub returns-in-Some-next_above : goal.returns-in-Some-next_above
+returns-in-Some-next_above g c =
+    let rows : List StoredRow = table_rows (g.R.Rows.rows c.args.rows.now) c.args.table in
+    c.scan.ensures
+    ∙ ap (λ n. option_map numbered (row_above n rows)) c.saturating_sub.ensures
+    ∙ ap (option_map numbered) (next_found c.args.found.now c.in-Some.numbers rows c.args.after (Some c.in-Some-next_above.number)
+    c.in-Some.is c.requires (table_rises 0 c.args.table _ c.known.ensures) c.in-Some-next_above.ensures)
+
+pub returns-in-None-next_above : goal.returns-in-None-next_above
+returns-in-None-next_above g c =
+    let rows : List StoredRow = table_rows (g.R.Rows.rows c.args.rows.now) c.args.table in
+    ap (option_map numbered) (next_found c.args.found.now c.in-Some.numbers rows c.args.after None
+    c.in-Some.is c.requires (table_rises 0 c.args.table _ c.known.ensures) c.in-None-next_above.ensures)
