@@ -8,6 +8,7 @@ what is told is the median of the runs: processor seconds of the user and of the
 the ratio to SQLite's (`:memory:`). The last SELECT has to give both the same number. Where SQLite has another way for the same
 work, it is named. With --save the table goes into docs/speed/README.md, with the machine, the versions and the date."""
 import argparse
+import ctypes
 import datetime
 import itertools
 import os
@@ -220,19 +221,45 @@ def sqlite_command():
     return ['sqlite3', ':memory:'] if shutil.which('sqlite3') else [sys.executable, '-c', BY_MODULE]
 
 
+# Linux stops a process that asks to be traced as it begins and, where it is told to, as it ends, while its memory is
+# still told. The peak that `wait4` tells is that of the interpreter which forked it too.
+LIBC = ctypes.CDLL(None, use_errno=True)
+TRACE_ME, GO_ON, SET_OPTIONS, STOP_AT_END = 0, 7, 0x4200, ctypes.c_void_p(0x40)
+BEGINS, ENDS = 5, 6 << 8 | 5
+
+
+def ended(pid):
+    """Waits for a process: its status, what it used, and its own peak of memory in kB, or that which `wait4` tells where
+    the process isn't traced."""
+    peak = None
+    while True:
+        status, used = os.wait4(pid, 0)[1:]
+        if not os.WIFSTOPPED(status):
+            return status, used, peak or used.ru_maxrss
+        why, signal = status >> 8, ctypes.c_void_p(0)
+        if why == BEGINS:
+            LIBC.ptrace(SET_OPTIONS, pid, None, STOP_AT_END)
+        elif why == ENDS:
+            with open('/proc/%d/status' % pid, encoding='utf-8') as lines:
+                peak = next((int(line.split()[1]) for line in lines if line.startswith('VmHWM:')), None)
+        else:
+            signal = ctypes.c_void_p(os.WSTOPSIG(status))
+        LIBC.ptrace(GO_ON, pid, None, signal)
+
+
 def timed(words, script):
     """The processor seconds of a run, its peak of memory in MB and what it printed."""
     with tempfile.TemporaryFile() as given, tempfile.TemporaryFile() as printed:
         given.write(script)
         given.seek(0)
-        running = subprocess.Popen(words, stdin=given, stdout=printed, stderr=subprocess.STDOUT)
-        status, used = os.wait4(running.pid, 0)[1:]
+        running = subprocess.Popen(words, stdin=given, stdout=printed, stderr=subprocess.STDOUT, preexec_fn=lambda: LIBC.ptrace(TRACE_ME, 0, None, None))
+        status, used, peak = ended(running.pid)
         running.returncode = os.waitstatus_to_exitcode(status)
         printed.seek(0)
         text = printed.read().decode(errors='replace')
     if running.returncode:
         raise SystemExit('%s: status %d: %s' % (words[0], running.returncode, text[-300:]))
-    return used.ru_utime + used.ru_stime, used.ru_maxrss * 1024 / 1e6, text
+    return used.ru_utime + used.ru_stime, peak * 1024 / 1e6, text
 
 
 def last_number(text):

@@ -7,5 +7,6 @@ pub mod Found
 pub mod Answering
 pub mod Tables
 pub mod Nothing
+pub mod Idle
 pub mod Grouping
 pub mod ActingKeys

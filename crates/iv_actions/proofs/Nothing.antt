@@ -23,7 +23,7 @@ pub none_there : {A : Type 0} (xs : List A) → (length xs == 0) ≡ true → xs
 none_there [] e = refl
 none_there {A} (x ∷ xs) e = let none : length (x ∷ xs) ≡ 0 = eqb-true (length (x ∷ xs)) 0 e in absurd (omega (arith, none))
 
-none_least : (fault : ℕ → Option Fault) → ((number : ℕ) → fault number ≡ None) → (numbers : List ℕ) → least fault numbers ≡ None
+pub none_least : (fault : ℕ → Option Fault) → ((number : ℕ) → fault number ≡ None) → (numbers : List ℕ) → least fault numbers ≡ None
 none_least fault none [] = refl
 none_least fault none (n ∷ numbers) = ap (λ o. earlier o (least fault numbers)) (none n) ∙ none_least fault none numbers
 

@@ -1,5 +1,5 @@
 -- What foreign keys do to a row, from the changes that took keys away.
-use Rattle.std.specs.Prelude.{ℕ, Bool, false, ◌&&◌, ◌==◌, List, [], ◌∷◌, map, filter, filter_map, flat_map, find, Option, Some, None, Result, Ok}
+use Rattle.std.specs.Prelude.{ℕ, Bool, false, ◌&&◌, ◌||◌, ◌==◌, List, [], ◌∷◌, map, filter, filter_map, flat_map, find, Option, Some, None, Result, Ok}
 use Rattle.std.specs.List.{list_any}
 use Rattle.std.specs.Option.{option_map}
 use Rattle.iv_expr.specs.declared.row.StoredRow.{StoredRow}
@@ -25,6 +25,10 @@ abbrev pub restricts : StoredRow → AffectedForeignKey → Bool
 restricts row x =
     (row.table == x.reference.table)
     && elim (change_losing x row) [ Some c ↦ is_restrict (action_for x.reference.key c) | None ↦ false ]
+
+-- the foreign key has RESTRICT as an action
+abbrev pub may_restrict : AffectedForeignKey → Bool
+may_restrict x = is_restrict x.reference.key.on_delete || is_restrict x.reference.key.on_update
 
 -- a row with the first foreign key that restricts it
 abbrev pub restricted_fault : List AffectedForeignKey → StoredRow → Option Fault

@@ -16,7 +16,7 @@ use crate::change::change_by;
 use crate::conflict::first_conflict;
 use crate::effect::effects_among;
 use crate::finding::found;
-use crate::restrict::restricted_fault;
+use crate::restrict::{any_may_restrict, restricted_fault};
 use crate::row::{LentRow, row_before};
 use crate::setting::{columns_where, flag_setting};
 use iv_catalogue::{Catalogue, Cause, ConstraintId, Fault, Refusal};
@@ -81,6 +81,25 @@ fn first_restricted<K: ReferencingRows>(
         );
     }
     first
+}
+
+// So, where no row is looked at if no foreign key has RESTRICT.
+#[tactic(auto, using(crate::proofs::Idle::none_restricted))]
+fn restricted<K: ReferencingRows>(
+    store: &K,
+    affected_keys: &ByTable<'_>,
+    changes: &[Change],
+    numbers: &[u64],
+) -> Option<Fault>
+    requires { RisingChanges changes.now }
+    ensures { result ≡ least
+        (restricted_at affected_keys.now changes.now (K.view store.now).base.rows) numbers.now }
+{
+    if any_may_restrict(affected_keys.as_slice()) {
+        first_restricted(store, affected_keys, changes, numbers)
+    } else {
+        None
+    }
 }
 
 // What foreign keys do to a row of the store.
@@ -152,6 +171,26 @@ fn first_disagreement<K: ReferencingRows>(
         first = earlier(fault, first);
     }
     Ok(first)
+}
+
+// So, where no row is looked at if there is one foreign key alone.
+#[tactic(auto, using(crate::proofs::Idle::none_disagreeing))]
+fn disagreement<K: ReferencingRows>(
+    store: &K,
+    catalogue: &Catalogue,
+    affected_keys: &ByTable<'_>,
+    changes: &[Change],
+    numbers: &[u64],
+) -> Result<Option<Fault>, AllocError>
+    requires { RisingChanges changes.now }
+    ensures { IfOk result (λ f. f ≡ least (conflict_at
+        catalogue.now affected_keys.now changes.now (K.view store.now).base.rows) numbers.now) }
+{
+    if affected_keys.as_slice().len() > 1 {
+        first_disagreement(store, catalogue, affected_keys, changes, numbers)
+    } else {
+        Ok(None)
+    }
 }
 
 // The change of the row of a number, where there is one. The foreign keys that set values of the row are flagged.
@@ -296,10 +335,10 @@ fn answer_among<K: ReferencingRows>(
     if affected_keys.is_empty() {
         return Ok(Wave::new(store.allocator()));
     }
-    if let Some(fault) = first_restricted(store, affected_keys, changes, numbers) {
+    if let Some(fault) = restricted(store, affected_keys, changes, numbers) {
         return Err(refusal(Cause::Restrict(fault)));
     }
-    if let Some(fault) = first_disagreement(store, catalogue, affected_keys, changes, numbers)? {
+    if let Some(fault) = disagreement(store, catalogue, affected_keys, changes, numbers)? {
         return Err(refusal(Cause::ActionConflict(fault)));
     }
     Ok(next_at(store, catalogue, affected_keys, changes, numbers)?)

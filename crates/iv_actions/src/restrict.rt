@@ -1,9 +1,11 @@
 //! Rows that refer to keys which were lost under RESTRICT.
 ghost use Rattle.std.specs.Prelude.{◌≡◌, find};
+ghost use Rattle.std.specs.List.{list_any};
 ghost use Rattle.std.specs.Option.{option_map, option_copied};
 ghost use Rattle.iv_actions.specs.AffectedForeignKey.{change_losing};
 ghost use Rattle.iv_actions.specs.ByTable.{at_places};
-ghost use Rattle.iv_actions.specs.Following.{restricts, restricted_fault};
+ghost use Rattle.iv_actions.specs.Following.{may_restrict, restricts, restricted_fault};
+ghost use Rattle.iv_machine.specs.ReferentialActions.{is_restrict};
 
 use crate::affected::{AffectedForeignKey, action_for};
 use crate::by_table::ByTable;
@@ -23,6 +25,25 @@ pub fn change_losing<'a>(affected: &AffectedForeignKey<'a>, row: &LentRow<'_>) -
     } else {
         None
     }
+}
+
+fn is_restrict(action: ReferentialAction) -> bool
+    ensures { result ≡ is_restrict action }
+{
+    matches!(action, ReferentialAction::Restrict)
+}
+
+fn may_restrict(affected: &AffectedForeignKey<'_>) -> bool
+    ensures { result ≡ may_restrict affected.now }
+{
+    is_restrict(affected.key().on_delete) || is_restrict(affected.key().on_update)
+}
+
+/// Whether one of the foreign keys has RESTRICT as an action.
+pub fn any_may_restrict(affected_keys: &[AffectedForeignKey<'_>]) -> bool
+    ensures { result ≡ list_any may_restrict affected_keys.now }
+{
+    affected_keys.iter().any(|affected| may_restrict(affected))
 }
 
 // Whether a foreign key restricts a row.

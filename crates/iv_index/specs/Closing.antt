@@ -2,10 +2,16 @@
 use Rattle.std.specs.Prelude.{◌≡◌, ⊤}
 use Rattle.std.specs.Borrow.{follows_so, MutBor, Fml}
 use mathlib.Core.Option.{none}
+use Rattle.iv_index.specs.declared.group_rows.GroupRows.{GroupRows}
+use Rattle.iv_index.specs.contracts.group_rows.GroupRows as rows
 use Rattle.iv_index.specs.declared.group.Group.{Group}
 use Rattle.iv_index.specs.contracts.group.Group as group
 use Rattle.iv_index.specs.declared.key_index.KeyIndex.{KeyIndex}
 use Rattle.iv_index.specs.contracts.key_index.KeyIndex as index
+
+-- The rows of a group end as they were.
+abbrev pub RowsStay : MutBor GroupRows → Fml
+RowsStay s = follows_so rows.the_row rows.the_row s.ghost_name none (λ _ _. ⊤) (λ v. v ≡ s.now)
 
 -- A group ends as it was.
 abbrev pub GroupStays : MutBor Group → Fml

@@ -3,3 +3,4 @@ pub mod Groups
 pub mod Laws
 pub mod Lending
 pub mod Closing
+pub mod Held

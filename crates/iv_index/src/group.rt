@@ -6,25 +6,27 @@ ghost use Rattle.iv_index.specs.Groups.{changed};
 ghost use Rattle.iv_index.specs.Closing.{GroupStays};
 ghost use Rattle.iv_value.specs.Values.{all_same};
 
+use crate::group_key::{GroupKey, copied, values};
+use crate::group_rows::GroupRows;
 use iv_key::Key;
-use iv_numbers::{HeldRows, RowNumbers};
-use iv_value::Value;
+use iv_numbers::HeldRows;
 use std::alloc::{AllocError, Global};
 use std::marker::Model;
 
-/// A key and the rows that hold it.
+/// A key and the rows that hold it. A key of one value with one row takes no memory of its own.
 #[derive(Drop)]
 pub struct Group {
-    values: Vec<Value>,
-    rows: RowNumbers,
+    key: GroupKey,
+    rows: GroupRows,
 }
 
 impl Model for Group {
     ghost use Rattle.iv_index.specs.Groups.{GroupOf};
+    ghost use Rattle.iv_index.specs.Held.{rows_held, values_of};
 
     ghost Value = { GroupOf };
 
-    ghost view = { λ g. record { key = g.values.items; held = g.rows } };
+    ghost view = { λ g. record { key = values_of g.key; held = rows_held g.rows } };
 }
 
 impl Group {
@@ -32,27 +34,27 @@ impl Group {
     pub fn with_room(alloc: Global, key: &Key<'_>) -> Result<Group, AllocError>
         ensures { IfOk result (λ g. g ≡ record { key = key.now; held = roomy no_rows }) }
     {
-        let values = key.to_values(alloc)?;
-        let mut rows = RowNumbers::new(alloc);
-        rows.make_room()?;
-        Ok(Group { values, rows })
+        Ok(Group {
+            key: copied(alloc, key)?,
+            rows: GroupRows::with_room(alloc),
+        })
     }
 
     /// The group of a key, with one row and no room. The values of the key are copied.
     pub fn with_row(alloc: Global, key: &Key<'_>, row: u64) -> Result<Group, AllocError>
         ensures { IfOk result (λ g. g ≡ record { key = key.now; held = added row no_rows }) }
     {
-        let values = key.to_values(alloc)?;
-        let mut rows = RowNumbers::new(alloc);
-        rows.add(row)?;
-        Ok(Group { values, rows })
+        Ok(Group {
+            key: copied(alloc, key)?,
+            rows: GroupRows::with_row(alloc, row),
+        })
     }
 
     /// Whether it is the group of this key.
     pub fn is_of(&self, key: &Key<'_>) -> bool
         ensures { result ≡ all_same self.now.key key.now }
     {
-        key.has_values(self.values.as_slice())
+        key.has_values(values(&self.key))
     }
 
     /// Its rows.
@@ -80,20 +82,20 @@ impl Group {
     }
 
     /// Sees that it has room for one row at least.
-    pub fn make_room(&mut self) -> Result<(), AllocError>
+    pub fn make_room(&mut self, alloc: Global) -> Result<(), AllocError>
         ensures ok { OnOk result (self.new ≡ changed roomy self.old) }
         ensures err { OnErr result (self.new ≡ self.old) }
     {
-        self.rows.make_room()
+        self.rows.make_room(alloc)
     }
 
     /// Adds a row. It takes one of the room, or memory where there is no room.
-    pub fn add(&mut self, row: u64) -> Result<(), AllocError>
+    pub fn add(&mut self, alloc: Global, row: u64) -> Result<(), AllocError>
         requires { has_row row self.old.held.rows ≡ false }
         ensures ok { OnOk result (self.new ≡ changed (added row) self.old) }
         ensures err { OnErr result (self.new ≡ self.old) }
     {
-        self.rows.add(row)
+        self.rows.add(alloc, row)
     }
 
     /// Puts a row where it isn't among its rows. It takes one of the room, and no memory.

@@ -1,17 +1,19 @@
 //! The places of hashes in a list, found by the hash.
-ghost use Rattle.std.specs.Prelude.{◌≡◌, ◌≢◌, ℕ, ◌+◌, ◌-◌, ◌<◌, ◌≤◌, List, [], ◌∷◌, ◌++◌, length, slice_index, OnOk, OnErr};
-ghost use Rattle.iv_index.specs.Linked.{EndsAt, NoneFrom, last_end};
+ghost use Rattle.std.specs.Prelude.{◌≡◌, ◌≢◌, ℕ, ◌+◌, ◌-◌, ◌<◌, ◌≤◌, ◌==◌, List, [], ◌∷◌, ◌++◌, length, slice_get, slice_index, Some, None, true, false, IfOk, OnOk, OnErr};
+ghost use Rattle.iv_index.specs.Linked.{AreFree, AreWithin, EndsAt, IsFreeFor, NoneFrom, NoneWhereFree, Noted, end_by, last_end, map_end, slot_of};
 
 use std::alloc::{AllocError, Global};
 use std::collections::BTreeMap;
 use std::marker::Model;
 
-/// A list of hashes that only grows. A tree has the last place of each hash, so a search takes no more than the
-/// logarithm of the length, whatever the hashes are; from a place a link leads to the place before it of the same
-/// hash. An end is one more than a place, and 0 where there is none.
+/// A list of hashes that only grows. A slot has the last place of the hash that came to it first. The last places of
+/// the other hashes that would have the same slot are in a tree, so a search takes no more than the logarithm of the
+/// length, whatever the hashes are. From a place a link leads to the place before it of the same hash. An end is one
+/// more than a place, and 0 where there is none.
 #[derive(Drop)]
 pub struct HashIndex {
-    lasts: BTreeMap<u64, usize>,
+    slots: Vec<usize>,
+    others: BTreeMap<u64, usize>,
     befores: Vec<usize>,
     hashes: Vec<u64>,
 }
@@ -24,17 +26,106 @@ impl Model for HashIndex {
 
     ghost view = { λ x. x.hashes.items };
 
-    ghost invariant = { λ x. IsLinked x.lasts x.befores.items x.hashes.items };
+    ghost invariant = { λ x. IsLinked x.slots.items x.others x.befores.items x.hashes.items };
 }
 
-// The end of the last place of a hash.
-fn end_in(lasts: &BTreeMap<u64, usize>, hash: u64) -> usize
-    ensures { result ≡ last_end lasts.now hash }
+const FEWEST_SLOTS: usize = 16;
+
+// The slot of a hash among so many, which are a power of two.
+fn slot_of(hash: u64, count: usize) -> usize
+    ensures { result ≡ slot_of hash count }
 {
-    match lasts.get(&hash) {
+    hash as usize & count.saturating_sub(1)
+}
+
+// The end of the last place of a hash by the tree.
+fn end_in(others: &BTreeMap<u64, usize>, hash: u64) -> usize
+    ensures { result ≡ map_end others.now hash }
+{
+    match others.get(&hash) {
         Some(end) => *end,
         None => 0,
     }
+}
+
+// What stands in a slot.
+fn end_at(slots: &[usize], slot: usize) -> Option<usize>
+    ensures { result ≡ slice_get slots.now slot }
+{
+    match slots.get(slot) {
+        Some(end) => Some(*end),
+        None => None,
+    }
+}
+
+// The end of the last place of a hash, in whose slot this end stands.
+fn end_by(others: &BTreeMap<u64, usize>, hashes: &[u64], hash: u64, end: usize) -> usize
+    requires { end ≤ length hashes.now }
+    ensures { result ≡ end_by hashes.now hash (map_end others.now hash) (Some end) }
+{
+    if end == 0 {
+        return 0;
+    }
+    if hashes[end - 1] == hash {
+        end
+    } else {
+        end_in(others, hash)
+    }
+}
+
+// The end of the last place of a hash.
+#[tactic(auto, unfolding(crate::specs::Linked::last_end))]
+fn last_in(slots: &[usize], others: &BTreeMap<u64, usize>, hashes: &[u64], hash: u64) -> usize
+    requires { AreWithin slots.now hashes.now }
+    ensures { result ≡ last_end slots.now others.now hashes.now hash }
+{
+    match end_at(slots, slot_of(hash, slots.len())) {
+        Some(end) => end_by(others, hashes, hash, end),
+        None => end_in(others, hash),
+    }
+}
+
+// Whether a slot may have this hash: it is free, or the hash has it.
+fn is_free_for(slots: &[usize], hashes: &[u64], hash: u64, slot: usize) -> bool
+    requires { AreWithin slots.now hashes.now }
+    ensures free { result ≡ true → IsFreeFor slots.now hashes.now hash slot }
+    ensures taken { result ≡ false → (other : ℕ) → end_by hashes.now hash other (slice_get slots.now slot) ≡ other }
+{
+    match end_at(slots, slot) {
+        Some(end) => end == 0 || hashes[end - 1] == hash,
+        None => false,
+    }
+}
+
+// Notes the end of a hash that comes behind the others.
+fn note(
+    slots: &mut Vec<usize>,
+    others: &mut BTreeMap<u64, usize>,
+    hashes: &[u64],
+    hash: u64,
+) -> Result<(), AllocError>
+    requires within { AreWithin slots.old.items hashes.now }
+    requires free { NoneWhereFree slots.old.items others.old }
+    ensures ok { OnOk result (Noted slots.old.items others.old hashes.now hash slots.new.items others.new) }
+    ensures slots { OnErr result (slots.new.items ≡ slots.old.items) }
+    ensures others { OnErr result ((q : ℕ) → map_end others.new q ≡ map_end others.old q) }
+{
+    let slot = slot_of(hash, slots.len());
+    if is_free_for(slots.as_slice(), hashes, hash, slot) {
+        slots[slot] = hashes.len() + 1;
+        return Ok(());
+    }
+    others.insert(hash, hashes.len() + 1)?;
+    Ok(())
+}
+
+// So many free slots.
+fn free_slots(alloc: Global, count: usize) -> Result<Vec<usize>, AllocError>
+    ensures { IfOk result (λ slots. AreFree slots.items) }
+{
+    let mut slots = Vec::new(alloc);
+    slots.resize(count, 0)?;
+    Ok(slots)
 }
 
 impl HashIndex {
@@ -43,7 +134,8 @@ impl HashIndex {
         ensures { result ≡ [] }
     {
         HashIndex {
-            lasts: BTreeMap::new(alloc),
+            slots: Vec::new(alloc),
+            others: BTreeMap::new(alloc),
             befores: Vec::new(alloc),
             hashes: Vec::new(alloc),
         }
@@ -55,7 +147,12 @@ impl HashIndex {
         ensures found { EndsAt self.now hash result }
         ensures none { NoneFrom self.now hash result (length self.now) }
     {
-        end_in(&self.lasts, hash)
+        last_in(
+            self.slots.as_slice(),
+            &self.others,
+            self.hashes.as_slice(),
+            hash,
+        )
     }
 
     /// The end of the last place below this one that has its hash.
@@ -68,17 +165,67 @@ impl HashIndex {
         self.befores[place]
     }
 
-    /// Adds a hash at the end.
-    pub fn push(&mut self, hash: u64) -> Result<(), AllocError>
+    // Adds a hash at the end, with the slots that there are.
+    fn add(&mut self, hash: u64) -> Result<(), AllocError>
         ensures ok { OnOk result (self.new ≡ self.old ++ hash ∷ []) }
         ensures err { OnErr result (self.new ≡ self.old) }
     {
-        let before = end_in(&self.lasts, hash);
+        let before = last_in(
+            self.slots.as_slice(),
+            &self.others,
+            self.hashes.as_slice(),
+            hash,
+        );
         self.befores.reserve(1)?;
         self.hashes.reserve(1)?;
-        self.lasts.insert(hash, self.hashes.len() + 1)?;
+        note(
+            &mut self.slots,
+            &mut self.others,
+            self.hashes.as_slice(),
+            hash,
+        )?;
         self.befores.push_reserved(before);
         self.hashes.push_reserved(hash);
         Ok(())
     }
+
+    // The same hashes with so many slots.
+    fn with_slots(alloc: Global, hashes: &[u64], count: usize) -> Result<HashIndex, AllocError>
+        ensures { IfOk result (λ x. x ≡ hashes.now) }
+    {
+        let mut index = HashIndex {
+            slots: free_slots(alloc, count)?,
+            others: BTreeMap::new(alloc),
+            befores: Vec::new(alloc),
+            hashes: Vec::new(alloc),
+        };
+        for hash in hashes {
+            index.add(*hash)?;
+        }
+        Ok(index)
+    }
+
+    // The same hashes with twice as many slots as before.
+    fn widened(&self) -> Result<HashIndex, AllocError>
+        ensures { IfOk result (λ x. x ≡ self.now) }
+    {
+        let count = self.slots.len().saturating_mul(2).max(FEWEST_SLOTS);
+        HashIndex::with_slots(*self.hashes.allocator(), self.hashes.as_slice(), count)
+    }
+
+    // Whether there are so many hashes that more slots are wanted.
+    fn is_full(&self) -> bool {
+        self.hashes.len() >= self.slots.len() / 2
+    }
+}
+
+/// Adds a hash at the end.
+pub fn push(index: &mut HashIndex, hash: u64) -> Result<(), AllocError>
+    ensures ok { OnOk result (index.new ≡ index.old ++ hash ∷ []) }
+    ensures err { OnErr result (index.new ≡ index.old) }
+{
+    if index.is_full() {
+        *index = index.widened()?;
+    }
+    index.add(hash)
 }

@@ -1,5 +1,6 @@
 //! The groups of one constraint.
 ghost use Rattle.std.specs.Prelude.{◌≡◌, ◌<◌, ◌^◌, [], ◌∷◌, ◌++◌, length, true, false, IfSome, OnOk, OnErr, Some, slice_index_or, slice_set};
+ghost use Rattle.iv_value.specs.Values.{all_same};
 ghost use Rattle.iv_key.specs.Hashes.{hash_of};
 ghost use Rattle.std.specs.Borrow.{sem};
 ghost use Rattle.iv_index.specs.Closing.{IndexStays};
@@ -7,7 +8,7 @@ ghost use Rattle.iv_numbers.specs.Rows.{IsRising, added, has_row, put, removed, 
 ghost use Rattle.iv_index.specs.Groups.{GroupOf, IsIndexed, IsSound, changed, place_in, room_of, rows_at, rows_of, with_room_under, with_row_put, with_row_under, without_row_under};
 
 use crate::group::Group;
-use crate::hash_index::HashIndex;
+use crate::hash_index::{HashIndex, push};
 use iv_key::Key;
 use iv_numbers::HeldRows;
 use std::alloc::{AllocError, Global};
@@ -18,6 +19,8 @@ use std::marker::Model;
 pub struct KeyIndex {
     hashes: HashIndex,
     groups: Vec<Group>,
+    // The place of the group that was changed last, which is asked before the hashes.
+    recent: usize,
 }
 
 impl Model for KeyIndex {
@@ -47,6 +50,29 @@ fn find(hashes: &HashIndex, groups: &[Group], key: &Key<'_>, hash: u64) -> Optio
         end = hashes.before(place);
     }
     None
+}
+
+// Whether the group at a place is that of a key.
+fn is_at(groups: &[Group], place: usize, key: &Key<'_>) -> bool
+    ensures { result ≡ true → (place < length groups.now)
+        × ((d : GroupOf) → all_same (slice_index_or groups.now place d).key key.now ≡ true) }
+{
+    match groups.get(place) {
+        Some(group) => group.is_of(key),
+        None => false,
+    }
+}
+
+// The place of a key's group, which is likely this one.
+fn find_near(hashes: &HashIndex, groups: &[Group], recent: usize, key: &Key<'_>) -> Option<usize>
+    requires { IsIndexed hashes.now groups.now }
+    ensures place { result ≡ place_in groups.now key.now }
+    ensures within { IfSome result (λ place. place < length groups.now) }
+{
+    if is_at(groups, recent, key) {
+        return Some(recent);
+    }
+    find(hashes, groups, key, key.hash())
 }
 
 // Does nothing. Its contract says what holds of groups beside their hashes.
@@ -82,18 +108,18 @@ fn room_under(hashes: &HashIndex, groups: &[Group], key: &Key<'_>) -> usize
 }
 
 // Makes room in the group at a place.
-fn make_room_at(groups: &mut Vec<Group>, place: usize) -> Result<(), AllocError>
+fn make_room_at(alloc: Global, groups: &mut Vec<Group>, place: usize) -> Result<(), AllocError>
     requires within { place < length groups.old.items }
     ensures ok { OnOk result ((d : GroupOf) → groups.new.items
         ≡ slice_set groups.old.items place (changed roomy (slice_index_or groups.old.items place d))) }
     ensures err { OnErr result (groups.new.items ≡ groups.old.items) }
 {
     let group = &mut groups[place];
-    group.make_room()
+    group.make_room(alloc)
 }
 
 // Adds a row to the group at a place.
-fn add_at(groups: &mut Vec<Group>, place: usize, row: u64) -> Result<(), AllocError>
+fn add_at(alloc: Global, groups: &mut Vec<Group>, place: usize, row: u64) -> Result<(), AllocError>
     requires within { place < length groups.old.items }
     requires absent { (d : GroupOf) → has_row row (slice_index_or groups.old.items place d).held.rows ≡ false }
     ensures ok { OnOk result ((d : GroupOf) → groups.new.items
@@ -101,7 +127,7 @@ fn add_at(groups: &mut Vec<Group>, place: usize, row: u64) -> Result<(), AllocEr
     ensures err { OnErr result (groups.new.items ≡ groups.old.items) }
 {
     let group = &mut groups[place];
-    group.add(row)
+    group.add(alloc, row)
 }
 
 // Puts a row into the group at a place.
@@ -138,7 +164,7 @@ fn add_group(
     ensures err { OnErr result ((hashes.new ≡ hashes.old) × (groups.new.items ≡ groups.old.items)) }
 {
     groups.reserve(1)?;
-    hashes.push(hash)?;
+    push(hashes, hash)?;
     groups.push_reserved(group);
     Ok(())
 }
@@ -148,6 +174,7 @@ fn make_room_under(
     alloc: Global,
     hashes: &mut HashIndex,
     groups: &mut Vec<Group>,
+    recent: &mut usize,
     key: &Key<'_>,
 ) -> Result<(), AllocError>
     requires indexed { IsIndexed hashes.old groups.old.items }
@@ -157,8 +184,12 @@ fn make_room_under(
 {
     let hash = key.hash();
     match find(hashes, groups.as_slice(), key, hash) {
-        Some(place) => make_room_at(groups, place)?,
+        Some(place) => {
+            *recent = place;
+            make_room_at(alloc, groups, place)?;
+        }
         None => {
+            *recent = groups.len();
             let group = Group::with_room(alloc, key)?;
             add_group(hashes, groups, hash, group)?;
         }
@@ -182,7 +213,7 @@ fn add_under(
 {
     let hash = key.hash();
     match find(hashes, groups.as_slice(), key, hash) {
-        Some(place) => add_at(groups, place, row)?,
+        Some(place) => add_at(alloc, groups, place, row)?,
         None => {
             let group = Group::with_row(alloc, key, row)?;
             add_group(hashes, groups, hash, group)?;
@@ -192,14 +223,20 @@ fn add_under(
 }
 
 // Puts a row under a key, and tells the place of its group.
-fn put_under(hashes: &HashIndex, groups: &mut Vec<Group>, key: &Key<'_>, row: u64) -> usize
+fn put_under(
+    hashes: &HashIndex,
+    groups: &mut Vec<Group>,
+    recent: usize,
+    key: &Key<'_>,
+    row: u64,
+) -> usize
     requires indexed { IsIndexed hashes.now groups.old.items }
     requires room { 0 < room_of groups.old.items key.now }
     ensures groups { groups.new.items ≡ with_row_put key.now row groups.old.items }
     ensures place { place_in groups.old.items key.now ≡ Some result }
     ensures indexed { IsIndexed hashes.now groups.new.items }
 {
-    match find(hashes, groups.as_slice(), key, key.hash()) {
+    match find_near(hashes, groups.as_slice(), recent, key) {
         Some(place) => {
             put_at(groups, place, row);
             place
@@ -209,14 +246,20 @@ fn put_under(hashes: &HashIndex, groups: &mut Vec<Group>, key: &Key<'_>, row: u6
 }
 
 // Removes a row from a key, and tells the place of its group.
-fn remove_under(hashes: &HashIndex, groups: &mut Vec<Group>, key: &Key<'_>, row: u64) -> usize
+fn remove_under(
+    hashes: &HashIndex,
+    groups: &mut Vec<Group>,
+    recent: usize,
+    key: &Key<'_>,
+    row: u64,
+) -> usize
     requires indexed { IsIndexed hashes.now groups.old.items }
     requires present { has_row row (rows_of groups.old.items key.now) ≡ true }
     ensures groups { groups.new.items ≡ without_row_under key.now row groups.old.items }
     ensures place { place_in groups.old.items key.now ≡ Some result }
     ensures indexed { IsIndexed hashes.now groups.new.items }
 {
-    match find(hashes, groups.as_slice(), key, key.hash()) {
+    match find_near(hashes, groups.as_slice(), recent, key) {
         Some(place) => {
             remove_at(groups, place, row);
             place
@@ -233,6 +276,7 @@ impl KeyIndex {
         KeyIndex {
             hashes: HashIndex::new(alloc),
             groups: Vec::new(alloc),
+            recent: 0,
         }
     }
 
@@ -256,7 +300,7 @@ impl KeyIndex {
     pub fn place(&self, key: &Key<'_>) -> Option<usize>
         ensures { result ≡ place_in self.now key.now }
     {
-        find(&self.hashes, self.groups.as_slice(), key, key.hash())
+        find_near(&self.hashes, self.groups.as_slice(), self.recent, key)
     }
 
     /// The rows of a key, in rising order.
@@ -317,7 +361,13 @@ impl KeyIndex {
         ensures ok { OnOk result (self.new ≡ with_room_under key.now self.old) }
         ensures err { OnErr result (self.new ≡ self.old) }
     {
-        make_room_under(alloc, &mut self.hashes, &mut self.groups, key)
+        make_room_under(
+            alloc,
+            &mut self.hashes,
+            &mut self.groups,
+            &mut self.recent,
+            key,
+        )
     }
 
     /// Adds a row under a key, in its group or in a new one behind the others.
@@ -335,7 +385,9 @@ impl KeyIndex {
         ensures groups { self.new ≡ with_row_put key.now row self.old }
         ensures place { place_in self.old key.now ≡ Some result }
     {
-        put_under(&self.hashes, &mut self.groups, key, row)
+        let place = put_under(&self.hashes, &mut self.groups, self.recent, key, row);
+        self.recent = place;
+        place
     }
 
     /// Removes a row from a key, and tells the place of its group.
@@ -344,6 +396,8 @@ impl KeyIndex {
         ensures groups { self.new ≡ without_row_under key.now row self.old }
         ensures place { place_in self.old key.now ≡ Some result }
     {
-        remove_under(&self.hashes, &mut self.groups, key, row)
+        let place = remove_under(&self.hashes, &mut self.groups, self.recent, key, row);
+        self.recent = place;
+        place
     }
 }

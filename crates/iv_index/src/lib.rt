@@ -2,6 +2,8 @@
 #![tactic(auto)]
 
 mod group;
+mod group_key;
+mod group_rows;
 mod groups;
 mod hash_index;
 mod key_index;

@@ -1,11 +1,8 @@
--- A binary search among rising numbers, in one of two parts.
-use Rattle.std.specs.Prelude.{MatchResult, Result, Ok, Err}
-use Rattle.std.specs.List.Sorted.{IsBinarySearchResult}
-use Rattle.std.specs.Ordering.{nat_cmp}
+-- A search among rising numbers, in one of two parts.
+use Rattle.std.specs.Prelude.{slice_index, Result, Ok, Err, MatchResult}
 use Rattle.std.proofs.Common.{◌≡◌, ℕ, ◌+◌, ◌-◌, ◌<◌, ◌≤◌, List, ◌++◌, length, get_or, arith, ⊎_elim, ap, ◌∙◌, refl, length-append}
 use Rattle.std.proofs.lemmas.Bool.{cases_lt}
 use Rattle.std.proofs.lemmas.List.{get_or_append_left, get_or-append_right}
-use Rattle.std.proofs.lemmas.List.Sorted.{searched}
 use Rattle.iv_numbers.specs.Rows.{IsRising, Found}
 use Rattle.iv_numbers.specs.Search.{further}
 use Rattle.iv_numbers.proofs.RowsLemmas.{inserted_is, absent_is, present_is, removed_is}
@@ -17,8 +14,10 @@ not_falling xs rising i j le l = ⊎_elim
     (cases_lt i j)
 
 -- where a number stands among others, or where it would stand
-abbrev Stands : List ℕ → ℕ → Result ℕ ℕ → Type 0
-Stands xs r said = MatchResult said (λ i. (i < length xs) × (get_or xs i 0 ≡ r)) (λ i. (i ≤ length xs) × ((k : ℕ) → k < i → get_or xs k 0 < r) × ((k : ℕ) → i ≤ k → k < length xs → r < get_or xs k 0))
+abbrev pub Stands : List ℕ → ℕ → Result ℕ ℕ → Type 0
+Stands rows row said = MatchResult said
+    (λ at. (at < length rows) × (slice_index rows at ≡ row))
+    (λ at. (at ≤ length rows) × ((k : ℕ) → k < at → slice_index rows k < row) × ((k : ℕ) → at ≤ k → k < length rows → row < slice_index rows k))
 
 found_of : (xs : List ℕ) (r : ℕ) (said : Result ℕ ℕ) → IsRising xs → Stands xs r said → Found xs r said
 found_of xs r (Ok at) rising (l, e) = (present_is xs at r l e, l, removed_is xs at r l rising e)
@@ -43,9 +42,9 @@ rising_back xs ys rising i j lt l =
     omega (arith, rising (length xs + i) (length xs + j) (omega arith) (omega arith))
 
 -- a search in the second part, where the number isn't before it
-pub found_behind : (xs ys : List ℕ) (r : ℕ) (said : Result ℕ ℕ) → IsBinarySearchResult (λ y. nat_cmp y r) ys said → IsRising (xs ++ ys) → 0 < length ys → get_or ys 0 0 ≤ r → Found (xs ++ ys) r (further (length xs) said)
-found_behind xs ys r said clause rising some first =
-    found_of (xs ++ ys) r (further (length xs) said) rising (stands said (searched ys r said clause (not_falling ys (rising_back xs ys rising))))
+pub found_behind : (xs ys : List ℕ) (r : ℕ) (said : Result ℕ ℕ) → Stands ys r said → IsRising (xs ++ ys) → 0 < length ys → get_or ys 0 0 ≤ r → Found (xs ++ ys) r (further (length xs) said)
+found_behind xs ys r said at rising some first =
+    found_of (xs ++ ys) r (further (length xs) said) rising (stands said at)
   where
     stands : (said : Result ℕ ℕ) → Stands ys r said → Stands (xs ++ ys) r (further (length xs) said)
     stands (Ok at) (l, e) = let n = length-append xs ys in (omega arith, in_back xs ys (length xs + at) at refl ∙ e)
@@ -60,9 +59,9 @@ found_behind xs ys r said clause rising some first =
         )
 
 -- a search in the first part, where the number is before the second
-pub found_before : (xs ys : List ℕ) (r : ℕ) (said : Result ℕ ℕ) → IsBinarySearchResult (λ y. nat_cmp y r) xs said → IsRising (xs ++ ys) → (0 < length ys → r < get_or ys 0 0) → Found (xs ++ ys) r said
-found_before xs ys r said clause rising before =
-    found_of (xs ++ ys) r said rising (stands said (searched xs r said clause (not_falling xs (rising_front xs ys rising))))
+pub found_before : (xs ys : List ℕ) (r : ℕ) (said : Result ℕ ℕ) → Stands xs r said → IsRising (xs ++ ys) → (0 < length ys → r < get_or ys 0 0) → Found (xs ++ ys) r said
+found_before xs ys r said at rising before =
+    found_of (xs ++ ys) r said rising (stands said at)
   where
     stands : (said : Result ℕ ℕ) → Stands xs r said → Stands (xs ++ ys) r said
     stands (Ok at) (l, e) = let n = length-append xs ys in (omega arith, in_front xs ys at l ∙ e)
@@ -79,3 +78,11 @@ found_before xs ys r said clause rising before =
               omega (arith, not_falling ys (rising_back xs ys rising) 0 i (omega arith) (omega arith)))
               (cases_lt k (length xs))),
         )
+
+-- a number above the last
+pub stands_last : (xs : List ℕ) (r : ℕ) → IsRising xs → (0 < length xs → get_or xs (length xs - 1) 0 < r) → Stands xs r (Err (length xs))
+stands_last xs r rising last = (
+  omega arith,
+  (λ k lt. omega (arith, not_falling xs rising k (length xs - 1) (omega arith) (omega arith), last (omega arith))),
+  (λ k le lt. absurd (omega arith)),
+)

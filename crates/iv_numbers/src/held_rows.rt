@@ -5,6 +5,7 @@ ghost use Rattle.std.specs.List.Sorted.{IsSearchInRange};
 ghost use Rattle.iv_numbers.specs.Rows.{IsRising, Found, has_row, number_above};
 ghost use Rattle.iv_numbers.specs.Search.{further};
 
+use crate::searching::{is_at, likely_place, search};
 use std::alloc::{AllocError, Global};
 use std::marker::Model;
 
@@ -95,27 +96,9 @@ fn find(front: &[u64], back: &[u64], row: u64) -> Result<usize, usize>
     ensures { Found (front.now ++ back.now) row result }
 {
     if is_behind(back, row) {
-        return further(front.len(), back.binary_search(&row), back.len());
+        return further(front.len(), search(back, row), back.len());
     }
-    front.binary_search(&row)
-}
-
-// The place of a number, if no number from the first one on is missing.
-fn likely_place(rows: &[u64], row: u64) -> usize {
-    match rows {
-        [first, ..] => row.saturating_sub(*first) as usize,
-        [] => 0,
-    }
-}
-
-// Whether a number is at this place.
-fn is_at(rows: &[u64], place: usize, row: u64) -> bool
-    ensures { result ≡ true → (place < length rows.now) × (slice_index rows.now place ≡ row) }
-{
-    match rows.get(place) {
-        Some(other) => *other == row,
-        None => false,
-    }
+    search(front, row)
 }
 
 // The first of some numbers above one. Where no number up to it is missing, that takes constant time; else it halves.

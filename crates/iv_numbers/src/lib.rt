@@ -4,6 +4,7 @@
 mod held_rows;
 mod parts;
 mod row_numbers;
+mod searching;
 
 pub use held_rows::HeldRows;
 pub use row_numbers::RowNumbers;

@@ -144,23 +144,25 @@ fn defaults(alloc: Global, catalogue: &Catalogue, table: TableId) -> Result<Vec<
 {
     let mut row = Vec::new(alloc);
     if let Some(table) = catalogue.table(table) {
+        row.reserve_exact(table.columns.len())?;
         push_defaults(&mut row, table.columns.as_slice())?;
     }
     Ok(row)
 }
 
-// The row before any value: empty, or of the defaults where the columns are listed.
+// The row before any value: empty, or of the defaults where the columns are listed. There are so many values for it.
 fn begin(
     alloc: Global,
     context: &Context<'_>,
     table: TableId,
     listed: &InsertColumns,
+    count: usize,
 ) -> Result<Vec<Value>, Cause>
     ensures { AnswersCause (λ v. v.items) result
         (Ok (row_begun context.now.schema table listed.now)) }
 {
     match listed {
-        InsertColumns::All => Ok(Vec::new(alloc)),
+        InsertColumns::All => Ok(Vec::with_capacity(alloc, count)?),
         InsertColumns::Listed(_) => Ok(defaults(alloc, context.catalogue(), table)?),
     }
 }
@@ -184,7 +186,7 @@ pub fn row_of_expressions<R: Rows>(
     ensures { AnswersCause (λ r. r) result
         (row_made context.now table listed.now (map (value scope.now) expressions.now)) }
 {
-    let mut row = begin(alloc, context, table, listed)?;
+    let mut row = begin(alloc, context, table, listed, expressions.len())?;
     place_expressions(context, table, listed, expressions, scope, &mut row)?;
     row_of(row)
 }
@@ -200,7 +202,7 @@ pub fn row_of_copies(
     ensures { AnswersCause (λ r. r) result
         (row_made context.now table listed.now (map (λ v. Ok v) values.now)) }
 {
-    let mut row = begin(alloc, context, table, listed)?;
+    let mut row = begin(alloc, context, table, listed, values.len())?;
     place_copies(context, table, listed, values, &mut row)?;
     row_of(row)
 }
