@@ -220,6 +220,37 @@ static int accounts(void) {
     return 0;
 }
 
+static const char NAMES[] = "CREATE TABLE t (a INT); INSERT INTO t (b) VALUES (1); CREATE TABLE t (a INT); COMMIT;";
+
+/* The name that a refusal is about, and the place of a fault. */
+static int names(void) {
+    sqlkeep session = SQLKEEP_EMPTY;
+    sqlkeep_summary summary;
+    sqlkeep_script script;
+    sqlkeep_outcome outcome;
+    WANT(sqlkeep_open(&session, 16, 65536) == SQLKEEP_OK);
+    WANT(sqlkeep_explain(&session, 1) == SQLKEEP_OK);
+    WANT(run_text(&session, "COMMIT;\n COMIT;", &summary) == SQLKEEP_OK && summary.fault_at == 9);
+    WANT(has_transcript(&session, "1 ok\n2 fault 9\n  line 2, column 2: COMIT;\n"));
+    WANT(read_text(&session, NAMES, &script) == SQLKEEP_OK && script.statements == 4);
+    WANT(sqlkeep_execute(&session, 0, &outcome) == SQLKEEP_OK);
+    WANT(sqlkeep_execute(&session, 1, &outcome) == SQLKEEP_OK && outcome.cause == 1);
+    WANT(sqlkeep_lines(&session, 7) == SQLKEEP_OK);
+    WANT(has_transcript(&session, "7 refused 1 Unknown\n  column B isn't there\n"));
+    WANT(sqlkeep_execute(&session, 2, &outcome) == SQLKEEP_OK && outcome.cause == 2);
+    WANT(sqlkeep_lines(&session, 8) == SQLKEEP_OK);
+    WANT(has_transcript(&session, "8 refused 2 Duplicate\n  table T is there already\n"));
+    WANT(read_text(&session, NAMES, &script) == SQLKEEP_OK);
+    WANT(sqlkeep_lines(&session, 8) == SQLKEEP_OK);
+    WANT(has_transcript(&session, "8 refused 2 Duplicate\n"));
+    WANT(sqlkeep_execute(&session, 1, &outcome) == SQLKEEP_OK && outcome.cause == 1);
+    WANT(sqlkeep_execute(&session, 3, &outcome) == SQLKEEP_OK && outcome.cause == 0);
+    WANT(sqlkeep_lines(&session, 9) == SQLKEEP_OK);
+    WANT(has_transcript(&session, "9 ok\n"));
+    WANT(sqlkeep_close(&session) == SQLKEEP_OK);
+    return 0;
+}
+
 /* Each status but that for want of memory. */
 static int statuses(void) {
     sqlkeep session = SQLKEEP_EMPTY;
@@ -251,6 +282,7 @@ int main(void) {
     failed = failed ? failed : statuses();
     failed = failed ? failed : statements();
     failed = failed ? failed : accounts();
+    failed = failed ? failed : names();
     failed = failed ? failed : absent();
     return failed ? failed : empty();
 }

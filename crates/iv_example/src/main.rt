@@ -4,9 +4,10 @@
 
 mod showing;
 
-use crate::showing::{show_account, show_outcome, show_pending};
+use crate::showing::{show_account, show_name, show_outcome, show_pending};
 use iv_index_store::IndexStore;
 use iv_parse::script;
+use iv_script::{place_at, words_at};
 use iv_session::{Limits, Session};
 use std::io;
 use std::process::ExitCode;
@@ -22,6 +23,8 @@ const TRANSFER: &str =
 
 const TWICE: &str = "INSERT INTO account VALUES ('Ann', 1);";
 
+const MISSPELT: &str = "SELECT owner FROM acount;\n  SELEKT owner FROM account;";
+
 const BALANCES: &str = "SELECT owner, balance FROM account;";
 
 // Executes the statements of a text, and shows what each of them answers.
@@ -30,9 +33,17 @@ fn run(rt: &HostRuntime, database: &mut Database, text: &str) -> io::Result<()> 
     for statement in parsed.statements.as_slice() {
         let outcome = database.execute(statement);
         show_outcome(rt, database.catalogue(), &outcome)?;
+        show_name(rt, database.catalogue(), statement, &outcome)?;
     }
     match parsed.fault {
-        Some(fault) => println!(rt; "no statement at byte {}", fault.at),
+        Some(fault) => {
+            let place = place_at(text, fault.at);
+            let words = words_at(text, fault.at).len();
+            println!(rt;
+                "line {}, column {}: no statement in {words} bytes",
+                place.line, place.column
+            )
+        }
         None => Ok(()),
     }
 }
@@ -63,6 +74,7 @@ fn transfers(rt: &HostRuntime, database: &mut Database) -> io::Result<()> {
     run(rt, database, TWICE)?;
     show_account(rt, database.catalogue(), database.account())?;
     database.explain(false);
+    run(rt, database, MISSPELT)?;
     run(rt, database, BALANCES)
 }
 

@@ -2,7 +2,9 @@
 use iv_account::Entry;
 use iv_catalogue::{Catalogue, Cause, Fault, Refusal};
 use iv_expr::Row;
+use iv_resolve_name_faults::{NameFault, NamedItem, name_fault};
 use iv_session::{Answer, Outcome};
+use iv_syntax::Statement;
 use iv_value::Value;
 use std::io;
 
@@ -60,6 +62,22 @@ pub fn show_outcome(rt: &HostRuntime, catalogue: &Catalogue, outcome: &Outcome) 
         Ok(Answer::Changed(count)) => println!(rt; "changed {count}"),
         Ok(Answer::Rows(rows)) => show_rows(rt, rows.as_slice()),
         Err(refusal) => show_refusal(rt, catalogue, refusal),
+    }
+}
+
+/// The name that the refusal of a statement is about, where it is that of a table that isn't there.
+pub fn show_name(
+    rt: &HostRuntime,
+    catalogue: &Catalogue,
+    statement: &Statement,
+    outcome: &Outcome,
+) -> io::Result<()> {
+    let Err(refusal) = outcome else {
+        return Ok(());
+    };
+    match name_fault(rt.alloc(), catalogue, statement, &refusal.cause) {
+        Some(NameFault::Unknown(NamedItem::Table(name))) => println!(rt; "no table {name}"),
+        _ => Ok(()),
     }
 }
 

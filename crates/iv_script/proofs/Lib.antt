@@ -1,3 +1,5 @@
 pub mod Reading
 pub mod Runs
 pub mod Scripts
+pub mod Worked
+pub mod PlaceLemmas

@@ -22,6 +22,7 @@ use Rattle.iv_print.specs.Writing.{Writes}
 use Rattle.iv_print.proofs.WriteLemmas.{never_then}
 use Rattle.iv_script.specs.declared.statements.Tally.{Tally}
 use Rattle.iv_script.specs.Transcript.{Memory, IsDue, AreDue, granted, denied, untold, Ran, following, outcome, lines, accepted_of, refused_of, run_from, told_with, memory_refusals}
+use Rattle.iv_script.specs.Names.{name_line}
 use Rattle.iv_script.specs.Running.{RanOne, RanAll}
 
 -- ---- one statement
@@ -146,7 +147,7 @@ still_asked asked old new st r account e sure told = ap (λ x. x.asked) (did ask
 -- a statement's lines were written, and its outcome was counted
 pub ran_one : (asked : Bool) (n : ℕ) (old new : State) (st : Statement) (r : Result Answer Refusal) (account : Account) (tally tally_then : Tally) (before after : SinkState)
     → Executes old st r new → (takes_no_memory old st ≡ true → is_memory r ≡ false) → Tells asked old st r account
-    → Writes before after (Ok tt) (line n r new.schema ++ account_text new.schema r account.entries)
+    → Writes before after (Ok tt) (line n r new.schema ++ (account_text new.schema r account.entries ++ name_line asked new.schema st r))
     → tally_then.accepted ≡ tally.accepted + accepted_of r → tally_then.refused ≡ tally.refused + refused_of r → tally_then.memory_refused ≡ tally.memory_refused + (if is_memory r then 1 else 0)
     → RanOne asked n old new st tally tally_then before after
 ran_one asked n old new st r account tally tally_then before after e sure told w a f s =
@@ -159,7 +160,7 @@ ran_one asked n old new st r account tally tally_then before after e sure told w
       refused_is = f ∙ ap (λ x. tally.refused + refused_of x) d.answer_is;
       memory_refusals_are = s ∙ ap (λ k. tally.memory_refused + k) d.counted;
       appended = subst (Appends before.contents after.contents)
-          ((λ i. line n (d.answer_is i) (d.state_is i).schema ++ account_text (d.state_is i).schema (d.answer_is i) (d.told_is i).entries)) w.0;
+          (λ i. line n (d.answer_is i) (d.state_is i).schema ++ (account_text (d.state_is i).schema (d.answer_is i) (d.told_is i).entries ++ name_line asked (d.state_is i).schema st (d.answer_is i))) w.0;
       works = w.1;
     }
 
@@ -223,21 +224,21 @@ onward_more asked old now new all left rest st n t u a before after w e r =
     let told : List Entry = told_with asked r.memory now st in
     record {
       memory = w.memory ++ r.memory ∷ [];
-      written = w.written ++ lines (n + 1) o told;
+      written = w.written ++ lines asked (n + 1) st o told;
       each = omega (arith, length-append w.memory (r.memory ∷ []), w.each);
       due = λ more left.
           subst (AreDue old all) (sym (append_assoc w.memory (r.memory ∷ []) more))
           (w.due (r.memory ∷ more) (subst (λ l. AreDue now l (r.memory ∷ more)) (sym e) (r.due, subst (λ s. AreDue s rest more) r.state_is left)));
       memory_refusals_are = counted_more w.memory r.memory ∙ ap (λ z. z + memory_refusals (r.memory ∷ [])) w.memory_refusals_are ∙ sym r.memory_refusals_are;
-      appended = Appends-trans a.contents before.contents after.contents w.written (lines (n + 1) o told) w.appended r.appended;
+      appended = Appends-trans a.contents before.contents after.contents w.written (lines asked (n + 1) st o told) w.appended r.appended;
       onward = λ more.
           ap (λ l. run_from asked old 0 all l) (append_assoc w.memory (r.memory ∷ []) more)
           ∙ w.onward (r.memory ∷ more)
           ∙ ap (λ l. following w.written t.accepted t.refused (run_from asked now n l (r.memory ∷ more))) e
-          ∙ following_twice w.written (lines (n + 1) o told) t.accepted (accepted_of o.answer) t.refused (refused_of o.answer) (run_from asked o.state (n + 1) rest more)
-          ∙ ap (λ z. following (w.written ++ lines (n + 1) o told) z (t.refused + refused_of o.answer) (run_from asked o.state (n + 1) rest more)) (sym r.accepted_is)
-          ∙ ap (λ z. following (w.written ++ lines (n + 1) o told) u.accepted z (run_from asked o.state (n + 1) rest more)) (sym r.refused_is)
-          ∙ ap (λ s. following (w.written ++ lines (n + 1) o told) u.accepted u.refused (run_from asked s (n + 1) rest more)) (sym r.state_is);
+          ∙ following_twice w.written (lines asked (n + 1) st o told) t.accepted (accepted_of o.answer) t.refused (refused_of o.answer) (run_from asked o.state (n + 1) rest more)
+          ∙ ap (λ z. following (w.written ++ lines asked (n + 1) st o told) z (t.refused + refused_of o.answer) (run_from asked o.state (n + 1) rest more)) (sym r.accepted_is)
+          ∙ ap (λ z. following (w.written ++ lines asked (n + 1) st o told) u.accepted z (run_from asked o.state (n + 1) rest more)) (sym r.refused_is)
+          ∙ ap (λ s. following (w.written ++ lines asked (n + 1) st o told) u.accepted u.refused (run_from asked s (n + 1) rest more)) (sym r.state_is);
       works = never_then a before after w.works r.works;
     }
 

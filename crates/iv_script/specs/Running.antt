@@ -17,7 +17,7 @@ pub record RanOne (asked : Bool) (n : ℕ) (old new : State) (st : Statement) (t
       ≡ tally.accepted + accepted_of (outcome memory old st).answer
   pub refused_is : tally_then.refused ≡ tally.refused + refused_of (outcome memory old st).answer
   pub memory_refusals_are : tally_then.memory_refused ≡ tally.memory_refused + memory_refusals (memory ∷ [])
-  pub appended : Appends before.contents after.contents (lines n (outcome memory old st) (told_with asked memory old st))
+  pub appended : Appends before.contents after.contents (lines asked n st (outcome memory old st) (told_with asked memory old st))
   pub works : FailsNever before after
 
 -- all statements ran; for each it is chosen whether it was refused memory
@@ -34,7 +34,7 @@ pub record RanAll (asked : Bool) (old new : State) (sts : List Statement) (tally
   pub works : FailsNever before after
 
 -- the statements ran, and the lines of the script's end were written
-pub record RanParsed (asked : Bool) (old : State) (sts : List Statement) (fault : Option ℕ) (tally : Tally)
+pub record RanParsed (asked : Bool) (old : State) (text : List ℕ) (sts : List Statement) (fault : Option ℕ) (tally : Tally)
     (before after : SinkState) : Type 0 where
   pub memory : List Memory
   pub each : length memory ≡ length sts
@@ -44,5 +44,5 @@ pub record RanParsed (asked : Bool) (old : State) (sts : List Statement) (fault 
   pub refused_is : (run_from asked old 0 sts memory).refused ≡ tally.refused
   pub appended : Appends before.contents after.contents
       ((run_from asked old 0 sts memory).text
-      ++ closing_lines (length sts) fault (run_from asked old 0 sts memory).state)
+      ++ closing_lines asked text (length sts) fault (run_from asked old 0 sts memory).state)
   pub works : FailsNever before after

@@ -16,6 +16,8 @@ use Rattle.iv_print.specs.AccountLines.{account_text}
 use Rattle.iv_print.specs.Lines.{line}
 use Rattle.iv_print.specs.Sinks.{SinkState}
 use Rattle.iv_script.specs.declared.summary.Summary.{Summary}
+use Rattle.iv_script.specs.Names.{name_line}
+use Rattle.iv_script.specs.Places.{place_line}
 
 -- The lines that statements were answered with, the state after them, and how many were accepted
 -- and refused.
@@ -75,9 +77,11 @@ abbrev pub told_with : Bool → Memory → State → Statement → List Entry
 told_with true granted s st = statement_told s st
 told_with _ _ s st = []
 
--- the lines of a statement's outcome, and those of its account, with the catalogue as it is directly after it
-abbrev pub lines : ℕ → Outcome → List Entry → List ℕ
-lines n o told = line n o.answer o.state.schema ++ account_text o.state.schema o.answer told
+-- The lines of a statement's outcome, those of its account, with the catalogue as it is directly after it, and the name that a refusal
+-- is about, where accounts are asked for.
+abbrev pub lines : Bool → ℕ → Statement → Outcome → List Entry → List ℕ
+lines asked n st o told =
+    line n o.answer o.state.schema ++ (account_text o.state.schema o.answer told ++ name_line asked o.state.schema st o.answer)
 
 -- the memory of the first statement; it is granted where the list is empty
 abbrev pub first_memory : List Memory → Memory
@@ -93,7 +97,7 @@ abbrev pub run_from : Bool → State → ℕ → List Statement → List Memory 
 run_from asked s n [] memory = record { text = []; state = s; accepted = 0; refused = 0 }
 run_from asked s n (st ∷ sts) memory =
     let o : Outcome = outcome (first_memory memory) s st in
-    following (lines (n + 1) o (told_with asked (first_memory memory) s st)) (accepted_of o.answer) (refused_of o.answer)
+    following (lines asked (n + 1) st o (told_with asked (first_memory memory) s st)) (accepted_of o.answer) (refused_of o.answer)
     (run_from asked o.state (n + 1) sts (later_memory memory))
 
 -- so for each of the statements that run from this state
@@ -111,16 +115,16 @@ abbrev pub end_line : Bool → List ℕ
 end_line true = codes "end rolled back\n"
 end_line false = []
 
--- the lines after those of the statements
-abbrev pub closing_lines : ℕ → Option ℕ → State → List ℕ
-closing_lines n fault s = fault_line n fault ++ end_line (is_some s.start)
+-- The lines after those of the statements. Where accounts are asked for, the place of the fault in the text is told too.
+abbrev pub closing_lines : Bool → List ℕ → ℕ → Option ℕ → State → List ℕ
+closing_lines asked text n fault s = fault_line n fault ++ (place_line asked text fault ++ end_line (is_some s.start))
 
--- The transcript of a script that has these statements and this fault, run in a new session with
+-- The transcript of a script of these bytes that has these statements and this fault, run in a new session with
 -- these limits, with accounts where they are asked for; the list says which statements are refused memory.
-abbrev pub transcript : Bool → Bounds → List Statement → Option ℕ → List Memory → List ℕ
-transcript asked limits statements fault memory =
+abbrev pub transcript : Bool → List ℕ → Bounds → List Statement → Option ℕ → List Memory → List ℕ
+transcript asked bytes limits statements fault memory =
     let r : Ran = run_from asked (empty_state limits) 0 statements memory in
-    r.text ++ closing_lines (length statements) fault r.state
+    r.text ++ closing_lines asked bytes (length statements) fault r.state
 
 -- how many statements are refused memory
 abbrev pub memory_refusals : List Memory → ℕ
@@ -147,11 +151,11 @@ pub record RanScript (bytes : List ℕ) (limits : Bounds) (asked : Bool) (summar
   pub accepted_is : (run_from asked (empty_state limits) 0 statements memory).accepted ≡ summary.accepted
   pub refused_is : (run_from asked (empty_state limits) 0 statements memory).refused ≡ summary.refused
   pub appended : Appends before.contents after.contents
-      (transcript asked limits statements (fault_place summary) memory)
+      (transcript asked bytes limits statements (fault_place summary) memory)
 
 -- The transcript of these bytes without accounts was appended, and no statement was refused memory.
 pub record RanWithMemory (bytes : List ℕ) (limits : Bounds) (fault : Option ℕ)
     (before after : SinkState) : Type 0 where
   pub statements : List Statement
   pub is_script : IsScript bytes statements fault
-  pub appended : Appends before.contents after.contents (transcript false limits statements fault [])
+  pub appended : Appends before.contents after.contents (transcript false bytes limits statements fault [])

@@ -8,6 +8,8 @@ ghost use Rattle.iv_script.specs.Lengths.{Fits, IsExact};
 ghost use Rattle.iv_script.specs.Transcript.{fault_line, end_line, fault_place, RanScript, RanWithMemory};
 ghost use Rattle.iv_script.specs.Running.{RanParsed};
 
+use crate::name_line::Explained;
+use crate::place::write_fault_place;
 use crate::read::{LONGEST, read_script};
 use crate::statements::{Tally, run_statements};
 use crate::summary::{RunFault, Summary};
@@ -52,21 +54,25 @@ fn write_end<W: Sink>(writer: &mut W, is_open: bool) -> Result<(), DeviceFault>
     }
 }
 
-// Runs the statements, and writes their lines and those of the script's end.
+// Runs the statements of a text, and writes their lines and those of the script's end.
 fn run_parsed<S: Executor, W: Sink>(
     session: &mut S,
+    explained: Explained,
+    text: &str,
     statements: &[Statement],
     fault: Option<SyntaxFault>,
     writer: &mut W,
 ) -> Result<Tally, DeviceFault>
-    requires { length statements.now < 2 ^ 63 }
+    requires few { length statements.now < 2 ^ 63 }
+    requires asked { explained.asked ≡ (S.told session.old).asked }
     ensures { MatchResult result
-        (λ t. RanParsed (S.told session.old).asked (S.state session.old) statements.now (option_map (λ f. f.at) fault) t
+        (λ t. RanParsed explained.asked (S.state session.old) text.now statements.now (option_map (λ f. f.at) fault) t
         (W.state writer.old) (W.state writer.new))
         (λ _. FailsOnce (W.state writer.old) (W.state writer.new)) }
 {
-    let tally = run_statements(session, statements, writer)?;
+    let tally = run_statements(session, explained, statements, writer)?;
     write_fault(writer, statements.len() as u64, fault)?;
+    write_fault_place(writer, explained.asked, text, fault)?;
     write_end(writer, session.in_transaction())?;
     Ok(tally)
 }
@@ -74,18 +80,21 @@ fn run_parsed<S: Executor, W: Sink>(
 // The same with a buffer in front of the writer, which is empty again at the end.
 fn run_buffered<S: Executor, W: Sink>(
     session: &mut S,
+    explained: Explained,
+    text: &str,
     statements: &[Statement],
     fault: Option<SyntaxFault>,
     writer: &mut W,
 ) -> Result<Tally, DeviceFault>
-    requires { length statements.now < 2 ^ 63 }
+    requires few { length statements.now < 2 ^ 63 }
+    requires asked { explained.asked ≡ (S.told session.old).asked }
     ensures { MatchResult result
-        (λ t. RanParsed (S.told session.old).asked (S.state session.old) statements.now (option_map (λ f. f.at) fault) t
+        (λ t. RanParsed explained.asked (S.state session.old) text.now statements.now (option_map (λ f. f.at) fault) t
         (W.state writer.old) (W.state writer.new))
         (λ _. FailsOnce (W.state writer.old) (W.state writer.new)) }
 {
     let mut buffered = Buffered::new(writer);
-    let tally = run_parsed(session, statements, fault, &mut buffered)?;
+    let tally = run_parsed(session, explained, text, statements, fault, &mut buffered)?;
     buffered.flush()?;
     Ok(tally)
 }
@@ -113,7 +122,18 @@ fn run_text<S: Executor + Drop, W: Sink>(
     let Parsed { statements, fault } = script(alloc, text)?;
     let mut session = S::new(alloc, limits)?;
     session.explain(explain);
-    let done = run_buffered(&mut session, statements.as_slice(), fault, writer);
+    let explained = Explained {
+        asked: explain,
+        alloc,
+    };
+    let done = run_buffered(
+        &mut session,
+        explained,
+        text,
+        statements.as_slice(),
+        fault,
+        writer,
+    );
     drop(session);
     match done {
         Ok(tally) => Ok(Summary {
@@ -157,7 +177,8 @@ fn run_bytes<S: Executor + Drop, W: Sink>(
 /// Reads a whole script, runs it in a new database and writes its transcript. Until the script is
 /// read and parsed and the database is made nothing is run or written. Beside what each statement
 /// takes it takes time in proportion to the script and its transcript. Where that is asked for, each statement's account
-/// follows its lines.
+/// follows its lines, a line tells the name that an Unknown or a Duplicate is about, and another the place of the script's
+/// fault.
 ///
 /// The lines go through a buffer: where each write takes all that it is given, there is one for
 /// every 8,192 bytes of the transcript, and one at the end for the rest.

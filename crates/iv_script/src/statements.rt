@@ -5,9 +5,11 @@ ghost use Rattle.iv_print.specs.AccountLines.{account_text};
 ghost use Rattle.iv_print.specs.Lines.{line};
 ghost use Rattle.iv_print.specs.Sinks.{FailsOnce};
 ghost use Rattle.iv_print.specs.Writing.{Writes};
+ghost use Rattle.iv_script.specs.Names.{name_line};
 ghost use Rattle.iv_script.specs.Transcript.{accepted_of, refused_of};
 ghost use Rattle.iv_script.specs.Running.{RanOne, RanAll};
 
+use crate::name_line::{Explained, write_name};
 use iv_print::{DeviceFault, Sink, write_account, write_outcome};
 use iv_step::{Executor, Outcome, is_memory_refused};
 use iv_syntax::Statement;
@@ -44,41 +46,48 @@ fn with(tally: Tally, outcome: &Outcome) -> Tally
     }
 }
 
-// Writes the lines of an outcome, and those of the account of its statement, which the session has.
+// Writes the lines of a statement's outcome, those of its account, which the session has, and the name that a refusal is about.
+#[tactic(auto, using(iv_print::proofs::WriteLemmas::writes_then))]
 fn write_lines<S: Executor, W: Sink>(
     writer: &mut W,
     number: u64,
+    statement: &Statement,
     outcome: &Outcome,
     session: &S,
+    explained: Explained,
 ) -> Result<(), DeviceFault>
     ensures { Writes (W.state writer.old) (W.state writer.new) result
         (line number outcome.now (S.state session.now).schema
-        ++ account_text (S.state session.now).schema outcome.now (S.told session.now).entries) }
+        ++ (account_text (S.state session.now).schema outcome.now (S.told session.now).entries
+        ++ name_line explained.asked (S.state session.now).schema statement.now outcome.now)) }
 {
     write_outcome(writer, number, outcome, session.catalogue())?;
-    write_account(writer, session.catalogue(), outcome, session.account())
+    write_account(writer, session.catalogue(), outcome, session.account())?;
+    write_name(writer, explained, session.catalogue(), statement, outcome)
 }
 
 // Runs one statement and writes its lines.
 fn run_one<S: Executor, W: Sink>(
     session: &mut S,
+    explained: Explained,
     number: u64,
     statement: &Statement,
     writer: &mut W,
     tally: Tally,
 ) -> Result<Tally, DeviceFault>
+    requires asked { explained.asked ≡ (S.told session.old).asked }
     requires accepted { tally.accepted < 2 ^ 63 }
     requires refused { tally.refused < 2 ^ 63 }
     requires memory_refused { tally.memory_refused < 2 ^ 63 }
     ensures ran { MatchResult result
-        (λ t. RanOne (S.told session.old).asked number
+        (λ t. RanOne explained.asked number
         (S.state session.old) (S.state session.new) statement.now tally t
         (W.state writer.old) (W.state writer.new))
         (λ _. FailsOnce (W.state writer.old) (W.state writer.new)) }
     ensures asked { (S.told session.new).asked ≡ (S.told session.old).asked }
 {
     let outcome = session.execute(statement);
-    let written = write_lines(writer, number, &outcome, &*session);
+    let written = write_lines(writer, number, statement, &outcome, &*session, explained);
     let counted = with(tally, &outcome);
     drop(outcome);
     written?;
@@ -88,11 +97,13 @@ fn run_one<S: Executor, W: Sink>(
 /// Runs the statements and writes their lines.
 pub fn run_statements<S: Executor, W: Sink>(
     session: &mut S,
+    explained: Explained,
     statements: &[Statement],
     writer: &mut W,
 ) -> Result<Tally, DeviceFault>
+    requires { explained.asked ≡ (S.told session.old).asked }
     ensures { MatchResult result
-        (λ t. RanAll (S.told session.old).asked (S.state session.old) (S.state session.new) statements.now t
+        (λ t. RanAll explained.asked (S.state session.old) (S.state session.new) statements.now t
         (W.state writer.old) (W.state writer.new))
         (λ _. FailsOnce (W.state writer.old) (W.state writer.new)) }
 {
@@ -105,7 +116,7 @@ pub fn run_statements<S: Executor, W: Sink>(
     };
     while let Some((statement, others)) = rest.split_first() {
         number += 1;
-        tally = run_one(session, number, statement, writer, tally)?;
+        tally = run_one(session, explained, number, statement, writer, tally)?;
         rest = others;
     }
     Ok(tally)

@@ -1,6 +1,7 @@
 pub mod Behind
 pub mod Calls
 pub mod Copying
+pub mod OutcomeLines
 pub mod Rows
 pub mod Scripts
 pub mod Sessions

@@ -16,8 +16,10 @@ pub struct Opened {
     pub session: Database,
     /// The statements that were read last.
     pub statements: Items<Statement>,
-    /// What the last statement answered.
+    /// What the last statement or call answered.
     pub outcome: Outcome,
+    /// The place among the statements of the one that answered it; none where another call did, or others were read since.
+    pub executed: Option<usize>,
     /// The violations that were found last.
     pub pending: Vec<Fault>,
     /// The transcript of the last script that was run, or the lines of an outcome.

@@ -23,6 +23,7 @@ fn boxed(alloc: Global, limits: Limits) -> Result<Box<Opened>, AllocError>
         session,
         statements: Items::new(alloc),
         outcome: Ok(Answer::Done),
+        executed: None,
         pending: Vec::new(alloc),
         transcript: Vec::new(alloc),
     };

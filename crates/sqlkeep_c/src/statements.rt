@@ -1,20 +1,20 @@
 //! Statements, one after the other in the session.
-ghost use Rattle.std.specs.Prelude.{◌≡◌, ◌≢◌, ◌<◌, ◌++◌, length, None, false, is_some, true, IfErr, IfOk, IfSome, OnOk, option_copied, option_map, slice_get};
+ghost use Rattle.std.specs.Prelude.{◌≡◌, ◌≢◌, ◌<◌, ◌++◌, length, None, Some, false, is_some, true, IfErr, IfOk, IfSome, OnOk, option_copied, option_map, slice_get};
 ghost use Rattle.std.specs.Str.{IsUtf8};
 ghost use Rattle.iv_parse.specs.Script.{IsScript};
-ghost use Rattle.iv_print.specs.AccountLines.{account_text};
-ghost use Rattle.iv_print.specs.Lines.{line};
+ghost use Rattle.iv_print.specs.Writing.{Writes};
 ghost use Rattle.sqlkeep_c.specs.Calls.{Called};
+ghost use Rattle.sqlkeep_c.specs.OutcomeLines.{name_line_of, outcome_lines};
 ghost use Rattle.sqlkeep_c.specs.Statements.{Executed, IsRead, outcome_shown, place_shown};
 
 use crate::handle::{Handle, put, take};
 use crate::opened::{Database, Opened};
 use crate::outcomes::{ShownOutcome, outcome_shown};
 use crate::status::{CLOSED, NO_MEMORY, NOT_UTF8, NOTHING, OK};
-use iv_account::Entry;
 use iv_catalogue::Catalogue;
 use iv_parse::{Parsed, SyntaxFault, script};
-use iv_print::{DeviceFault, Std, write_account, write_outcome};
+use iv_print::{DeviceFault, Sink, Std, write_account, write_all, write_outcome};
+use iv_script::{Explained, write_name};
 use iv_session::Outcome;
 use iv_syntax::Statement;
 use std::alloc::Global;
@@ -88,6 +88,7 @@ pub extern "C" fn sqlkeep_read(
         Ok(Parsed { statements, fault }) => {
             *script = shown(statements.len(), fault);
             opened.statements = statements;
+            opened.executed = None;
             put(handle, opened);
             OK
         }
@@ -121,6 +122,7 @@ fn execute_at(session: &mut Database, statements: &[Statement], at: usize) -> Op
 fn execute_kept(opened: &mut Opened, at: usize) -> bool
     ensures executed { result ≡ true → IfSome (slice_get opened.old.statements at) (λ st.
         Executed opened.old.session st opened.new.outcome opened.new.session) }
+    ensures place { result ≡ true → opened.new.executed ≡ Some at }
     ensures found { result ≡ is_some (slice_get opened.old.statements at) }
     ensures none { result ≡ false → opened.new ≡ opened.old }
     ensures statements { opened.new.statements ≡ opened.old.statements }
@@ -129,6 +131,7 @@ fn execute_kept(opened: &mut Opened, at: usize) -> bool
     match execute_at(&mut opened.session, opened.statements.as_slice(), at) {
         Some(outcome) => {
             opened.outcome = outcome;
+            opened.executed = Some(at);
             true
         }
         None => false,
@@ -148,6 +151,8 @@ pub extern "C" fn sqlkeep_execute(
         Executed old.session st new.outcome new.session)) }
     ensures shown { Called handle.old.kept.behind handle.new.kept.behind (λ old new.
         result ≡ OK → outcome.new ≡ outcome_shown new.outcome) }
+    ensures place { Called handle.old.kept.behind handle.new.kept.behind (λ old new.
+        result ≡ OK → new.executed ≡ Some at) }
     ensures statements { Called handle.old.kept.behind handle.new.kept.behind (λ old new.
         (new.statements ≡ old.statements) × (new.limits ≡ old.limits)) }
     ensures closed { handle.old.kept.behind ≡ None → result ≡ CLOSED }
@@ -166,29 +171,50 @@ pub extern "C" fn sqlkeep_execute(
     OK
 }
 
-// The lines of an outcome, and those of an account, as the program writes them.
-fn lines(
-    alloc: Global,
-    number: u64,
-    outcome: &Outcome,
+// Writes the name that the refusal of this statement is about, where there is a statement.
+fn write_name_of<W: Sink>(
+    writer: &mut W,
+    explained: Explained,
     catalogue: &Catalogue,
-    account: &[Entry],
-) -> Result<Vec<u8>, DeviceFault>
-    ensures { IfOk result (λ t. t.items ≡ line number outcome.now catalogue.now
-        ++ account_text catalogue.now outcome.now account.now) }
+    statement: Option<&Statement>,
+    outcome: &Outcome,
+) -> Result<(), DeviceFault>
+    ensures { Writes (W.state writer.old) (W.state writer.new) result
+        (name_line_of explained.asked catalogue.now (option_copied statement.entry) outcome.now) }
 {
+    match statement {
+        Some(statement) => write_name(writer, explained, catalogue, statement, outcome),
+        None => write_all(writer, b""),
+    }
+}
+
+// The lines of the last outcome, those of its account, and the name that a refusal is about, as the program writes them.
+fn lines(alloc: Global, number: u64, opened: &Opened) -> Result<Vec<u8>, DeviceFault>
+    ensures { IfOk result (λ t. t.items ≡ outcome_lines number opened.now) }
+{
+    let statement = match opened.executed {
+        Some(at) => statement_at(opened.statements.as_slice(), at),
+        None => None,
+    };
+    let explained = Explained {
+        asked: opened.session.explains(),
+        alloc,
+    };
+    let catalogue = opened.session.catalogue();
+    let outcome = &opened.outcome;
     let mut writer = Std::new(Vec::new(alloc));
     write_outcome(&mut writer, number, outcome, catalogue)?;
-    write_account(&mut writer, catalogue, outcome, account)?;
+    write_account(&mut writer, catalogue, outcome, opened.session.account())?;
+    write_name_of(&mut writer, explained, catalogue, statement, outcome)?;
     Ok(writer.into_inner())
 }
 
-/// Writes the lines of the last outcome, and those of its account where one was asked for, and keeps them as a transcript.
+/// Writes the lines of the last outcome, and those of its account and the name that a refusal is about where accounts are asked
+/// for, and keeps them as a transcript.
 #[unsafe(no_mangle)]
 pub extern "C" fn sqlkeep_lines(alloc: Global, handle: &mut Handle, number: u64) -> u32
     ensures lines { Called handle.old.kept.behind handle.new.kept.behind (λ old new.
-        result ≡ OK → new.transcript.items ≡ line number old.outcome old.session.state.schema
-        ++ account_text old.session.state.schema old.outcome old.session.account.entries) }
+        result ≡ OK → new.transcript.items ≡ outcome_lines number old) }
     ensures session { Called handle.old.kept.behind handle.new.kept.behind (λ old new.
         (new.session ≡ old.session) × (new.outcome ≡ old.outcome) × (new.statements ≡ old.statements)) }
     ensures closed { handle.old.kept.behind ≡ None → result ≡ CLOSED }
@@ -197,14 +223,7 @@ pub extern "C" fn sqlkeep_lines(alloc: Global, handle: &mut Handle, number: u64)
     let Some(mut opened) = take(handle, alloc) else {
         return CLOSED;
     };
-    let written = lines(
-        alloc,
-        number,
-        &opened.outcome,
-        opened.session.catalogue(),
-        opened.session.account(),
-    );
-    let status = match written {
+    let status = match lines(alloc, number, &opened) {
         Ok(bytes) => {
             opened.transcript = bytes;
             OK

@@ -43,6 +43,7 @@ fn commit_kept(opened: &mut Opened)
     ensures { Committed opened.old.session opened.new.outcome opened.new.session }
 {
     opened.outcome = commit(&mut opened.session);
+    opened.executed = None;
 }
 
 /// COMMIT: ends the transaction, and keeps the outcome. It takes no memory, but for an account that is asked for.
@@ -113,6 +114,7 @@ pub extern "C" fn sqlkeep_rollback_to(
         return NOT_UTF8;
     };
     opened.outcome = opened.session.rollback_to(name);
+    opened.executed = None;
     *outcome = outcome_shown(&opened.outcome);
     put(handle, opened);
     OK

@@ -1,5 +1,4 @@
 use Rattle.std.proofs.Common.{◌≡◌, ◌∙◌, Bool, false, option_map, ap, subst}
-use Rattle.iv_account.specs.Telling.{Account}
 use Rattle.iv_machine.specs.Machine.{empty_state}
 use Rattle.iv_script.specs.Running.{RanParsed}
 use Rattle.iv_script.proofs.Scripts.{summary_of, ran_script, ran_with_memory}
@@ -12,12 +11,11 @@ returns-in-Ok-clause-with_memory g c = λ plain none.
     let fault = c.in_ok-statements.field-0.fault in
     let place = option_map (λ f. f.at) fault in
     let tally = c.in-Ok.tally in
-    let silent : (g.S.Executor.told c.explain.new.self).asked ≡ false = ap (λ (x : Account). x.asked) c.explain.ensures.told ∙ plain in
-    let plainly : RanParsed false (g.S.Executor.state c.explain.new.self) c.as_slice.result.now place tally before after
-    = subst (λ (b : Bool). RanParsed b (g.S.Executor.state c.explain.new.self) c.as_slice.result.now place tally before after) silent c.in-Ok.ensures in
-    let from_empty : RanParsed false (empty_state c.args.limits) c.as_slice.result.now place tally before after
-    = subst (λ s. RanParsed false s c.as_slice.result.now place tally before after) (c.explain.ensures.state ∙ c.in_ok-session.ensures.state) plainly in
-    let of_script : RanParsed false (empty_state c.args.limits) c.in_ok-statements.field-0.statements place tally before after
-    = subst (λ l. RanParsed false (empty_state c.args.limits) l place tally before after) c.as_slice.ensures from_empty in
+    let plainly : RanParsed false (g.S.Executor.state c.explain.new.self) c.args.text.now c.as_slice.result.now place tally before after
+    = subst (λ (b : Bool). RanParsed b (g.S.Executor.state c.explain.new.self) c.args.text.now c.as_slice.result.now place tally before after) plain c.in-Ok.ensures in
+    let from_empty : RanParsed false (empty_state c.args.limits) c.args.text.now c.as_slice.result.now place tally before after
+    = subst (λ s. RanParsed false s c.args.text.now c.as_slice.result.now place tally before after) (c.explain.ensures.state ∙ c.in_ok-session.ensures.state) plainly in
+    let of_script : RanParsed false (empty_state c.args.limits) c.args.text.now c.in_ok-statements.field-0.statements place tally before after
+    = subst (λ l. RanParsed false (empty_state c.args.limits) c.args.text.now l place tally before after) c.as_slice.ensures from_empty in
     ran_with_memory c.args.text.now c.args.limits (summary_of tally fault) before after
     (ran_script c.args.text.now c.args.limits false c.in_ok-statements.field-0.statements fault tally before after c.in_ok-statements.ensures of_script) none

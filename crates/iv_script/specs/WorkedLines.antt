@@ -1,0 +1,39 @@
+-- Worked lines that tell a name or a place, written by hand.
+use Rattle.std.specs.Prelude.{◌≡◌, ℕ, true, false, List, [], ◌∷◌, ◌++◌, codes, Option, Some, None, replicate}
+use Rattle.iv_script.specs.declared.place.Place.{Place}
+use Rattle.iv_script.specs.Places.{place_at, words_at, place_line}
+use Rattle.iv_resolve_name_faults.specs.Items.{table_item, column_item, variable_item, trigger_item, constraint_item, generated_item, transition_item, unknown_fault, in_use_fault, twice_fault}
+use Rattle.iv_script.specs.Names.{fault_line}
+
+abbrev pub place : ℕ → ℕ → Place
+place line column = record { line = line; column = column }
+
+-- a text between quotes with a letter of two bytes, then ` X`
+abbrev pub accented : List ℕ
+accented = 39 ∷ 195 ∷ 169 ∷ 39 ∷ 32 ∷ 88 ∷ []
+
+pub record WorkedPlaces : Type 0 where
+  pub at_the_beginning : place_line true (codes "COMIT;") (Some 0) ≡ codes "  line 1, column 1: COMIT;\n"
+  pub in_the_second_line : place_line true (codes "COMMIT;\n COMIT;\nCOMMIT;") (Some 9) ≡ codes "  line 2, column 2: COMIT;\n"
+  pub after_an_empty_line : place_line true (codes "\n\nCOMIT;") (Some 2) ≡ codes "  line 3, column 1: COMIT;\n"
+  pub a_column_is_a_character : place_at accented 5 ≡ place 1 5
+  pub words_have_whole_characters : words_at accented 0 ≡ accented
+  pub a_tab_is_of_the_words : words_at (65 ∷ 9 ∷ 66 ∷ 13 ∷ 10 ∷ []) 0 ≡ 65 ∷ 9 ∷ 66 ∷ []
+  pub no_words : place_line true (0 ∷ []) (Some 0) ≡ codes "  line 1, column 1\n"
+  pub sixty_characters : words_at (replicate 61 97) 0 ≡ replicate 60 97
+  pub sixty_characters_of_two_bytes : words_at (195 ∷ 169 ∷ replicate 60 97) 0 ≡ 195 ∷ 169 ∷ replicate 59 97
+  pub at_the_end : place_at (codes "A\n") 2 ≡ place 2 1
+  pub beyond_the_end : place_at (codes "AB") 9 ≡ place 1 3
+  pub no_fault : place_line true (codes "COMMIT;") None ≡ []
+  pub not_asked : place_line false (codes "COMIT;") (Some 0) ≡ []
+
+pub record WorkedNames : Type 0 where
+  pub no_table : fault_line (Some (unknown_fault (table_item (codes "T")))) ≡ codes "  table T isn't there\n"
+  pub no_column : fault_line (Some (unknown_fault (column_item None (codes "A")))) ≡ codes "  column A isn't there\n"
+  pub no_column_of_a_range : fault_line (Some (unknown_fault (column_item (Some (codes "X")) (codes "A")))) ≡ codes "  column X.A isn't there\n"
+  pub no_row_variable : fault_line (Some (unknown_fault (variable_item (codes "N")))) ≡ codes "  row variable N isn't there\n"
+  pub trigger_in_use : fault_line (Some (in_use_fault (trigger_item (codes "R")))) ≡ codes "  trigger R is there already\n"
+  pub constraint_twice : fault_line (Some (twice_fault (constraint_item (codes "C")))) ≡ codes "  constraint C comes twice\n"
+  pub made_name_in_use : fault_line (Some (in_use_fault (generated_item (codes "T") 12))) ≡ codes "  constraint T_C12 is there already\n"
+  pub item_of_referencing : fault_line (Some (twice_fault (transition_item (codes "N")))) ≡ codes "  REFERENCING name N comes twice\n"
+  pub no_name : fault_line None ≡ []
