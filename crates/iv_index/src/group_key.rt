@@ -1,8 +1,8 @@
 //! The key of one group.
-ghost use Rattle.std.specs.Prelude.{◌≡◌, ◌∷◌, [], IfOk, IfSome};
+ghost use Rattle.std.specs.Prelude.{◌≡◌, IfOk};
 ghost use Rattle.iv_index.specs.Held.{values_of};
 
-use iv_key::Key;
+use iv_key::{Key, single};
 use iv_value::Value;
 use std::alloc::{AllocError, Global};
 use std::slice;
@@ -14,24 +14,13 @@ pub enum GroupKey {
     Several(Vec<Value>),
 }
 
-// The only one of some values, where there is one.
-fn single(values: &[Value]) -> Result<Option<Value>, AllocError>
-    ensures { IfOk result (λ found. IfSome found (λ value. values.now ≡ value ∷ [])) }
-{
-    match values {
-        [value] => Ok(Some(value.clone()?)),
-        _ => Ok(None),
-    }
-}
-
 /// The values of a key, copied.
 pub fn copied(alloc: Global, key: &Key<'_>) -> Result<GroupKey, AllocError>
     ensures { IfOk result (λ copy. values_of copy ≡ key.now) }
 {
-    let values = key.to_values(alloc)?;
-    match single(values.as_slice())? {
+    match single(key)? {
         Some(value) => Ok(GroupKey::Single(value)),
-        None => Ok(GroupKey::Several(values)),
+        None => Ok(GroupKey::Several(key.to_values(alloc)?)),
     }
 }
 
