@@ -165,17 +165,14 @@ impl HashIndex {
         self.befores[place]
     }
 
-    // Adds a hash at the end, with the slots that there are.
-    fn add(&mut self, hash: u64) -> Result<(), AllocError>
+    // Adds a hash at the end, with the slots that there are. The last place of the hash has this end.
+    fn add(&mut self, hash: u64, before: usize) -> Result<(), AllocError>
+        requires within { before ≤ length self.old }
+        requires found { EndsAt self.old hash before }
+        requires none { NoneFrom self.old hash before (length self.old) }
         ensures ok { OnOk result (self.new ≡ self.old ++ hash ∷ []) }
         ensures err { OnErr result (self.new ≡ self.old) }
     {
-        let before = last_in(
-            self.slots.as_slice(),
-            &self.others,
-            self.hashes.as_slice(),
-            hash,
-        );
         self.befores.reserve(1)?;
         self.hashes.reserve(1)?;
         note(
@@ -200,7 +197,8 @@ impl HashIndex {
             hashes: Vec::new(alloc),
         };
         for hash in hashes {
-            index.add(*hash)?;
+            let end = index.last(*hash);
+            index.add(*hash, end)?;
         }
         Ok(index)
     }
@@ -219,13 +217,16 @@ impl HashIndex {
     }
 }
 
-/// Adds a hash at the end.
-pub fn push(index: &mut HashIndex, hash: u64) -> Result<(), AllocError>
+/// Adds a hash at the end, whose last place has this end.
+pub fn push(index: &mut HashIndex, hash: u64, end: usize) -> Result<(), AllocError>
+    requires within { end ≤ length index.old }
+    requires found { EndsAt index.old hash end }
+    requires none { NoneFrom index.old hash end (length index.old) }
     ensures ok { OnOk result (index.new ≡ index.old ++ hash ∷ []) }
     ensures err { OnErr result (index.new ≡ index.old) }
 {
     if index.is_full() {
         *index = index.widened()?;
     }
-    index.add(hash)
+    index.add(hash, end)
 }

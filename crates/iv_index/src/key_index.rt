@@ -1,9 +1,10 @@
 //! The groups of one constraint.
-ghost use Rattle.std.specs.Prelude.{◌≡◌, ◌<◌, ◌^◌, [], ◌∷◌, ◌++◌, length, true, false, IfSome, OnOk, OnErr, Some, slice_index_or, slice_set};
+ghost use Rattle.std.specs.Prelude.{◌≡◌, ◌<◌, ◌≤◌, ◌^◌, [], ◌∷◌, ◌++◌, length, true, false, IfSome, OnOk, OnErr, Some, slice_index_or, slice_set};
 ghost use Rattle.iv_value.specs.Values.{all_same};
 ghost use Rattle.iv_key.specs.Hashes.{hash_of};
 ghost use Rattle.std.specs.Borrow.{sem};
 ghost use Rattle.iv_index.specs.Closing.{IndexStays};
+ghost use Rattle.iv_index.specs.Linked.{EndsAt, NoneFrom};
 ghost use Rattle.iv_numbers.specs.Rows.{IsRising, added, has_row, put, removed, roomy};
 ghost use Rattle.iv_index.specs.Groups.{GroupOf, IsIndexed, IsSound, changed, place_in, room_of, rows_at, rows_of, with_room_under, with_row_put, with_row_under, without_row_under};
 
@@ -34,14 +35,16 @@ impl Model for KeyIndex {
     ghost invariant = { λ x. IsIndexed x.hashes x.groups.items };
 }
 
-// The place of a key's group.
-fn find(hashes: &HashIndex, groups: &[Group], key: &Key<'_>, hash: u64) -> Option<usize>
+// The place of a key's group. The last place of its hash has this end.
+fn find_from(hashes: &HashIndex, groups: &[Group], key: &Key<'_>, end: usize) -> Option<usize>
     requires indexed { IsIndexed hashes.now groups.now }
-    requires hash { hash ≡ hash_of key.now }
+    requires within { end ≤ length hashes.now }
+    requires found { EndsAt hashes.now (hash_of key.now) end }
+    requires none { NoneFrom hashes.now (hash_of key.now) end (length hashes.now) }
     ensures place { result ≡ place_in groups.now key.now }
     ensures within { IfSome result (λ place. place < length groups.now) }
 {
-    let mut end = hashes.last(hash);
+    let mut end = end;
     while end > 0 {
         let place = end - 1;
         if groups[place].is_of(key) {
@@ -50,6 +53,16 @@ fn find(hashes: &HashIndex, groups: &[Group], key: &Key<'_>, hash: u64) -> Optio
         end = hashes.before(place);
     }
     None
+}
+
+// The place of a key's group.
+fn find(hashes: &HashIndex, groups: &[Group], key: &Key<'_>, hash: u64) -> Option<usize>
+    requires indexed { IsIndexed hashes.now groups.now }
+    requires hash { hash ≡ hash_of key.now }
+    ensures place { result ≡ place_in groups.now key.now }
+    ensures within { IfSome result (λ place. place < length groups.now) }
+{
+    find_from(hashes, groups, key, hashes.last(hash))
 }
 
 // Whether the group at a place is that of a key.
@@ -152,19 +165,23 @@ fn remove_at(groups: &mut Vec<Group>, place: usize, row: u64)
     group.remove(row);
 }
 
-// Adds a group behind the others.
+// Adds a group behind the others. The last place of its hash has this end.
 fn add_group(
     hashes: &mut HashIndex,
     groups: &mut Vec<Group>,
     hash: u64,
+    end: usize,
     group: Group,
 ) -> Result<(), AllocError>
+    requires within { end ≤ length hashes.old }
+    requires found { EndsAt hashes.old hash end }
+    requires none { NoneFrom hashes.old hash end (length hashes.old) }
     ensures hashes { OnOk result (hashes.new ≡ hashes.old ++ hash ∷ []) }
     ensures groups { OnOk result (groups.new.items ≡ groups.old.items ++ group ∷ []) }
     ensures err { OnErr result ((hashes.new ≡ hashes.old) × (groups.new.items ≡ groups.old.items)) }
 {
     groups.reserve(1)?;
-    push(hashes, hash)?;
+    push(hashes, hash, end)?;
     groups.push_reserved(group);
     Ok(())
 }
@@ -183,7 +200,8 @@ fn make_room_under(
     ensures indexed { IsIndexed hashes.new groups.new.items }
 {
     let hash = key.hash();
-    match find(hashes, groups.as_slice(), key, hash) {
+    let end = hashes.last(hash);
+    match find_from(hashes, groups.as_slice(), key, end) {
         Some(place) => {
             *recent = place;
             make_room_at(alloc, groups, place)?;
@@ -191,7 +209,7 @@ fn make_room_under(
         None => {
             *recent = groups.len();
             let group = Group::with_room(alloc, key)?;
-            add_group(hashes, groups, hash, group)?;
+            add_group(hashes, groups, hash, end, group)?;
         }
     }
     Ok(())
@@ -212,11 +230,12 @@ fn add_under(
     ensures indexed { IsIndexed hashes.new groups.new.items }
 {
     let hash = key.hash();
-    match find(hashes, groups.as_slice(), key, hash) {
+    let end = hashes.last(hash);
+    match find_from(hashes, groups.as_slice(), key, end) {
         Some(place) => add_at(alloc, groups, place, row)?,
         None => {
             let group = Group::with_row(alloc, key, row)?;
-            add_group(hashes, groups, hash, group)?;
+            add_group(hashes, groups, hash, end, group)?;
         }
     }
     Ok(())

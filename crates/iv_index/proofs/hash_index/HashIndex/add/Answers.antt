@@ -1,6 +1,6 @@
-use Rattle.std.proofs.Common.{◌≡◌, ◌++◌, ◌∷◌, [], ℕ, List, ap, ◌∙◌, subst}
-use Rattle.iv_index.specs.Linked.{Noted, last_end}
-use Rattle.iv_index.proofs.LinkedLemmas.{IsLinked-push, linked_like}
+use Rattle.std.proofs.Common.{◌≡◌, ◌≤◌, ◌++◌, ◌∷◌, [], ℕ, List, length, ap, sym, ◌∙◌, subst}
+use Rattle.iv_index.specs.Linked.{EndsAt, NoneFrom, Noted, last_end}
+use Rattle.iv_index.proofs.LinkedLemmas.{IsLinked-push, linked_like, only_end}
 use Rattle.iv_index.proofs.hash_index.HashIndex.add.Goals as goal
 
 pub invariant_of-self-in_err-note : goal.invariant_of-self-in_err-note
@@ -19,13 +19,15 @@ invariant_of-self-2 c =
     let befores : List ℕ = x.befores.items in
     let noted : Noted slots x.others hashes h c.note.new.slots.items c.note.new.others =
     subst (λ (xs : List ℕ). Noted slots x.others xs h c.note.new.slots.items c.note.new.others)
-    (c.as_slice-3.ensures.value ∙ c.reserve-2.ensures.items) c.in_ok-note.ensures.ok in
-    let before : c.last_in-before.result ≡ last_end slots x.others hashes h =
-    c.last_in-before.ensures ∙ ap (λ (xs : List ℕ). last_end xs x.others c.as_slice-2.result.now h) c.as_slice.ensures.value
-    ∙ ap (λ (xs : List ℕ). last_end slots x.others xs h) c.as_slice-2.ensures.value in
+    (c.as_slice.ensures.value ∙ c.reserve-2.ensures.items) c.in_ok-note.ensures.ok in
+    let before : c.args.before ≡ last_end slots x.others hashes h =
+    only_end slots x.others befores hashes h c.args.before c.self.invariant
+    (subst (λ (xs : List ℕ). c.args.before ≤ length xs) (sym c.self.view_is) c.requires.within)
+    (subst (λ (xs : List ℕ). EndsAt xs h c.args.before) (sym c.self.view_is) c.requires.found)
+    (subst (λ (xs : List ℕ). NoneFrom xs h c.args.before (length xs)) (sym c.self.view_is) c.requires.none) in
     let befores_are : c.push_reserved.new.self.items ≡ befores ++ last_end slots x.others hashes h ∷ [] =
     c.push_reserved.ensures.items
-    ∙ ap (λ (xs : List ℕ). xs ++ c.last_in-before.result ∷ []) c.reserve.ensures.items ∙ ap (λ (n : ℕ). befores ++ n ∷ []) before in
+    ∙ ap (λ (xs : List ℕ). xs ++ c.args.before ∷ []) c.reserve.ensures.items ∙ ap (λ (n : ℕ). befores ++ n ∷ []) before in
     let hashes_are : c.push_reserved-2.new.self.items ≡ hashes ++ h ∷ [] =
     c.push_reserved-2.ensures.items
     ∙ ap (λ (xs : List ℕ). xs ++ h ∷ []) c.reserve-2.ensures.items in

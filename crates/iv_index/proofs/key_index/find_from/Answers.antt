@@ -4,15 +4,16 @@ use Rattle.std.proofs.lemmas.Bool.{cases_lt}
 use Rattle.std.proofs.lemmas.List.{get_or_default}
 use Rattle.iv_index.specs.Groups.{GroupOf}
 use Rattle.iv_value.specs.Values.{all_same}
+use Rattle.iv_key.specs.Hashes.{hash_of}
 use Rattle.iv_index.proofs.GroupsLemmas.{not_here, place_found, place_missing}
-use Rattle.iv_index.proofs.key_index.find.Goals as goal
+use Rattle.iv_index.proofs.key_index.find_from.Goals as goal
 
 pub loop-end-init : goal.loop-end-init
 loop-end-init c = record {
-  within = omega (arith, c.requires.indexed.count, c.last-end.ensures.within);
-  same = c.last-end.ensures.found;
+  within = omega (arith, c.requires.indexed.count, c.requires.within);
+  same = c.requires.found;
   none = λ k d le lt. not_here c.args.hashes.now c.args.groups.now c.args.key.now k d c.requires.indexed lt
-      (λ e. c.last-end.ensures.none k le (omega (arith, c.requires.indexed.count)) (e ∙ sym c.requires.hash));
+      (λ e. c.requires.none k le (omega (arith, c.requires.indexed.count)) e);
 }
 
 pub returns-then-is_of-clause-place : goal.returns-then-is_of-clause-place
@@ -27,12 +28,12 @@ pub loop-end-preserved : goal.loop-end-preserved
 loop-end-preserved c =
     let gs : List GroupOf = c.args.groups.now in
     let place : ℕ = c.loop-end.end - 1 in
-    let here : slice_index c.args.hashes.now place ≡ c.args.hash = c.loop-end.invariant.same c.loop-end-test.true in
+    let here : slice_index c.args.hashes.now place ≡ hash_of c.args.key.now = c.loop-end.invariant.same c.loop-end-test.true in
     record {
       within = omega (arith, c.loop-end.invariant.within, c.before-end.ensures.down);
       same = λ p. c.before-end.ensures.found p ∙ here;
       none = λ k d le lt. ⊎_elim
-          (λ (l : k < place). not_here c.args.hashes.now gs c.args.key.now k d c.requires.indexed lt (λ e. c.before-end.ensures.none k le l (e ∙ sym c.requires.hash ∙ sym here)))
+          (λ (l : k < place). not_here c.args.hashes.now gs c.args.key.now k d c.requires.indexed lt (λ e. c.before-end.ensures.none k le l (e ∙ sym here)))
           (λ (l : place ≤ k). ⊎_elim
           (λ (m : k < c.loop-end.end).
           let kp : k ≡ place = omega arith in
