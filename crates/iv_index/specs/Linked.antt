@@ -73,3 +73,8 @@ pub record IsLinked (slots : List ℕ) (others : BTreeMap ℕ ℕ) (befores hash
   pub within : AreWithin slots hashes
   pub free : NoneWhereFree slots others
   pub links : Linked (length hashes) (λ h. last_end slots others hashes h) (λ i. slice_index befores i) (λ i. slice_index hashes i)
+
+-- The slots and the map have the end of each hash, for some links.
+pub record HasEnds (slots : List ℕ) (others : BTreeMap ℕ ℕ) (hashes : List ℕ) : Type 0 where
+  pub befores : List ℕ
+  pub linked : IsLinked slots others befores hashes

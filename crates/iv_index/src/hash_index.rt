@@ -1,6 +1,6 @@
 //! The places of hashes in a list, found by the hash.
 ghost use Rattle.std.specs.Prelude.{◌≡◌, ◌≢◌, ℕ, ◌+◌, ◌-◌, ◌<◌, ◌≤◌, ◌==◌, List, [], ◌∷◌, ◌++◌, length, slice_get, slice_index, Some, None, true, false, IfOk, OnOk, OnErr};
-ghost use Rattle.iv_index.specs.Linked.{AreFree, AreWithin, EndsAt, IsFreeFor, NoneFrom, NoneWhereFree, Noted, end_by, last_end, map_end, slot_of};
+ghost use Rattle.iv_index.specs.Linked.{AreFree, AreWithin, EndsAt, HasEnds, IsFreeFor, NoneFrom, NoneWhereFree, Noted, end_by, last_end, map_end, slot_of};
 
 use std::alloc::{AllocError, Global};
 use std::collections::BTreeMap;
@@ -119,6 +119,24 @@ fn note(
     Ok(())
 }
 
+// Notes the end of each hash, where nothing is noted yet.
+fn note_all(
+    slots: &mut Vec<usize>,
+    others: &mut BTreeMap<u64, usize>,
+    hashes: &[u64],
+) -> Result<(), AllocError>
+    requires free { AreFree slots.old.items }
+    requires empty { others.old.entries ≡ [] }
+    ensures { OnOk result (HasEnds slots.new.items others.new hashes.now) }
+{
+    let mut place = 0;
+    while place < hashes.len() {
+        note(slots, others, &hashes[..place], hashes[place])?;
+        place += 1;
+    }
+    Ok(())
+}
+
 // So many free slots.
 fn free_slots(alloc: Global, count: usize) -> Result<Vec<usize>, AllocError>
     ensures { IfOk result (λ slots. AreFree slots.items) }
@@ -186,29 +204,18 @@ impl HashIndex {
         Ok(())
     }
 
-    // The same hashes with so many slots.
-    fn with_slots(alloc: Global, hashes: &[u64], count: usize) -> Result<HashIndex, AllocError>
-        ensures { IfOk result (λ x. x ≡ hashes.now) }
-    {
-        let mut index = HashIndex {
-            slots: free_slots(alloc, count)?,
-            others: BTreeMap::new(alloc),
-            befores: Vec::new(alloc),
-            hashes: Vec::new(alloc),
-        };
-        for hash in hashes {
-            let end = index.last(*hash);
-            index.add(*hash, end)?;
-        }
-        Ok(index)
-    }
-
-    // The same hashes with twice as many slots as before.
-    fn widened(&self) -> Result<HashIndex, AllocError>
-        ensures { IfOk result (λ x. x ≡ self.now) }
+    // Gives the hashes twice as many slots. The links stay as they are.
+    fn widen(&mut self) -> Result<(), AllocError>
+        ensures { self.new ≡ self.old }
     {
         let count = self.slots.len().saturating_mul(2).max(FEWEST_SLOTS);
-        HashIndex::with_slots(*self.hashes.allocator(), self.hashes.as_slice(), count)
+        let alloc = *self.hashes.allocator();
+        let mut slots = free_slots(alloc, count)?;
+        let mut others = BTreeMap::new(alloc);
+        note_all(&mut slots, &mut others, self.hashes.as_slice())?;
+        self.slots = slots;
+        self.others = others;
+        Ok(())
     }
 
     // Whether there are so many hashes that more slots are wanted.
@@ -226,7 +233,7 @@ pub fn push(index: &mut HashIndex, hash: u64, end: usize) -> Result<(), AllocErr
     ensures err { OnErr result (index.new ≡ index.old) }
 {
     if index.is_full() {
-        *index = index.widened()?;
+        index.widen()?;
     }
     index.add(hash, end)
 }
