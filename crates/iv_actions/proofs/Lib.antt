@@ -3,6 +3,7 @@ pub mod Halving
 pub mod Numbers
 pub mod Rows
 pub mod Matching
+pub mod FirstChanges
 pub mod Found
 pub mod Answering
 pub mod Tables

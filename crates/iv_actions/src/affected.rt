@@ -1,41 +1,40 @@
 //! Foreign keys whose referenced keys a wave took away.
 ghost use Rattle.std.specs.Prelude.{◌≡◌, ◌<◌, ◌≤◌, ◌+◌, ◌^◌, ◌||◌, ◌==◌, ℕ, List, drop, length, slice_get, IfOk, OnOk};
-ghost use Rattle.std.specs.Option.{option_copied};
+ghost use Rattle.std.specs.Option.{option_copied, option_or};
 ghost use Rattle.std.specs.List.{list_any};
-ghost use Rattle.std.specs.BTreeMap.{get};
 ghost use Rattle.iv_value.specs.declared.value.Value.{Value as Cell};
+ghost use Rattle.iv_index.specs.Groups.{groups_of, rows_of};
 ghost use Rattle.iv_machine.specs.ReferentialActions.{reference};
 ghost use Rattle.iv_laws_levels.specs.Holders.{leaves_key};
 ghost use Rattle.iv_laws_actions.specs.RowByRow.{is_among};
-ghost use Rattle.iv_key.specs.KeyOrder.{key_cmp};
 ghost use Rattle.iv_account.specs.Accounts.{acts};
 ghost use Rattle.iv_actions.specs.AffectedForeignKey.{key_taken, first_taking, action_for, acts_on, under_wave, affected_where, affected_from, change_taking};
 
 use iv_catalogue::{Constraint, ForeignKey, Rule};
 use iv_expr::{Change, Row, TableId};
+use iv_index::Groups;
 use iv_key::Key;
 use iv_syntax::ReferentialAction;
 use iv_value::Value;
 use std::alloc::{AllocError, Global};
-use std::collections::BTreeMap;
 use std::marker::Model;
 
 /// A foreign key that does something about keys which a wave took away. The first change that took a key away is
-/// found in the time of a search among the keys that were taken.
+/// found by the key, in the time of a search among the keys that were taken at most.
 #[derive(Drop)]
 pub struct AffectedForeignKey<'a> {
     id: u32,
     table: TableId,
     key: &'a ForeignKey,
     changes: &'a [Change],
-    firsts: BTreeMap<Key<'a>, usize>,
+    // Under each key that was taken, as its only row, the place of the first change that took it.
+    firsts: Groups,
 }
 
 impl<'a> Model for AffectedForeignKey<'a> {
-    ghost use Rattle.std.specs.Prelude.{◌≡◌, List};
-    ghost use Rattle.std.specs.BTreeMap.{get};
+    ghost use Rattle.std.specs.Prelude.{◌≡◌, List, slice_get};
     ghost use Rattle.iv_value.specs.declared.value.Value.{Value as Cell};
-    ghost use Rattle.iv_key.specs.KeyOrder.{key_cmp};
+    ghost use Rattle.iv_index.specs.Groups.{groups_of, rows_of};
     ghost use Rattle.iv_actions.specs.AffectedForeignKey.{AffectedForeignKey as Seen, first_taking};
 
     ghost Value = { Seen };
@@ -46,7 +45,7 @@ impl<'a> Model for AffectedForeignKey<'a> {
     } };
 
     ghost invariant = { λ x. (key : List Cell)
-        → get key_cmp x.firsts key ≡ first_taking x.key.now key 0 x.changes.now };
+        → slice_get (rows_of (groups_of x.firsts.groups 0) key) 0 ≡ first_taking x.key.now key 0 x.changes.now };
 }
 
 // Whether a row is deleted or has another referenced key now.
@@ -151,40 +150,41 @@ fn acts_in(key: &ForeignKey, changes: &[Change], tables: &[u32]) -> bool
     is_among(tables, key.referenced.place()) && acts_on_any(key, changes)
 }
 
-// Notes the place of a change before those that come after it.
-fn note<'a>(
-    firsts: &mut BTreeMap<Key<'a>, usize>,
-    key: &'a ForeignKey,
-    changes: &'a [Change],
+// Notes the place of a change under the key that it takes away, where no change before it took that key.
+fn note(
+    firsts: &mut Groups,
+    key: &ForeignKey,
+    changes: &[Change],
     place: usize,
 ) -> Result<(), AllocError>
     requires within { place < length changes.now }
-    requires noted { (k : List Cell)
-        → get key_cmp firsts.old k
-        ≡ first_taking key.now k (place + 1) (drop (place + 1) changes.now) }
-    ensures { OnOk result ((k : List Cell)
-        → get key_cmp firsts.new k ≡ first_taking key.now k place (drop place changes.now)) }
+    requires known { 0 < length firsts.old.groups }
+    ensures known { OnOk result (0 < length firsts.new.groups) }
+    ensures noted { OnOk result ((k : List Cell)
+        → option_or (slice_get (rows_of (groups_of firsts.new.groups 0) k) 0)
+        (first_taking key.now k (place + 1) (drop (place + 1) changes.now))
+        ≡ option_or (slice_get (rows_of (groups_of firsts.old.groups 0) k) 0)
+        (first_taking key.now k place (drop place changes.now))) }
 {
     if let Some(taken) = key_taken(key, &changes[place]) {
-        firsts.insert(taken, place)?;
+        if firsts.holders(0, &taken).is_empty() {
+            firsts.add(0, &taken, place as u64)?;
+        }
     }
     Ok(())
 }
 
 // The places of the first changes by the keys that they take away.
-fn firsts<'a>(
-    alloc: Global,
-    key: &'a ForeignKey,
-    changes: &'a [Change],
-) -> Result<BTreeMap<Key<'a>, usize>, AllocError>
-    ensures { IfOk result (λ m. (k : List Cell)
-        → get key_cmp m k ≡ first_taking key.entry.now k 0 changes.entry.now) }
+fn firsts(alloc: Global, key: &ForeignKey, changes: &[Change]) -> Result<Groups, AllocError>
+    ensures { IfOk result (λ g. (k : List Cell)
+        → slice_get (rows_of (groups_of g.groups 0) k) 0 ≡ first_taking key.now k 0 changes.now) }
 {
-    let mut firsts = BTreeMap::new(alloc);
-    let mut left = changes.len();
-    while left > 0 {
-        left -= 1;
-        note(&mut firsts, key, changes, left)?;
+    let mut firsts = Groups::new(alloc);
+    firsts.cover(1)?;
+    let mut place = 0usize;
+    while place < changes.len() {
+        note(&mut firsts, key, changes, place)?;
+        place += 1;
     }
     Ok(firsts)
 }
@@ -287,8 +287,8 @@ impl<'a> AffectedForeignKey<'a> {
     pub fn change_taking(&self, key: &Key<'_>) -> Option<&'a Change>
         ensures { option_copied result ≡ change_taking self.now key.now }
     {
-        match self.firsts.get(key.sought()) {
-            Some(place) => change_at(self.changes, *place),
+        match self.firsts.holders(0, key).first() {
+            Some(place) => change_at(self.changes, place as usize),
             None => None,
         }
     }

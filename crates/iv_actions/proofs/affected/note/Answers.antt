@@ -1,18 +1,34 @@
-use Rattle.std.proofs.Common.{◌∙◌, sym, ap, if◌then◌else◌, Some, None, false}
-use Rattle.std.specs.BTreeMap.{get}
-use Rattle.std.proofs.Common.{drop, ◌+◌}
+use Rattle.std.proofs.Common.{◌∙◌, sym, ap, if◌then◌else◌, Some, None, false, ℕ, ◌+◌, List, drop, length, slice_get}
+use Rattle.std.specs.Bool.{◌==◌}
+use Rattle.std.specs.Option.{option_or}
 use Rattle.iv_value.specs.Values.{all_same}
-use Rattle.iv_key.specs.KeyOrder.{key_cmp}
+use Rattle.iv_index.specs.Groups.{groups_of, rows_of}
 use Rattle.iv_actions.specs.AffectedForeignKey.{first_taking}
-use Rattle.iv_key.proofs.KeyOrders.{same_keys}
 use Rattle.iv_actions.proofs.Taking.{first_at}
+use Rattle.iv_actions.proofs.FirstChanges.{noted_first, noted_before}
 use Rattle.iv_actions.proofs.affected.note.Goals as goal
 
-pub returns-in_ok-insert : goal.returns-in_ok-insert
-returns-in_ok-insert c k =
-    c.in_ok-insert.ensures.updates.0 k
-    ∙ ap (λ b. if b then Some c.args.place else get key_cmp c.args.firsts.now k) (sym (same_keys c.in-Some.taken k))
-    ∙ ap (λ o. if all_same c.in-Some.taken k then Some c.args.place else o) (c.requires.noted k)
-    ∙ ap (λ o. if elim o [ Some taken ↦ all_same taken k | None ↦ false ] then Some c.args.place else first_taking c.args.key.now k (c.args.place + 1) (drop (c.args.place + 1) c.args.changes.now))
+pub returns-in_ok-add-clause-noted : goal.returns-in_ok-add-clause-noted
+returns-in_ok-add-clause-noted c k =
+    let place = c.args.place in
+    let taken = c.in-Some.taken in
+    let old = c.args.firsts.now.groups in
+    let changes = c.args.changes.now in
+    let later = first_taking c.args.key.now k (place + 1) (drop (place + 1) changes) in
+    ap (λ gs. option_or (slice_get (rows_of (groups_of gs 0) k) 0) later) c.in_ok-add.ensures.ok
+    ∙ noted_first old taken k place later c.requires.known (sym (c.if-is_empty.ensures ∙ ap (λ (rows : List ℕ). length rows == 0) c.holders.ensures.value))
+    ∙ ap (λ o. option_or (slice_get (rows_of (groups_of old 0) k) 0) (if elim o [ Some t ↦ all_same t k | None ↦ false ] then Some place else later))
     (sym c.in-Some.is ∙ c.key_taken.ensures)
-    ∙ sym (first_at c.args.key.now k c.args.changes.now c.args.place c.index-changes-place.result c.requires.within c.index-changes-place.is)
+    ∙ ap (option_or (slice_get (rows_of (groups_of old 0) k) 0)) (sym (first_at c.args.key.now k changes place c.index-changes-place.result c.requires.within c.index-changes-place.is))
+
+pub returns-else-is_empty-clause-noted : goal.returns-else-is_empty-clause-noted
+returns-else-is_empty-clause-noted c k =
+    let place = c.args.place in
+    let taken = c.in-Some.taken in
+    let old = c.args.firsts.now.groups in
+    let changes = c.args.changes.now in
+    let later = first_taking c.args.key.now k (place + 1) (drop (place + 1) changes) in
+    noted_before (groups_of old 0) taken k place later (sym (c.if-is_empty.ensures ∙ ap (λ (rows : List ℕ). length rows == 0) c.holders.ensures.value))
+    ∙ ap (λ o. option_or (slice_get (rows_of (groups_of old 0) k) 0) (if elim o [ Some t ↦ all_same t k | None ↦ false ] then Some place else later))
+    (sym c.in-Some.is ∙ c.key_taken.ensures)
+    ∙ ap (option_or (slice_get (rows_of (groups_of old 0) k) 0)) (sym (first_at c.args.key.now k changes place c.index-changes-place.result c.requires.within c.index-changes-place.is))

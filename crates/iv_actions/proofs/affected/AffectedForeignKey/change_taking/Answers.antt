@@ -1,7 +1,4 @@
-use Rattle.std.proofs.Common.{◌∙◌, sym, ap, Some, None, slice_get}
-use Rattle.std.specs.Option.{option_copied}
-use Rattle.std.specs.BTreeMap.{get_by}
-use Rattle.iv_key.specs.KeyOrder.{key_cmp}
+use Rattle.std.proofs.Common.{◌∙◌, sym, ap, ℕ, List, Some, None, slice_get}
 use Rattle.iv_actions.specs.AffectedForeignKey.{change_taking}
 use Rattle.iv_actions.proofs.Taking.{change_found}
 use Rattle.iv_actions.proofs.affected.AffectedForeignKey.change_taking.Goals as goal
@@ -11,7 +8,7 @@ returns-in-Some c =
     let x = c.self.inside in
     c.change_at.ensures
     ∙ ap (λ o. elim o [ Some place ↦ slice_get x.changes.now place | None ↦ None ])
-    (sym (ap option_copied c.in-Some.is) ∙ c.get.ensures.value ∙ ap (λ k. get_by (key_cmp k) x.firsts) c.sought.ensures ∙ c.self.invariant c.args.key.now)
+    (sym c.in-Some.is ∙ c.first.ensures ∙ ap (λ (rows : List ℕ). slice_get rows 0) c.holders.ensures.value ∙ c.self.invariant c.args.key.now)
     ∙ change_found x.key.now c.args.key.now x.changes.now
     ∙ ap (λ y. change_taking y c.args.key.now) c.self.view_is
 
@@ -19,6 +16,6 @@ pub returns-in-None : goal.returns-in-None
 returns-in-None c =
     let x = c.self.inside in
     ap (λ o. elim o [ Some place ↦ slice_get x.changes.now place | None ↦ None ])
-    (sym (ap option_copied c.in-None.is) ∙ c.get.ensures.value ∙ ap (λ k. get_by (key_cmp k) x.firsts) c.sought.ensures ∙ c.self.invariant c.args.key.now)
+    (sym c.in-None.is ∙ c.first.ensures ∙ ap (λ (rows : List ℕ). slice_get rows 0) c.holders.ensures.value ∙ c.self.invariant c.args.key.now)
     ∙ change_found x.key.now c.args.key.now x.changes.now
     ∙ ap (λ y. change_taking y c.args.key.now) c.self.view_is
