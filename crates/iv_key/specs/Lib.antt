@@ -1,3 +1,2 @@
 pub mod Hashes
-pub mod KeyOrder
 pub mod Keys

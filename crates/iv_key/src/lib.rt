@@ -3,9 +3,7 @@
 
 mod hash;
 mod key;
-mod order;
 mod single_value;
 
 pub use key::{Key, value_at};
-pub use order::Sought;
 pub use single_value::single;
