@@ -1,21 +1,22 @@
 -- Where no row needs a look: no foreign key has RESTRICT, or there is one foreign key alone.
 use Rattle.std.specs.Prelude.{⊤, nat_lt, ◌&&◌, ◌||◌, ◌==◌, find}
-use Rattle.std.specs.List.{list_any}
+use Rattle.std.specs.List.{cons_option, list_any}
 use Rattle.std.specs.Option.{option_map}
-use Rattle.std.proofs.Common.{◌≡◌, ℕ, ◌≤◌, refl, Bool, true, false, cond, length, List, [], ◌∷◌, ◌++◌, map, flat_map, Option, Some, None, arith, rules, ap, sym, ◌∙◌}
+use Rattle.std.proofs.Common.{◌≡◌, ℕ, ◌+◌, ◌≤◌, refl, Bool, true, false, cond, length, List, [], ◌∷◌, ◌++◌, map, flat_map, Option, Some, None, is_some, arith, rules, ap, sym, ◌∙◌}
 use Rattle.std.proofs.Math.Bool.{and-false}
 use Rattle.iv_expr.specs.declared.row.StoredRow.{StoredRow}
 use Rattle.iv_expr.specs.declared.row.Change.{Change}
 use Rattle.iv_expr.specs.Changes.{wave_of}
 use Rattle.iv_catalogue.specs.Catalogues.{Schema}
 use Rattle.iv_catalogue.specs.declared.cause.Fault.{Fault}
+use Rattle.iv_catalogue.specs.declared.constraint.Constraint.{Constraint}
 use Rattle.iv_catalogue.specs.declared.constraint.ForeignKey.{ForeignKey}
 use Rattle.iv_machine.specs.declared.effect.Effect.{Effect}
 use Rattle.iv_machine.specs.Databases.{row_at, fault_at}
-use Rattle.iv_machine.specs.ReferentialActions.{action_on, disagree, have_deletion, is_restrict, keeps_reference}
+use Rattle.iv_machine.specs.ReferentialActions.{action_on, disagree, foreign_key, have_deletion, is_restrict, keeps_reference}
 use Rattle.iv_laws_levels.specs.Holders.{loss_of_new, row_before}
 use Rattle.iv_laws_actions.specs.RowByRow.{clashes, first_conflict, least}
-use Rattle.iv_actions.specs.AffectedForeignKey.{AffectedForeignKey, action_for, change_losing}
+use Rattle.iv_actions.specs.AffectedForeignKey.{AffectedForeignKey, action_for, affected_from, affected_where, change_losing}
 use Rattle.iv_actions.specs.Following.{conflict_at, effects_among, effects_at, effects_by, effects_for, may_restrict, restricted_at, restricted_fault, restricts}
 use Rattle.iv_actions.proofs.Nothing.{none_least}
 
@@ -122,3 +123,17 @@ none_disagreeing schema xs changes later numbers l = none_least (conflict_at sch
         (elim o [ Some after ↦ option_map (λ id. fault_at id after) (first_conflict (effects_at schema xs changes later after)) | None ↦ None ]) None
     by None = refl
     by (Some after) = ap (λ o. option_map (λ id. fault_at id after) o) (none_at schema xs changes later after l)
+
+-- ---- there is no foreign key
+
+none_there : (o : Option ForeignKey) → is_some o ≡ false → o ≡ None
+none_there None e = refl
+none_there (Some fk) e = absurd cc
+
+pub none_affected : (changes : List Change) (id : ℕ) (constraints : List Constraint) → list_any (λ c. is_some (foreign_key c.rule)) constraints ≡ false
+    → affected_from changes id constraints ≡ []
+none_affected changes id [] e = refl
+none_affected changes id (c ∷ constraints) e =
+    ap (λ (o : Option ForeignKey). cons_option (affected_where changes (elim o [ Some fk ↦ Some (record { id = id; table = c.table; key = fk }) | None ↦ None ])) (affected_from changes (id + 1) constraints))
+    (none_there (foreign_key c.rule) (or_left (is_some (foreign_key c.rule)) (list_any (λ x. is_some (foreign_key x.rule)) constraints) e))
+    ∙ none_affected changes (id + 1) constraints (or_right (is_some (foreign_key c.rule)) (list_any (λ x. is_some (foreign_key x.rule)) constraints) e)

@@ -1,10 +1,10 @@
 //! Foreign keys whose referenced keys a wave took away.
-ghost use Rattle.std.specs.Prelude.{◌≡◌, ◌<◌, ◌≤◌, ◌+◌, ◌^◌, ◌||◌, ◌==◌, ℕ, List, drop, length, slice_get, IfOk, OnOk};
+ghost use Rattle.std.specs.Prelude.{◌≡◌, ◌<◌, ◌≤◌, ◌+◌, ◌^◌, ◌||◌, ◌==◌, ℕ, List, drop, is_some, length, slice_get, IfOk, OnOk};
 ghost use Rattle.std.specs.Option.{option_copied, option_or};
 ghost use Rattle.std.specs.List.{list_any};
 ghost use Rattle.iv_value.specs.declared.value.Value.{Value as Cell};
 ghost use Rattle.iv_index.specs.Groups.{groups_of, rows_of};
-ghost use Rattle.iv_machine.specs.ReferentialActions.{reference};
+ghost use Rattle.iv_machine.specs.ReferentialActions.{foreign_key, reference};
 ghost use Rattle.iv_laws_levels.specs.Holders.{leaves_key};
 ghost use Rattle.iv_laws_actions.specs.RowByRow.{is_among};
 ghost use Rattle.iv_account.specs.Accounts.{acts};
@@ -233,8 +233,23 @@ fn affected_where<'a>(
     }
 }
 
-/// The foreign keys that do something after these changes, by creation.
-pub fn affected_of<'a>(
+// Whether a constraint is a foreign key.
+fn is_foreign_key(constraint: &Constraint) -> bool
+    ensures { result ≡ is_some (foreign_key constraint.now.rule) }
+{
+    matches!(constraint.rule, Rule::ForeignKey(_))
+}
+
+fn have_foreign_key(constraints: &[Constraint]) -> bool
+    ensures { result ≡ list_any (λ c. is_some (foreign_key c.rule)) constraints.now }
+{
+    constraints
+        .iter()
+        .any(|constraint| is_foreign_key(constraint))
+}
+
+// The foreign keys among these constraints that do something after these changes, by creation.
+fn affected_among<'a>(
     alloc: Global,
     constraints: &'a [Constraint],
     changes: &'a [Change],
@@ -252,6 +267,24 @@ pub fn affected_of<'a>(
         id += 1;
     }
     Ok(found)
+}
+
+/// The foreign keys that do something after these changes, by creation. The changes are looked at only where there is a
+/// foreign key.
+#[tactic(auto, using(crate::proofs::Idle::none_affected))]
+pub fn affected_of<'a>(
+    alloc: Global,
+    constraints: &'a [Constraint],
+    changes: &'a [Change],
+) -> Result<Vec<AffectedForeignKey<'a>>, AllocError>
+    requires { length constraints.now ≤ 2 ^ 31 }
+    ensures { IfOk result (λ v. v.items ≡ affected_from changes.entry.now 0 constraints.entry.now) }
+{
+    if have_foreign_key(constraints) {
+        affected_among(alloc, constraints, changes)
+    } else {
+        Ok(Vec::new(alloc))
+    }
 }
 
 fn change_at(changes: &[Change], place: usize) -> Option<&Change>

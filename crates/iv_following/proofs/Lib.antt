@@ -3,6 +3,7 @@ pub mod GroupsShown
 pub mod SideKeys
 pub mod Steps
 pub mod NoForeignKeys
+pub mod NoGroups
 pub mod Watched
 pub mod Referenced
 pub mod Referring

@@ -180,7 +180,7 @@ fn enter_new(
 }
 
 /// Moves a changed row from the key of its old side to that of its new side, and marks both groups anew; nothing is
-/// done where the key is the same. Whether the new key is referenced matters for a foreign key alone. It takes no
+/// done where the key is the same, and no key is taken where the constraint has no group. Whether the new key is referenced matters for a foreign key alone. It takes no
 /// memory, and two look-ups at most.
 pub fn move_row(
     groups: &mut Groups,
@@ -203,9 +203,12 @@ pub fn move_row(
     ensures only { OnlyOf id 2 groups.old groups.new marks.old marks.new }
     ensures watched { IsWatched id groups.new.groups marks.new }
 {
+    rows_rise(groups);
+    if groups.count_groups(id) == 0 {
+        return;
+    }
     let old = old_key(constraint, change);
     let new = new_key(constraint, change);
-    rows_rise(groups);
     if is_one_key(&old, &new) {
         return;
     }
@@ -288,8 +291,11 @@ pub fn make_room_for(
     ensures only { OnlyOf id 1 groups.old groups.new marks.old marks.new }
     ensures watched { IsWatched id groups.new.groups marks.new }
 {
-    let old = old_key(constraint, change);
     let new = new_key(constraint, change);
+    if new.is_none() {
+        return Ok(());
+    }
+    let old = old_key(constraint, change);
     if is_one_key(&old, &new) {
         return Ok(());
     }

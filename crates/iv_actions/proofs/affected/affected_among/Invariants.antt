@@ -1,6 +1,6 @@
 use Rattle.std.proofs.Common.{◌≡◌, ◌++◌, drop}
 use Rattle.iv_actions.specs.AffectedForeignKey.{affected_from}
-use Rattle.iv_actions.proofs.affected.affected_of.Given as goal
+use Rattle.iv_actions.proofs.affected.affected_among.Given as goal
 
 abbrev pub invariant-loop-constraint : goal.invariant-loop-constraint
 invariant-loop-constraint l = record {
