@@ -5,7 +5,8 @@
 
 NAMES is a file with a line `OLD NEW` for each word that was renamed: crates, files, types and functions. A line `OLD NEW
 PLACE..` holds in the files and folders whose paths have one of these places, as `iv_lex` or `iv_waves/src`, and before a
-line without places. The tree of the commit is laid out in a folder of its own, each old word is replaced there by its
+line without places. A line with one word alone is the path of a file that was taken away because no other file used it;
+it is taken out of the tree of the commit too. The tree of the commit is laid out in a folder of its own, each old word is replaced there by its
 new one, in code, in paths and where comments and pages name it between backticks, and the files are laid out anew. Where what a crate's digest is made of is then the same as in this checkout, and the digest
 held at the commit, its edits were refused over these sources but for the names, and the digest is written anew. The
 last line is `N carried, N stale`; the edits of a stale crate have to be tried."""
@@ -30,7 +31,13 @@ def run(words, folder):
 def names_of(path):
     """The renamings: the old word, the new one and the places where it was renamed; everywhere where there are none."""
     with open(path, encoding="utf-8") as lines:
-        return [(words[0], words[1], words[2:]) for words in map(str.split, lines) if words]
+        return [(words[0], words[1], words[2:]) for words in map(str.split, lines) if len(words) > 1]
+
+
+def taken_away(path):
+    """The files that were taken away."""
+    with open(path, encoding="utf-8") as lines:
+        return [words[0] for words in map(str.split, lines) if len(words) == 1]
 
 
 def names_at(names, path):
@@ -102,6 +109,8 @@ def main():
         archive = run(["git", "archive", sys.argv[1]], ROOT)
         subprocess.run(["tar", "-x"], cwd=root, input=archive, check=True)
         held = {renamed(crate, names_at(names, crate)) for crate, (holds, _) in digests_in(root).items() if holds}
+        for gone in taken_away(sys.argv[2]):
+            os.remove(os.path.join(root, gone))
         rename_tree(root, names)
         lay_out(root)
         before = {crate: digest for crate, (_, digest) in digests_in(root).items()}
