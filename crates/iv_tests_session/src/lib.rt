@@ -4,4 +4,8 @@
 #[cfg(test)]
 mod accounts;
 #[cfg(test)]
+mod calls;
+#[cfg(test)]
 mod sessions;
+#[cfg(test)]
+mod shown;
