@@ -1,5 +1,5 @@
 //! A load of rows one by one, on the store that has groups of keys.
-use crate::shown::show;
+use crate::shown::{compare, show_with};
 use iv_index_store::IndexStore;
 use iv_machine::{Answer, Limits};
 use iv_parse::script;
@@ -22,19 +22,14 @@ fn is_one(outcome: &Outcome) -> bool {
     matches!(outcome, Ok(Answer::Changed(1)))
 }
 
-// Runs a statement, and counts it.
-fn count_one(session: &mut Session<IndexStore>, statement: &Statement, load: &mut Load) {
-    let outcome = session.execute(statement);
-    if is_one(&outcome) {
-        load.inserted = load.inserted.saturating_add(1);
-    }
-    load.most = load.most.max(session.work().lookups);
-}
-
-// So for each of these.
+// Runs these statements, and counts them.
 fn count_each(session: &mut Session<IndexStore>, statements: &[Statement], load: &mut Load) {
     for statement in statements {
-        count_one(session, statement, load);
+        let outcome = session.execute(statement);
+        let inserted = u64::from(is_one(&outcome));
+        drop(outcome);
+        load.inserted = load.inserted.saturating_add(inserted);
+        load.most = load.most.max(session.work().lookups);
     }
 }
 
@@ -47,23 +42,39 @@ fn count_text(
 ) -> Result<(), AllocError> {
     let parsed = script(alloc, text)?;
     count_each(session, parsed.statements.as_slice(), load);
+    drop(parsed);
     Ok(())
 }
 
 // Inserts each number from 0.
-fn load_rows(alloc: Global, session: &mut Session<IndexStore>) -> Result<Load, AllocError> {
-    let mut load = Load {
-        inserted: 0,
-        most: 0,
-    };
+fn load_rows(
+    alloc: Global,
+    session: &mut Session<IndexStore>,
+    load: &mut Load,
+) -> Result<(), AllocError> {
     for number in 0..ROWS {
         let text = format!(in alloc; "INSERT INTO t VALUES ({number});")?;
-        count_text(alloc, session, text.as_str(), &mut load)?;
+        let done = count_text(alloc, session, text.as_str(), load);
+        drop(text);
+        done?;
     }
-    Ok(load)
+    Ok(())
 }
 
-// Runs the statements of a text, and shows what each answers and looks up.
+// Runs these statements, and shows what each answers and looks up.
+fn show_each(
+    session: &mut Session<IndexStore>,
+    statements: &[Statement],
+    shown: &mut String,
+) -> Result<(), AllocError> {
+    for statement in statements {
+        let outcome = session.execute(statement);
+        show_with(outcome, session.work().lookups, shown)?;
+    }
+    Ok(())
+}
+
+// So for the statements of a text.
 fn show_text(
     alloc: Global,
     session: &mut Session<IndexStore>,
@@ -71,44 +82,46 @@ fn show_text(
     shown: &mut String,
 ) -> Result<(), AllocError> {
     let parsed = script(alloc, text)?;
-    for statement in parsed.statements.as_slice() {
-        show(&session.execute(statement), shown)?;
-        write!(shown, " {}; ", session.work().lookups)?;
-    }
-    Ok(())
+    let done = show_each(session, parsed.statements.as_slice(), shown);
+    drop(parsed);
+    done
 }
 
-// Makes the table, loads it, refuses a row that is there already, and commits.
+// Makes the table, loads it, and commits.
 fn load_table(
     alloc: Global,
     session: &mut Session<IndexStore>,
+    load: &mut Load,
     shown: &mut String,
-) -> Result<Load, AllocError> {
+) -> Result<(), AllocError> {
     show_text(alloc, session, "CREATE TABLE t (k INT PRIMARY KEY);", shown)?;
-    let load = load_rows(alloc, session)?;
-    show_text(alloc, session, "COMMIT;", shown)?;
-    Ok(load)
+    load_rows(alloc, session, load)?;
+    show_text(alloc, session, "COMMIT;", shown)
 }
 
-fn load_all(alloc: Global, shown: &mut String) -> Result<Option<Load>, Fail> {
+// So in a new session.
+fn load_all(alloc: Global, load: &mut Load, shown: &mut String) -> Result<(), AllocError> {
     let Some(limits) = Limits::new(16, 65_536) else {
-        return Ok(None);
+        return shown.push_str("no limits");
     };
     let mut session = Session::<IndexStore>::new(alloc, limits)?;
-    let load = load_table(alloc, &mut session, shown);
+    let done = load_table(alloc, &mut session, load, shown);
     drop(session);
-    Ok(Some(load?))
+    done
 }
 
 #[test]
 fn each_row_of_a_load_looks_few_keys_up(rt: HostRuntime) -> Result<(), Fail> {
     let mut shown = String::new(rt.alloc());
-    let load = load_all(rt.alloc(), &mut shown)?;
-    let (inserted, most) = match &load {
-        Some(load) => (load.inserted, load.most),
-        None => (0, 0),
+    let mut load = Load {
+        inserted: 0,
+        most: 0,
     };
-    assert_eq!(rt; shown.as_str(), "done 0; done 0; ");
+    let done = load_all(rt.alloc(), &mut load, &mut shown);
+    compare(&rt, "the load", shown.as_str(), "done 0; done 0; ");
+    drop(shown);
+    done?;
+    let Load { inserted, most } = load;
     assert_eq!(rt; inserted, ROWS);
     assert!(rt; most <= 8, "{most} look-ups");
     Ok(())

@@ -3,7 +3,7 @@ ghost use Rattle.std.specs.Prelude.{◌≡◌, true, false};
 ghost use Rattle.iv_catalogue.specs.Refusals.{is_memory};
 ghost use Rattle.iv_session.specs.Sure.{is_rollback_to};
 
-use crate::shown::show;
+use crate::shown::{compare, show_with};
 use iv_index_store::IndexStore;
 use iv_machine::Limits;
 use iv_parse::script;
@@ -37,7 +37,20 @@ fn execute(session: &mut Session<IndexStore>, statement: &Statement) -> Outcome
     }
 }
 
-// Runs the statements of a text, and shows what each answers and undoes.
+// Runs these statements, and shows what each answers and undoes.
+fn show_each(
+    session: &mut Session<IndexStore>,
+    statements: &[Statement],
+    shown: &mut String,
+) -> Result<(), AllocError> {
+    for statement in statements {
+        let outcome = execute(session, statement);
+        show_with(outcome, session.work().undone, shown)?;
+    }
+    Ok(())
+}
+
+// So for the statements of a text.
 fn show_text(
     alloc: Global,
     session: &mut Session<IndexStore>,
@@ -45,11 +58,9 @@ fn show_text(
     shown: &mut String,
 ) -> Result<(), AllocError> {
     let parsed = script(alloc, text)?;
-    for statement in parsed.statements.as_slice() {
-        show(&execute(session, statement), shown)?;
-        write!(shown, " {}; ", session.work().undone)?;
-    }
-    Ok(())
+    let done = show_each(session, parsed.statements.as_slice(), shown);
+    drop(parsed);
+    done
 }
 
 // Goes back as a call, and shows what it answers and undoes.
@@ -58,8 +69,8 @@ fn show_back(
     name: &str,
     shown: &mut String,
 ) -> Result<(), AllocError> {
-    show(&roll_back_to(session, name), shown)?;
-    write!(shown, " {}; ", session.work().undone)
+    let outcome = roll_back_to(session, name);
+    show_with(outcome, session.work().undone, shown)
 }
 
 // Back by the call and by the statement, to a savepoint and to none, in a transaction and outside of it.
@@ -86,24 +97,26 @@ fn show_ways_back(
     )
 }
 
-fn ways_back(alloc: Global) -> Result<String, Fail> {
-    let mut shown = String::new(alloc);
+// So in a new session.
+fn ways_back(alloc: Global, shown: &mut String) -> Result<(), AllocError> {
     let Some(limits) = Limits::new(16, 65_536) else {
-        return Ok(shown);
+        return shown.push_str("no limits");
     };
     let mut session = Session::<IndexStore>::new(alloc, limits)?;
-    let done = show_ways_back(alloc, &mut session, &mut shown);
+    let done = show_ways_back(alloc, &mut session, shown);
     drop(session);
-    done?;
-    Ok(shown)
+    done
 }
 
 #[test]
 fn a_session_goes_back_to_a_savepoint(rt: HostRuntime) -> Result<(), Fail> {
-    let shown = ways_back(rt.alloc())?;
+    let mut shown = String::new(rt.alloc());
+    let done = ways_back(rt.alloc(), &mut shown);
     let wanted =
         "done 0; no transaction 0; changed 1 0; done 0; changed 2 0; done 2; unknown savepoint 0; \
                   changed 1 0; done 1; unknown savepoint 0; done 0; no transaction 0; rows 1 0; ";
-    assert_eq!(rt; shown.as_str(), wanted);
+    compare(&rt, "ways back", shown.as_str(), wanted);
+    drop(shown);
+    done?;
     Ok(())
 }

@@ -1,13 +1,14 @@
 //! What the last statement of a script answers, changes, undoes and looks up.
-use crate::shown::show;
+use crate::shown::{compare, show, show_number};
 use iv_index_store::IndexStore;
 use iv_machine::Limits;
 use iv_parse::script;
 use iv_plain_store::PlainStore;
-use iv_session::{Session, Work};
+use iv_session::Session;
 use iv_store::Keeper;
 use iv_syntax::Statement;
 use std::alloc::{AllocError, Global};
+use std::process::Abort;
 use std::test::Fail;
 
 const SWAP: &str =
@@ -25,90 +26,154 @@ const NO_ROWS: &str =
 const CASCADE: &str =
     "CREATE TABLE p (k INT PRIMARY KEY); CREATE TABLE c (x INT REFERENCES p ON DELETE CASCADE); INSERT INTO p VALUES (1); INSERT INTO c VALUES (1); INSERT INTO c VALUES (1); INSERT INTO c VALUES (1); COMMIT; DELETE FROM p;";
 
-// A script, how deep triggers may nest, the budget of a statement, what its last statement answers, how many changes
-// that makes and undoes, and how many keys it looks up at most on a store that has groups of keys.
-const CASES: [(&str, u8, u32, &str, u64, u64, u64); 7] = [
-    (SWAP, 16, 65_536, "changed 2", 4, 0, 64),
-    (
-        REFUSED_COMMIT,
-        16,
-        65_536,
-        "commit refused 1 row 1",
-        0,
-        1,
-        16,
-    ),
-    (NESTED, 16, 65_536, "depth limit 0", 16, 16, 256),
-    (NESTED, 64, 65_536, "depth limit 0", 64, 64, 1_024),
-    (NO_ROWS, 16, 65_536, "changed 0", 1, 0, 0),
-    (CASCADE, 16, 3, "too many changes", 1, 1, 32),
-    (CASCADE, 16, 5, "changed 1", 4, 0, 64),
+// A script, and what its last statement does.
+struct Case {
+    text: &'static str,
+    // How deep triggers may nest, and how many changes a statement may make.
+    depth: u8,
+    budget: u32,
+    // The answer, how many changes the statement makes, and how many it undoes.
+    wanted: &'static str,
+    // How many keys it looks up at most on a store that has groups of keys.
+    most: u64,
+}
+
+const CASES: [Case; 7] = [
+    Case {
+        text: SWAP,
+        depth: 16,
+        budget: 65_536,
+        wanted: "changed 2, 4 0",
+        most: 64,
+    },
+    Case {
+        text: REFUSED_COMMIT,
+        depth: 16,
+        budget: 65_536,
+        wanted: "commit refused 1 row 1, 0 1",
+        most: 16,
+    },
+    Case {
+        text: NESTED,
+        depth: 16,
+        budget: 65_536,
+        wanted: "depth limit 0, 16 16",
+        most: 256,
+    },
+    Case {
+        text: NESTED,
+        depth: 64,
+        budget: 65_536,
+        wanted: "depth limit 0, 64 64",
+        most: 1_024,
+    },
+    Case {
+        text: NO_ROWS,
+        depth: 16,
+        budget: 65_536,
+        wanted: "changed 0, 1 0",
+        most: 0,
+    },
+    Case {
+        text: CASCADE,
+        depth: 16,
+        budget: 3,
+        wanted: "too many changes, 1 1",
+        most: 32,
+    },
+    Case {
+        text: CASCADE,
+        depth: 16,
+        budget: 5,
+        wanted: "changed 1, 4 0",
+        most: 64,
+    },
 ];
 
-// The work of the last of these statements; its answer is shown.
+// Runs these statements, and shows the answer of the last and what it changes and undoes. Its look-ups are counted.
 fn run<K: Keeper + Drop>(
     session: &mut Session<K>,
     statements: &[Statement],
     shown: &mut String,
-) -> Result<Work, AllocError> {
+) -> Result<u64, AllocError> {
     let outcomes = session.run_all(statements)?;
-    if let Some(last) = outcomes.as_slice().last() {
-        show(last, shown)?;
-    }
-    Ok(session.work())
+    let done = match outcomes.as_slice().last() {
+        Some(last) => show(last, shown),
+        None => Ok(()),
+    };
+    drop(outcomes);
+    done?;
+    let work = session.work();
+    show_number(", ", work.changes, " ", shown)?;
+    show_number("", work.undone, "", shown)?;
+    Ok(work.lookups)
 }
 
-// So for the statements of a script; nothing where there are no such limits.
+// So in a new session.
+fn run_anew<K: Keeper + Drop>(
+    alloc: Global,
+    limits: Limits,
+    statements: &[Statement],
+    shown: &mut String,
+) -> Result<u64, AllocError> {
+    let mut session = Session::<K>::new(alloc, limits)?;
+    let lookups = run(&mut session, statements, shown);
+    drop(session);
+    lookups
+}
+
+// So for the statements of a script.
 fn run_text<K: Keeper + Drop>(
     alloc: Global,
-    text: &str,
-    depth: u8,
-    changes: u32,
+    case: &Case,
     shown: &mut String,
-) -> Result<Option<Work>, Fail> {
-    let Some(limits) = Limits::new(depth, changes) else {
-        return Ok(None);
+) -> Result<u64, AllocError> {
+    let Some(limits) = Limits::new(case.depth, case.budget) else {
+        shown.push_str("no limits")?;
+        return Ok(0);
     };
-    let parsed = script(alloc, text)?;
-    let mut session = Session::<K>::new(alloc, limits)?;
-    let work = run(&mut session, parsed.statements.as_slice(), shown);
-    drop(session);
-    Ok(Some(work?))
+    let parsed = script(alloc, case.text)?;
+    let lookups = run_anew::<K>(alloc, limits, parsed.statements.as_slice(), shown);
+    drop(parsed);
+    lookups
 }
 
-fn work_of(changes: u64, undone: u64, lookups: u64) -> Work {
-    Work {
-        changes,
-        undone,
-        lookups,
+fn compare_lookups(rt: &impl Abort, text: &str, lookups: u64, most: u64) {
+    assert!(rt; lookups <= most, "{lookups} look-ups, {text}");
+}
+
+// Asserts what a script's last statement does, and that it looks up no more keys.
+fn check<K: Keeper + Drop>(
+    rt: &impl Abort,
+    alloc: Global,
+    case: &Case,
+    most: u64,
+) -> Result<(), Fail> {
+    let mut shown = String::new(alloc);
+    let lookups = run_text::<K>(alloc, case, &mut shown);
+    compare(rt, case.text, shown.as_str(), case.wanted);
+    drop(shown);
+    compare_lookups(rt, case.text, lookups?, most);
+    Ok(())
+}
+
+// So for all scripts, on a store that looks keys up or doesn't.
+fn check_all<K: Keeper + Drop>(rt: &impl Abort, alloc: Global, looks_up: bool) -> Result<(), Fail> {
+    for case in CASES.as_slice() {
+        let most = if looks_up { case.most } else { 0 };
+        check::<K>(rt, alloc, case, most)?;
     }
+    Ok(())
 }
 
 #[test]
 fn a_store_of_lists_looks_nothing_up(rt: HostRuntime) -> Result<(), Fail> {
-    for (text, depth, limit, answer, changes, undone, _) in CASES {
-        let mut shown = String::new(rt.alloc());
-        let work = run_text::<PlainStore>(rt.alloc(), text, depth, limit, &mut shown)?;
-        assert_eq!(rt; shown.as_str(), answer, "{text} {limit}");
-        assert_eq!(rt; work, Some(work_of(changes, undone, 0)), "{text} {limit}");
-    }
-    Ok(())
+    check_all::<PlainStore>(&rt, rt.alloc(), false)
 }
 
 #[test]
 fn a_store_of_groups_looks_few_keys_up(rt: HostRuntime) -> Result<(), Fail> {
-    for (text, depth, limit, answer, changes, undone, most) in CASES {
-        let mut shown = String::new(rt.alloc());
-        let work = run_text::<IndexStore>(rt.alloc(), text, depth, limit, &mut shown)?;
-        assert_eq!(rt; shown.as_str(), answer, "{text} {limit}");
-        let Some(work) = work else {
-            return Ok(());
-        };
-        let lookups = work.lookups;
-        assert_eq!(rt; work, work_of(changes, undone, lookups), "{text} {limit}");
-        assert!(rt; lookups <= most, "{lookups} look-ups, {text} {limit}");
-    }
-    Ok(())
+    check_all::<IndexStore>(&rt, rt.alloc(), true)
 }
 
 #[test]
