@@ -1,55 +1,49 @@
-//! Tables and constraints that are made, and added to a store. What was made is handed on whole, in a list, so that few
-//! functions let it go.
+//! Tables and constraints that are made, and added to a store. What was made stays in a list that one function owns, so
+//! that it is let go in one place.
+use crate::demand::{Demand, constraints_of};
+use crate::schema::tables_of;
 use crate::stopped::Stopped;
 use crate::tested::Tested;
-use iv_catalogue::{Constraint, Table};
 use iv_store::Keeper;
+use iv_value::Kind;
 use std::alloc::Global;
+use std::slice;
 
-/// One constraint, in a list.
-pub fn only(alloc: Global, made: Result<Constraint, Stopped>) -> Result<Vec<Constraint>, Stopped> {
-    let mut constraints = Vec::new(alloc);
-    constraints.push(made?)?;
-    Ok(constraints)
-}
-
-/// Adds a table with its constraints.
+/// Adds the table of a number, which is the next one, of columns of these kinds, with its constraints.
 pub fn add_table<K: Keeper + Drop>(
+    alloc: Global,
     store: &mut Tested<K>,
-    table: Result<Table, Stopped>,
-    constraints: Result<Vec<Constraint>, Stopped>,
+    number: u32,
+    kinds: &[Kind],
+    demands: &[Demand],
 ) -> Result<(), Stopped> {
-    let table = table?;
-    let constraints = constraints?;
-    store.add_table(&table, constraints.as_slice())
+    let before = store.constraints().len();
+    let mut constraints = constraints_of(alloc, before, number, demands)?;
+    let mut tables = tables_of(alloc, number, kinds)?;
+    store.add_table(&mut tables, &mut constraints)
 }
 
-// Adds a constraint that no row violates.
-fn add_one<K: Keeper + Drop>(
+/// Offers a constraint of a table, which is added or not: then it tells the first row that violates it.
+pub fn offer<K: Keeper + Drop>(
+    alloc: Global,
     store: &mut Tested<K>,
-    constraint: &Constraint,
+    table: u32,
+    demand: &Demand,
+) -> Result<Option<u64>, Stopped> {
+    let before = store.constraints().len();
+    let mut constraints = constraints_of(alloc, before, table, slice::from_ref(demand))?;
+    store.add_constraint(&mut constraints)
+}
+
+/// Adds a constraint of a table that no row violates.
+pub fn add_constraint<K: Keeper + Drop>(
+    alloc: Global,
+    store: &mut Tested<K>,
+    table: u32,
+    demand: &Demand,
 ) -> Result<(), Stopped> {
-    match store.add_constraint(constraint)? {
+    match offer(alloc, store, table, demand)? {
         Some(_) => Err(Stopped::Unasked),
         None => Ok(()),
     }
-}
-
-fn add_each<K: Keeper + Drop>(
-    store: &mut Tested<K>,
-    constraints: &[Constraint],
-) -> Result<(), Stopped> {
-    for constraint in constraints {
-        add_one(store, constraint)?;
-    }
-    Ok(())
-}
-
-/// Adds constraints that no row violates.
-pub fn add_constraints<K: Keeper + Drop>(
-    store: &mut Tested<K>,
-    constraints: Result<Vec<Constraint>, Stopped>,
-) -> Result<(), Stopped> {
-    let constraints = constraints?;
-    add_each(store, constraints.as_slice())
 }

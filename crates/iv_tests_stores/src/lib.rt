@@ -8,6 +8,8 @@ mod asked;
 #[cfg(test)]
 mod calls;
 #[cfg(test)]
+mod demand;
+#[cfg(test)]
 mod numbers;
 #[cfg(test)]
 mod random;

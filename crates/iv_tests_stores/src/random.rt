@@ -1,17 +1,16 @@
 //! Random changes of three tables, forwards and backwards: both stores show the same after each.
-use crate::adding::{add_constraints, add_table};
+use crate::adding::{add_constraint, add_table};
+use crate::demand::Columns::{One, Two};
+use crate::demand::Demand::{Above, NotNull, PrimaryKey, References, Unique, UniqueNulls};
+use crate::demand::{Demand, Reference};
 use crate::numbers::Numbers;
-use crate::schema::{
-    Ends, check_above, deferrable, foreign_key, modes_of, not_null, primary_key, table_of, unique,
-    unique_nulls,
-};
-use crate::shown::{show_by_mode, show_numbers, show_rows};
+use crate::schema::modes_of;
+use crate::shown::{show_by_mode, show_children, show_rows};
 use crate::stopped::Stopped;
 use crate::tested::Tested;
-use iv_catalogue::{Constraint, ConstraintId};
+use iv_catalogue::ConstraintId;
 use iv_expr::Row;
 use iv_index_store::IndexStore;
-use iv_key::Key;
 use iv_machine::Which;
 use iv_modes::Modes;
 use iv_plain_store::PlainStore;
@@ -20,7 +19,7 @@ use iv_syntax::ConstraintMode::{Deferred, Immediate};
 use iv_syntax::MatchType::{Full, Simple};
 use iv_value::{Kind, Value, text};
 use std::alloc::Global;
-use std::test::Fail;
+use std::process::Abort;
 
 const STEPS: u32 = 300;
 
@@ -83,101 +82,71 @@ struct Ran {
 }
 
 // Table 0: a key, and a UNIQUE of an integer and a text.
-fn first_constraints(alloc: Global) -> Result<Vec<Constraint>, Stopped> {
-    let mut constraints = Vec::new(alloc);
-    constraints.push(primary_key(alloc, "K0", 0, &[0])?)?;
-    constraints.push(unique(alloc, "K1", 0, &[1, 2])?)?;
-    Ok(constraints)
-}
+const FIRST: [Demand; 2] = [PrimaryKey(One(0)), Unique(Two(1, 2))];
 
 // Table 1: a key of two columns, and a reference to table 0.
-fn second_constraints(alloc: Global) -> Result<Vec<Constraint>, Stopped> {
-    let mut constraints = Vec::new(alloc);
-    constraints.push(primary_key(alloc, "K2", 1, &[0, 1])?)?;
-    let ends = Ends {
-        table: 1,
-        columns: &[0],
+const SECOND: [Demand; 2] = [
+    PrimaryKey(Two(0, 1)),
+    References(Reference {
+        columns: One(0),
         matching: Simple,
         referenced: 0,
-        key: &[0],
-    };
-    constraints.push(deferrable(foreign_key(alloc, "K3", &ends)?, Immediate))?;
-    Ok(constraints)
-}
+        key: One(0),
+        mode: Some(Immediate),
+    }),
+];
 
 // Table 2: references to the key of table 1, whose columns come in another order, and to table 0.
-fn third_references(alloc: Global, constraints: &mut Vec<Constraint>) -> Result<(), Stopped> {
-    let full = Ends {
-        table: 2,
-        columns: &[1, 2],
+const THIRD: [Demand; 5] = [
+    UniqueNulls(One(0)),
+    References(Reference {
+        columns: Two(1, 2),
         matching: Full,
         referenced: 1,
-        key: &[1, 0],
-    };
-    let simple = Ends {
-        table: 2,
-        columns: &[2],
+        key: Two(1, 0),
+        mode: Some(Deferred),
+    }),
+    References(Reference {
+        columns: One(2),
         matching: Simple,
         referenced: 0,
-        key: &[0],
-    };
-    constraints.push(deferrable(foreign_key(alloc, "K5", &full)?, Deferred))?;
-    constraints.push(foreign_key(alloc, "K6", &simple)?)?;
-    Ok(())
-}
-
-fn third_constraints(alloc: Global) -> Result<Vec<Constraint>, Stopped> {
-    let mut constraints = Vec::new(alloc);
-    constraints.push(unique_nulls(alloc, "K4", 2, &[0])?)?;
-    third_references(alloc, &mut constraints)?;
-    constraints.push(check_above(alloc, "K7", 2, 0, 1)?)?;
-    constraints.push(not_null(alloc, "K8", 2, 1)?)?;
-    Ok(constraints)
-}
+        key: One(0),
+        mode: None,
+    }),
+    Above(0, 1),
+    NotNull(1),
+];
 
 // Table 0 also references table 2, whose key may be null once, and itself; its UNIQUE is there once more for nulls.
-fn last_constraints(alloc: Global) -> Result<Vec<Constraint>, Stopped> {
-    let other = Ends {
-        table: 0,
-        columns: &[1],
+const LAST: [Demand; 3] = [
+    References(Reference {
+        columns: One(1),
         matching: Simple,
         referenced: 2,
-        key: &[0],
-    };
-    let own = Ends {
-        table: 0,
-        columns: &[1],
+        key: One(0),
+        mode: Some(Deferred),
+    }),
+    References(Reference {
+        columns: One(1),
         matching: Full,
         referenced: 0,
-        key: &[0],
-    };
-    let mut constraints = Vec::new(alloc);
-    constraints.push(deferrable(foreign_key(alloc, "K9", &other)?, Deferred))?;
-    constraints.push(foreign_key(alloc, "K10", &own)?)?;
-    constraints.push(unique_nulls(alloc, "K11", 0, &[1, 2])?)?;
-    Ok(constraints)
-}
+        key: One(0),
+        mode: None,
+    }),
+    UniqueNulls(Two(1, 2)),
+];
 
 fn add_tables<K: Keeper + Drop>(alloc: Global, store: &mut Tested<K>) -> Result<(), Stopped> {
-    let kinds = [Kind::Integer, Kind::Integer, Kind::Varchar(3)];
-    add_table(
-        store,
-        table_of(alloc, "P", &kinds),
-        first_constraints(alloc),
-    )?;
-    let kinds = [Kind::Integer, Kind::Integer];
-    add_table(
-        store,
-        table_of(alloc, "Q", &kinds),
-        second_constraints(alloc),
-    )?;
-    let kinds = [Kind::Integer, Kind::Integer, Kind::Integer];
-    add_table(
-        store,
-        table_of(alloc, "R", &kinds),
-        third_constraints(alloc),
-    )?;
-    add_constraints(store, last_constraints(alloc))
+    let first = [Kind::Integer, Kind::Integer, Kind::Varchar(3)];
+    let second = [Kind::Integer, Kind::Integer];
+    let third = [Kind::Integer, Kind::Integer, Kind::Integer];
+    add_table(alloc, store, 0, &first, &FIRST)?;
+    add_table(alloc, store, 1, &second, &SECOND)?;
+    add_table(alloc, store, 2, &third, &THIRD)?;
+    for demand in &LAST {
+        add_constraint(alloc, store, 0, demand)?;
+    }
+    Ok(())
 }
 
 // Null, or an integer from 1 to 5.
@@ -367,24 +336,38 @@ fn step<K: Keeper + Drop>(
     }
 }
 
+// A foreign key of one column.
+fn narrow_key(numbers: &mut Numbers) -> u32 {
+    match numbers.below(4) {
+        0 => 3,
+        1 => 6,
+        2 => 9,
+        _ => 10,
+    }
+}
+
 // The rows that hold a key by one of the foreign keys: the fifth constraint is one of two columns.
-fn show_children<K: Keeper + Drop>(
+fn show_some_children<K: Keeper + Drop>(
     numbers: &mut Numbers,
     store: &mut Tested<K>,
     shown: &mut String,
 ) -> Result<(), Stopped> {
     let values = [integer(numbers), integer(numbers)];
-    let both = Key::new(&[0, 1], &values);
-    let first = Key::new(&[0], &values);
-    let rows = match numbers.below(5) {
-        0 => store.children(5, &both)?,
-        1 => store.children(3, &first)?,
-        2 => store.children(6, &first)?,
-        3 => store.children(9, &first)?,
-        _ => store.children(10, &first)?,
-    };
-    show_numbers(rows.as_slice(), shown)?;
-    Ok(())
+    if numbers.below(5) == 0 {
+        return show_children(store, 5, &[0, 1], &values, shown);
+    }
+    show_children(store, narrow_key(numbers), &[0], &values, shown)
+}
+
+fn show_state<K: Keeper + Drop>(
+    numbers: &mut Numbers,
+    store: &mut Tested<K>,
+    modes: &Modes,
+    shown: &mut String,
+) -> Result<(), Stopped> {
+    show_rows(store.store(), 3, shown)?;
+    show_by_mode(store.store(), modes, shown)?;
+    show_some_children(numbers, store, shown)
 }
 
 // What a store shows after a step.
@@ -395,9 +378,7 @@ fn shown_after<K: Keeper + Drop>(
     modes: &Modes,
 ) -> Result<String, Stopped> {
     let mut shown = String::new(alloc);
-    show_rows(store.store(), 3, &mut shown)?;
-    show_by_mode(store.store(), modes, &mut shown)?;
-    show_children(numbers, store, &mut shown)?;
+    show_state(numbers, store, modes, &mut shown)?;
     Ok(shown)
 }
 
@@ -501,18 +482,35 @@ fn run<K: Keeper + Drop>(alloc: Global, seed: u64) -> Result<Ran, Stopped> {
     run
 }
 
-// Each thing is done, so that what both stores show isn't the same for nothing.
+fn same_text(rt: &impl Abort, plain: &str, index: &str, seed: u64, number: usize) {
+    assert_eq!(rt; plain, index, "seed {seed}, step {number}");
+}
+
+fn same_texts(rt: &impl Abort, plain: &[String], index: &[String], seed: u64) {
+    for (number, (one, other)) in plain.iter().zip(index.iter()).enumerate() {
+        same_text(rt, one.as_str(), other.as_str(), seed, number);
+    }
+}
+
+// Both ran all steps, and show the same after each. Each thing is done, so that what they show isn't the same for nothing.
+fn same(rt: &impl Abort, plain: &Ran, index: &Ran, seed: u64) {
+    assert_eq!(rt; plain.shown.len(), STEPS as usize);
+    assert_eq!(rt; index.shown.len(), STEPS as usize);
+    same_texts(rt, plain.shown.as_slice(), index.shown.as_slice(), seed);
+    assert!(rt; plain.tally.least() >= 3, "seed {seed}");
+}
+
+fn same_from(rt: &impl Abort, alloc: Global, seed: u64) -> Result<(), Stopped> {
+    let plain = run::<PlainStore>(alloc, seed)?;
+    let index = run::<IndexStore>(alloc, seed)?;
+    same(rt, &plain, &index, seed);
+    Ok(())
+}
+
 #[test]
-fn both_stores_show_the_same(rt: HostRuntime) -> Result<(), Fail> {
+fn both_stores_show_the_same(rt: HostRuntime) -> Result<(), Stopped> {
     for seed in [1, 20_240_229, 987_654_321] {
-        let plain = run::<PlainStore>(rt.alloc(), seed)?;
-        let index = run::<IndexStore>(rt.alloc(), seed)?;
-        assert_eq!(rt; plain.shown.len(), STEPS as usize);
-        assert_eq!(rt; index.shown.len(), STEPS as usize);
-        for (number, (one, other)) in plain.shown.iter().zip(index.shown.iter()).enumerate() {
-            assert_eq!(rt; one.as_str(), other.as_str(), "seed {seed}, step {number}");
-        }
-        assert!(rt; plain.tally.least() >= 3, "seed {seed}");
+        same_from(&rt, rt.alloc(), seed)?;
     }
     Ok(())
 }

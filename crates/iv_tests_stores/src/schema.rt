@@ -1,161 +1,65 @@
-//! Tables, constraints, rows and modes that tests are made of.
+//! Tables, rows and modes that tests are made of.
 ghost use Rattle.std.specs.Prelude.{◌≡◌};
 ghost use Rattle.iv_catalogue.specs.Catalogues.{has_constraint, has_table};
 
+use crate::demand::named;
 use crate::stopped::Stopped;
 use iv_catalogue::{
-    Catalogue, Column, Constraint, Constraints, ForeignKey, MOST_CONSTRAINTS, MOST_TABLES, Rule,
-    Table,
+    Catalogue, Column, Constraint, Constraints, MOST_CONSTRAINTS, MOST_TABLES, Table,
 };
 use iv_copies::{copy_constraint, copy_table};
-use iv_expr::{Comparison, Cond, Expr, Row, TableId};
+use iv_expr::Row;
 use iv_modes::Modes;
-use iv_syntax::{ConstraintMode, MatchType, Name, NullTreatment, ReferentialAction};
-use iv_value::{Kind, Text, Value};
+use iv_value::{Kind, Value};
 use sqlite_items::Items;
 use std::alloc::{AllocError, Global};
 
-fn named(alloc: Global, text: &str) -> Result<Name, AllocError> {
-    Ok(Name::new(Text::new(alloc, text)?))
+fn column_of(alloc: Global, place: usize, kind: Kind) -> Result<Column, AllocError> {
+    let text = format!(in alloc; "C{place}")?;
+    Ok(Column {
+        name: named(alloc, text.as_str())?,
+        kind,
+        default: Value::Null,
+    })
 }
 
-/// A table of columns of these kinds.
-pub fn table_of(alloc: Global, name: &str, kinds: &[Kind]) -> Result<Table, Stopped> {
+fn columns_of(alloc: Global, kinds: &[Kind]) -> Result<Items<Column>, AllocError> {
     let mut columns = Items::new(alloc);
     for (place, kind) in kinds.iter().enumerate() {
-        let text = format!(in alloc; "C{place}")?;
-        columns.push(Column {
-            name: named(alloc, text.as_str())?,
-            kind: *kind,
-            default: Value::Null,
-        })?;
+        columns.push(column_of(alloc, place, *kind)?)?;
     }
+    Ok(columns)
+}
+
+fn table_of(alloc: Global, number: u32, kinds: &[Kind]) -> Result<Table, AllocError> {
+    let text = format!(in alloc; "T{number}")?;
+    let columns = columns_of(alloc, kinds)?;
     Ok(Table {
-        name: named(alloc, name)?,
+        name: named(alloc, text.as_str())?,
         columns,
     })
 }
 
-// An immediate constraint.
-fn constraint_of(name: Name, table: u32, rule: Rule) -> Constraint {
-    Constraint {
-        name,
-        table: TableId::new(table),
-        rule,
-        deferrable: false,
-        initially: ConstraintMode::Immediate,
+/// One table of columns of these kinds, in a list. Its name is of its number.
+pub fn tables_of(alloc: Global, number: u32, kinds: &[Kind]) -> Result<Vec<Table>, Stopped> {
+    let mut tables = Vec::new(alloc);
+    tables.push(table_of(alloc, number, kinds)?)?;
+    Ok(tables)
+}
+
+/// An integer or null.
+pub fn value_of(integer: Option<i64>) -> Value {
+    match integer {
+        Some(integer) => Value::Int(integer),
+        None => Value::Null,
     }
-}
-
-/// The constraint with this mode at first, deferrable.
-pub fn deferrable(constraint: Constraint, initially: ConstraintMode) -> Constraint {
-    let mut deferrable = constraint;
-    deferrable.deferrable = true;
-    deferrable.initially = initially;
-    deferrable
-}
-
-fn unique_by(
-    alloc: Global,
-    nulls: NullTreatment,
-    name: &str,
-    table: u32,
-    columns: &[u32],
-) -> Result<Constraint, Stopped> {
-    let name = named(alloc, name)?;
-    let columns = Items::from_slice(alloc, columns)?;
-    Ok(constraint_of(name, table, Rule::Unique(nulls, columns)))
-}
-
-/// UNIQUE.
-pub fn unique(
-    alloc: Global,
-    name: &str,
-    table: u32,
-    columns: &[u32],
-) -> Result<Constraint, Stopped> {
-    unique_by(alloc, NullTreatment::Distinct, name, table, columns)
-}
-
-/// UNIQUE NULLS NOT DISTINCT.
-pub fn unique_nulls(
-    alloc: Global,
-    name: &str,
-    table: u32,
-    columns: &[u32],
-) -> Result<Constraint, Stopped> {
-    unique_by(alloc, NullTreatment::NotDistinct, name, table, columns)
-}
-
-/// PRIMARY KEY.
-pub fn primary_key(
-    alloc: Global,
-    name: &str,
-    table: u32,
-    columns: &[u32],
-) -> Result<Constraint, Stopped> {
-    let name = named(alloc, name)?;
-    let columns = Items::from_slice(alloc, columns)?;
-    Ok(constraint_of(name, table, Rule::PrimaryKey(columns)))
-}
-
-/// NOT NULL.
-pub fn not_null(alloc: Global, name: &str, table: u32, column: u32) -> Result<Constraint, Stopped> {
-    let name = named(alloc, name)?;
-    Ok(constraint_of(name, table, Rule::NotNull(column)))
-}
-
-/// CHECK (column > integer).
-pub fn check_above(
-    alloc: Global,
-    name: &str,
-    table: u32,
-    column: u32,
-    integer: i64,
-) -> Result<Constraint, Stopped> {
-    let name = named(alloc, name)?;
-    let cond = Cond::Compare(
-        Comparison::Greater,
-        Expr::Column(0, column),
-        Expr::Literal(Value::Int(integer)),
-    );
-    Ok(constraint_of(name, table, Rule::Check(cond)))
-}
-
-/// The table, the columns and the match type of one end of a foreign key, and the table and columns of the other.
-#[derive(Drop)]
-pub struct Ends<'a> {
-    pub table: u32,
-    pub columns: &'a [u32],
-    pub matching: MatchType,
-    pub referenced: u32,
-    pub key: &'a [u32],
-}
-
-/// FOREIGN KEY, without an action.
-pub fn foreign_key(alloc: Global, name: &str, ends: &Ends<'_>) -> Result<Constraint, Stopped> {
-    let name = named(alloc, name)?;
-    let columns = Items::from_slice(alloc, ends.columns)?;
-    let key = Items::from_slice(alloc, ends.key)?;
-    let rule = Rule::ForeignKey(ForeignKey {
-        columns,
-        referenced: TableId::new(ends.referenced),
-        key,
-        matching: ends.matching,
-        on_delete: ReferentialAction::NoAction,
-        on_update: ReferentialAction::NoAction,
-    });
-    Ok(constraint_of(name, ends.table, rule))
 }
 
 /// A row of integers and nulls.
 pub fn row_of(alloc: Global, integers: &[Option<i64>]) -> Result<Row, Stopped> {
     let mut values = Vec::new(alloc);
     for integer in integers {
-        values.push(match integer {
-            Some(integer) => Value::Int(*integer),
-            None => Value::Null,
-        })?;
+        values.push(value_of(*integer))?;
     }
     Ok(Row::new(values)?)
 }

@@ -7,20 +7,17 @@ ghost use Rattle.iv_store.specs.Stores.{fits_table};
 use crate::asked::{are_on, fits, have_keys};
 use crate::stopped::Stopped;
 use iv_catalogue::{Constraint, ConstraintId, MOST_CONSTRAINTS, MOST_TABLES, Table};
-use iv_copies::{copy_constraint, copy_constraints, copy_table};
 use iv_expr::{Change, Row, StoredRow, TableId};
 use iv_key::Key;
 use iv_machine::{LAST_ROW_NUMBER, MOST_CHANGES_IN_A_TRANSACTION};
 use iv_store::{AddFault, Keeper, Mark};
 use std::alloc::{AllocError, Global};
 use std::marker::Model;
-use std::slice;
 
 /// A store, the tables and the constraints that were added to it, and how many marks it has. Contracts see it as the
 /// store's state.
 #[derive(Drop)]
 pub struct Tested<K: Keeper + Drop> {
-    alloc: Global,
     store: K,
     tables: Vec<Table>,
     constraints: Vec<Constraint>,
@@ -85,7 +82,6 @@ impl<K: Keeper + Drop> Tested<K> {
     /// A store of no table.
     pub fn new(alloc: Global) -> Self {
         Tested {
-            alloc,
             store: K::new(alloc),
             tables: Vec::new(alloc),
             constraints: Vec::new(alloc),
@@ -119,42 +115,54 @@ impl<K: Keeper + Drop> Tested<K> {
         self.marks
     }
 
-    /// Adds a table with its constraints.
-    pub fn add_table(&mut self, table: &Table, constraints: &[Constraint]) -> Result<(), Stopped> {
-        if self.marks > 0 || !are_few(self.constraints.len(), constraints.len()) {
-            return Err(Stopped::Unasked);
-        }
-        if !are_on(self.tables.len(), constraints)
-            || !have_keys(self.constraints.as_slice(), constraints)
+    /// Adds the table that a list has, with its constraints. Both are taken out of their lists.
+    pub fn add_table(
+        &mut self,
+        tables: &mut Vec<Table>,
+        constraints: &mut Vec<Constraint>,
+    ) -> Result<(), Stopped> {
+        if self.marks > 0
+            || !are_few(self.constraints.len(), constraints.len())
+            || !are_on(self.tables.len(), constraints.as_slice())
+            || !have_keys(self.constraints.as_slice(), constraints.as_slice())
         {
             return Err(Stopped::Unasked);
         }
-        let own = copy_table(self.alloc, table)?;
-        let mut owns = copy_constraints(self.alloc, constraints)?;
-        self.tables.reserve(1)?;
-        self.constraints.reserve(owns.len())?;
-        self.store.add_table(table, constraints)?;
-        self.tables.push_reserved(own);
-        match self.constraints.append(&mut owns) {
-            Ok(()) => Ok(()),
-            Err(_) => unreachable!(),
-        }
+        self.tables.reserve(tables.len())?;
+        self.constraints.reserve(constraints.len())?;
+        let [table] = tables.as_slice() else {
+            return Err(Stopped::Unasked);
+        };
+        self.store.add_table(table, constraints.as_slice())?;
+        let Ok(()) = self.tables.append(tables) else {
+            unreachable!()
+        };
+        let Ok(()) = self.constraints.append(constraints) else {
+            unreachable!()
+        };
+        Ok(())
     }
 
-    /// Adds a constraint; or tells the first row that violates it.
-    pub fn add_constraint(&mut self, constraint: &Constraint) -> Result<Option<u64>, Stopped> {
-        let more = slice::from_ref(constraint);
-        if self.marks > 0 || !are_few(self.constraints.len(), 1) {
+    /// Adds the constraint that a list has, which is taken out of it; or tells the first row that violates it.
+    pub fn add_constraint(
+        &mut self,
+        constraints: &mut Vec<Constraint>,
+    ) -> Result<Option<u64>, Stopped> {
+        if self.marks > 0
+            || !are_few(self.constraints.len(), 1)
+            || !have_keys(self.constraints.as_slice(), constraints.as_slice())
+        {
             return Err(Stopped::Unasked);
         }
-        if !have_keys(self.constraints.as_slice(), more) {
+        self.constraints.reserve(constraints.len())?;
+        let [constraint] = constraints.as_slice() else {
             return Err(Stopped::Unasked);
-        }
-        let own = copy_constraint(self.alloc, constraint)?;
-        self.constraints.reserve(1)?;
+        };
         match self.store.add_constraint(constraint) {
             Ok(()) => {
-                self.constraints.push_reserved(own);
+                let Ok(()) = self.constraints.append(constraints) else {
+                    unreachable!()
+                };
                 Ok(None)
             }
             Err(AddFault::Row(row)) => Ok(Some(row)),
