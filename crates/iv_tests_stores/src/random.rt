@@ -337,11 +337,11 @@ fn step<K: Keeper + Drop>(
 }
 
 // A foreign key of one column.
-fn narrow_key(numbers: &mut Numbers) -> u32 {
-    match numbers.below(4) {
-        0 => 3,
-        1 => 6,
-        2 => 9,
+fn narrow_key(number: u64) -> u32 {
+    match number {
+        1 => 3,
+        2 => 6,
+        3 => 9,
         _ => 10,
     }
 }
@@ -353,10 +353,10 @@ fn show_some_children<K: Keeper + Drop>(
     shown: &mut String,
 ) -> Result<(), Stopped> {
     let values = [integer(numbers), integer(numbers)];
-    if numbers.below(5) == 0 {
-        return show_children(store, 5, &[0, 1], &values, shown);
+    match numbers.below(5) {
+        0 => show_children(store, 5, &[0, 1], &values, shown),
+        number => show_children(store, narrow_key(number), &[0], &values, shown),
     }
-    show_children(store, narrow_key(numbers), &[0], &values, shown)
 }
 
 fn show_state<K: Keeper + Drop>(

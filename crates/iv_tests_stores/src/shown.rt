@@ -97,7 +97,7 @@ pub fn show_children<K: Keeper + Drop>(
 fn show_values(values: &[Value], shown: &mut String) -> Result<(), AllocError> {
     for value in values {
         match value {
-            Value::Null => write!(shown, " null")?,
+            Value::Null => shown.push_str(" null")?,
             Value::Int(integer) => write!(shown, " {integer}")?,
             Value::Text(text) => write!(shown, " '{}'", text.as_str())?,
         }
