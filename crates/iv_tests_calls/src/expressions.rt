@@ -43,15 +43,24 @@ fn is_ill_typed(found: Result<Value, ExprFault>) -> bool {
     }
 }
 
+// Whether an expression outside of statements lends a text, and whether its value is the one that is wanted.
+fn lends_and_copies(word: &Expr, wanted: &Value) -> [bool; 2] {
+    let tables = NoTables {};
+    let frame = Frame::none();
+    let scope = Scope::new(&tables, &frame);
+    let lent = matches!(eval_ref(word, &scope), Ok(ValueRef::Text(_)));
+    [lent, is_text(eval(word, &scope), wanted)]
+}
+
 #[test]
 fn a_text_is_lent_and_copied(rt: HostRuntime) -> Result<(), Fail> {
     let wanted = text(rt.alloc(), "ab")?;
     let word = Boxed::new(rt.alloc(), Expr::Literal(text(rt.alloc(), "ab")?))?;
-    let tables = NoTables {};
-    let frame = Frame::none();
-    let scope = Scope::new(&tables, &frame);
-    assert!(rt; matches!(eval_ref(word.get(), &scope), Ok(ValueRef::Text(_))));
-    assert!(rt; is_text(eval(word.get(), &scope), &wanted));
+    let [lent, copied] = lends_and_copies(word.get(), &wanted);
+    drop(word);
+    drop(wanted);
+    assert!(rt; lent);
+    assert!(rt; copied);
     Ok(())
 }
 
@@ -60,8 +69,18 @@ fn a_column_outside_of_all_ranges_is_ill_typed(rt: HostRuntime) -> Result<(), Fa
     let column = column(rt.alloc())?;
     let tables = NoTables {};
     let frame = Frame::none();
-    assert!(rt; is_ill_typed(eval(column.get(), &Scope::new(&tables, &frame))));
+    let refused = is_ill_typed(eval(column.get(), &Scope::new(&tables, &frame)));
+    drop(column);
+    assert!(rt; refused);
     Ok(())
+}
+
+// Whether a condition has this truth at a row of one integer.
+fn has_truth(cond: &Cond, integer: i64, wanted: Truth) -> bool {
+    let tables = NoTables {};
+    let frame = Frame::none();
+    let scope = Scope::new(&tables, &frame);
+    truth_at_row(cond, &[Value::Int(integer)], &scope) == Ok(wanted)
 }
 
 #[test]
@@ -72,11 +91,10 @@ fn a_row_is_one_more_range(rt: HostRuntime) -> Result<(), Fail> {
         Expr::Literal(Value::Int(0)),
     );
     let cond = Boxed::new(rt.alloc(), negative)?;
-    let tables = NoTables {};
-    let frame = Frame::none();
-    let scope = Scope::new(&tables, &frame);
-    for (value, wanted) in [(-1, Truth::True), (0, Truth::False)] {
-        assert!(rt; truth_at_row(cond.get(), &[Value::Int(value)], &scope) == Ok(wanted));
-    }
+    let below = has_truth(cond.get(), -1, Truth::True);
+    let at_zero = has_truth(cond.get(), 0, Truth::False);
+    drop(cond);
+    assert!(rt; below, "-1 is negative");
+    assert!(rt; at_zero, "0 isn't negative");
     Ok(())
 }

@@ -1,7 +1,7 @@
 //! The marks of a store, which the program doesn't count, and its look-ups.
 use iv_plain_store::PlainStore;
 use iv_store::{Keeper, Mark, ReferencingRows};
-use std::alloc::AllocError;
+use std::alloc::{AllocError, Global};
 use std::test::Fail;
 
 // How many marks there are at first, after two of them, after going back to the first, and after settling; and the
@@ -19,12 +19,18 @@ fn counts(store: &mut PlainStore) -> Result<([usize; 4], usize), AllocError> {
     Ok(([none, two, one, store.marks()], second.place()))
 }
 
-#[test]
-fn marks_are_counted(rt: HostRuntime) -> Result<(), Fail> {
-    let mut store = PlainStore::new(rt.alloc());
+// So in a new store; and how many keys were looked up in it.
+fn counts_anew(alloc: Global) -> (Result<([usize; 4], usize), AllocError>, u64) {
+    let mut store = PlainStore::new(alloc);
     let counted = counts(&mut store);
     let looked_up = store.looked_up();
     drop(store);
+    (counted, looked_up)
+}
+
+#[test]
+fn marks_are_counted(rt: HostRuntime) -> Result<(), Fail> {
+    let (counted, looked_up) = counts_anew(rt.alloc());
     let (marks, second) = counted?;
     assert_eq!(rt; marks, [0, 2, 1, 0]);
     assert_eq!(rt; second, 1);

@@ -3,35 +3,67 @@ use iv_lex::{Token, TokenKind, folded_text, tokens};
 use iv_parse_data::insert;
 use iv_syntax::Insert;
 use std::alloc::{AllocError, Global};
+use std::process::Abort;
 use std::test::Fail;
 
-fn shown_insert(alloc: Global, insert: &Insert, left: usize) -> Result<String, AllocError> {
+// A name, a word, and how many tokens are left.
+fn show(name: &str, word: &str, left: usize, shown: &mut String) -> Result<(), AllocError> {
+    write!(shown, "{name}{word}{left}")
+}
+
+fn show_insert(insert: &Insert, left: usize, shown: &mut String) -> Result<(), AllocError> {
     match insert {
-        Insert::DefaultValues(table) => format!(in alloc; "{} defaults, {left}", table.as_str()),
-        Insert::Rows { table, .. } => format!(in alloc; "{} rows, {left}", table.as_str()),
+        Insert::DefaultValues(table) => show(table.as_str(), " defaults, ", left, shown),
+        Insert::Rows { table, .. } => show(table.as_str(), " rows, ", left, shown),
     }
 }
 
-fn insert_in(alloc: Global, source: &str, tokens: &[Token]) -> Result<String, AllocError> {
-    match insert(alloc, source, tokens)? {
+fn show_insert_in(
+    alloc: Global,
+    text: &str,
+    tokens: &[Token],
+    shown: &mut String,
+) -> Result<(), AllocError> {
+    match insert(alloc, text, tokens)? {
         Some((found, rest)) => {
-            let shown = shown_insert(alloc, &found, rest.len());
+            let done = show_insert(&found, rest.len(), shown);
             drop(found);
-            shown
+            done
         }
-        None => format!(in alloc; "none"),
+        None => shown.push_str("none"),
     }
 }
 
 // What `insert` finds in one text by the tokens of another.
-fn insert_elsewhere(alloc: Global, source: &str, text: &str) -> Result<String, AllocError> {
+fn show_elsewhere(
+    alloc: Global,
+    source: &str,
+    text: &str,
+    shown: &mut String,
+) -> Result<(), AllocError> {
     let lexed = tokens(alloc, source)?;
-    insert_in(alloc, text, lexed.tokens.as_slice())
+    let done = show_insert_in(alloc, text, lexed.tokens.as_slice(), shown);
+    drop(lexed);
+    done
+}
+
+// Asserts that this is shown of a text.
+fn compare(rt: &impl Abort, text: &str, shown: &str, wanted: &str) {
+    assert_eq!(rt; shown, wanted, "in {text}");
+}
+
+// Asserts what is found in a text, where the name of the table is looked for at byte 5.
+fn finds(rt: &impl Abort, alloc: Global, text: &str, wanted: &str) -> Result<(), Fail> {
+    let mut shown = String::new(alloc);
+    let done = show_elsewhere(alloc, "INTO t DEFAULT VALUES", text, &mut shown);
+    compare(rt, text, shown.as_str(), wanted);
+    drop(shown);
+    done?;
+    Ok(())
 }
 
 #[test]
 fn names_of_another_text_are_none(rt: HostRuntime) -> Result<(), Fail> {
-    // The name of the table is looked for at byte 5 of these texts.
     for (text, wanted) in [
         ("INTO u DEFAULT VALUES", "U defaults, 0"),
         ("INTO u", "U defaults, 0"),
@@ -40,16 +72,24 @@ fn names_of_another_text_are_none(rt: HostRuntime) -> Result<(), Fail> {
         ("INT\u{e9}\u{e9}", "none"),
         ("INTO \u{e9}", "none"),
     ] {
-        let found = insert_elsewhere(rt.alloc(), "INTO t DEFAULT VALUES", text)?;
-        assert_eq!(rt; found.as_str(), wanted, "in {text}");
+        finds(&rt, rt.alloc(), text, wanted)?;
     }
     Ok(())
 }
 
+// Whether a name from one byte to another of a text of nine bytes, with two in the third character, is none.
+fn is_outside(alloc: Global, start: usize, end: usize) -> Result<bool, AllocError> {
+    let token = Token {
+        kind: TokenKind::Quoted,
+        start,
+        end,
+    };
+    Ok(folded_text(alloc, "ab\u{e9}cdefg", token)?.is_none())
+}
+
 #[test]
 fn places_outside_the_text(rt: HostRuntime) -> Result<(), Fail> {
-    // Where a token begins and ends in a text of nine bytes, with two in the third character.
-    let places = [
+    for (start, end) in [
         (0, 10),
         (9, 10),
         (3, 2),
@@ -58,15 +98,9 @@ fn places_outside_the_text(rt: HostRuntime) -> Result<(), Fail> {
         (3, 9),
         (usize::MAX, 0),
         (usize::MAX, usize::MAX),
-    ];
-    for (start, end) in places {
-        let token = Token {
-            kind: TokenKind::Quoted,
-            start,
-            end,
-        };
-        let folded = folded_text(rt.alloc(), "ab\u{e9}cdefg", token)?;
-        assert!(rt; folded.is_none(), "from {start} to {end}");
+    ] {
+        let outside = is_outside(rt.alloc(), start, end)?;
+        assert!(rt; outside, "from {start} to {end}");
     }
     Ok(())
 }
