@@ -22,7 +22,6 @@ use std::marker::Model;
 
 /// A store that finds rows by number and by key, keeps the violations as rows change, and goes back to a mark by a
 /// journal. Contracts see it as what it holds; the count of look-ups is that of its groups.
-#[derive(Drop)]
 pub struct IndexStore {
     alloc: Global,
     tables: Vec<Table>,
@@ -30,6 +29,25 @@ pub struct IndexStore {
     versions: Versions,
     groups: Groups,
     faults: Faults,
+}
+
+// Written out, so that it is proved once, and not again in each crate that drops a store.
+impl Drop for IndexStore {
+    fn drop(self) {
+        let IndexStore {
+            alloc: _,
+            tables,
+            known,
+            versions,
+            groups,
+            faults,
+        } = self;
+        drop(tables);
+        drop(known);
+        drop(versions);
+        drop(groups);
+        drop(faults);
+    }
 }
 
 impl Model for IndexStore {

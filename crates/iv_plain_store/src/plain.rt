@@ -20,7 +20,6 @@ use std::marker::Model;
 
 /// A store as lists: the rows of all tables in one list by number, copies of it as marks, and faults by the scan
 /// of all rows, for the constraints about tables that were changed.
-#[derive(Drop)]
 pub struct PlainStore {
     alloc: Global,
     tables: Vec<Table>,
@@ -29,6 +28,25 @@ pub struct PlainStore {
     marks: Vec<PlainDatabase>,
     // The tables that were changed since no constraint was violated.
     touched: Vec<TableId>,
+}
+
+// Written out, so that it is proved once, and not again in each crate that drops a store.
+impl Drop for PlainStore {
+    fn drop(self) {
+        let PlainStore {
+            alloc: _,
+            tables,
+            constraints,
+            database,
+            marks,
+            touched,
+        } = self;
+        drop(tables);
+        drop(constraints);
+        drop(database);
+        drop(marks);
+        drop(touched);
+    }
 }
 
 impl Model for PlainStore {

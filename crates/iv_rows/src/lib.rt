@@ -9,8 +9,6 @@ mod set;
 mod slot;
 mod slots;
 mod stored;
-#[cfg(test)]
-mod tests;
 mod versions;
 
 pub use saved::Saved;

@@ -22,10 +22,18 @@ use std::marker::Model;
 
 /// A session: the state of the machine, which contracts see, with the work of the last call, and the account of the last
 /// statement, where one is asked for.
-#[derive(Drop)]
 pub struct Session<K: Keeper + Drop> {
     pub(crate) state: SessionState<K>,
     pub(crate) account: Account,
+}
+
+// Written out, so that it is proved once, and not again in each crate that drops a session.
+impl<K: Keeper + Drop> Drop for Session<K> {
+    fn drop(self) {
+        let Session { state, account } = self;
+        drop(state);
+        drop(account);
+    }
 }
 
 impl<K: Keeper + Drop> Model for Session<K> {

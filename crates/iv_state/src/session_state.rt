@@ -37,7 +37,6 @@ impl Work {
 /// The state of a session, seen as the machine's, with the work of the last call.
 ///
 /// The start of the transaction is the first mark of the store, and each savepoint of it has the next one.
-#[derive(Drop)]
 pub struct SessionState<K: Keeper + Drop> {
     pub(crate) limits: Limits,
     pub(crate) catalogue: Catalogue,
@@ -50,6 +49,27 @@ pub struct SessionState<K: Keeper + Drop> {
     pub(crate) active: bool,
     pub(crate) saves: SavepointList,
     pub(crate) work: Work,
+}
+
+// Written out, so that it is proved once, and not again in each crate that drops a state.
+impl<K: Keeper + Drop> Drop for SessionState<K> {
+    fn drop(self) {
+        let SessionState {
+            limits: _,
+            catalogue,
+            store,
+            initial,
+            changed,
+            active: _,
+            saves,
+            work: _,
+        } = self;
+        drop(catalogue);
+        drop(store);
+        drop(initial);
+        drop(changed);
+        drop(saves);
+    }
 }
 
 impl<K: Keeper + Drop> Model for SessionState<K> {

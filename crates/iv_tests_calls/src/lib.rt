@@ -1,14 +1,39 @@
-//! Calls that the program doesn't make. A crate's own tests have the whole crate proved once more.
+//! Tests of both stores of rows by the calls of their trait, and calls that the program doesn't make. A crate's own tests have the
+//! whole crate proved once more.
 #![tactic(auto)]
 
 #[cfg(test)]
+mod adding;
+#[cfg(test)]
+mod asked;
+#[cfg(test)]
+mod calls;
+#[cfg(test)]
 mod catalogue;
+#[cfg(test)]
+mod demand;
 #[cfg(test)]
 mod expressions;
 #[cfg(test)]
 mod names;
 #[cfg(test)]
+mod numbers;
+#[cfg(test)]
+mod random;
+#[cfg(test)]
+mod schema;
+#[cfg(test)]
+mod shown;
+#[cfg(test)]
+mod steps;
+#[cfg(test)]
+mod stopped;
+#[cfg(test)]
 mod store;
+#[cfg(test)]
+mod story;
+#[cfg(test)]
+mod tested;
 #[cfg(test)]
 mod tokens;
 #[cfg(test)]

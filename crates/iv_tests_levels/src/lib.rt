@@ -7,6 +7,8 @@ mod after;
 #[cfg(test)]
 mod before;
 #[cfg(test)]
+mod net_rows;
+#[cfg(test)]
 mod next;
 #[cfg(test)]
 mod parts;

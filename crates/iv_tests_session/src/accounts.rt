@@ -1,5 +1,6 @@
 //! The account of the last statement or call, as a session gives it.
 use crate::calls::{Call, shows};
+use iv_plain_store::PlainStore;
 use std::test::Fail;
 
 const CASCADE: &str =
@@ -17,23 +18,22 @@ fn a_cascade_is_told(rt: HostRuntime) -> Result<(), Fail> {
     let calls = [Call::Explain(true), Call::Execute, Call::Account];
     let wanted =
         "changed 1; acted 1 on 2 1 on 3; changed 2 3; ran 0 true false 0; began 1; changed 4; ended; ran 0 true false 0; began 1; changed 5; ended; ";
-    shows(&rt, rt.alloc(), CASCADE, 65_536, &calls, wanted)
+    shows::<PlainStore>(&rt, rt.alloc(), CASCADE, &calls, wanted)
 }
 
 #[test]
 fn nothing_is_told_where_it_is_not_asked_for(rt: HostRuntime) -> Result<(), Fail> {
     let calls = [Call::Explain(false), Call::Execute, Call::Account];
-    shows(&rt, rt.alloc(), CASCADE, 65_536, &calls, "")
+    shows::<PlainStore>(&rt, rt.alloc(), CASCADE, &calls, "")
 }
 
 #[test]
 fn both_rows_of_a_key_are_told(rt: HostRuntime) -> Result<(), Fail> {
     let calls = [Call::Explain(true), Call::Execute, Call::Account];
-    shows(
+    shows::<PlainStore>(
         &rt,
         rt.alloc(),
         SAME_KEY,
-        65_536,
         &calls,
         "changed 2 3; faulted 0 1, 1, 3; ",
     )
@@ -47,11 +47,10 @@ fn all_violations_of_a_commit_are_told(rt: HostRuntime) -> Result<(), Fail> {
         Call::CommitUnseen,
         Call::Account,
     ];
-    shows(
+    shows::<PlainStore>(
         &rt,
         rt.alloc(),
         DEFERRED,
-        65_536,
         &calls,
         "faulted 0 1, 1; faulted 0 3, 3; ",
     )
@@ -65,5 +64,5 @@ fn a_rollback_is_told_nothing(rt: HostRuntime) -> Result<(), Fail> {
         Call::Rollback,
         Call::Account,
     ];
-    shows(&rt, rt.alloc(), DEFERRED, 65_536, &calls, "")
+    shows::<PlainStore>(&rt, rt.alloc(), DEFERRED, &calls, "")
 }

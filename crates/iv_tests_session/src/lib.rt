@@ -1,4 +1,4 @@
-//! Tests of the calls of `iv_session`. A crate's own tests have the whole crate proved once more.
+//! Tests of the calls of `iv_session` and `iv_script`. A crate's own tests have the whole crate proved once more.
 #![tactic(auto)]
 
 #[cfg(test)]
@@ -6,6 +6,14 @@ mod accounts;
 #[cfg(test)]
 mod calls;
 #[cfg(test)]
+mod devices;
+#[cfg(test)]
+mod load;
+#[cfg(test)]
 mod sessions;
 #[cfg(test)]
 mod shown;
+#[cfg(test)]
+mod sure;
+#[cfg(test)]
+mod work;

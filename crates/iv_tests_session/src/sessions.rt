@@ -1,21 +1,7 @@
 //! Sessions between the statements of scripts: work, what is pending, and the calls that no statement makes.
 use crate::calls::{Call, shows};
+use iv_plain_store::PlainStore;
 use std::test::Fail;
-
-const CASCADE: &str =
-    "CREATE TABLE p (k INT PRIMARY KEY); CREATE TABLE c (x INT REFERENCES p ON DELETE CASCADE); INSERT INTO p VALUES (1); INSERT INTO c VALUES (1); INSERT INTO c VALUES (1); INSERT INTO c VALUES (1); COMMIT; DELETE FROM p;";
-
-const NESTED: &str =
-    "CREATE TABLE t (a INT CHECK (a < 5)); CREATE TRIGGER r AFTER INSERT ON t INSERT INTO t VALUES (1); INSERT INTO t VALUES (0);";
-
-const SWAP: &str =
-    "CREATE TABLE p (k INT PRIMARY KEY); CREATE TABLE c (x INT REFERENCES p ON UPDATE CASCADE); INSERT INTO p VALUES (1), (2); INSERT INTO c VALUES (1), (2); UPDATE p SET k = 3 - k;";
-
-const NO_ROWS: &str =
-    "CREATE TABLE t (a INT); CREATE TABLE log (m VARCHAR(20)); CREATE TRIGGER s AFTER UPDATE ON t REFERENCING NEW TABLE AS nt WHEN (NOT EXISTS (SELECT * FROM nt)) INSERT INTO log VALUES ('empty'); CREATE TRIGGER r AFTER UPDATE ON t FOR EACH ROW INSERT INTO log VALUES ('row'); UPDATE t SET a = 1;";
-
-const REFUSED_COMMIT: &str =
-    "CREATE TABLE p (k INT PRIMARY KEY); CREATE TABLE c (x INT CONSTRAINT fk REFERENCES p INITIALLY DEFERRED); INSERT INTO c VALUES (7); COMMIT;";
 
 const AFTER_A_REFUSED_COMMIT: &str =
     "CREATE TABLE p (k INT PRIMARY KEY); CREATE TABLE c (x INT CONSTRAINT fk REFERENCES p INITIALLY DEFERRED); INSERT INTO c VALUES (7); COMMIT; SELECT * FROM c; START TRANSACTION;";
@@ -35,53 +21,28 @@ const TWO_CHECKS: &str =
 const ONE_ROW_PENDING: &str =
     "CREATE TABLE t (a INT, CONSTRAINT pos CHECK (a > 0) INITIALLY DEFERRED); INSERT INTO t VALUES (0);";
 
-// How many changes the last statement of a script made and undid, and how many keys it looked up: this store looks none up.
-#[test]
-fn work_is_that_of_the_last_statement(rt: HostRuntime) -> Result<(), Fail> {
-    let calls = [Call::Run, Call::Work];
-    for (text, changes, wanted) in [
-        (CASCADE, 3u32, "1 1 0; "),
-        (CASCADE, 5, "4 0 0; "),
-        (NESTED, 65_536, "16 16 0; "),
-        (SWAP, 65_536, "4 0 0; "),
-        (REFUSED_COMMIT, 65_536, "0 1 0; "),
-        (NO_ROWS, 65_536, "1 0 0; "),
-        ("", 65_536, "0 0 0; "),
-    ] {
-        shows(&rt, rt.alloc(), text, changes, &calls, wanted)?;
-    }
-    Ok(())
-}
-
 // P's key and POS are the constraint at place 0, FK and BIG the one at place 1.
 #[test]
 fn pending_is_shown_after_each_statement(rt: HostRuntime) -> Result<(), Fail> {
     let calls = [Call::ExecuteWithPending];
     let alloc = rt.alloc();
     let wanted = "0; 0 row 1, 1; 0 row 1, 1; 0; ";
-    shows(&rt, alloc, TWO_CHECKS, 65_536, &calls, wanted)?;
+    shows::<PlainStore>(&rt, alloc, TWO_CHECKS, &calls, wanted)?;
     let wanted = "0; 0; 1 row 1, 1; 0; 0; ";
-    shows(&rt, alloc, MENDED, 65_536, &calls, wanted)?;
+    shows::<PlainStore>(&rt, alloc, MENDED, &calls, wanted)?;
     let wanted = "0; 0; 1 row 1, 1; 0; 0; 0; ";
-    shows(&rt, alloc, AFTER_A_REFUSED_COMMIT, 65_536, &calls, wanted)?;
+    shows::<PlainStore>(&rt, alloc, AFTER_A_REFUSED_COMMIT, &calls, wanted)?;
     let wanted =
         "0; 0; 0; 0; 0; 1 row 1, 1; 1 row 1, 1; 0; 0; 1 row 1, 1; 1 row 1, 1 row 2, 2; 1 row 1, 1; 1 row 1, 1; 1 row 1, 1; 1 row 1, 1; 0; ";
-    shows(&rt, alloc, BACK_AND_FORTH, 65_536, &calls, wanted)
+    shows::<PlainStore>(&rt, alloc, BACK_AND_FORTH, &calls, wanted)
 }
 
 #[test]
 fn statements_are_run_all_together(rt: HostRuntime) -> Result<(), Fail> {
     let calls = [Call::RunAndShow, Call::State, Call::Catalogue];
     let wanted =
-        "done; done; changed 1; commit refused 1 row 1; rows 0; done; 0 open 0 0; 2 tables, 2 constraints";
-    shows(
-        &rt,
-        rt.alloc(),
-        AFTER_A_REFUSED_COMMIT,
-        65_536,
-        &calls,
-        wanted,
-    )
+        "done; done; changed 1; commit refused 1 row 1; rows 0; done; 0 open 0 0; 2 tables, 2 constraints; ";
+    shows::<PlainStore>(&rt, rt.alloc(), AFTER_A_REFUSED_COMMIT, &calls, wanted)
 }
 
 #[test]
@@ -100,7 +61,7 @@ fn rollback_to_restores_modes(rt: HostRuntime) -> Result<(), Fail> {
     ];
     let wanted =
         "0 open 0 0; done; 1 open 0 1; unknown savepoint; 1 open 0 0; 0 closed 0 1; no transaction; 0 closed 0 0; ";
-    shows(&rt, rt.alloc(), TWO_SAVEPOINTS, 65_536, &calls, wanted)
+    shows::<PlainStore>(&rt, rt.alloc(), TWO_SAVEPOINTS, &calls, wanted)
 }
 
 #[test]
@@ -114,5 +75,5 @@ fn refused_commit_ends_the_transaction(rt: HostRuntime) -> Result<(), Fail> {
         Call::State,
     ];
     let wanted = "1 open 1 0; violated 0 row 1; 0 closed 0 1; committed; 0 closed 0 0; ";
-    shows(&rt, rt.alloc(), ONE_ROW_PENDING, 65_536, &calls, wanted)
+    shows::<PlainStore>(&rt, rt.alloc(), ONE_ROW_PENDING, &calls, wanted)
 }

@@ -1,9 +1,11 @@
-//! Answers as text. A number is written by one function alone: each `write!` is much code to prove.
+//! Answers as text. One function writes a number, one drops an outcome, and one compares: each of these is much code to
+//! prove.
 use iv_account::{Entry, RowAction, Seen};
 use iv_catalogue::{Catalogue, Cause, Fault, TriggerId};
 use iv_machine::Answer;
 use iv_session::{Outcome, Work};
 use std::alloc::AllocError;
+use std::process::Abort;
 
 /// A number between these words.
 pub fn show_number(
@@ -28,36 +30,48 @@ pub fn show_fault(
 
 fn show_cause(cause: &Cause, shown: &mut String) -> Result<(), AllocError> {
     match cause {
-        Cause::CommitRefused(fault) => show_fault("commit refused ", fault, "; ", shown),
-        Cause::UnknownSavepoint => shown.push_str("unknown savepoint; "),
-        Cause::NoTransaction => shown.push_str("no transaction; "),
-        _ => shown.push_str("another refusal; "),
+        Cause::CommitRefused(fault) => show_fault("commit refused ", fault, "", shown),
+        Cause::DepthLimit(trigger) => {
+            show_number("depth limit ", trigger.place() as u64, "", shown)
+        }
+        Cause::TooManyChanges => shown.push_str("too many changes"),
+        Cause::UnknownSavepoint => shown.push_str("unknown savepoint"),
+        Cause::NoTransaction => shown.push_str("no transaction"),
+        _ => shown.push_str("another refusal"),
     }
 }
 
 /// An answer, or the cause of a refusal.
 pub fn show_outcome(outcome: &Outcome, shown: &mut String) -> Result<(), AllocError> {
     match outcome {
-        Ok(Answer::Done) => shown.push_str("done; "),
-        Ok(Answer::Changed(count)) => show_number("changed ", *count, "; ", shown),
-        Ok(Answer::Rows(rows)) => show_number("rows ", rows.as_slice().len() as u64, "; ", shown),
+        Ok(Answer::Done) => shown.push_str("done"),
+        Ok(Answer::Changed(count)) => show_number("changed ", *count, "", shown),
+        Ok(Answer::Rows(rows)) => show_number("rows ", rows.as_slice().len() as u64, "", shown),
         Err(refusal) => show_cause(&refusal.cause, shown),
     }
 }
 
-/// So for each of these.
+/// So for each of these, with an end.
 pub fn show_outcomes(outcomes: &[Outcome], shown: &mut String) -> Result<(), AllocError> {
     for outcome in outcomes {
         show_outcome(outcome, shown)?;
+        shown.push_str("; ")?;
     }
     Ok(())
 }
 
-/// How many changes were made and undone, and how many keys looked up.
+/// An answer that isn't wanted any more, and a number after it.
+pub fn show_with(outcome: Outcome, number: u64, shown: &mut String) -> Result<(), AllocError> {
+    let done = show_outcome(&outcome, shown);
+    drop(outcome);
+    done?;
+    show_number(" ", number, "; ", shown)
+}
+
+/// How many changes were made and undone.
 pub fn show_work(work: Work, shown: &mut String) -> Result<(), AllocError> {
     show_number("", work.changes, " ", shown)?;
-    show_number("", work.undone, " ", shown)?;
-    show_number("", work.lookups, "; ", shown)
+    show_number("", work.undone, "; ", shown)
 }
 
 /// How many tables and constraints there are.
@@ -66,7 +80,7 @@ pub fn show_catalogue(catalogue: &Catalogue, shown: &mut String) -> Result<(), A
     show_number(
         "",
         catalogue.constraints().len() as u64,
-        " constraints",
+        " constraints; ",
         shown,
     )
 }
@@ -138,4 +152,9 @@ pub fn show_account(account: &[Entry], shown: &mut String) -> Result<(), AllocEr
         shown.push_str("; ")?;
     }
     Ok(())
+}
+
+/// Asserts that this is shown of a text.
+pub fn compare(rt: &impl Abort, text: &str, shown: &str, wanted: &str) {
+    assert_eq!(rt; shown, wanted, "{text}");
 }

@@ -2,7 +2,5 @@
 #![tactic(auto)]
 
 mod journal;
-#[cfg(test)]
-mod tests;
 
 pub use journal::Journal;

@@ -1,2 +1,0 @@
-pub mod TakenBack
-pub mod Watched

@@ -1,0 +1,30 @@
+//! Tests of the parts of the store with keys: rows, their journal, the groups of keys, and violations. A crate's own tests have
+//! the whole crate proved once more.
+#![tactic(auto)]
+
+#[cfg(test)]
+mod checked;
+#[cfg(test)]
+mod constraints;
+#[cfg(test)]
+mod foreign_key;
+#[cfg(test)]
+mod gaps;
+#[cfg(test)]
+mod journal;
+#[cfg(test)]
+mod keys;
+#[cfg(test)]
+mod no_constraints;
+#[cfg(test)]
+mod rooms;
+#[cfg(test)]
+mod rows;
+#[cfg(test)]
+mod steps;
+#[cfg(test)]
+mod unique;
+#[cfg(test)]
+mod versions;
+#[cfg(test)]
+mod violations;
