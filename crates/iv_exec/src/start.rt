@@ -48,12 +48,13 @@ pub fn allowed<'x, K: ChangeableRows>(
     ensures told { UnlessMemory result (account.new ≡ and_told account.old
         (allowed_told context.now statement.now frame.now (K.view store.now).base)) }
 {
-    match proposed(store, context, frame, statement) {
-        Ok(changes) => {
-            before_statement(context, store, statement, account)?;
-            Ok(changes)
+    let changes = proposed(store, context, frame, statement)?;
+    match before_statement(context, store, statement, account) {
+        Ok(()) => Ok(changes),
+        Err(refusal) => {
+            drop(changes);
+            Err(refusal)
         }
-        Err(cause) => Err(Refusal::of(cause)),
     }
 }
 
@@ -100,11 +101,12 @@ fn level_changes(
     if !may_fire(context, statement, waves) {
         return Ok(None);
     }
-    let net = transitions(alloc, waves)?;
-    let transitions = transitions_of(alloc, &net)?;
     let columns = level_columns(alloc, statement, waves)?;
+    let net = transitions(alloc, waves)?;
+    let transitions = transitions_of(alloc, &net);
+    drop(net);
     Ok(Some(LevelChanges {
-        transitions,
+        transitions: transitions?,
         columns,
     }))
 }
