@@ -21,20 +21,30 @@ fn one_key(alloc: Global, groups: &mut Groups) -> Result<(bool, u64, bool, u64),
     Ok((both, looked_up, one, groups.room(0, &key)))
 }
 
-// The keys (ab, c), (a, bc) and (c, ab) have the rows 1, 2 and 3: whether each is found under its own alone.
-fn two_columns(alloc: Global, groups: &mut Groups) -> Result<[bool; 4], AllocError> {
-    let first = [text(alloc, "ab")?, text(alloc, "c")?];
-    let second = [text(alloc, "a")?, text(alloc, "bc")?];
+// The keys (ab, c), (a, bc) and (c, ab) of these texts have the rows 1, 2 and 3: whether each is found under its own alone.
+fn two_columns(groups: &mut Groups, texts: &[Value]) -> Result<[bool; 4], AllocError> {
+    let first = Key::new(&[0, 1], texts);
+    let second = Key::new(&[2, 3], texts);
+    let turned = Key::new(&[1, 0], texts);
     groups.cover(1)?;
-    checked::add(groups, 0, &Key::new(&[0, 1], &first), 1)?;
-    checked::add(groups, 0, &Key::new(&[0, 1], &second), 2)?;
-    checked::add(groups, 0, &Key::new(&[1, 0], &first), 3)?;
+    checked::add(groups, 0, &first, 1)?;
+    checked::add(groups, 0, &second, 2)?;
+    checked::add(groups, 0, &turned, 3)?;
     Ok([
-        groups.rows(0, &Key::new(&[0, 1], &first)) == [1u64].as_slice(),
-        groups.rows(0, &Key::new(&[0, 1], &second)) == [2u64].as_slice(),
-        groups.rows(0, &Key::new(&[1, 0], &first)) == [3u64].as_slice(),
-        groups.rows(0, &Key::new(&[1, 0], &second)).is_empty(),
+        groups.rows(0, &first) == [1u64].as_slice(),
+        groups.rows(0, &second) == [2u64].as_slice(),
+        groups.rows(0, &turned) == [3u64].as_slice(),
+        groups.rows(0, &Key::new(&[3, 2], texts)).is_empty(),
     ])
+}
+
+// The texts ab, c, a and bc.
+fn some_texts(alloc: Global) -> Result<Vec<Value>, AllocError> {
+    let mut texts = Vec::new(alloc);
+    for word in ["ab", "c", "a", "bc"] {
+        texts.push(text(alloc, word)?)?;
+    }
+    Ok(texts)
 }
 
 // Null and the least integer have one hash, so that one is found behind the other: whether each has its own row, the
@@ -70,9 +80,11 @@ fn rows_of_one_key_rise(rt: HostRuntime) -> Result<(), Fail> {
 
 #[test]
 fn keys_of_texts_are_apart(rt: HostRuntime) -> Result<(), Fail> {
+    let texts = some_texts(rt.alloc())?;
     let mut groups = Groups::new(rt.alloc());
-    let found = two_columns(rt.alloc(), &mut groups);
+    let found = two_columns(&mut groups, texts.as_slice());
     drop(groups);
+    drop(texts);
     assert_eq!(rt; found?, [true; 4]);
     Ok(())
 }

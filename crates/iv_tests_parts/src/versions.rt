@@ -135,13 +135,9 @@ fn rows_come_back(rt: HostRuntime) -> Result<(), Fail> {
     let mut versions = Versions::new(rt.alloc());
     let seen = there_and_back(rt.alloc(), &mut versions);
     drop(versions);
-    let (rows, integers, counts) = seen?;
     let none = u64::MAX;
-    assert_eq!(rt; rows[0], [3, 4, none]);
-    assert_eq!(rt; rows[1], [3, none, none]);
-    assert_eq!(rt; rows[2], [1, 3, none]);
-    assert_eq!(rt; integers, [31, 30]);
-    assert_eq!(rt; counts, [4, 3, 54]);
+    let rows = [[3, 4, none], [3, none, none], [1, 3, none]];
+    assert_eq!(rt; seen?, (rows, [31, 30], [4, 3, 54]));
     Ok(())
 }
 
@@ -174,12 +170,9 @@ fn slots_are_given_up(rt: HostRuntime) -> Result<(), Fail> {
     let mut versions = Versions::new(rt.alloc());
     let seen = settled(rt.alloc(), &mut versions);
     drop(versions);
-    let (rows, counts) = seen?;
     let none = u64::MAX;
-    assert_eq!(rt; rows[0], [6, none, none]);
-    assert_eq!(rt; rows[1], [6, none, none]);
-    assert_eq!(rt; rows[2], [6, 7, none]);
-    assert_eq!(rt; counts, [5, 1]);
+    let rows = [[6, none, none], [6, none, none], [6, 7, none]];
+    assert_eq!(rt; seen?, (rows, [5, 1]));
     Ok(())
 }
 
@@ -218,13 +211,8 @@ fn a_look_begins_at_the_first_row(rt: HostRuntime) -> Result<(), Fail> {
     let mut versions = Versions::new(rt.alloc());
     let seen = at_the_front(rt.alloc(), &mut versions);
     drop(versions);
-    let (rows, next) = seen?;
-    let none = u64::MAX;
-    assert_eq!(rt; rows[0], [3, 4, 5]);
-    assert_eq!(rt; rows[1], [4, 5, none]);
-    assert_eq!(rt; rows[2], [1, 4, 5]);
-    assert_eq!(rt; rows[3], [2, 3, 4]);
-    assert_eq!(rt; next, [5, 4]);
+    let rows = [[3, 4, 5], [4, 5, u64::MAX], [1, 4, 5], [2, 3, 4]];
+    assert_eq!(rt; seen?, (rows, [5, 4]));
     Ok(())
 }
 
@@ -267,12 +255,10 @@ fn a_look_passes_rows_that_went(rt: HostRuntime) -> Result<(), Fail> {
     let mut versions = Versions::new(rt.alloc());
     let seen = after_the_first(rt.alloc(), &mut versions);
     drop(versions);
-    let rows = seen?;
-    assert_eq!(rt; rows[0], [2, 8, 10]);
-    assert_eq!(rt; rows[1], [2, 10, 12]);
-    assert_eq!(rt; rows[2], [2, 6, 10]);
-    assert_eq!(rt; rows[3], [2, 5, 6]);
-    assert_eq!(rt; rows[4], [2, 4, 6]);
+    assert_eq!(rt;
+        seen?,
+        [[2, 8, 10], [2, 10, 12], [2, 6, 10], [2, 5, 6], [2, 4, 6]]
+    );
     Ok(())
 }
 
@@ -297,10 +283,6 @@ fn rows_go_here_and_there(rt: HostRuntime) -> Result<(), Fail> {
     let mut versions = Versions::new(rt.alloc());
     let seen = here_and_there(rt.alloc(), &mut versions);
     drop(versions);
-    let rows = seen?;
-    assert_eq!(rt; rows[0], [2, 6, 10]);
-    assert_eq!(rt; rows[1], [2, 6, 8]);
-    assert_eq!(rt; rows[2], [6, 8, 10]);
-    assert_eq!(rt; rows[3], [2, 4, 6]);
+    assert_eq!(rt; seen?, [[2, 6, 10], [2, 6, 8], [6, 8, 10], [2, 4, 6]]);
     Ok(())
 }
