@@ -6,3 +6,4 @@ pub mod Placing
 pub mod SelectedRows
 pub mod Steps
 pub mod LeftOut
+mod Turning
