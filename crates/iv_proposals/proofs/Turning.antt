@@ -12,6 +12,10 @@ use Rattle.iv_triggers.proofs.Answers.{unless_memory}
 pub next_left : {A : Type 0} (xs : List A) (i : ℕ) (x : A) → i < length xs → x ≡ get_or xs i x → drop i xs ≡ x ∷ drop (i + 1) xs
 next_left xs i x h is = drop_more xs i x h ∙ ap (λ y. y ∷ drop (i + 1) xs) (sym is)
 
+-- the same where what is seen of the next is lent
+pub shown_left : {A : Type 0} (xs : List A) (i : ℕ) (x shown : A) → i < length xs → x ≡ get_or xs i x → shown ≡ x → drop i xs ≡ shown ∷ drop (i + 1) xs
+shown_left xs i x shown h is e = next_left xs i x h is ∙ ap (λ y. y ∷ drop (i + 1) xs) (sym e)
+
 -- the first step was done, and the others make what all make
 went_on : {B : Type 0} (first said : Result B Cause) (left : B → Result B Cause) (more : B)
     → first ≡ Ok more → and_then first left ≡ said → left more ≡ said

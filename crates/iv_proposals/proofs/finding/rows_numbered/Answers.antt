@@ -9,18 +9,18 @@ use Rattle.iv_proposals.proofs.finding.rows_numbered.Goals as goal
 
 pub loop-number-preserved : goal.loop-number-preserved
 loop-number-preserved g c =
-    let rows = (g.K.ReferencingRows.view c.args.store.now).base.rows in
-    turned_on (λ (n : ℕ). added_of_row (λ (r : StoredRow). Ok r.values) (row_at rows n)) c.args.numbers.now c.loop-number.number-index _ _ c.loop-number.invariant
+    turned_on (λ (n : ℕ). added_of_row (λ (r : StoredRow). Ok r.values) (row_at (g.K.ReferencingRows.view c.args.store.now).base.rows n))
+    c.args.numbers.now c.loop-number.number-index _ _ c.loop-number.invariant
     _ _ (drop_more c.args.numbers.now c.loop-number.number-index 0 c.loop-number-test.true) c.in_ok-push_row.ensures
 
 pub returns-in_err-push_row : goal.returns-in_err-push_row
 returns-in_err-push_row g c =
-    let rows = (g.K.ReferencingRows.view c.args.store.now).base.rows in
     told_on _ c.from_residual.result c.in_err-push_row.field-0.0 _ c.from_residual.ensures.1
-    (turn_refused (λ (n : ℕ). added_of_row (λ (r : StoredRow). Ok r.values) (row_at rows n)) c.args.numbers.now c.loop-number.number-index _ _ c.loop-number.invariant
+    (turn_refused (λ (n : ℕ). added_of_row (λ (r : StoredRow). Ok r.values) (row_at (g.K.ReferencingRows.view c.args.store.now).base.rows n))
+    c.args.numbers.now c.loop-number.number-index _ _ c.loop-number.invariant
     _ _ (drop_more c.args.numbers.now c.loop-number.number-index 0 c.loop-number-test.true) c.in_err-push_row.ensures)
 
 pub returns : goal.returns
 returns g c =
-    let rows = (g.K.ReferencingRows.view c.args.store.now).base.rows in
-    all_turned (λ (n : ℕ). added_of_row (λ (r : StoredRow). Ok r.values) (row_at rows n)) c.args.numbers.now c.loop-number.number-index _ _ c.loop-number.invariant c.loop-number-test.false
+    all_turned (λ (n : ℕ). added_of_row (λ (r : StoredRow). Ok r.values) (row_at (g.K.ReferencingRows.view c.args.store.now).base.rows n))
+    c.args.numbers.now c.loop-number.number-index _ _ c.loop-number.invariant c.loop-number-test.false
