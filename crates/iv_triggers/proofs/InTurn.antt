@@ -1,7 +1,10 @@
 -- The first of triggers, and the others; and one trigger at each change.
 use Rattle.std.proofs.Common.{◌≡◌, ◌∙◌, refl, ◌+◌, ◌-◌, ◌<◌, ◌≤◌, ℕ, Bool, true, false, Result, Ok, Err, MatchBool, IsErrAnd, List, [], ◌∷◌, ◌++◌, ap, subst, sym, cond, length, get_or, set, take, drop, filter, arith, append_assoc, append-nil}
-use Rattle.std.proofs.lemmas.List.{take_rest, take_all, drop_all, drop_more, drop-set-lt, take_more_set}
+use Rattle.std.proofs.lemmas.List.{length-drop, nil_from_length, take_rest, take_all, drop_all, drop_more, drop-set-lt, take_more_set}
 use Rattle.iv_expr.specs.Evaluation.{and_then}
+use Rattle.iv_catalogue.specs.Catalogues.{BodiesWithinLimit}
+use Rattle.iv_catalogue.specs.declared.limits.TheConstants.{MOST_BODY_STATEMENTS}
+use Rattle.iv_catalogue.specs.declared.plan.Trigger.{Trigger}
 use Rattle.iv_catalogue.specs.Refusals.{is_memory_cause}
 use Rattle.iv_catalogue.specs.declared.cause.Refusal.{Refusal}
 use Rattle.iv_machine.specs.Context.{each, in_turn}
@@ -64,6 +67,27 @@ first_is_passed {X = X} meant xs x h e m =
     ap (λ (l : List X). filter meant l) (first_of xs x h e)
     ∙ ap (λ b. cond b (x ∷ filter meant (drop 1 xs)) (filter meant (drop 1 xs))) (sym m)
     ∙ ap (λ (l : List X). filter meant l) (sym (take_rest xs 1))
+
+-- the bodies of the first and of the others are within the limit
+pub first_body : (ts : List Trigger) (t : Trigger) → 1 ≤ length ts → t ≡ get_or ts 0 t → BodiesWithinLimit ts → length t.body ≤ MOST_BODY_STATEMENTS
+first_body [] t h e b = absurd (omega arith)
+first_body (x ∷ ts) t h e b = subst (λ (y : Trigger). length y.body ≤ MOST_BODY_STATEMENTS) (sym e) b.0
+
+pub other_bodies : (ts : List Trigger) → BodiesWithinLimit ts → BodiesWithinLimit (take (length ts - 1) (drop 1 ts))
+other_bodies [] b = tt
+other_bodies (x ∷ ts) b = subst BodiesWithinLimit (sym (take_rest (x ∷ ts) 1)) b.1
+
+-- the others are fewer
+pub fewer : {X : Type 0} (xs : List X) → 1 ≤ length xs → length (take (length xs - 1) (drop 1 xs)) < length xs
+fewer xs h = omega (arith, ap length (take_rest xs 1), length-drop 1 xs)
+
+-- there are none
+module _ {X B : Type 0} (meant : X → Bool) (f : X → B → Result B Refusal) (tell : X → B → List Entry) (xs : List X) (b : B) (empty : length xs ≡ 0) where
+  pub none_run : in_turn f (filter meant xs) b ≡ Ok b
+  none_run = ap (λ (l : List X). in_turn f (filter meant l) b) (nil_from_length xs empty)
+
+  pub none_told : (account : Account) → account ≡ and_told account (told_in_turn f tell (filter meant xs) b)
+  none_told account = sym (told_none account) ∙ ap (λ (l : List X). and_told account (told_in_turn f tell (filter meant l) b)) (sym (nil_from_length xs empty))
 
 module _ {X A B : Type 0} (meant : X → Bool) (f : X → B → Result B Refusal) (tell : X → B → List Entry) (xs : List X) (x : X) (b : B)
     (r : Result A Refusal) (some : 1 ≤ length xs) (here : x ≡ get_or xs 0 x) where
