@@ -1,6 +1,6 @@
 -- The first of triggers, and the others; and one trigger at each change.
 use Rattle.std.proofs.Common.{◌≡◌, ◌∙◌, refl, ◌+◌, ◌-◌, ◌<◌, ◌≤◌, ℕ, Bool, true, false, Result, Ok, Err, MatchBool, IsErrAnd, List, [], ◌∷◌, ◌++◌, ap, subst, sym, cond, length, get_or, set, take, drop, filter, arith, append_assoc, append-nil}
-use Rattle.std.proofs.lemmas.List.{length-drop, nil_from_length, take_rest, take_all, drop_all, drop_more, drop-set-lt, take_more_set}
+use Rattle.std.proofs.lemmas.List.{length-drop, length-set, nil_from_length, take_rest, take_all, drop_all, drop_more, drop-set-lt, take_more_set}
 use Rattle.iv_expr.specs.Evaluation.{and_then}
 use Rattle.iv_catalogue.specs.Catalogues.{BodiesWithinLimit}
 use Rattle.iv_catalogue.specs.declared.limits.TheConstants.{MOST_BODY_STATEMENTS}
@@ -155,6 +155,9 @@ module _ {X B : Type 0} (meant : X → Bool) (f : X → B → Result B Refusal) 
   first_refused_unasked e m is o = refused_as r e is ∙ sym (first_refuses meant f tell xs x b r some here e m (sym o))
 
 -- ---- one of them at each change
+
+pub one_further : {X : Type 0} (xs : List X) (i : ℕ) (y : X) → i < length xs → i + 1 ≤ length (set xs i y)
+one_further xs i y h = omega (arith, length-set xs i y)
 
 module _ {X : Type 0} (f : X → Result X Refusal) (xs : List X) (i : ℕ) (said : Result (List X) Refusal)
     (all : and_then (each f (drop i xs)) (λ ys. Ok (take i xs ++ ys)) ≡ said) where
