@@ -33,11 +33,13 @@ fn rooms(groups: &mut Groups) -> Result<([u64; 5], u64), AllocError> {
 fn places(
     alloc: Global,
     groups: &mut Groups,
-    values: &[Value],
 ) -> Result<([Option<usize>; 5], [bool; 3], usize), AllocError> {
-    let first = Key::new(&[0], values);
-    let second = Key::new(&[1], values);
-    let third = Key::new(&[2], values);
+    let (one, two, three) = ([Value::Int(1)], [Value::Int(2)], [Value::Int(3)]);
+    let (first, second, third) = (
+        Key::new(&[0], &one),
+        Key::new(&[0], &two),
+        Key::new(&[0], &three),
+    );
     groups.cover(1)?;
     checked::make_room(groups, 0, &first)?;
     checked::add(groups, 0, &second, 7)?;
@@ -123,11 +125,9 @@ fn room_is_made_and_taken(rt: HostRuntime) -> Result<(), Fail> {
 
 #[test]
 fn groups_stay_at_their_places(rt: HostRuntime) -> Result<(), Fail> {
-    let values = [Value::Int(1), Value::Int(2), Value::Int(3)];
     let mut groups = Groups::new(rt.alloc());
-    let said = places(rt.alloc(), &mut groups, &values);
+    let said = places(rt.alloc(), &mut groups);
     drop(groups);
-    drop(values);
     let (places, rows, count) = said?;
     assert_eq!(rt; places, [Some(0), Some(1), None, Some(0), Some(1)]);
     assert_eq!(rt; rows, [true; 3]);
