@@ -81,3 +81,11 @@ a_name text d [] b found l e h f = absurd (omega arith)
 a_name text d (t ∷ ts) b found l e h f =
     let n : length (t ∷ ts) - 1 ≡ length ts = omega arith in
     rw (n, take_all (length ts) ts (omega arith), f) (sym (name_by t.kind (folded_text text t) (unquoted_text text t) (words text ts) (exact t.kind kind.Name (not_false _ (sym e ∙ h)))))
+
+-- the words of tokens of which the first has this kind
+pub first_word : (text : List ℕ) (d : Token) (all : List Token) (k : TokenKind) → 1 ≤ length all → (slice_index_or all 0 d).kind ≡ k
+    → words text all ≡ word_by k (folded_text text (slice_index_or all 0 d)) (unquoted_text text (slice_index_or all 0 d)) ∷ words text (take (length all - 1) (drop 1 all))
+first_word text d [] k l e = absurd (omega arith)
+first_word text d (t ∷ ts) k l e =
+    let n : length (t ∷ ts) - 1 ≡ length ts = omega arith in
+    rw (n, take_all (length ts) ts (omega arith)) (ap (λ j. word_by j (folded_text text t) (unquoted_text text t) ∷ words text ts) e)

@@ -1,5 +1,6 @@
 pub mod Exact
 pub mod Fronts
+pub mod ByKind
 pub mod Steps
 pub mod Parts
 pub mod Sound

@@ -4,7 +4,7 @@ use Rattle.iv_parse_terms.proofs.Fronts.{no_name, a_name}
 use Rattle.iv_parse_terms.proofs.front.name.Goals as goal
 
 pub returns-then-ne : goal.returns-then-ne
-returns-then-ne c = no_name c.args.text.now _ c.args.tokens.now c.ne.result c.in-len1-up.len_at_least c.ne.ensures c.if-ne.true
+returns-then-ne c = no_name c.args.text.now _ c.args.tokens.now _ c.in-len1-up.len_at_least c.ne.ensures c.if-ne.true
 
 pub returns-in-Some : goal.returns-in-Some
 returns-in-Some c = rw (c.new.ensures) (a_name c.args.text.now _ c.args.tokens.now c.ne.result (Some c.in-Some.name) c.in-len1-up.len_at_least c.ne.ensures c.if-ne.false (sym c.in-Some.is ∙ c.in_ok-name.ensures))
