@@ -151,3 +151,12 @@ more_step k d F (suc m) i ws rest n h =
     ap (λ q. then_read (then_read (F rest) (connection_from k d i)) (more_by k d F q)) e
     ∙ (read_twice (F rest) (connection_from k d i) (more_by k d F m)
     ∙ ap (λ o. if_some o (λ r. then_read (F r) (λ j more. then_read (connection_from k d i j more) (more_by k d F m))) (Some (i, ws))) h)
+
+-- where no further operand comes, and where one too many comes
+pub more_end : (k : Connective) (d : ℕ) (F : List Word → FoundItem) (n : ℕ) (i : Item) (ws : List Word) → None ≡ after_truth k i ws → Some (i, ws) ≡ more_by k d F n i ws
+more_end k d F zero i ws h = ap (λ o. if_some o (λ rest. None) (Some (i, ws))) h
+more_end k d F (suc m) i ws h = ap (λ o. if_some o (λ r. then_read (F r) (λ j more. then_read (connection_from k d i j more) (more_by k d F m))) (Some (i, ws))) h
+
+pub more_full : (k : Connective) (d : ℕ) (F : List Word → FoundItem) (n : ℕ) (i : Item) (ws rest : List Word) → n ≡ 0 → Some rest ≡ after_truth k i ws → None ≡ more_by k d F n i ws
+more_full k d F zero i ws rest e h = ap (λ o. if_some o (λ r. None) (Some (i, ws))) h
+more_full k d F (suc m) i ws rest e h = absurd (omega arith)

@@ -39,3 +39,20 @@ terms_step d F zero a ws p n h = absurd (n refl)
 terms_step d F (suc m) a ws p n h =
     let e : suc m - 1 ≡ m = omega arith in
     rw e (ap (λ o. if_some o (λ q. then_read (F q.1) (λ b more. then_read (fits d (sum q.0 a b) more) (more_terms d F m))) (Some (a, ws))) (sym h))
+
+-- where no further operand comes, and where one too many comes
+pub factors_end : (d : ℕ) (F : List Word → FoundExpression) (n : ℕ) (a : Expression) (ws : List Word) → None ≡ after kind.Asterisk ws → Some (a, ws) ≡ more_factors d F n a ws
+factors_end d F zero a ws h = ap (λ o. if_some o (λ rest. None) (Some (a, ws))) h
+factors_end d F (suc m) a ws h = ap (λ o. if_some o (λ rest. then_read (F rest) (λ b more. then_read (fits d (product a b) more) (more_factors d F m))) (Some (a, ws))) h
+
+pub factors_full : (d : ℕ) (F : List Word → FoundExpression) (n : ℕ) (a : Expression) (ws js : List Word) → n ≡ 0 → Some js ≡ after kind.Asterisk ws → None ≡ more_factors d F n a ws
+factors_full d F zero a ws js e h = ap (λ o. if_some o (λ rest. None) (Some (a, ws))) h
+factors_full d F (suc m) a ws js e h = absurd (omega arith)
+
+pub terms_end : (d : ℕ) (F : List Word → FoundExpression) (n : ℕ) (a : Expression) (ws : List Word) → None ≡ after_sign ws → Some (a, ws) ≡ more_terms d F n a ws
+terms_end d F zero a ws h = ap (λ o. if_some o (λ q. None) (Some (a, ws))) h
+terms_end d F (suc m) a ws h = ap (λ o. if_some o (λ q. then_read (F q.1) (λ b more. then_read (fits d (sum q.0 a b) more) (more_terms d F m))) (Some (a, ws))) h
+
+pub terms_full : (d : ℕ) (F : List Word → FoundExpression) (n : ℕ) (a : Expression) (ws : List Word) (p : Sign × List Word) → n ≡ 0 → Some p ≡ after_sign ws → None ≡ more_terms d F n a ws
+terms_full d F zero a ws p e h = ap (λ o. if_some o (λ q. None) (Some (a, ws))) h
+terms_full d F (suc m) a ws p e h = absurd (omega arith)

@@ -1,7 +1,8 @@
-use Rattle.std.proofs.Common.{refl}
+use Rattle.std.proofs.Common.{refl, ◌∙◌, ap}
 use Rattle.iv_lex.specs.Words.{words}
+use Rattle.iv_parse_terms.specs.SeenItem.{item_found}
 use Rattle.iv_parse_terms.specs.readers.Conditions.{read_operand, read_item}
-use Rattle.iv_parse_terms.proofs.ConditionSteps.{lead_zero, lead_open, lead_exists, lead_simple, factor_signed, factor_lead, test_step, negation_not, negation_plain, conjunction_step, item_step, more_step}
+use Rattle.iv_parse_terms.proofs.ConditionSteps.{lead_zero, lead_open, lead_exists, lead_simple, factor_signed, factor_lead, test_step, negation_not, negation_plain, conjunction_step, item_step, more_step, more_end, more_full}
 use Rattle.iv_parse_terms.proofs.condition.+condition.Goals as goal
 
 pub operand-returns-in-And : goal.operand-returns-in-And
@@ -102,3 +103,14 @@ pub negation-returns-in-None : goal.negation-returns-in-None
 negation-returns-in-None t c =
     let text = c.args.text.now in
     rw (← negation_not c.args.limit (words text c.args.tokens.now) (words text c.in-Some.rest.now) (c.in-Some.ensures text), ← c.in_ok-found.ensures, c.in-None.is) refl
+
+pub operands-returns-in_default : goal.operands-returns-in_default
+operands-returns-in_default t c =
+    let text = c.args.text.now in
+    more_end c.args.connective c.args.limit (read_operand c.args.connective c.args.limit) c.args.most c.args.left.item (words text c.args.left.rest.now) (c.in_default.ensures text)
+
+pub operands-returns-then-most-eq0 : goal.operands-returns-then-most-eq0
+operands-returns-then-most-eq0 t c =
+    let text = c.args.text.now in
+    ap (item_found text) c.discard.ensures
+    ∙ more_full c.args.connective c.args.limit (read_operand c.args.connective c.args.limit) c.args.most c.args.left.item (words text c.args.left.rest.now) (words text c.in-Some.rest.now) c.if-most-eq0.true (c.in-Some.ensures text)

@@ -1,7 +1,7 @@
 use Rattle.std.proofs.Common.{refl}
 use Rattle.iv_lex.specs.Words.{words}
 use Rattle.iv_parse_terms.specs.readers.Expressions.{read_factor, read_term}
-use Rattle.iv_parse_terms.proofs.Steps.{primary_zero, primary_open, primary_simple, factors_step, terms_step}
+use Rattle.iv_parse_terms.proofs.Steps.{primary_zero, primary_open, primary_simple, factors_step, factors_end, factors_full, terms_step, terms_end, terms_full}
 use Rattle.iv_parse_terms.proofs.expression.+expression.Goals as goal
 
 pub primary-returns-then-limit-eq0 : goal.primary-returns-then-limit-eq0
@@ -44,3 +44,29 @@ pub terms-returns-in-None : goal.terms-returns-in-None
 terms-returns-in-None t c =
     let s = terms_step c.args.limit (read_term c.args.limit) c.args.most c.args.left.tree (words c.args.text.now c.args.left.rest.now) (c.in-Some.sign, words c.args.text.now c.in-Some.rest.now) c.if-most-eq0.false (c.in-Some.ensures c.args.text.now) in
     rw (s, ← c.in_ok-right.ensures, c.in-None.is) refl
+
+pub factors-returns-in_default : goal.factors-returns-in_default
+factors-returns-in_default t c =
+    factors_end c.args.limit (read_factor c.args.limit) c.args.most c.args.left.tree (words c.args.text.now c.args.left.rest.now) (c.in_default.ensures c.args.text.now)
+
+pub factors-returns-then-most-eq0 : goal.factors-returns-then-most-eq0
+factors-returns-then-most-eq0 t c =
+    factors_full c.args.limit (read_factor c.args.limit) c.args.most c.args.left.tree (words c.args.text.now c.args.left.rest.now) (words c.args.text.now c.in-Some.rest.now) c.if-most-eq0.true (c.in-Some.ensures c.args.text.now)
+
+pub factors-returns-in-None : goal.factors-returns-in-None
+factors-returns-in-None t c =
+    let s = factors_step c.args.limit (read_factor c.args.limit) c.args.most c.args.left.tree (words c.args.text.now c.args.left.rest.now) (words c.args.text.now c.in-Some.rest.now) c.if-most-eq0.false (c.in-Some.ensures c.args.text.now) in
+    rw (s, ← c.in_ok-right.ensures, c.in-None.is) refl
+
+pub factors-returns-in-None-2 : goal.factors-returns-in-None-2
+factors-returns-in-None-2 t c =
+    let s = factors_step c.args.limit (read_factor c.args.limit) c.args.most c.args.left.tree (words c.args.text.now c.args.left.rest.now) (words c.args.text.now c.in-Some.rest.now) c.if-most-eq0.false (c.in-Some.ensures c.args.text.now) in
+    rw (s, ← c.in_ok-right.ensures, c.in-Some-2.is, ← c.in_ok-both-in-Some-2.ensures c.args.text.now, c.in-None-2.is) refl
+
+pub terms-returns-in_default : goal.terms-returns-in_default
+terms-returns-in_default t c =
+    terms_end c.args.limit (read_term c.args.limit) c.args.most c.args.left.tree (words c.args.text.now c.args.left.rest.now) (c.in_default.ensures c.args.text.now)
+
+pub terms-returns-then-most-eq0 : goal.terms-returns-then-most-eq0
+terms-returns-then-most-eq0 t c =
+    terms_full c.args.limit (read_term c.args.limit) c.args.most c.args.left.tree (words c.args.text.now c.args.left.rest.now) (c.in-Some.sign, words c.args.text.now c.in-Some.rest.now) c.if-most-eq0.true (c.in-Some.ensures c.args.text.now)
