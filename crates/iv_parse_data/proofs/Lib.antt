@@ -1,4 +1,5 @@
 pub mod Fronts
+pub mod FirstNumber
 pub mod Complete
 pub mod Loops
 pub mod DataSound

@@ -28,6 +28,13 @@ module _ {A : Type 0} where
     is = first_preceded a (read_more part (length rest) rest) ∙ ap (λ o. then_read o (λ b more. then_read (read_more part (length more) more) (with_first b))) h;
   }
 
+  pub along_begun : (part : List Word → Option (A × List Word)) (ws rest : List Word) (old items : List A) (a : A) (n : ℕ) → old ≡ [] → items ≡ old ++ a ∷ [] → n ≡ length rest → Some (a, rest) ≡ part ws → Along part items n rest (read_series part ws)
+  along_begun part ws rest old items a n d e f h = rw (e, d, f) (along_first part ws rest a h)
+
+  -- no first part
+  pub series_none : (part : List Word → Option (A × List Word)) (ws : List Word) → None ≡ part ws → None ≡ read_series part ws
+  series_none part ws h = ap (λ o. then_read o (λ b more. then_read (read_more part (length more) more) (with_first b))) h
+
   -- no comma follows
   pub along_end : (part : List Word → Option (A × List Word)) (items : List A) (n : ℕ) (ws : List Word) (all : Option (List A × List Word)) → Along part items n ws all → None ≡ after kind.Comma ws → Some (items, ws) ≡ all
   along_end part items zero ws all along h =
