@@ -1,5 +1,5 @@
 -- Marks after two places were exchanged.
-use Rattle.std.proofs.Common.{◌≡◌, ◌≢◌, refl, ℕ, ◌+◌, ◌-◌, ◌<◌, ◌≤◌, Bool, true, false, if◌then◌else◌, List, length, get_or, sym, ap, ◌∙◌, ⊎_elim, inl, inr, ◌⊎◌, arith}
+use Rattle.std.proofs.Common.{◌≡◌, ◌≢◌, refl, ℕ, ◌+◌, ◌-◌, ◌<◌, ◌≤◌, Bool, true, false, if◌then◌else◌, List, length, get_or, slice_set, sym, ap, subst, ◌∙◌, ⊎_elim, inl, inr, ◌⊎◌, arith}
 use Rattle.std.specs.Bool.{nat_lt, ◌==◌}
 use Rattle.std.proofs.lemmas.Bool.{cases_eq, cases_lt, eq-eqb, ne_eqb, lt-ltb, le-ltb}
 use Rattle.std.proofs.lemmas.List.{ext_get_or, length-map, length-set, get_or-set_same, get_or-set_other, get_or-map}
@@ -117,6 +117,14 @@ marked_less order old new marked place paired len within low moved =
         (λ goes. ap (λ x. nat_lt x (marked - 1)) goes.0 ∙ lt-ltb (get_or old place 0) (marked - 1) (omega (arith, low, goes.2)) ∙ sym (lt-ltb (get_or old p 0) marked (omega (arith, low, goes.1))))
         e.at
 
+-- another number of marked places
+pub with_marked : (order position : List ℕ) (marked after : ℕ) → Paired order position marked → after ≤ length order → Paired order position after
+with_marked order position marked after p few = record { lengths = p.lengths; within = few; order_in = p.order_in; position_in = p.position_in; there = p.there; back = p.back }
+
+-- the position of a place
+pub position_known : (order position : List ℕ) (marked place at : ℕ) → Paired order position marked → place < length position → at ≡ get_or position place 0 → at < length order
+position_known order position marked place at p within e = subst (λ n. n < length order) (sym e) (p.position_in place (subst (λ n. place < n) (sym p.lengths) within))
+
 -- ---- what code reads
 
 pub within_flags : (position : List ℕ) (marked place : ℕ) (now : List Bool) → flags marked position ≡ now → place < length now → place < length position
@@ -124,3 +132,110 @@ within_flags position marked place now e h = omega (arith, h, ap length e, lengt
 
 pub read_zero : (xs : List ℕ) (i x : ℕ) → i < length xs → x ≡ get_or xs i x → x ≡ get_or xs i 0
 read_zero xs i x h e = e ∙ get_or_default_zero xs i x h
+
+-- ---- an exchange of two positions
+
+-- a function with other values at two numbers
+abbrev put : (ℕ → ℕ) → ℕ → ℕ → ℕ → ℕ → ℕ → ℕ
+put f j a i b x = if x == j then a else (if x == i then b else f x)
+
+put_first : (f : ℕ → ℕ) (j a i b x : ℕ) → x ≡ j → put f j a i b x ≡ a
+put_first f j a i b x e = ap (λ t. if t then a else (if x == i then b else f x)) (eq-eqb x j e)
+
+put_second : (f : ℕ → ℕ) (j a i b x : ℕ) → x ≢ j → x ≡ i → put f j a i b x ≡ b
+put_second f j a i b x n e = ap (λ t. if t then a else (if x == i then b else f x)) (ne_eqb x j n) ∙ ap (λ t. if t then b else f x) (eq-eqb x i e)
+
+put_none : (f : ℕ → ℕ) (j a i b x : ℕ) → x ≢ j → x ≢ i → put f j a i b x ≡ f x
+put_none f j a i b x n m = ap (λ t. if t then a else (if x == i then b else f x)) (ne_eqb x j n) ∙ ap (λ t. if t then b else f x) (ne_eqb x i m)
+
+put_in : (f : ℕ → ℕ) (j a i b x n : ℕ) → a < n → b < n → f x < n → put f j a i b x < n
+put_in f j a i b x n a_in b_in f_in =
+    elim (x == j) as (λ t. (if t then a else (if x == i then b else f x)) < n) [
+      | true ↦ a_in
+      | false ↦ elim (x == i) as (λ t. (if t then b else f x) < n) [ true ↦ b_in | false ↦ f_in ]
+    ]
+
+-- two inverse functions after the exchange
+swapped : (f g : ℕ → ℕ) (i j a b x : ℕ) → g a ≡ i → g b ≡ j → g (f x) ≡ x → put g b i a j (put f j a i b x) ≡ x
+swapped f g i j a b x at_a at_b at_x = ⊎_elim
+    (λ (e : x ≡ j). ap (put g b i a j) (put_first f j a i b x e) ∙ ⊎_elim
+    (λ (same : a ≡ b). put_first g b i a j a same ∙ sym at_a ∙ ap g same ∙ at_b ∙ sym e)
+    (λ (differ : a ≢ b). put_second g b i a j a differ refl ∙ sym e)
+    (cases_eq a b))
+    (λ (n : x ≢ j). ⊎_elim
+    (λ (e : x ≡ i). ap (put g b i a j) (put_second f j a i b x n e) ∙ put_first g b i a j b refl ∙ sym e)
+    (λ (m : x ≢ i). ap (put g b i a j) (put_none f j a i b x n m)
+    ∙ put_none g b i a j (f x) (λ e. n (sym at_x ∙ ap g e ∙ at_b)) (λ e. m (sym at_x ∙ ap g e ∙ at_a))
+    ∙ at_x)
+    (cases_eq x i))
+    (cases_eq x j)
+
+at_one : (xs : List ℕ) (i v p : ℕ) → i < length xs → get_or (slice_set xs i v) p 0 ≡ (if p == i then v else get_or xs p 0)
+at_one xs i v p within = ⊎_elim
+    (λ (e : p ≡ i). ap (λ q. get_or (slice_set xs i v) q 0) e ∙ get_or-set_same xs i v 0 within ∙ ap (λ t. if t then v else get_or xs p 0) (sym (eq-eqb p i e)))
+    (λ (e : p ≢ i). get_or-set_other xs i p v 0 e ∙ ap (λ t. if t then v else get_or xs p 0) (sym (ne_eqb p i e)))
+    (cases_eq p i)
+
+at_two : (xs : List ℕ) (i v j w p : ℕ) → i < length xs → j < length xs → get_or (slice_set (slice_set xs i v) j w) p 0 ≡ put (λ q. get_or xs q 0) j w i v p
+at_two xs i v j w p i_in j_in = at_one (slice_set xs i v) j w p (omega (arith, j_in, length-set xs i v)) ∙ ap (λ n. if p == j then w else n) (at_one xs i v p i_in)
+
+module _ (order position : List ℕ) (marked i j one other : ℕ) (paired : Paired order position marked) (i_in : i < length order) (j_in : j < length order)
+    (is_one : one ≡ get_or order i 0) (is_other : other ≡ get_or order j 0) where
+  abbrev ordered : List ℕ
+  ordered = slice_set (slice_set order i other) j one
+
+  abbrev placed : List ℕ
+  placed = slice_set (slice_set position one j) other i
+
+  same_order : length ordered ≡ length order
+  same_order = length-set (slice_set order i other) j one ∙ length-set order i other
+
+  same_position : length placed ≡ length position
+  same_position = length-set (slice_set position one j) other i ∙ length-set position one j
+
+  one_in : one < length order
+  one_in = subst (λ n. n < length order) (sym is_one) (paired.order_in i i_in)
+
+  other_in : other < length order
+  other_in = subst (λ n. n < length order) (sym is_other) (paired.order_in j j_in)
+
+  in_position : (p : ℕ) → p < length order → p < length position
+  in_position p h = subst (λ n. p < n) paired.lengths h
+
+  at_order : (p : ℕ) → get_or ordered p 0 ≡ put (λ q. get_or order q 0) j one i other p
+  at_order p = at_two order i other j one p i_in j_in
+
+  at_position : (p : ℕ) → get_or placed p 0 ≡ put (λ q. get_or position q 0) other i one j p
+  at_position p = at_two position one j other i p (in_position one one_in) (in_position other other_in)
+
+  of_one : get_or position one 0 ≡ i
+  of_one = ap (λ n. get_or position n 0) is_one ∙ paired.there i i_in
+
+  of_other : get_or position other 0 ≡ j
+  of_other = ap (λ n. get_or position n 0) is_other ∙ paired.there j j_in
+
+  before : (p : ℕ) → p < length ordered → p < length order
+  before p h = subst (λ n. p < n) same_order h
+
+  after : (p : ℕ) → p < length order → p < length ordered
+  after p h = subst (λ n. p < n) (sym same_order) h
+
+  pub exchanged : Paired ordered placed marked
+  exchanged = record {
+    lengths = same_order ∙ paired.lengths ∙ sym same_position;
+    within = subst (λ n. marked ≤ n) (sym same_order) paired.within;
+    order_in = λ p h. after (get_or ordered p 0) (subst (λ n. n < length order) (sym (at_order p)) (put_in (λ q. get_or order q 0) j one i other p (length order) one_in other_in (paired.order_in p (before p h))));
+    position_in = λ p h. after (get_or placed p 0) (subst (λ n. n < length order) (sym (at_position p)) (put_in (λ q. get_or position q 0) other i one j p (length order) i_in j_in (paired.position_in p (before p h))));
+    there = λ p h.
+        at_position (get_or ordered p 0) ∙ ap (put (λ q. get_or position q 0) other i one j) (at_order p)
+        ∙ swapped (λ q. get_or order q 0) (λ q. get_or position q 0) i j one other p of_one of_other (paired.there p (before p h));
+    back = λ p h.
+        at_order (get_or placed p 0) ∙ ap (put (λ q. get_or order q 0) j one i other) (at_position p)
+        ∙ swapped (λ q. get_or position q 0) (λ q. get_or order q 0) one other i j p (sym is_one) (sym is_other) (paired.back p (before p h));
+  }
+
+  pub exchanged_positions : (p : ℕ) → get_or placed p 0 ≡ (if p == get_or order j 0 then i else (if p == get_or order i 0 then j else get_or position p 0))
+  exchanged_positions p =
+      at_position p
+      ∙ ap (λ b. if p == b then i else (if p == one then j else get_or position p 0)) is_other
+      ∙ ap (λ a. if p == get_or order j 0 then i else (if p == a then j else get_or position p 0)) is_one

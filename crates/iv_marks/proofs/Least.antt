@@ -1,5 +1,5 @@
 -- The first of numbers in rising order: the least.
-use Rattle.std.proofs.Common.{◌≡◌, refl, ℕ, ◌+◌, ◌<◌, true, false, if◌then◌else◌, List, [], ◌∷◌, ◌++◌, drop, length, get_or, Option, Some, None, sym, ap, ◌∙◌, arith}
+use Rattle.std.proofs.Common.{◌≡◌, refl, ℕ, ◌+◌, ◌<◌, Bool, true, false, if◌then◌else◌, List, [], ◌∷◌, ◌++◌, drop, filter, length, get_or, Option, Some, None, sym, ap, ◌∙◌, arith}
 use Rattle.std.specs.Bool.{◌==◌, nat_lt}
 use Rattle.std.proofs.lemmas.Bool.{ltb-true, lt-ltb}
 use Rattle.std.proofs.lemmas.List.{at_drop_more}
@@ -44,6 +44,16 @@ first_with n (m ∷ numbers) =
 lesser_above : (n : ℕ) (numbers : List ℕ) → AllAbove n numbers → lesser (Some n) (first numbers) ≡ Some n
 lesser_above n [] a = refl
 lesser_above n (m ∷ numbers) a = ap (λ b. Some (if b then n else m)) (lt-ltb n m a.0)
+
+-- a number that may be meant, and others
+pub first_chosen : (test : ℕ → Bool) (n : ℕ) (told : Option ℕ) (rest : List ℕ) → told ≡ (if test n then Some n else None)
+    → first (in_rising_order (filter test (n ∷ rest))) ≡ lesser told (first (in_rising_order (filter test rest)))
+first_chosen test n told rest e =
+    elim (test n) as (λ b. first (in_rising_order (if b then n ∷ filter test rest else filter test rest)) ≡ lesser (if b then Some n else None) (first (in_rising_order (filter test rest)))) [
+      | true ↦ first_with n (in_rising_order (filter test rest))
+      | false ↦ refl
+    ]
+    ∙ ap (λ o. lesser o (first (in_rising_order (filter test rest)))) (sym e)
 
 -- rising numbers before others
 pub first_before : (some others : List ℕ) → Rise some → first (in_rising_order (some ++ others)) ≡ lesser (first some) (first (in_rising_order others))

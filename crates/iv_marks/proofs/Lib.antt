@@ -1,6 +1,7 @@
 pub mod Exchanges
 pub mod Flags
 pub mod MarkedPlaces
+pub mod MarksWith
 pub mod Violated
 pub mod Shown
 pub mod Least
