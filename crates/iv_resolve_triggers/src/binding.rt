@@ -25,13 +25,13 @@ fn bound_action<'a>(
 {
     match action {
         TriggerAction::Insert(insert) => {
-            Ok(BodyStatement::Data(bound_insert(insert, alloc, &*names, &*ranges)?))
+            bound_insert(insert, alloc, &*names, &*ranges).map(BodyStatement::Data)
         }
         TriggerAction::Update(update) => {
-            Ok(BodyStatement::Data(bound_update(update, alloc, &*names, &*ranges)?))
+            bound_update(update, alloc, &*names, &*ranges).map(BodyStatement::Data)
         }
         TriggerAction::Delete(delete) => {
-            Ok(BodyStatement::Data(bound_delete(delete, alloc, &*names, &*ranges)?))
+            bound_delete(delete, alloc, &*names, &*ranges).map(BodyStatement::Data)
         }
         TriggerAction::Signal(text) => Ok(BodyStatement::Signal(text.clone()?)),
         TriggerAction::Set(_, column, value) => Ok(BodyStatement::Set(Setting {
@@ -92,12 +92,12 @@ pub fn bound_trigger<'a>(
 {
     let names = trigger_names(trigger, catalogue);
     let ranges = variables(&names);
-    let name = trigger.name.clone()?;
     let columns = places_of(
         alloc,
         &subject(trigger, catalogue),
         trigger.columns.as_slice(),
-    )?;
+    );
+    let (name, columns) = both(trigger.name.clone(), columns)?;
     let body = bound_body(trigger.body.as_slice(), alloc, &names, &ranges);
     let (when, body) = both(bound_filter(&trigger.when, alloc, &names, &ranges), body)?;
     Ok(Trigger {
