@@ -58,13 +58,14 @@ def declared(name):
 
 def digest_of_sources():
     """A digest of the changes, and of the definitions and the worked scripts that they are tried over."""
-    paths = [CHANGES] + [os.path.join(CRATES, crate, 'src', name + '.rt') for crate in DEFINED for name in declared(crate)]
+    types = {os.path.join(CRATES, crate, 'src', name + '.rt') for crate in DEFINED for name in declared(crate)}
+    paths = {CHANGES, *types}
     for folder in DIGESTED:
         for place, _, files in os.walk(os.path.join(CRATES, folder)):
-            paths += [os.path.join(place, file) for file in files if file != 'tests.rt']
+            paths.update(os.path.join(place, file) for file in files if file != 'tests.rt')
     digest = hashlib.sha256()
     for path in sorted(paths):
-        digest.update(os.path.relpath(path, HERE).encode() + b'\0' + bare(path).encode() + b'\0')
+        digest.update(os.path.relpath(path, HERE).encode() + b'\0' + bare(path, path in types).encode() + b'\0')
     return digest.hexdigest()
 
 

@@ -12,10 +12,10 @@ edited function as refused. The last line is `N passed, N failed`.
 The file tests/edits/DIGESTS has a digest for each crate whose edits were all refused: of the edits, of the crate, and of
 what it names in the crates below, and that in turn: modules of proofs and definitions, and of code the files that define
 a name or have an `impl` of it. Tests, comments and the breaks of lines of code are no part of it; of the crates below
-neither are private functions, tactics, the bodies of functions that have a contract, and imports for these, since a proof
-above sees the contracts of public functions alone. Where it is still the same the edits aren't tried again, except with
---all; where they are tried and all are refused it is written anew. A crate that is tried is proved first where its kept
-work is missing or old."""
+neither are private functions and fields, tactics, drops without a clause, the bodies of functions that have a contract,
+and imports for these, since a proof above sees models and the contracts of public functions alone. Where it is still the
+same the edits aren't tried again, except with --all; where they are tried and all are refused it is written anew. A crate
+that is tried is proved first where its kept work is missing or old."""
 import argparse
 import functools
 import hashlib
@@ -44,6 +44,9 @@ COMMENTS = {".rt": "//", ".antt": "--"}
 PROOF_PATH = re.compile(r"\bRattle\.(iv_\w+)\.(specs|proofs)\.([\w.◌+-]*\w)")
 CODE_PATH = re.compile(r"\b(iv_\w+|crate)((?:::\w+)*)::(?:(\w+)|\{([^}]*)\})")
 EXPORT = re.compile(r"^pub use (\w+)::(?:(\w+)|\{([^}]*)\});", re.M)
+# A struct with its fields, of which another crate sees the public ones; and what says, without a clause, that a type may be dropped.
+FIELDS = re.compile(r"^( *pub struct [^{};]*\{\n)(.*?)^( *\}\n)", re.M | re.S)
+DROPPED = re.compile(r"^ *#\[derive\(Drop\)\]\n|^impl\b(?:<[^{]*?>)? *Drop for [^{]*\{\n(?:(?!\}\n)(?! *(?:requires|ensures)).*\n)*\}\n", re.M)
 IMPLEMENTS = re.compile(r"^impl\b(?:<[^{]*?>)? *(?:[\w:<>, ]+ for )?(\w+)", re.M)
 
 
@@ -133,10 +136,24 @@ def with_used_imports(source):
     return "".join(f"use {path};\n" for path, name in imports if is_named(name.strip())) + rest
 
 
+def with_public_fields(struct):
+    """The text of a struct without its private fields. A field begins with the least indent; what it has on further lines has more."""
+    lines = struct[2].splitlines(True)
+    indents = [len(line) - len(line.lstrip()) for line in lines]
+    kept, is_public = [], False
+    for line, indent in zip(lines, indents):
+        if indent == min(indents) and line.lstrip()[0].isalpha():
+            is_public = line.lstrip().startswith("pub ")
+        if is_public:
+            kept.append(line)
+    return struct[1] + "".join(kept) + struct[3]
+
+
 def seen_from_above(source):
-    """What a crate above sees of a file of code: no private functions, tactics and bodies of functions that have clauses, and no imports
-    for these."""
-    return with_used_imports(BODY.sub("", PRIVATE.sub("", TACTIC.sub("", source))))
+    """What a crate above sees of a file of code: no private functions and fields, tactics, drops without a clause, and bodies of functions
+    that have clauses, and no imports for these."""
+    seen = BODY.sub("", PRIVATE.sub("", TACTIC.sub("", source)))
+    return with_used_imports(FIELDS.sub(with_public_fields, DROPPED.sub("", seen)))
 
 
 def bare(path, from_above=False):
