@@ -59,10 +59,16 @@ fn seen(alloc: Global, trigger: &Trigger, frame: &Frame<'_>) -> Result<Seen, All
 
 /// What was told so far, where an account is asked for, and otherwise nothing. Where none is asked for, no call takes
 /// memory. Where memory is refused, nothing is said of the entries.
-#[derive(Drop)]
 pub struct Account {
     asked: bool,
     entries: Vec<Entry>,
+}
+
+impl Drop for Account {
+    fn drop(self) {
+        let Account { asked: _, entries } = self;
+        drop(entries);
+    }
 }
 
 impl Model for Account {

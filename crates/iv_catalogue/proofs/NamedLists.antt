@@ -1,11 +1,9 @@
 -- Lists with names beside them.
-use Rattle.std.proofs.Common.{◌≡◌, ℕ, Bool, true, false, List, [], ◌∷◌, ◌++◌, ◌∙◌, Option, Some, None, IfSome, map, take, drop, remove, position, length, refl, sym, ap, cond, ◌||◌, suc, ◌<◌, ◌+◌, get_or, subst}
+use Rattle.std.proofs.Common.{◌≡◌, ℕ, Bool, false, List, [], ◌∷◌, ◌++◌, ◌∙◌, Option, Some, None, IfSome, map, take, drop, remove, position, length, refl, sym, ap, ◌||◌, suc, ◌<◌, ◌+◌, get_or, subst}
 use Rattle.std.proofs.lemmas.Bool.{or_parts}
 use Rattle.std.specs.List.{list_any, position_or_len}
 use Rattle.std.proofs.lemmas.List.{take-map, drop-map, map-append, length-map, append_assoc, drop_more, map_more}
 use Rattle.std.proofs.lemmas.List.Quantifiers.{position-Some}
-use Rattle.std.specs.Str.{bytes_eq}
-use Rattle.indexmap.specs.IndexSet.{insert_key}
 use Rattle.iv_catalogue.specs.Names.{is_among, has_repeated}
 
 place_map : {X Y : Type 0} (p : Y → Bool) (f : X → Y) (xs : List X) → position_or_len p (map f xs) ≡ position_or_len (λ x. p (f x)) xs
@@ -19,16 +17,6 @@ position_map p f xs = simp (place_map p f xs, length-map)
 pub any_map : {X Y : Type 0} (p : Y → Bool) (f : X → Y) (xs : List X) → list_any (λ x. p (f x)) xs ≡ list_any p (map f xs)
 any_map p f [] = refl
 any_map p f (x ∷ xs) = ap (λ b. p (f x) || b) (any_map p f xs)
-
-inserted : {K : Type 0} (b : Bool) (ks : List K) (k : K) → b ≡ false → cond b ks (ks ++ k ∷ []) ≡ ks ++ k ∷ []
-inserted true ks k h = cc
-inserted false ks k h = refl
-
--- a new key comes last
-pub key_added : {K : Type 0} (f : K → List ℕ) (ks : List K) (k : K) (name : List ℕ) → f k ≡ name → is_among (map f ks) name ≡ false
-    → map f (insert_key (λ x y. bytes_eq (f x) (f y)) ks k) ≡ map f ks ++ name ∷ []
-key_added f ks k name e h =
-    ap (map f) (inserted _ ks k (any_map (bytes_eq (f k)) f ks ∙ ap (λ n. is_among (map f ks) n) e ∙ h)) ∙ map-append f ks (k ∷ []) ∙ ap (λ n. map f ks ++ n ∷ []) e
 
 -- taking one out, before or after
 pub remove_map : {X Y : Type 0} (f : X → Y) (xs : List X) (place : ℕ) → map f (remove xs place) ≡ remove (map f xs) place

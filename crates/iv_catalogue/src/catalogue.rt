@@ -1,6 +1,7 @@
 //! Tables, and the catalogue of a database.
 ghost use Rattle.std.specs.Prelude.{◌≡◌, ◌≤◌, ◌<◌, ◌+◌, ◌-◌, ◌*◌, ◌^◌, ◌++◌, ◌∷◌, [], List, ◌==◌, length, map, position, get_or, set, take, slice_get, false, IfOk, IfSome, option_map, OnOk, OnErr};
 ghost use Rattle.std.specs.Option.{option_copied};
+ghost use Rattle.std.specs.Vec.{vec_len, vec_capacity};
 ghost use Rattle.iv_catalogue.specs.Catalogues.{Schema, empty_schema, after, has_table, has_constraint, has_trigger, table_named, constraint_named, trigger_named, trigger_numbered, places_from, constraint_places, AllOn, AllWithinTables, AfterTable, BodiesWithinLimit, TriggersNumbered};
 ghost use Rattle.iv_catalogue.specs.Names.{has_repeated};
 ghost use Rattle.iv_catalogue.specs.declared.plan.SchemaPlan.TheVariants.{CreateTable, AddConstraint, CreateTrigger, DropTrigger};
@@ -61,7 +62,6 @@ impl Named for Trigger {
 
 /// All tables, constraints and triggers, each in the order of creation and with a name of its own. A name
 /// is found in constant time, and so are the constraints of a table. Contracts see it as its schema.
-#[derive(Drop)]
 pub struct Catalogue {
     tables: NamedList<Table>,
     constraints: NamedList<Constraint>,
@@ -70,6 +70,22 @@ pub struct Catalogue {
     triggers: NamedList<Trigger>,
     // How many triggers were ever created.
     created: u32,
+}
+
+impl Drop for Catalogue {
+    fn drop(self) {
+        let Catalogue {
+            tables,
+            constraints,
+            constraint_places,
+            triggers,
+            created: _,
+        } = self;
+        drop(tables);
+        drop(constraints);
+        drop(constraint_places);
+        drop(triggers);
+    }
 }
 
 impl Model for Catalogue {
@@ -107,6 +123,33 @@ fn places_from(
         place += 1;
     }
     Ok(places)
+}
+
+// The places of a new table's constraints, with room for the list of them.
+fn places_of_new(
+    lists: &mut Vec<Items<ConstraintId>>,
+    table: TableId,
+    first: u32,
+    constraints: &[Constraint],
+) -> Result<Items<ConstraintId>, AllocError>
+    requires { first + length constraints.now < 2 ^ 32 }
+    ensures lists { lists.new.items ≡ lists.old.items }
+    ensures room { OnOk result (vec_len lists.new < vec_capacity lists.new) }
+    ensures places { IfOk result (λ places. places ≡ places_from table first constraints.now) }
+{
+    lists.reserve(1)?;
+    places_from(*lists.allocator(), table, first, constraints)
+}
+
+// Adds a list, for which there is room.
+fn push_list(lists: &mut Vec<Items<ConstraintId>>, places: Items<ConstraintId>)
+    requires { vec_len lists.old < vec_capacity lists.old }
+    ensures { lists.new.items ≡ lists.old.items ++ places ∷ [] }
+{
+    match lists.push(places) {
+        Ok(()) => {}
+        Err(_) => unreachable!(),
+    }
 }
 
 // The places of a table's constraints; none where there is no such table.
@@ -283,22 +326,19 @@ impl Catalogue {
         ensures err { OnErr result (self.new ≡ self.old) }
     {
         let count = self.tables.len();
-        let places = places_from(
-            *self.constraint_places.allocator(),
+        let places = places_of_new(
+            &mut self.constraint_places,
             TableId::new(count as u32),
             self.constraints.len() as u32,
             constraints.as_slice(),
         )?;
-        self.constraint_places.reserve(1)?;
         self.tables.push(table)?;
         if let Err(error) = self.constraints.append(constraints.into_vec()) {
             self.tables.truncate(count);
             return Err(error);
         }
-        match self.constraint_places.push(places) {
-            Ok(()) => Ok(()),
-            Err(_) => unreachable!(),
-        }
+        push_list(&mut self.constraint_places, places);
+        Ok(())
     }
 
     /// Adds a constraint of a table that is there: the schema after ALTER TABLE ADD. Where memory is

@@ -45,9 +45,15 @@ pub struct Constraint {
 }
 
 /// The constraints of a new table, in the order of their text. Contracts see it as the list.
-#[derive(Drop)]
 pub struct Constraints {
     items: Vec<Constraint>,
+}
+
+impl Drop for Constraints {
+    fn drop(self) {
+        let Constraints { items } = self;
+        drop(items);
+    }
 }
 
 impl Model for Constraints {

@@ -3,22 +3,23 @@ ghost use Rattle.std.specs.Prelude.{◌≡◌, ◌<◌, ℕ, List, [], ◌∷◌
 ghost use Rattle.std.specs.Str.{bytes_eq};
 ghost use Rattle.iv_catalogue.specs.Names.{is_among};
 
-use indexmap::IndexSet;
+use indexmap::IndexMap;
 use std::alloc::{AllocError, Global};
 use std::marker::Model;
 
 /// Distinct names. The place of a name is found in constant time. Contracts see the list of the names.
 #[derive(Drop)]
 pub struct NameIndex {
-    names: IndexSet<String>,
+    names: IndexMap<String, ()>,
 }
 
 impl Model for NameIndex {
     ghost use Rattle.std.specs.Prelude.{List, ℕ, map, string_bytes};
+    ghost use Rattle.indexmap.specs.IndexMap.{keys};
 
     ghost Value = { List (List ℕ) };
 
-    ghost view = { λ n. map string_bytes n.names.keys };
+    ghost view = { λ n. map string_bytes (keys n.names) };
 }
 
 impl NameIndex {
@@ -27,7 +28,7 @@ impl NameIndex {
         ensures { result ≡ [] }
     {
         NameIndex {
-            names: IndexSet::new(alloc),
+            names: IndexMap::new(alloc),
         }
     }
 
@@ -52,7 +53,7 @@ impl NameIndex {
         ensures err { OnErr result (self.new ≡ self.old) }
     {
         let owned = String::from_str(*self.names.allocator(), name)?;
-        self.names.insert(owned)?;
+        self.names.insert(owned, ())?;
         Ok(())
     }
 

@@ -8,9 +8,15 @@ use std::marker::Model;
 use std::rc::RcSlice;
 
 /// A shared list of values: its copy shares them. Contracts see it as the list.
-#[derive(Drop)]
 pub struct Row {
     shared: RcSlice<Value>,
+}
+
+impl Drop for Row {
+    fn drop(self) {
+        let Row { shared } = self;
+        drop(shared);
+    }
 }
 
 impl Model for Row {

@@ -3,6 +3,5 @@ pub mod Variables
 pub mod Steps
 pub mod Sets
 pub mod Firsts
-pub mod NameSets
 pub mod Noted
 pub mod FirstItems

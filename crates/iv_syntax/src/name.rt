@@ -15,9 +15,15 @@ pub trait Named {
 }
 
 /// A name, folded to upper case and shared. Contracts see it as its bytes.
-#[derive(Drop)]
 pub struct Name {
     folded: Text,
+}
+
+impl Drop for Name {
+    fn drop(self) {
+        let Name { folded } = self;
+        drop(folded);
+    }
 }
 
 impl Model for Name {

@@ -6,9 +6,15 @@ use std::marker::Model;
 use std::rc::RcStr;
 
 /// A shared text: its copy shares the characters. Contracts see it as its bytes in UTF-8.
-#[derive(Drop)]
 pub struct Text {
     shared: RcStr,
+}
+
+impl Drop for Text {
+    fn drop(self) {
+        let Text { shared } = self;
+        drop(shared);
+    }
 }
 
 impl Model for Text {

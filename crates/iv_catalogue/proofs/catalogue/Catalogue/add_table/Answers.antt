@@ -9,8 +9,8 @@ overflow_cast-len c =
     let i = c.self.inside in
     omega (arith, c.len.ensures, few_constraints (parts i.tables i.constraints i.triggers i.created) i.constraint_places.items c.self.invariant.0 c.self.invariant.1)
 
-pub places_from-requires : goal.places_from-requires
-places_from-requires c =
+pub places_of_new-requires : goal.places_of_new-requires
+places_of_new-requires c =
     let i = c.self.inside in
     omega (
       arith,
@@ -28,9 +28,9 @@ invariant_of-self-2 c =
       c.in_ok-push.ensures.ok,
       c.in_default.ensures.ok,
       c.into_vec.ensures,
-      c.in-Ok.ensures.items,
-      c.reserve.ensures.items,
-      c.in_ok-places.ensures,
+      c.push_list.ensures,
+      c.places_of_new.ensures.lists,
+      c.in_ok-places.ensures.places,
       c.new.ensures,
       c.len-count.ensures,
       c.len.ensures,

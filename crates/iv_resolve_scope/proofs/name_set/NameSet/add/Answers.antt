@@ -1,6 +1,6 @@
 use Rattle.std.proofs.Common.{◌∙◌, sym, string_bytes, not, ap}
 use Rattle.std.specs.Str.{bytes_eq}
-use Rattle.iv_resolve_scope.proofs.NameSets.{found_among, added, absent}
+use Rattle.iv_catalogue.proofs.KeptNames.{found_among, added, absent}
 use Rattle.iv_resolve_scope.proofs.name_set.NameSet.add.Goals as goal
 
 pub returns-then-contains_key-clause-new : goal.returns-then-contains_key-clause-new

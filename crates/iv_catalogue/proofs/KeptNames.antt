@@ -1,5 +1,5 @@
--- A set of names over the entries of a map.
-use Rattle.std.proofs.Common.{◌≡◌, ℕ, Bool, false, List, [], ◌∷◌, ◌++◌, ◌∙◌, Option, Some, None, map, refl, sym, ap, is_some, ◌||◌, string_bytes, String}
+-- Names that are the keys of a map.
+use Rattle.std.proofs.Common.{◌≡◌, ℕ, Bool, false, List, [], ◌∷◌, ◌++◌, ◌∙◌, Option, Some, None, map, refl, sym, ap, is_some, string_bytes, String}
 use Rattle.std.specs.List.{list_any}
 use Rattle.std.specs.Map.{keys_of}
 use Rattle.std.specs.HashMap.{get_by}
@@ -8,14 +8,11 @@ use Rattle.std.specs.Str.{bytes_eq}
 use Rattle.std.proofs.lemmas.Map.Made.{is_some-lookup}
 use Rattle.indexmap.specs.IndexMap.{IndexMap, keys, get, insert_entry}
 use Rattle.indexmap.proofs.CallerLemmas.{insert_entry-new}
-
-any_mapped : {K Y : Type 0} (f : K → Y) (p : Y → Bool) (ks : List K) → list_any (λ k. p (f k)) ks ≡ list_any p (map f ks)
-any_mapped f p [] = refl
-any_mapped f p (k ∷ ks) = ap (λ b. p (f k) || b) (any_mapped f p ks)
+use Rattle.iv_catalogue.proofs.NamedLists.{any_map}
 
 -- a key that passes is found where some mapped key passes
 pub found_among : {K X S Y : Type 0} (f : K → Y) (p : Y → Bool) (m : IndexMap K X S) → is_some (get_by (λ k. p (f k)) m) ≡ list_any p (map f (keys m))
-found_among f p m = is_some-lookup (λ k. p (f k)) m.entries ∙ any_mapped f p (keys m)
+found_among f p m = is_some-lookup (λ k. p (f k)) m.entries ∙ any_map p f (keys m)
 
 nothing : {A : Type 0} (o : Option A) → is_some o ≡ false → o ≡ None
 nothing None h = refl
