@@ -1,45 +1,78 @@
 //! A journal where memory is there.
+use crate::shown::{compare, show_number, show_some};
 use iv_expr::{Change, TableId};
 use iv_undo::Journal;
-use std::alloc::AllocError;
+use std::alloc::{AllocError, Global};
 use std::test::Fail;
 
-fn change_of(row: u64) -> Change {
-    Change {
+// A thing that is done to a journal, or told of it.
+#[derive(Clone, Copy)]
+enum Step {
+    // The change of a row is noted.
+    Note(u64),
+    // The last change is taken out: its row.
+    Pop,
+    // How many changes are noted.
+    Mark,
+    // All are forgotten.
+    Forget,
+}
+
+fn note(journal: &mut Journal, row: u64) -> Result<(), AllocError> {
+    journal.note(Change {
         table: TableId::new(0),
         row,
         old: None,
         new: None,
-    }
+    })
 }
 
-// The number of the row of the last change, which is taken out; 0 where there is none.
-fn popped(journal: &mut Journal) -> u64 {
+fn popped(journal: &mut Journal) -> Option<u64> {
     match journal.pop() {
-        Some(change) => change.row,
-        None => 0,
+        Some(change) => Some(change.row),
+        None => None,
     }
 }
 
-// How many changes are noted after those of rows 1 and 2, the rows of three that are then taken out, and how many are
-// left of one more after all are forgotten.
-fn in_turn(journal: &mut Journal) -> Result<([u64; 3], [u64; 2]), AllocError> {
-    journal.note(change_of(1))?;
-    journal.note(change_of(2))?;
-    let noted = journal.mark();
-    let rows = [popped(journal), popped(journal), popped(journal)];
-    journal.note(change_of(3))?;
+fn forget(journal: &mut Journal) -> Result<(), AllocError> {
     journal.forget();
-    Ok((rows, [noted, journal.mark()]))
+    Ok(())
 }
+
+fn take_each(journal: &mut Journal, steps: &[Step], shown: &mut String) -> Result<(), AllocError> {
+    for step in steps {
+        match step {
+            Step::Note(row) => note(journal, *row),
+            Step::Pop => show_some(popped(journal), shown),
+            Step::Mark => show_number(journal.mark(), " | ", shown),
+            Step::Forget => forget(journal),
+        }?;
+    }
+    Ok(())
+}
+
+fn tell(alloc: Global, steps: &[Step], shown: &mut String) -> Result<(), AllocError> {
+    let mut journal = Journal::new(alloc);
+    let done = take_each(&mut journal, steps, shown);
+    drop(journal);
+    done
+}
+
+const IN_TURN: [Step; 9] = [
+    Step::Note(1),
+    Step::Note(2),
+    Step::Mark,
+    Step::Pop,
+    Step::Pop,
+    Step::Pop,
+    Step::Note(3),
+    Step::Forget,
+    Step::Mark,
+];
 
 #[test]
 fn the_last_change_comes_first(rt: HostRuntime) -> Result<(), Fail> {
-    let mut journal = Journal::new(rt.alloc());
-    let told = in_turn(&mut journal);
-    drop(journal);
-    let (rows, counts) = told?;
-    assert_eq!(rt; rows, [2, 1, 0]);
-    assert_eq!(rt; counts, [2, 0]);
-    Ok(())
+    let mut shown = String::new(rt.alloc());
+    let done = tell(rt.alloc(), &IN_TURN, &mut shown);
+    compare(&rt, shown, "2 | 2 | 1 | none | 0 | ", done)
 }

@@ -7,9 +7,15 @@ mod checked;
 #[cfg(test)]
 mod constraints;
 #[cfg(test)]
+mod fault_steps;
+#[cfg(test)]
 mod foreign_key;
 #[cfg(test)]
 mod gaps;
+#[cfg(test)]
+mod group_steps;
+#[cfg(test)]
+mod hundred;
 #[cfg(test)]
 mod journal;
 #[cfg(test)]
@@ -21,10 +27,14 @@ mod rooms;
 #[cfg(test)]
 mod rows;
 #[cfg(test)]
-mod steps;
+mod shown;
 #[cfg(test)]
 mod unique;
+#[cfg(test)]
+mod version_steps;
 #[cfg(test)]
 mod versions;
 #[cfg(test)]
 mod violations;
+#[cfg(test)]
+mod watching;

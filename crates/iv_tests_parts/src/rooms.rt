@@ -1,147 +1,82 @@
-//! Room that is made, taken and given back, and the places of groups.
-use crate::checked;
-use iv_index::Groups;
-use iv_key::Key;
-use iv_value::Value;
-use std::alloc::{AllocError, Global};
+//! Room that is made, taken and given back, the places of groups, and rows that go and come back.
+use crate::group_steps::Act::{
+    Add, AddAll, Holders, LeaveAnywhere, MakeRoom, Place, PutAll, PutBack, Remove, RemoveAll, Room,
+};
+use crate::group_steps::Step::{Cover, Groups, LookedUp, RowsAt, Under};
+use crate::group_steps::{ONE, Step, THREE, TWO, shows};
 use std::test::Fail;
 
-// The room of a key at first, after room was made for it twice, after a row was put, after it was put again, which asks
-// for more room first, and after it was removed; and the look-ups.
-fn rooms(groups: &mut Groups) -> Result<([u64; 5], u64), AllocError> {
-    let values = [Value::Int(1)];
-    let key = Key::new(&[0], &values);
-    groups.cover(1)?;
-    let none = groups.room(0, &key);
-    checked::make_room(groups, 0, &key)?;
-    checked::make_room(groups, 0, &key)?;
-    let made = groups.room(0, &key);
-    checked::put_back(groups, 0, &key, 9);
-    let put = groups.room(0, &key);
-    checked::make_room(groups, 0, &key)?;
-    checked::put_back(groups, 0, &key, 9);
-    let again = groups.room(0, &key);
-    checked::remove(groups, 0, &key, 9);
-    Ok((
-        [none, made, put, again, groups.room(0, &key)],
-        groups.looked_up(),
-    ))
-}
-
-// Room is made for the key 1, and the key 2 gets the row 7: what `place` tells of 1, 2 and 3; what `put_back` of the row 9
-// under 1 and `remove` of 7 under 2 tell; whether the rows at the places are 9, then none, and how many groups there are.
-fn places(
-    alloc: Global,
-    groups: &mut Groups,
-) -> Result<([Option<usize>; 5], [bool; 3], usize), AllocError> {
-    let (one, two, three) = ([Value::Int(1)], [Value::Int(2)], [Value::Int(3)]);
-    let (first, second, third) = (
-        Key::new(&[0], &one),
-        Key::new(&[0], &two),
-        Key::new(&[0], &three),
-    );
-    groups.cover(1)?;
-    checked::make_room(groups, 0, &first)?;
-    checked::add(groups, 0, &second, 7)?;
-    let added = checked::rows_are(alloc, groups, 0, 1, &[7])?;
-    let places = [
-        groups.place(0, &first),
-        groups.place(0, &second),
-        groups.place(0, &third),
-        checked::put_back(groups, 0, &first, 9),
-        checked::remove(groups, 0, &second, 7),
-    ];
-    let rows = [
-        added,
-        checked::rows_are(alloc, groups, 0, 0, &[9])?,
-        checked::rows_are(alloc, groups, 0, 1, &[])?,
-    ];
-    Ok((places, rows, groups.count_groups(0)))
-}
-
-// Whether rising numbers are those from 0 up to count.
-fn are_all(rows: &[u64], count: u64) -> bool {
-    let mut next = 0u64;
-    for row in rows {
-        if *row != next {
-            return false;
-        }
-        next = next.wrapping_add(1);
-    }
-    next == count
-}
-
-fn add_all(groups: &mut Groups, key: &Key<'_>) -> Result<(), AllocError> {
-    for row in 0..100u64 {
-        checked::add(groups, 0, key, row)?;
-    }
-    Ok(())
-}
-
-// Removes the even numbers below 100 falling, then the odd ones rising.
-fn remove_all(groups: &mut Groups, key: &Key<'_>) {
-    for half in 0..50u64 {
-        checked::remove(groups, 0, key, 98 - 2 * half);
-    }
-    for half in 0..50u64 {
-        checked::remove(groups, 0, key, 2 * half + 1);
-    }
-}
-
-// Puts the odd numbers below 100 back rising, each with an even one falling.
-fn put_all(groups: &mut Groups, key: &Key<'_>) {
-    for half in 0..50u64 {
-        checked::put_back(groups, 0, key, 2 * half + 1);
-        checked::put_back(groups, 0, key, 98 - 2 * half);
-    }
-}
-
-// The rows 0 to 99 of one key are removed and put back: whether they are none and then all again, and the room at both
-// times.
-fn mixed(alloc: Global, groups: &mut Groups) -> Result<([bool; 2], [u64; 2]), AllocError> {
-    let values = [Value::Int(1)];
-    let key = Key::new(&[0], &values);
-    groups.cover(1)?;
-    add_all(groups, &key)?;
-    remove_all(groups, &key);
-    let none = groups.holders(0, &key).is_empty();
-    let room = groups.room(0, &key);
-    put_all(groups, &key);
-    let held = groups.holders(0, &key).to_vec(alloc)?;
-    let all = are_all(held.as_slice(), 100);
-    Ok(([none, all], [room, groups.room(0, &key)]))
-}
+// Room is asked for twice where there is none, and once more where it is taken.
+const ROOMS: [Step; 13] = [
+    Cover(1),
+    Under(0, ONE, Room),
+    Under(0, ONE, MakeRoom),
+    Under(0, ONE, MakeRoom),
+    Under(0, ONE, Room),
+    Under(0, ONE, PutBack(9)),
+    Under(0, ONE, Room),
+    Under(0, ONE, MakeRoom),
+    Under(0, ONE, PutBack(9)),
+    Under(0, ONE, Room),
+    Under(0, ONE, Remove(9)),
+    Under(0, ONE, Room),
+    LookedUp,
+];
 
 #[test]
 fn room_is_made_and_taken(rt: HostRuntime) -> Result<(), Fail> {
-    let mut groups = Groups::new(rt.alloc());
-    let said = rooms(&mut groups);
-    drop(groups);
-    let (room, looked_up) = said?;
-    assert_eq!(rt; room, [0, 1, 0, 1, 2]);
-    assert_eq!(rt; looked_up, 6);
-    Ok(())
+    let wanted = "0 | 1 | 0 | 0 | 0 | 1 | 0 | 2 | 6 | ";
+    shows(&rt, rt.alloc(), &ROOMS, wanted)
 }
+
+// The key 1 has room and no row at first, and the key 2 has a row that goes.
+const PLACES: [Step; 12] = [
+    Cover(1),
+    Under(0, ONE, MakeRoom),
+    Under(0, TWO, Add(7)),
+    RowsAt(0, 1),
+    Under(0, ONE, Place),
+    Under(0, TWO, Place),
+    Under(0, THREE, Place),
+    Under(0, ONE, PutBack(9)),
+    Under(0, TWO, Remove(7)),
+    RowsAt(0, 0),
+    RowsAt(0, 1),
+    Groups(0),
+];
 
 #[test]
 fn groups_stay_at_their_places(rt: HostRuntime) -> Result<(), Fail> {
-    let mut groups = Groups::new(rt.alloc());
-    let said = places(rt.alloc(), &mut groups);
-    drop(groups);
-    let (places, rows, count) = said?;
-    assert_eq!(rt; places, [Some(0), Some(1), None, Some(0), Some(1)]);
-    assert_eq!(rt; rows, [true; 3]);
-    assert_eq!(rt; count, 2);
-    Ok(())
+    let wanted = "7 | 0 | 1 | none | 0 | 1 | 9 | | 2 | ";
+    shows(&rt, rt.alloc(), &PLACES, wanted)
 }
+
+const HUNDRED: [Step; 8] = [
+    Cover(1),
+    Under(0, ONE, AddAll),
+    Under(0, ONE, RemoveAll),
+    Under(0, ONE, Holders),
+    Under(0, ONE, Room),
+    Under(0, ONE, PutAll),
+    Under(0, ONE, Holders),
+    Under(0, ONE, Room),
+];
 
 #[test]
 fn rows_come_back(rt: HostRuntime) -> Result<(), Fail> {
-    let mut groups = Groups::new(rt.alloc());
-    let said = mixed(rt.alloc(), &mut groups);
-    drop(groups);
-    let (found, room) = said?;
-    assert_eq!(rt; found, [true; 2]);
-    assert_eq!(rt; room, [100, 0]);
-    Ok(())
+    let wanted = "| 100 | \
+        0 1 2 3 4 5 6 7 8 9 10 11 12 13 14 15 16 17 18 19 20 21 22 23 24 25 26 27 28 29 30 31 32 33 \
+        34 35 36 37 38 39 40 41 42 43 44 45 46 47 48 49 50 51 52 53 54 55 56 57 58 59 60 61 62 63 64 \
+        65 66 67 68 69 70 71 72 73 74 75 76 77 78 79 80 81 82 83 84 85 86 87 88 89 90 91 92 93 94 95 \
+        96 97 98 99 | 0 | ";
+    shows(&rt, rt.alloc(), &HUNDRED, wanted)
+}
+
+const ANYWHERE: [Step; 2] = [Cover(1), Under(0, ONE, LeaveAnywhere)];
+
+// Nine turns in which the rows come; then, for n from 1 to 9, there are 10 - n pairs of places that are n apart, with
+// 2 n + 4 turns each: 2 (1 * 9 + 2 * 8 + .. + 9 * 1) = 330 and 4 * 45 = 180.
+#[test]
+fn rows_leave_and_come_back_everywhere(rt: HostRuntime) -> Result<(), Fail> {
+    shows(&rt, rt.alloc(), &ANYWHERE, "519 | ")
 }

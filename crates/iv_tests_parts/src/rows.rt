@@ -49,27 +49,68 @@ fn held(versions: &Versions, table: TableId, number: u64) -> Result<Option<Row>,
     }
 }
 
+// A row of this integer alone, where there is one.
+fn row_of(alloc: Global, integer: Option<i64>) -> Result<Option<Row>, AllocError> {
+    let Some(integer) = integer else {
+        return Ok(None);
+    };
+    let mut values = Vec::new(alloc);
+    values.push(Value::Int(integer))?;
+    Ok(Some(Row::new(values)?))
+}
+
+/// The change that gives the row of a number this integer alone, or takes it out, where it isn't one of another table.
+pub fn change_to(
+    alloc: Global,
+    versions: &Versions,
+    table: u32,
+    number: u64,
+    integer: Option<i64>,
+) -> Result<Change, AllocError>
+    ensures is { IfOk result (λ c. row_at versions.now.rows c.row ≡ old_row c) }
+    ensures current { IfOk result (λ c. values_at versions.now.rows c.row ≡ c.old) }
+    ensures own { IfOk result (λ c. IfSome (row_at versions.now.rows c.row) (λ row. row.table ≡ c.table)) }
+    ensures positive { IfOk result (λ c. 0 < c.row) }
+    ensures small { IfOk result (λ c. c.row ≤ last_row_number) }
+    ensures room { IfOk result (λ _. length versions.now.journal < most_changes_in_a_transaction) }
+{
+    if number == 0 || number > LAST_ROW_NUMBER {
+        return Err(AllocError);
+    }
+    if versions.count() >= MOST_CHANGES_IN_A_TRANSACTION {
+        return Err(AllocError);
+    }
+    let table = TableId::new(table);
+    let old = held(versions, table, number)?;
+    let new = row_of(alloc, integer)?;
+    Ok(Change {
+        table,
+        row: number,
+        old,
+        new,
+    })
+}
+
 // Makes a change. The groups and the violations follow it.
 fn make(
     versions: &mut Versions,
     groups: &mut Groups,
     faults: &mut Faults,
-    change: Change,
+    change: &Change,
 ) -> Result<(), AllocError>
     requires shown { IsShownBy versions.old.rows faults.old groups.old }
     requires watched { AreWatched faults.old groups.old }
-    requires is { row_at versions.old.rows change.row ≡ old_row change }
-    requires current { values_at versions.old.rows change.row ≡ change.old }
-    requires own { IfSome (row_at versions.old.rows change.row) (λ row. row.table ≡ change.table) }
-    requires positive { 0 < change.row }
-    requires small { change.row ≤ last_row_number }
+    requires is { row_at versions.old.rows change.now.row ≡ old_row change.now }
+    requires current { values_at versions.old.rows change.now.row ≡ change.now.old }
+    requires own { IfSome (row_at versions.old.rows change.now.row) (λ row. row.table ≡ change.now.table) }
+    requires positive { 0 < change.now.row }
+    requires small { change.now.row ≤ last_row_number }
     requires room { length versions.old.journal < most_changes_in_a_transaction }
     ensures shown { OnOk result (IsShownBy versions.new.rows faults.new groups.new) }
     ensures watched { OnOk result (AreWatched faults.new groups.new) }
-    ensures constraints { faults.new.constraints ≡ faults.old.constraints }
 {
-    faults.moved(groups, &change)?;
-    versions.change(&change)?;
+    faults.moved(groups, change)?;
+    versions.change(change)?;
     Ok(())
 }
 
@@ -166,11 +207,11 @@ fn make_back(
     groups: &mut Groups,
     faults: &mut Faults,
     change: &Change,
-    back: Change,
+    back: &Change,
 ) -> Result<(), AllocError>
     requires shown { IsShownBy versions.old.rows faults.old groups.old }
     requires watched { AreWatched faults.old groups.old }
-    requires back { back ≡ taken_back change.now }
+    requires back { back.now ≡ taken_back change.now }
     requires is { row_at versions.old.rows change.now.row ≡ old_row (taken_back change.now) }
     requires current { values_at versions.old.rows change.now.row ≡ change.now.new }
     requires own { IfSome (row_at versions.old.rows change.now.row) (λ row. row.table ≡ change.now.table) }
@@ -180,140 +221,78 @@ fn make_back(
     requires has_room { HasRoomBack faults.old.constraints groups.old.groups change.now }
     ensures shown { OnOk result (IsShownBy versions.new.rows faults.new groups.new) }
     ensures watched { OnOk result (AreWatched faults.new groups.new) }
-    ensures constraints { faults.new.constraints ≡ faults.old.constraints }
 {
     faults.moved_back(groups, change);
-    versions.change(&back)?;
+    versions.change(back)?;
     Ok(())
 }
 
-/// Gives the row of a number these values, or takes it out, where it isn't one of another table.
-pub fn set(
+// Makes a change that takes another one back, where each key that a row is put back under has room.
+fn change_back(
     versions: &mut Versions,
     groups: &mut Groups,
     faults: &mut Faults,
-    table: TableId,
-    number: u64,
-    new: Option<Row>,
+    back: &Change,
 ) -> Result<(), AllocError>
     requires shown { IsShownBy versions.old.rows faults.old groups.old }
     requires watched { AreWatched faults.old groups.old }
+    requires is { row_at versions.old.rows back.now.row ≡ old_row back.now }
+    requires current { values_at versions.old.rows back.now.row ≡ back.now.old }
+    requires own { IfSome (row_at versions.old.rows back.now.row) (λ row. row.table ≡ back.now.table) }
+    requires positive { 0 < back.now.row }
+    requires small { back.now.row ≤ last_row_number }
+    requires room { length versions.old.journal < most_changes_in_a_transaction }
     ensures shown { OnOk result (IsShownBy versions.new.rows faults.new groups.new) }
     ensures watched { OnOk result (AreWatched faults.new groups.new) }
-    ensures constraints { faults.new.constraints ≡ faults.old.constraints }
 {
-    if number == 0 || number > LAST_ROW_NUMBER {
-        return Err(AllocError);
-    }
-    if versions.count() >= MOST_CHANGES_IN_A_TRANSACTION {
-        return Err(AllocError);
-    }
-    let old = held(versions, table, number)?;
-    make(
-        versions,
-        groups,
-        faults,
-        Change {
-            table,
-            row: number,
-            old,
-            new,
-        },
-    )
-}
-
-/// Takes the change of a row back that it had from these values, where each key that they are put back under has room.
-pub fn take_back(
-    versions: &mut Versions,
-    groups: &mut Groups,
-    faults: &mut Faults,
-    table: TableId,
-    number: u64,
-    old: Option<Row>,
-) -> Result<(), AllocError>
-    requires shown { IsShownBy versions.old.rows faults.old groups.old }
-    requires watched { AreWatched faults.old groups.old }
-    ensures shown { OnOk result (IsShownBy versions.new.rows faults.new groups.new) }
-    ensures watched { OnOk result (AreWatched faults.new groups.new) }
-    ensures constraints { faults.new.constraints ≡ faults.old.constraints }
-{
-    if number == 0 || number > LAST_ROW_NUMBER {
-        return Err(AllocError);
-    }
-    if versions.count() >= MOST_CHANGES_IN_A_TRANSACTION {
-        return Err(AllocError);
-    }
-    let new = held(versions, table, number)?;
-    let change = Change {
-        table,
-        row: number,
-        old,
-        new,
+    let change = turned(back)?;
+    let done = if has_room_back(groups, faults.constraints(), &change) {
+        make_back(versions, groups, faults, &change, back)
+    } else {
+        Err(AllocError)
     };
-    let back = turned(&change)?;
-    if !has_room_back(groups, faults.constraints(), &change) {
-        return Err(AllocError);
-    }
-    make_back(versions, groups, faults, &change, back)
+    drop(change);
+    done
 }
 
-/// A row of one integer.
-pub fn row_of(alloc: Global, integer: i64) -> Result<Row, AllocError> {
-    let mut values = Vec::new(alloc);
-    values.push(Value::Int(integer))?;
-    Row::new(values)
-}
-
-/// Gives the row of a number this integer alone.
-pub fn put(
+/// Gives the row of a number this integer alone, or takes it out, where it isn't one of another table.
+pub fn set(
     alloc: Global,
     versions: &mut Versions,
     groups: &mut Groups,
     faults: &mut Faults,
     table: u32,
     number: u64,
-    integer: i64,
+    integer: Option<i64>,
 ) -> Result<(), AllocError>
     requires shown { IsShownBy versions.old.rows faults.old groups.old }
     requires watched { AreWatched faults.old groups.old }
     ensures shown { OnOk result (IsShownBy versions.new.rows faults.new groups.new) }
     ensures watched { OnOk result (AreWatched faults.new groups.new) }
-    ensures constraints { faults.new.constraints ≡ faults.old.constraints }
 {
-    let row = row_of(alloc, integer)?;
-    set(
-        versions,
-        groups,
-        faults,
-        TableId::new(table),
-        number,
-        Some(row),
-    )
+    let change = change_to(alloc, versions, table, number, integer)?;
+    let done = make(versions, groups, faults, &change);
+    drop(change);
+    done
 }
 
-/// Takes the change of a row back that it had from this integer.
-pub fn take_back_to(
+/// Takes the change of a row back that it had from this integer, where each key that it is put back under has room.
+pub fn take_back(
     alloc: Global,
     versions: &mut Versions,
     groups: &mut Groups,
     faults: &mut Faults,
     table: u32,
     number: u64,
-    integer: i64,
+    integer: Option<i64>,
 ) -> Result<(), AllocError>
     requires shown { IsShownBy versions.old.rows faults.old groups.old }
     requires watched { AreWatched faults.old groups.old }
     ensures shown { OnOk result (IsShownBy versions.new.rows faults.new groups.new) }
     ensures watched { OnOk result (AreWatched faults.new groups.new) }
-    ensures constraints { faults.new.constraints ≡ faults.old.constraints }
 {
-    let row = row_of(alloc, integer)?;
-    take_back(
-        versions,
-        groups,
-        faults,
-        TableId::new(table),
-        number,
-        Some(row),
-    )
+    let back = change_to(alloc, versions, table, number, integer)?;
+    let done = change_back(versions, groups, faults, &back);
+    drop(back);
+    done
 }

@@ -5,7 +5,7 @@ use Rattle.iv_tests_parts.proofs.rows.make.Goals as goal
 
 pub moved-requires-clause-present : goal.moved-requires-clause-present
 moved-requires-clause-present c =
-    shown_rows_are_present c.args.versions.now.rows c.args.faults.now.constraints c.args.groups.now.groups c.args.change c.requires.shown.shows (c.requires.shown.in_order, c.requires.is)
+    shown_rows_are_present c.args.versions.now.rows c.args.faults.now.constraints c.args.groups.now.groups c.args.change.now c.requires.shown.shows (c.requires.shown.in_order, c.requires.is)
 
 pub returns-clause-shown : goal.returns-clause-shown
 returns-clause-shown c =

@@ -1,5 +1,5 @@
 use Rattle.std.proofs.Common.{◌<◌, length}
-use Rattle.iv_tests_parts.proofs.versions.told.Given as goal
+use Rattle.iv_tests_parts.proofs.version_steps.step_back_to.Given as goal
 
 abbrev pub invariant-loop-change : goal.invariant-loop-change
 invariant-loop-change l = l.place < length l.versions.marks
