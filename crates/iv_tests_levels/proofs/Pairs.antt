@@ -1,6 +1,21 @@
--- The schema of pairs holds them.
-use Rattle.std.proofs.Common.{ℕ, List, [], ◌∷◌, arith, refl}
-use Rattle.iv_tests_levels.specs.Pairs.{HasPairs, pair_table}
+-- The store of pairs fits their schema.
+use Rattle.std.proofs.Common.{◌≡◌, true, [], ◌∷◌, refl}
+use Rattle.iv_resolution.specs.Constraints.{comes_twice}
+use Rattle.iv_laws_fitting.specs.PlanShapes.{table_suits}
+use Rattle.iv_store.specs.Stores.{empty_store, store_with_table}
+use Rattle.iv_laws_rows.specs.Changing.{StoreFits}
+use Rattle.iv_tests_levels.specs.Pairs.{pair_keys, pair_table}
 
-pub pairs_there : (name key up : List ℕ) → HasPairs (pair_table name key up ∷ [])
-pairs_there name key up = record { there = omega arith; fit = λ k u. refl }
+-- no name comes twice
+pair_table_suits : table_suits pair_table ≡ true
+unfolding comes_twice
+pair_table_suits = refl
+
+-- both have the table and its constraints
+pub pairs_fit : StoreFits (record { tables = pair_table ∷ []; constraints = pair_keys; triggers = []; created = 0 }) (store_with_table empty_store pair_table pair_keys)
+pairs_fit = record {
+  tables = refl;
+  constraints = refl;
+  suits = record { tables = rw pair_table_suits refl; constraints = refl; triggers = refl };
+  rows = refl;
+}

@@ -7,10 +7,24 @@ mod after;
 #[cfg(test)]
 mod before;
 #[cfg(test)]
+mod cases;
+#[cfg(test)]
+mod changes;
+#[cfg(test)]
 mod net_rows;
 #[cfg(test)]
 mod next;
 #[cfg(test)]
-mod parts;
+mod schema;
+#[cfg(test)]
+mod shown;
+#[cfg(test)]
+mod statements;
+#[cfg(test)]
+mod steps;
 #[cfg(test)]
 mod story;
+#[cfg(test)]
+mod triggers;
+#[cfg(test)]
+mod waves;

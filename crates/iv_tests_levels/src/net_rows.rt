@@ -1,159 +1,80 @@
 //! The net changes of waves, and those of each table and event.
-use iv_expr::{Change, Row, TableId, Wave};
+use crate::cases::Case::{self, OfWaves};
+use crate::cases::shows;
+use crate::changes::{Changed, NULL, Planned};
+use crate::waves::Asked::{CountOf, Net, NetOf};
+use crate::waves::Waves::{self, Insertions, These};
 use iv_syntax::TriggerEvent;
-use iv_transitions::{transitions, transitions_of};
-use iv_value::Value;
-use std::alloc::{AllocError, Global};
 use std::test::Fail;
-
-// A row of one number, or no row.
-fn row(alloc: Global, value: Option<i64>) -> Result<Option<Row>, AllocError> {
-    let Some(value) = value else {
-        return Ok(None);
-    };
-    let mut values = Vec::new(alloc);
-    values.push(Value::Int(value))?;
-    Ok(Some(Row::new(values)?))
-}
-
-// A change of a row of a table, by its value before and after.
-#[derive(Clone, Copy)]
-struct Step(u32, u64, Option<i64>, Option<i64>);
-
-fn add(alloc: Global, wave: &mut Wave, step: Step) -> Result<(), AllocError> {
-    let change = Change {
-        table: TableId::new(step.0),
-        row: step.1,
-        old: row(alloc, step.2)?,
-        new: row(alloc, step.3)?,
-    };
-    if wave.last_row() < change.row {
-        wave.push(change)?;
-    }
-    Ok(())
-}
-
-fn wave(alloc: Global, steps: &[Step]) -> Result<Wave, AllocError> {
-    let mut wave = Wave::new(alloc);
-    for step in steps {
-        add(alloc, &mut wave, *step)?;
-    }
-    Ok(wave)
-}
-
-fn first(row: &Option<Row>) -> i64 {
-    match row {
-        Some(row) => match row.values().first() {
-            Some(Value::Int(value)) => *value,
-            _ => -1,
-        },
-        None => 0,
-    }
-}
-
-// Table, row number, value before and after of each change; 0 is no row.
-fn shown(alloc: Global, changes: &[Change]) -> Result<String, AllocError> {
-    let mut text = String::new(alloc);
-    for change in changes {
-        let old = first(&change.old);
-        let new = first(&change.new);
-        let one = format!(in alloc; "{} {} {old} {new}, ", change.table.place(), change.row)?;
-        text.push_str(&one)?;
-    }
-    Ok(text)
-}
 
 // Row 1 is updated twice and row 2 once; row 3 is updated and deleted; row 7 is inserted and deleted; row 8 is
 // inserted and updated; row 5 of another table is deleted.
-fn waves(alloc: Global) -> Result<Vec<Wave>, AllocError> {
-    let mut waves = Vec::new(alloc);
-    waves.push(wave(
-        alloc,
-        &[Step(0, 1, Some(1), Some(2)), Step(0, 3, Some(30), Some(31))],
-    )?)?;
-    waves.push(wave(
-        alloc,
-        &[Step(0, 7, None, Some(70)), Step(0, 8, None, Some(80))],
-    )?)?;
-    waves.push(wave(
-        alloc,
+const WAVES: Waves = These(&[
+    Planned(
+        &[],
+        &[Changed(0, 1, &[1], &[2]), Changed(0, 3, &[30], &[31])],
+    ),
+    Planned(&[], &[Changed(0, 7, &[], &[70]), Changed(0, 8, &[], &[80])]),
+    Planned(
+        &[],
         &[
-            Step(0, 1, Some(2), Some(3)),
-            Step(0, 2, Some(20), Some(20)),
-            Step(0, 3, Some(31), None),
-            Step(2, 5, Some(50), None),
-            Step(0, 7, Some(70), None),
-            Step(0, 8, Some(80), Some(81)),
+            Changed(0, 1, &[2], &[3]),
+            Changed(0, 2, &[20], &[20]),
+            Changed(0, 3, &[31], &[]),
+            Changed(2, 5, &[50], &[]),
+            Changed(0, 7, &[70], &[]),
+            Changed(0, 8, &[80], &[81]),
         ],
-    )?)?;
-    Ok(waves)
-}
+    ),
+]);
 
+// The row of the first table goes; then that of the second, while that of the third is updated; then that one goes too.
+const CHAIN: Waves = These(&[
+    Planned(&[], &[Changed(0, 1, &[10], &[])]),
+    Planned(
+        &[],
+        &[Changed(1, 2, &[20], &[]), Changed(2, 3, &[30], &[31])],
+    ),
+    Planned(&[], &[Changed(2, 3, &[31], &[])]),
+]);
+
+// The row of table 0 goes. Then that of table 1, which it cascades to; that of table 2 loses its reference to the
+// first by SET NULL. Then it goes too, since the second cascades to it.
+const SET_NULL: Waves = These(&[
+    Planned(&[], &[Changed(0, 1, &[1], &[])]),
+    Planned(
+        &[],
+        &[
+            Changed(1, 2, &[2, 1], &[]),
+            Changed(2, 3, &[1, 2], &[NULL, 2]),
+        ],
+    ),
+    Planned(&[], &[Changed(2, 3, &[NULL, 2], &[])]),
+]);
+
+static FEW: [Case; 6] = [
+    OfWaves(WAVES, Net),
+    OfWaves(WAVES, NetOf(0, TriggerEvent::Update)),
+    OfWaves(WAVES, NetOf(2, TriggerEvent::Delete)),
+    OfWaves(WAVES, NetOf(1, TriggerEvent::Insert)),
+    OfWaves(CHAIN, Net),
+    OfWaves(SET_NULL, Net),
+];
+
+// The changes of each row are one; those of a table and an event; and a deletion wins over SET NULL.
 #[test]
-fn net_changes(rt: HostRuntime) -> Result<(), Fail> {
-    let alloc = rt.alloc();
-    let waves = waves(alloc)?;
-    let net = transitions(alloc, waves.as_slice())?;
-    let found = shown(alloc, net.changes())?;
-    assert_eq!(rt;
-        found.as_str(),
-        "0 1 1 3, 0 2 20 20, 0 3 30 0, 2 5 50 0, 0 8 0 81, "
-    );
-    Ok(())
+fn net_changes_of_few_waves(rt: HostRuntime) -> Result<(), Fail> {
+    let wanted =
+        "0 1: 1 to 3, 0 2: 20 to 20, 0 3: 30 to none, 2 5: 50 to none, 0 8: none to 81, done; \
+                  0 1: 1 to 3, 0 2: 20 to 20, done; 2 5: 50 to none, done; done; \
+                  0 1: 10 to none, 1 2: 20 to none, 2 3: 30 to none, done; \
+                  0 1: 1 to none, 1 2: 2 1 to none, 2 3: 1 2 to none, done; ";
+    shows(&rt, rt.alloc(), &FEW, wanted)
 }
 
-#[test]
-fn net_changes_by_table_and_event(rt: HostRuntime) -> Result<(), Fail> {
-    let alloc = rt.alloc();
-    let waves = waves(alloc)?;
-    let net = transitions(alloc, waves.as_slice())?;
-    let parts = transitions_of(alloc, &net)?;
-    let updates = shown(alloc, parts.of(TableId::new(0), TriggerEvent::Update))?;
-    assert_eq!(rt; updates.as_str(), "0 1 1 3, 0 2 20 20, ");
-    let deletions = shown(alloc, parts.of(TableId::new(2), TriggerEvent::Delete))?;
-    assert_eq!(rt; deletions.as_str(), "2 5 50 0, ");
-    assert!(rt; parts.of(TableId::new(1), TriggerEvent::Insert).is_empty());
-    Ok(())
-}
-
-// The row of the first table goes; then that of the second, while that of the third loses its reference; then that
-// one goes too.
-fn chain(alloc: Global) -> Result<Vec<Wave>, AllocError> {
-    let mut waves = Vec::new(alloc);
-    waves.push(wave(alloc, &[Step(0, 1, Some(10), None)])?)?;
-    waves.push(wave(
-        alloc,
-        &[Step(1, 2, Some(20), None), Step(2, 3, Some(30), Some(31))],
-    )?)?;
-    waves.push(wave(alloc, &[Step(2, 3, Some(31), None)])?)?;
-    Ok(waves)
-}
-
-#[test]
-fn each_row_of_a_chain_is_deleted_once(rt: HostRuntime) -> Result<(), Fail> {
-    let alloc = rt.alloc();
-    let waves = chain(alloc)?;
-    let net = transitions(alloc, waves.as_slice())?;
-    let found = shown(alloc, net.changes())?;
-    assert_eq!(rt; found.as_str(), "0 1 10 0, 1 2 20 0, 2 3 30 0, ");
-    Ok(())
-}
-
-// So many waves, each of which inserts one row.
-fn insertions(alloc: Global, count: u64) -> Result<Vec<Wave>, AllocError> {
-    let mut waves = Vec::new(alloc);
-    for number in 0..count {
-        waves.push(wave(alloc, &[Step(0, number + 1, None, Some(1))])?)?;
-    }
-    Ok(waves)
-}
+static MANY: [Case; 1] = [OfWaves(Insertions(65_536), CountOf(0, TriggerEvent::Insert))];
 
 #[test]
 fn net_changes_of_many_waves(rt: HostRuntime) -> Result<(), Fail> {
-    let alloc = rt.alloc();
-    let waves = insertions(alloc, 65_536)?;
-    let net = transitions(alloc, waves.as_slice())?;
-    let parts = transitions_of(alloc, &net)?;
-    assert!(rt; parts.of(TableId::new(0), TriggerEvent::Insert).len() == 65_536);
-    Ok(())
+    shows(&rt, rt.alloc(), &MANY, "65536, done; ")
 }
