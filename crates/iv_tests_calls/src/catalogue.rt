@@ -1,43 +1,35 @@
 //! A table that is taken out of a catalogue again, as a session does where its store is refused memory.
-use iv_catalogue::{Catalogue, Constraints, Table};
-use iv_syntax::Name;
-use iv_value::Text;
-use sqlite_items::Items;
-use std::alloc::{AllocError, Global};
-use std::test::Fail;
+ghost use Rattle.std.specs.Prelude.{◌≡◌};
+ghost use Rattle.iv_catalogue.specs.Catalogues.{empty_schema};
 
-fn table(alloc: Global) -> Result<Table, AllocError> {
-    Ok(Table {
-        name: Name::new(Text::new(alloc, "T")?),
-        columns: Items::new(alloc),
-    })
+use crate::schema::{put_table, table_of};
+use iv_catalogue::Catalogue;
+use std::alloc::Global;
+use std::process::Abort;
+
+// Adds a table to a catalogue of nothing, and takes it out.
+fn take(rt: &impl Abort, alloc: Global, catalogue: &mut Catalogue)
+    requires { catalogue.old ≡ empty_schema }
+{
+    let table = table_of(rt, alloc, 0, &[]);
+    put_table(rt, alloc, catalogue, table);
+    catalogue.take_table();
 }
 
-// A catalogue to which T was added and from which it was taken. Each way out drops it by name: its drop is long.
-fn taken(alloc: Global) -> Result<Catalogue, AllocError> {
-    let table = table(alloc)?;
+// How many tables a catalogue has from which its table was taken, and whether it knows the name. It is dropped by name:
+// its drop is long.
+fn told(rt: &impl Abort, alloc: Global) -> (usize, bool) {
     let mut catalogue = Catalogue::new(alloc);
-    match catalogue.add_table(table, Constraints::from_vec(Vec::new(alloc))) {
-        Ok(()) => {
-            catalogue.take_table();
-            Ok(catalogue)
-        }
-        Err(error) => {
-            drop(catalogue);
-            Err(error)
-        }
-    }
-}
-
-fn has_nothing(catalogue: &Catalogue) -> bool {
-    catalogue.tables().len() == 0 && catalogue.table_named("T") == None
+    take(rt, alloc, &mut catalogue);
+    let told = (
+        catalogue.tables().len(),
+        catalogue.table_named("T0_0").is_some(),
+    );
+    drop(catalogue);
+    told
 }
 
 #[test]
-fn a_table_is_taken(rt: HostRuntime) -> Result<(), Fail> {
-    let catalogue = taken(rt.alloc())?;
-    let holds = has_nothing(&catalogue);
-    drop(catalogue);
-    assert_eq!(rt; holds, true);
-    Ok(())
+fn a_table_is_taken(rt: HostRuntime) {
+    assert_eq!(rt; told(&rt, rt.alloc()), (0, false));
 }

@@ -1,11 +1,13 @@
 //! What constraints demand, as data: the tests write it down, and constraints are made of it here.
-use crate::stopped::Stopped;
+use crate::schema::named;
 use iv_catalogue::{Constraint, ForeignKey, Rule};
 use iv_expr::{Comparison, Cond, Expr, TableId};
-use iv_syntax::{ConstraintMode, MatchType, Name, NullTreatment, ReferentialAction};
-use iv_value::{Text, Value};
+use iv_syntax::{ConstraintMode, MatchType, NullTreatment, ReferentialAction};
+use iv_value::Value;
 use sqlite_items::Items;
-use std::alloc::{AllocError, Global};
+use std::alloc::Global;
+use std::panic::Expect;
+use std::process::Abort;
 
 /// One column, or two in this order.
 #[derive(Clone, Copy)]
@@ -36,19 +38,12 @@ pub enum Demand {
     References(Reference),
 }
 
-pub fn named(alloc: Global, text: &str) -> Result<Name, AllocError> {
-    Ok(Name::new(Text::new(alloc, text)?))
-}
-
-fn items_of(alloc: Global, columns: &Columns) -> Result<Items<u32>, AllocError> {
-    match columns {
+fn items_of(rt: &impl Abort, alloc: Global, columns: &Columns) -> Items<u32> {
+    let items = match columns {
         Columns::One(column) => Items::from_slice(alloc, &[*column]),
         Columns::Two(first, second) => Items::from_slice(alloc, &[*first, *second]),
-    }
-}
-
-fn unique(alloc: Global, nulls: NullTreatment, columns: &Columns) -> Result<Rule, AllocError> {
-    Ok(Rule::Unique(nulls, items_of(alloc, columns)?))
+    };
+    items.expect(rt, "memory")
 }
 
 fn above(column: u32, integer: i64) -> Rule {
@@ -59,27 +54,29 @@ fn above(column: u32, integer: i64) -> Rule {
     ))
 }
 
-fn foreign_key(alloc: Global, reference: &Reference) -> Result<Rule, AllocError> {
-    let columns = items_of(alloc, &reference.columns)?;
-    let key = items_of(alloc, &reference.key)?;
-    Ok(Rule::ForeignKey(ForeignKey {
-        columns,
+fn foreign_key(rt: &impl Abort, alloc: Global, reference: &Reference) -> Rule {
+    Rule::ForeignKey(ForeignKey {
+        columns: items_of(rt, alloc, &reference.columns),
         referenced: TableId::new(reference.referenced),
-        key,
+        key: items_of(rt, alloc, &reference.key),
         matching: reference.matching,
         on_delete: ReferentialAction::NoAction,
         on_update: ReferentialAction::NoAction,
-    }))
+    })
 }
 
-fn rule_of(alloc: Global, demand: &Demand) -> Result<Rule, AllocError> {
+fn rule_of(rt: &impl Abort, alloc: Global, demand: &Demand) -> Rule {
     match demand {
-        Demand::Unique(columns) => unique(alloc, NullTreatment::Distinct, columns),
-        Demand::UniqueNulls(columns) => unique(alloc, NullTreatment::NotDistinct, columns),
-        Demand::PrimaryKey(columns) => Ok(Rule::PrimaryKey(items_of(alloc, columns)?)),
-        Demand::NotNull(column) => Ok(Rule::NotNull(*column)),
-        Demand::Above(column, integer) => Ok(above(*column, *integer)),
-        Demand::References(reference) => foreign_key(alloc, reference),
+        Demand::Unique(columns) => {
+            Rule::Unique(NullTreatment::Distinct, items_of(rt, alloc, columns))
+        }
+        Demand::UniqueNulls(columns) => {
+            Rule::Unique(NullTreatment::NotDistinct, items_of(rt, alloc, columns))
+        }
+        Demand::PrimaryKey(columns) => Rule::PrimaryKey(items_of(rt, alloc, columns)),
+        Demand::NotNull(column) => Rule::NotNull(*column),
+        Demand::Above(column, integer) => above(*column, *integer),
+        Demand::References(reference) => foreign_key(rt, alloc, reference),
     }
 }
 
@@ -91,36 +88,36 @@ fn mode_of(demand: &Demand) -> Option<ConstraintMode> {
     }
 }
 
-// The constraint of a name.
-fn constraint_of(
+/// The constraint of a table that demands this. Its name is of two numbers.
+pub fn constraint_of(
+    rt: &impl Abort,
     alloc: Global,
-    text: &str,
+    numbers: (usize, usize),
     table: u32,
     demand: &Demand,
-) -> Result<Constraint, AllocError> {
+) -> Constraint {
     let mode = mode_of(demand);
-    let name = named(alloc, text)?;
-    let rule = rule_of(alloc, demand)?;
-    Ok(Constraint {
-        name,
+    Constraint {
+        name: named(rt, alloc, "K", numbers),
         table: TableId::new(table),
-        rule,
+        rule: rule_of(rt, alloc, demand),
         deferrable: mode.is_some(),
         initially: mode.unwrap_or(ConstraintMode::Immediate),
-    })
+    }
 }
 
 /// Constraints of a table that demand this. There are so many constraints before them: their names are of the count.
 pub fn constraints_of(
+    rt: &impl Abort,
     alloc: Global,
     before: usize,
     table: u32,
     demands: &[Demand],
-) -> Result<Vec<Constraint>, Stopped> {
-    let mut constraints = Vec::new(alloc);
+) -> Items<Constraint> {
+    let mut constraints = Items::new(alloc);
     for (place, demand) in demands.iter().enumerate() {
-        let text = format!(in alloc; "K{before}_{place}")?;
-        constraints.push(constraint_of(alloc, text.as_str(), table, demand)?)?;
+        let constraint = constraint_of(rt, alloc, (before, place), table, demand);
+        constraints.push(constraint).expect(rt, "memory");
     }
-    Ok(constraints)
+    constraints
 }

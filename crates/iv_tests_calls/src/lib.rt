@@ -3,8 +3,6 @@
 #![tactic(auto)]
 
 #[cfg(test)]
-mod adding;
-#[cfg(test)]
 mod asked;
 #[cfg(test)]
 mod calls;
@@ -26,8 +24,6 @@ mod schema;
 mod shown;
 #[cfg(test)]
 mod steps;
-#[cfg(test)]
-mod stopped;
 #[cfg(test)]
 mod store;
 #[cfg(test)]

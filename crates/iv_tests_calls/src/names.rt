@@ -4,97 +4,52 @@ use iv_resolve_name_faults::{NameFault, NamedItem, duplicate_name, name_fault, u
 use iv_syntax::{Insert, InsertSource, Name, Statement};
 use iv_value::Text;
 use sqlite_items::Items;
-use std::alloc::{AllocError, Global};
-use std::test::Fail;
+use std::alloc::Global;
+use std::panic::Expect;
+use std::process::Abort;
 
-fn name(alloc: Global, text: &str) -> Result<Name, AllocError> {
-    Ok(Name::new(Text::new(alloc, text)?))
+fn name(rt: &impl Abort, alloc: Global, text: &str) -> Name {
+    Name::new(Text::new(alloc, text).expect(rt, "memory"))
 }
 
-fn names(alloc: Global, texts: &[&str]) -> Result<Items<Name>, AllocError> {
+fn names(rt: &impl Abort, alloc: Global, texts: &[&str]) -> Items<Name> {
     let mut names = Items::new(alloc);
     for text in texts {
-        names.push(name(alloc, text)?)?;
+        names.push(name(rt, alloc, text)).expect(rt, "memory");
     }
-    Ok(names)
+    names
 }
 
 // INSERT INTO t (a, b, b, a), with no values.
-fn insert(alloc: Global) -> Result<Statement, AllocError> {
-    let table = name(alloc, "T")?;
-    let columns = names(alloc, &["A", "B", "B", "A"])?;
-    let source = InsertSource::Values(Items::new(alloc));
-    Ok(Statement::Insert(Insert::Rows {
-        table,
-        columns: Some(columns),
-        source,
-    }))
+fn insert(rt: &impl Abort, alloc: Global) -> Statement {
+    Statement::Insert(Insert::Rows {
+        table: name(rt, alloc, "T"),
+        columns: Some(names(rt, alloc, &["A", "B", "B", "A"])),
+        source: InsertSource::Values(Items::new(alloc)),
+    })
 }
 
-fn is_table(item: &NamedItem<'_>, wanted: &str) -> bool {
-    match item {
-        NamedItem::Table(name) => *name == wanted,
-        _ => false,
-    }
-}
-
-fn is_column(item: &NamedItem<'_>, wanted: &str) -> bool {
-    match item {
-        NamedItem::Column(None, name) => *name == wanted,
-        _ => false,
-    }
-}
-
-fn tells_unknown_table(fault: &Option<NameFault<'_>>, wanted: &str) -> bool {
-    match fault {
-        Some(NameFault::Unknown(item)) => is_table(item, wanted),
-        _ => false,
-    }
-}
-
-fn tells_column_twice(fault: &Option<NameFault<'_>>, wanted: &str) -> bool {
-    match fault {
-        Some(NameFault::Twice(item)) => is_column(item, wanted),
-        _ => false,
-    }
-}
-
-fn unknown_is_told(alloc: Global, catalogue: &Catalogue, statement: &Statement) -> bool {
-    let alone = match unknown_name(alloc, catalogue, statement) {
-        Some(item) => is_table(&item, "T"),
-        None => false,
-    };
-    alone
-        && tells_unknown_table(
-            &name_fault(alloc, catalogue, statement, &Cause::Unknown),
-            "T",
-        )
-}
-
-fn duplicate_is_told(alloc: Global, catalogue: &Catalogue, statement: &Statement) -> bool {
-    let alone = tells_column_twice(&duplicate_name(alloc, catalogue, statement), "B");
-    alone
-        && tells_column_twice(
-            &name_fault(alloc, catalogue, statement, &Cause::Duplicate),
-            "B",
-        )
-}
-
-fn is_nothing(alloc: Global, catalogue: &Catalogue, statement: &Statement) -> bool {
-    name_fault(alloc, catalogue, statement, &Cause::WrongShape).is_none()
+// Whether the table T is unknown, for the call that tells an unknown name and for the one that tells any; whether
+// the column B comes twice, for both; and whether a wrong shape is about no name.
+fn told<'a>(alloc: Global, catalogue: &'a Catalogue, statement: &'a Statement) -> [bool; 5] {
+    let unknown = name_fault(alloc, catalogue, statement, &Cause::Unknown);
+    let duplicate = name_fault(alloc, catalogue, statement, &Cause::Duplicate);
+    let twice = duplicate_name(alloc, catalogue, statement);
+    [
+        unknown_name(alloc, catalogue, statement) == Some(NamedItem::Table("T")),
+        unknown == Some(NameFault::Unknown(NamedItem::Table("T"))),
+        twice == Some(NameFault::Twice(NamedItem::Column(None, "B"))),
+        duplicate == Some(NameFault::Twice(NamedItem::Column(None, "B"))),
+        name_fault(alloc, catalogue, statement, &Cause::WrongShape).is_none(),
+    ]
 }
 
 #[test]
-fn names_of_an_insert(rt: HostRuntime) -> Result<(), Fail> {
-    let statement = insert(rt.alloc())?;
+fn names_of_an_insert(rt: HostRuntime) {
+    let statement = insert(&rt, rt.alloc());
     let catalogue = Catalogue::new(rt.alloc());
-    let unknown = unknown_is_told(rt.alloc(), &catalogue, &statement);
-    let duplicate = duplicate_is_told(rt.alloc(), &catalogue, &statement);
-    let nothing = is_nothing(rt.alloc(), &catalogue, &statement);
+    let told = told(rt.alloc(), &catalogue, &statement);
     drop(catalogue);
     drop(statement);
-    assert!(rt; unknown, "the table T is unknown");
-    assert!(rt; duplicate, "the column B comes twice");
-    assert!(rt; nothing, "a wrong shape is about no name");
-    Ok(())
+    assert_eq!(rt; told, [true; 5]);
 }

@@ -1,67 +1,70 @@
-//! Tables, rows and modes that tests are made of.
-ghost use Rattle.std.specs.Prelude.{◌≡◌};
-ghost use Rattle.iv_catalogue.specs.Catalogues.{has_constraint, has_table};
+//! Tables and rows that tests are made of, and the catalogue that they are put into.
+ghost use Rattle.std.specs.Prelude.{◌≡◌, []};
+ghost use Rattle.iv_catalogue.specs.Catalogues.{has_constraint, has_table, with_table};
 
-use crate::demand::named;
-use crate::stopped::Stopped;
 use iv_catalogue::{
     Catalogue, Column, Constraint, Constraints, MOST_CONSTRAINTS, MOST_TABLES, Table,
 };
-use iv_copies::{copy_constraint, copy_table};
+use iv_copies::copy_constraint;
 use iv_expr::Row;
-use iv_modes::Modes;
-use iv_value::{Kind, Value};
+use iv_syntax::Name;
+use iv_value::{Kind, Text, Value, text};
 use sqlite_items::Items;
-use std::alloc::{AllocError, Global};
+use std::alloc::Global;
+use std::panic::Expect;
+use std::process::Abort;
 
-fn column_of(alloc: Global, place: usize, kind: Kind) -> Result<Column, AllocError> {
-    let text = format!(in alloc; "C{place}")?;
-    Ok(Column {
-        name: named(alloc, text.as_str())?,
-        kind,
-        default: Value::Null,
-    })
+/// A value of a row, as data.
+#[derive(Clone, Copy)]
+pub enum Cell {
+    Null,
+    Int(i64),
+    Word(&'static str),
 }
 
-fn columns_of(alloc: Global, kinds: &[Kind]) -> Result<Items<Column>, AllocError> {
+/// A name of a letter and two numbers.
+pub fn named(rt: &impl Abort, alloc: Global, letter: &str, numbers: (usize, usize)) -> Name {
+    let (first, second) = numbers;
+    let text = format!(in alloc; "{letter}{first}_{second}").expect(rt, "memory");
+    Name::new(Text::new(alloc, text.as_str()).expect(rt, "memory"))
+}
+
+fn columns_of(rt: &impl Abort, alloc: Global, kinds: &[Kind]) -> Items<Column> {
     let mut columns = Items::new(alloc);
     for (place, kind) in kinds.iter().enumerate() {
-        columns.push(column_of(alloc, place, *kind)?)?;
+        let column = Column {
+            name: named(rt, alloc, "C", (0, place)),
+            kind: *kind,
+            default: Value::Null,
+        };
+        columns.push(column).expect(rt, "memory");
     }
-    Ok(columns)
+    columns
 }
 
-fn table_of(alloc: Global, number: u32, kinds: &[Kind]) -> Result<Table, AllocError> {
-    let text = format!(in alloc; "T{number}")?;
-    let columns = columns_of(alloc, kinds)?;
-    Ok(Table {
-        name: named(alloc, text.as_str())?,
-        columns,
-    })
-}
-
-/// One table of columns of these kinds, in a list. Its name is of its number.
-pub fn tables_of(alloc: Global, number: u32, kinds: &[Kind]) -> Result<Vec<Table>, Stopped> {
-    let mut tables = Vec::new(alloc);
-    tables.push(table_of(alloc, number, kinds)?)?;
-    Ok(tables)
-}
-
-/// An integer or null.
-pub fn value_of(integer: Option<i64>) -> Value {
-    match integer {
-        Some(integer) => Value::Int(integer),
-        None => Value::Null,
+/// The table of a number, of columns of these kinds. Its name is of its number.
+pub fn table_of(rt: &impl Abort, alloc: Global, number: u32, kinds: &[Kind]) -> Table {
+    Table {
+        name: named(rt, alloc, "T", (0, number as usize)),
+        columns: columns_of(rt, alloc, kinds),
     }
 }
 
-/// A row of integers and nulls.
-pub fn row_of(alloc: Global, integers: &[Option<i64>]) -> Result<Row, Stopped> {
+fn value_of(rt: &impl Abort, alloc: Global, cell: &Cell) -> Value {
+    match cell {
+        Cell::Null => Value::Null,
+        Cell::Int(integer) => Value::Int(*integer),
+        Cell::Word(word) => text(alloc, word).expect(rt, "memory"),
+    }
+}
+
+/// A row of these values.
+pub fn row_of(rt: &impl Abort, alloc: Global, cells: &[Cell]) -> Row {
     let mut values = Vec::new(alloc);
-    for integer in integers {
-        values.push(value_of(*integer))?;
+    for cell in cells {
+        values.push(value_of(rt, alloc, cell)).expect(rt, "memory");
     }
-    Ok(Row::new(values)?)
+    Row::new(values).expect(rt, "memory")
 }
 
 #[tactic(auto, using(crate::proofs::Sets::found))]
@@ -78,70 +81,39 @@ fn has_constraint(catalogue: &Catalogue, name: &str) -> bool
     catalogue.constraint_named(name).is_some()
 }
 
+/// Puts a table into a catalogue, without constraints.
 #[tactic(auto, unfolding(iv_catalogue::specs::Names::has_repeated))]
-fn add_table(alloc: Global, catalogue: &mut Catalogue, table: &Table) -> Result<(), Stopped> {
-    if catalogue.tables().len() >= MOST_TABLES || has_table(catalogue, table.name.as_str()) {
-        return Err(Stopped::Unasked);
-    }
-    let table = copy_table(alloc, table)?;
-    catalogue.add_table(table, Constraints::from_vec(Vec::new(alloc)))?;
-    Ok(())
+pub fn put_table(rt: &impl Abort, alloc: Global, catalogue: &mut Catalogue, table: Table)
+    ensures { catalogue.new ≡ with_table catalogue.old table [] }
+{
+    assert!(rt; catalogue.tables().len() < MOST_TABLES);
+    assert!(rt; !has_table(catalogue, table.name.as_str()));
+    catalogue
+        .add_table(table, Constraints::from_vec(Vec::new(alloc)))
+        .expect(rt, "memory");
 }
 
-fn add_constraint(
-    alloc: Global,
-    catalogue: &mut Catalogue,
-    constraint: &Constraint,
-) -> Result<(), Stopped> {
-    if constraint.table.place() as usize >= catalogue.tables().len()
-        || catalogue.constraints_of(constraint.table).len() >= MOST_CONSTRAINTS
-        || has_constraint(catalogue, constraint.name.as_str())
-    {
-        return Err(Stopped::Unasked);
-    }
-    let constraint = copy_constraint(alloc, constraint)?;
-    catalogue.add_constraint(constraint)?;
-    Ok(())
+/// Puts a copy of a constraint into a catalogue.
+pub fn put_copy(rt: &impl Abort, alloc: Global, catalogue: &mut Catalogue, constraint: &Constraint)
+    ensures { catalogue.new.tables ≡ catalogue.old.tables }
+{
+    assert!(rt; (constraint.table.place() as usize) < catalogue.tables().len());
+    assert!(rt; catalogue.constraints_of(constraint.table).len() < MOST_CONSTRAINTS);
+    assert!(rt; !has_constraint(catalogue, constraint.name.as_str()));
+    let copy = copy_constraint(alloc, constraint).expect(rt, "memory");
+    catalogue.add_constraint(copy).expect(rt, "memory");
 }
 
-fn add_tables(alloc: Global, catalogue: &mut Catalogue, tables: &[Table]) -> Result<(), Stopped> {
-    for table in tables {
-        add_table(alloc, catalogue, table)?;
-    }
-    Ok(())
-}
-
-fn add_constraints(
+/// So for these constraints.
+pub fn put_copies(
+    rt: &impl Abort,
     alloc: Global,
     catalogue: &mut Catalogue,
     constraints: &[Constraint],
-) -> Result<(), Stopped> {
+)
+    ensures { catalogue.new.tables ≡ catalogue.old.tables }
+{
     for constraint in constraints {
-        add_constraint(alloc, catalogue, constraint)?;
+        put_copy(rt, alloc, catalogue, constraint);
     }
-    Ok(())
-}
-
-// The modes of the constraints, which a catalogue is filled with.
-fn modes_by(
-    alloc: Global,
-    catalogue: &mut Catalogue,
-    tables: &[Table],
-    constraints: &[Constraint],
-) -> Result<Modes, Stopped> {
-    add_tables(alloc, catalogue, tables)?;
-    add_constraints(alloc, catalogue, constraints)?;
-    Ok(Modes::initial(alloc, catalogue)?)
-}
-
-/// The modes of these constraints at the start of a transaction.
-pub fn modes_of(
-    alloc: Global,
-    tables: &[Table],
-    constraints: &[Constraint],
-) -> Result<Modes, Stopped> {
-    let mut catalogue = Catalogue::new(alloc);
-    let modes = modes_by(alloc, &mut catalogue, tables, constraints);
-    drop(catalogue);
-    modes
 }

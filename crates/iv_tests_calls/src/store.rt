@@ -1,39 +1,34 @@
 //! The marks of a store, which the program doesn't count, and its look-ups.
 use iv_plain_store::PlainStore;
 use iv_store::{Keeper, Mark, ReferencingRows};
-use std::alloc::{AllocError, Global};
-use std::test::Fail;
+use std::alloc::Global;
+use std::panic::Expect;
+use std::process::Abort;
 
-// How many marks there are at first, after two of them, after going back to the first, and after settling; and the
-// place of the second.
-fn counts(store: &mut PlainStore) -> Result<([usize; 4], usize), AllocError> {
+// How many marks there are at first, after two of them, after going back to the first, and after settling; the place
+// of the second; and how many keys were looked up.
+fn counts(rt: &impl Abort, store: &mut PlainStore) -> ([usize; 4], usize, u64) {
     let none = store.marks();
-    store.mark()?;
-    let second = store.mark()?;
+    store.mark().expect(rt, "memory");
+    let second = store.mark().expect(rt, "memory");
     let two = store.marks();
-    if two > 0 {
-        store.undo_to(Mark::new(0))?;
-    }
+    assert!(rt; two > 0);
+    store.undo_to(Mark::new(0)).expect(rt, "memory");
     let one = store.marks();
     store.settle();
-    Ok(([none, two, one, store.marks()], second.place()))
+    let marks = [none, two, one, store.marks()];
+    (marks, second.place(), store.looked_up())
 }
 
-// So in a new store; and how many keys were looked up in it.
-fn counts_anew(alloc: Global) -> (Result<([usize; 4], usize), AllocError>, u64) {
+// So in a new store.
+fn counts_anew(rt: &impl Abort, alloc: Global) -> ([usize; 4], usize, u64) {
     let mut store = PlainStore::new(alloc);
-    let counted = counts(&mut store);
-    let looked_up = store.looked_up();
+    let counts = counts(rt, &mut store);
     drop(store);
-    (counted, looked_up)
+    counts
 }
 
 #[test]
-fn marks_are_counted(rt: HostRuntime) -> Result<(), Fail> {
-    let (counted, looked_up) = counts_anew(rt.alloc());
-    let (marks, second) = counted?;
-    assert_eq!(rt; marks, [0, 2, 1, 0]);
-    assert_eq!(rt; second, 1);
-    assert_eq!(rt; looked_up, 0);
-    Ok(())
+fn marks_are_counted(rt: HostRuntime) {
+    assert_eq!(rt; counts_anew(&rt, rt.alloc()), ([0, 2, 1, 0], 1, 0));
 }

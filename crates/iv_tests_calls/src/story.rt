@@ -1,9 +1,7 @@
 //! What is done to a store, as data, and told on both stores.
-use crate::adding::{add_constraint, add_table, offer};
-use crate::demand::Demand;
-use crate::schema::{row_of, value_of};
-use crate::shown::{show_all, show_children, show_modes, show_rows};
-use crate::stopped::Stopped;
+use crate::demand::{Demand, constraint_of, constraints_of};
+use crate::schema::{Cell, row_of, table_of};
+use crate::shown::{ALL, BY_MODE, show, show_at_first, show_children, show_number, show_rows};
 use crate::tested::Tested;
 use iv_index_store::IndexStore;
 use iv_plain_store::PlainStore;
@@ -13,8 +11,7 @@ use std::alloc::Global;
 use std::process::Abort;
 use std::slice;
 
-/// No value.
-pub const NULL: Option<i64> = None;
+static INTEGERS: [Kind; 2] = [Kind::Integer, Kind::Integer];
 
 /// A thing that is done to a store, or shown of it.
 #[derive(Clone, Copy)]
@@ -25,20 +22,18 @@ pub enum Step {
     TableWith(u32, Demand),
     /// The table of a number comes, of two integer columns, without constraints.
     WideTable(u32),
-    /// A constraint of a table comes, which no row violates.
-    Add(u32, Demand),
     /// A constraint of a table is offered: the row that violates it is shown, or that it was added.
     Offer(u32, Demand),
     /// A row of a table comes or changes: its number, and the value of its one column.
-    Put(u32, u64, Option<i64>),
+    Put(u32, u64, Cell),
     /// So with two columns.
-    PutTwo(u32, u64, Option<i64>, Option<i64>),
+    PutTwo(u32, u64, Cell, Cell),
+    /// So with three columns.
+    PutThree(u32, u64, Cell, Cell, Cell),
     /// A row of a table goes.
     Gone(u32, u64),
-    /// The database is marked.
+    /// The database is marked, and the mark's place is shown.
     Mark,
-    /// So, and the mark's place is shown.
-    ShowMark,
     /// Back to the mark of a place, which stays.
     UndoTo(usize),
     /// Back to the mark of a place, which goes.
@@ -54,209 +49,229 @@ pub enum Step {
     /// The rows of so many tables are shown.
     ShowRows(u32),
     /// The rows that hold a key of one value by a constraint are shown.
-    ShowChildren(u32, Option<i64>),
+    ShowChildren(u32, Cell),
+    /// So for a key of two values.
+    ShowChildrenOfTwo(u32, Cell, Cell),
 }
 
-fn put<K: Keeper + Drop>(
+/// Adds the table of a number, which is the next one, of columns of these kinds, with its constraints.
+pub fn add_table<K: Keeper + Drop>(
+    rt: &impl Abort,
     alloc: Global,
     store: &mut Tested<K>,
-    table: u32,
-    number: u64,
-    integers: &[Option<i64>],
-) -> Result<(), Stopped> {
-    let row = row_of(alloc, integers)?;
-    store.set(table, number, Some(row))
+    number: u32,
+    kinds: &[Kind],
+    demands: &[Demand],
+) {
+    let before = store.constraints();
+    let table = table_of(rt, alloc, number, kinds);
+    let constraints = constraints_of(rt, alloc, before, number, demands);
+    store.add_table(rt, alloc, table, constraints);
 }
 
-// Offers a constraint, and shows the row that violates it, or that it was added.
-fn show_offer<K: Keeper + Drop>(
+/// Offers a constraint of a table, and shows the row that violates it, or that it was added.
+pub fn offer<K: Keeper + Drop>(
+    rt: &impl Abort,
     alloc: Global,
     store: &mut Tested<K>,
     table: u32,
     demand: &Demand,
     shown: &mut String,
-) -> Result<(), Stopped> {
-    match offer(alloc, store, table, demand)? {
-        Some(row) => write!(shown, "row {row} | ")?,
-        None => shown.push_str("added | ")?,
+) {
+    let numbers = (store.constraints(), 0);
+    let constraint = constraint_of(rt, alloc, numbers, table, demand);
+    let violating = store.add_constraint(rt, alloc, &constraint);
+    drop(constraint);
+    match violating {
+        Some(row) => show_number(rt, "row ", row, " | ", shown),
+        None => show(rt, "added | ", shown),
     }
-    Ok(())
 }
 
-fn mark<K: Keeper + Drop>(store: &mut Tested<K>) -> Result<(), Stopped> {
-    store.mark()?;
-    Ok(())
+fn put<K: Keeper + Drop>(
+    rt: &impl Abort,
+    alloc: Global,
+    store: &mut Tested<K>,
+    table: u32,
+    number: u64,
+    cells: &[Cell],
+) {
+    let row = row_of(rt, alloc, cells);
+    store.set(rt, table, number, Some(row));
 }
 
-fn show_mark<K: Keeper + Drop>(store: &mut Tested<K>, shown: &mut String) -> Result<(), Stopped> {
-    let place = store.mark()?;
-    write!(shown, "at {place} | ")?;
-    Ok(())
-}
-
-fn settle<K: Keeper + Drop>(store: &mut Tested<K>) -> Result<(), Stopped> {
-    store.settle();
-    Ok(())
+fn mark<K: Keeper + Drop>(rt: &impl Abort, store: &mut Tested<K>, shown: &mut String) {
+    let place = store.mark(rt);
+    show_number(rt, "at ", place as u64, " | ", shown);
 }
 
 // Takes a step that shows what a store holds.
-fn show<K: Keeper + Drop>(
+fn take_shown<K: Keeper + Drop>(
+    rt: &impl Abort,
     alloc: Global,
     store: &mut Tested<K>,
     step: &Step,
     shown: &mut String,
-) -> Result<(), Stopped> {
+) {
     match step {
-        Step::ShowAll => show_all(alloc, store, shown),
-        Step::ShowModes => show_modes(alloc, store, shown),
-        Step::ShowRows(tables) => show_rows(store.store(), *tables, shown),
-        Step::ShowChildren(constraint, integer) => {
-            show_children(store, *constraint, &[0], &[value_of(*integer)], shown)
+        Step::ShowAll => show_at_first(rt, alloc, store, &ALL, shown),
+        Step::ShowModes => show_at_first(rt, alloc, store, &BY_MODE, shown),
+        Step::ShowRows(tables) => show_rows(rt, store.store(), *tables, shown),
+        Step::ShowChildren(constraint, cell) => {
+            show_children(rt, alloc, store, *constraint, &[0], &[*cell], shown)
         }
-        _ => Err(Stopped::Unasked),
+        Step::ShowChildrenOfTwo(constraint, first, second) => {
+            let cells = [*first, *second];
+            show_children(rt, alloc, store, *constraint, &[0, 1], &cells, shown)
+        }
+        _ => panic!(rt; "a step that is none of these"),
+    }
+}
+
+// Takes a step with a table, a constraint or a row.
+fn take_added<K: Keeper + Drop>(
+    rt: &impl Abort,
+    alloc: Global,
+    store: &mut Tested<K>,
+    step: &Step,
+    shown: &mut String,
+) {
+    match step {
+        Step::Table(table) => add_table(rt, alloc, store, *table, &INTEGERS[..1], &[]),
+        Step::TableWith(table, demand) => {
+            let demands = slice::from_ref(demand);
+            add_table(rt, alloc, store, *table, &INTEGERS[..1], demands)
+        }
+        Step::WideTable(table) => add_table(rt, alloc, store, *table, &INTEGERS, &[]),
+        Step::Offer(table, demand) => offer(rt, alloc, store, *table, demand, shown),
+        Step::Put(table, number, cell) => put(rt, alloc, store, *table, *number, &[*cell]),
+        Step::PutTwo(table, number, first, second) => {
+            put(rt, alloc, store, *table, *number, &[*first, *second])
+        }
+        Step::PutThree(table, number, first, second, third) => {
+            put(
+                rt,
+                alloc,
+                store,
+                *table,
+                *number,
+                &[*first, *second, *third],
+            )
+        }
+        _ => take_shown(rt, alloc, store, step, shown),
     }
 }
 
 // Takes a step.
 fn take<K: Keeper + Drop>(
+    rt: &impl Abort,
     alloc: Global,
     store: &mut Tested<K>,
     step: &Step,
     shown: &mut String,
-) -> Result<(), Stopped> {
+) {
     match step {
-        Step::Table(table) => add_table(alloc, store, *table, &[Kind::Integer], &[]),
-        Step::TableWith(table, demand) => {
-            add_table(
-                alloc,
-                store,
-                *table,
-                &[Kind::Integer],
-                slice::from_ref(demand),
-            )
-        }
-        Step::WideTable(table) => add_table(
-            alloc,
-            store,
-            *table,
-            &[Kind::Integer, Kind::Integer],
-            &[],
-        ),
-        Step::Add(table, demand) => add_constraint(alloc, store, *table, demand),
-        Step::Offer(table, demand) => show_offer(alloc, store, *table, demand, shown),
-        Step::Put(table, number, value) => put(alloc, store, *table, *number, &[*value]),
-        Step::PutTwo(table, number, first, second) => {
-            put(alloc, store, *table, *number, &[*first, *second])
-        }
-        Step::Gone(table, number) => store.set(*table, *number, None),
-        Step::Mark => mark(store),
-        Step::ShowMark => show_mark(store, shown),
-        Step::UndoTo(place) => store.undo_to(*place),
-        Step::Undo(place) => store.undo(*place),
-        Step::Forget(place) => store.forget(*place),
-        Step::Settle => settle(store),
-        _ => show(alloc, store, step, shown),
+        Step::Gone(table, number) => store.set(rt, *table, *number, None),
+        Step::Mark => mark(rt, store, shown),
+        Step::UndoTo(place) => store.undo_to(rt, *place),
+        Step::Undo(place) => store.undo(rt, *place),
+        Step::Forget(place) => store.forget(rt, *place),
+        Step::Settle => store.settle(),
+        _ => take_added(rt, alloc, store, step, shown),
     }
 }
 
-fn take_each<K: Keeper + Drop>(
+/// Takes steps.
+pub fn take_each<K: Keeper + Drop>(
+    rt: &impl Abort,
     alloc: Global,
     store: &mut Tested<K>,
     steps: &[Step],
     shown: &mut String,
-) -> Result<(), Stopped> {
+) {
     for step in steps {
-        take(alloc, store, step, shown)?;
+        take(rt, alloc, store, step, shown);
     }
-    Ok(())
 }
 
 // Takes steps, each after a mark, and shows all violations after each.
 fn show_forth<K: Keeper + Drop>(
+    rt: &impl Abort,
     alloc: Global,
     store: &mut Tested<K>,
     steps: &[Step],
     shown: &mut String,
-) -> Result<(), Stopped> {
+) {
     for step in steps {
-        store.mark()?;
-        take(alloc, store, step, shown)?;
-        show_all(alloc, store, shown)?;
+        store.mark(rt);
+        take_each(rt, alloc, store, &[*step, Step::ShowAll], shown);
     }
-    Ok(())
 }
 
 // Goes back over all marks, the last first, and shows all violations after each.
 fn show_back<K: Keeper + Drop>(
+    rt: &impl Abort,
     alloc: Global,
     store: &mut Tested<K>,
     shown: &mut String,
-) -> Result<(), Stopped> {
+) {
     for place in (0..store.marks()).rev() {
-        store.undo(place)?;
-        show_all(alloc, store, shown)?;
+        take_each(rt, alloc, store, &[Step::Undo(place), Step::ShowAll], shown);
     }
-    Ok(())
 }
 
 // Takes the first steps; then, where there are others, goes forth and back.
-fn tell_in<K: Keeper + Drop>(
+fn tell<K: Keeper + Drop>(
+    rt: &impl Abort,
     alloc: Global,
     store: &mut Tested<K>,
     first: &[Step],
     steps: &[Step],
     shown: &mut String,
-) -> Result<(), Stopped> {
-    take_each(alloc, store, first, shown)?;
-    if steps.is_empty() {
-        return Ok(());
+) {
+    take_each(rt, alloc, store, first, shown);
+    if !steps.is_empty() {
+        show_forth(rt, alloc, store, steps, shown);
+        show(rt, "/ ", shown);
+        show_back(rt, alloc, store, shown);
     }
-    show_forth(alloc, store, steps, shown)?;
-    shown.push_str("/ ")?;
-    show_back(alloc, store, shown)
 }
 
-fn tell<K: Keeper + Drop>(
+// What is shown of a new store.
+fn told<K: Keeper + Drop>(
+    rt: &impl Abort,
     alloc: Global,
     first: &[Step],
     steps: &[Step],
-    shown: &mut String,
-) -> Result<(), Stopped> {
+) -> String {
     let mut store = Tested::<K>::new(alloc);
-    let done = tell_in(alloc, &mut store, first, steps, shown);
+    let mut shown = String::new(alloc);
+    tell(rt, alloc, &mut store, first, steps, &mut shown);
     drop(store);
-    done
+    shown
 }
 
-// A store shows what is wanted.
-fn shows_on<K: Keeper + Drop, A: Abort>(
-    rt: &A,
-    alloc: Global,
-    name: &str,
-    first: &[Step],
-    steps: &[Step],
-    wanted: &str,
-) -> Result<(), Stopped> {
-    let mut shown = String::new(alloc);
-    tell::<K>(alloc, first, steps, &mut shown)?;
-    assert_eq!(rt; shown.as_str(), wanted, "{name}");
-    Ok(())
+/// Asserts that this is shown.
+pub fn compare(rt: &impl Abort, name: &str, shown: &str, wanted: &str) {
+    assert_eq!(rt; shown, wanted, "{name}");
 }
 
 /// Both stores show what is wanted where the first steps are taken, and then the others forth, each after a mark, and
 /// back over the marks, with all violations after each.
-pub fn shows_both_ways<A: Abort>(
-    rt: &A,
+pub fn shows_both_ways(
+    rt: &impl Abort,
     alloc: Global,
     first: &[Step],
     steps: &[Step],
     wanted: &str,
-) -> Result<(), Stopped> {
-    shows_on::<PlainStore, A>(rt, alloc, "PlainStore", first, steps, wanted)?;
-    shows_on::<IndexStore, A>(rt, alloc, "IndexStore", first, steps, wanted)
+) {
+    let plain = told::<PlainStore>(rt, alloc, first, steps);
+    compare(rt, "PlainStore", plain.as_str(), wanted);
+    let index = told::<IndexStore>(rt, alloc, first, steps);
+    compare(rt, "IndexStore", index.as_str(), wanted);
 }
 
 /// Both stores show what is wanted where these steps are taken.
-pub fn shows<A: Abort>(rt: &A, alloc: Global, steps: &[Step], wanted: &str) -> Result<(), Stopped> {
-    shows_both_ways(rt, alloc, steps, &[], wanted)
+pub fn shows(rt: &impl Abort, alloc: Global, steps: &[Step], wanted: &str) {
+    shows_both_ways(rt, alloc, steps, &[], wanted);
 }

@@ -1,26 +1,30 @@
-//! A store with what its calls ask for, so that each is tested before the call.
-ghost use Rattle.std.specs.Prelude.{◌≡◌, ◌≤◌, ◌+◌, ◌*◌, true, IfOk, IfSome};
+//! A store with what its calls ask for, so that each is asserted before the call.
+ghost use Rattle.std.specs.Prelude.{◌≡◌, ◌≤◌, ◌+◌, ◌*◌, true, IfSome};
 ghost use Rattle.iv_machine.specs.Databases.{row_at};
 ghost use Rattle.iv_machine.specs.Waves.{values_at};
 ghost use Rattle.iv_store.specs.Stores.{fits_table};
 
 use crate::asked::{are_on, fits, have_keys};
-use crate::stopped::Stopped;
-use iv_catalogue::{Constraint, ConstraintId, MOST_CONSTRAINTS, MOST_TABLES, Table};
+use crate::schema::{put_copies, put_copy, put_table};
+use iv_catalogue::{Catalogue, Constraint, ConstraintId, MOST_CONSTRAINTS, MOST_TABLES, Table};
+use iv_copies::copy_constraint;
 use iv_expr::{Change, Row, StoredRow, TableId};
 use iv_key::Key;
 use iv_machine::{LAST_ROW_NUMBER, MOST_CHANGES_IN_A_TRANSACTION};
 use iv_store::{AddFault, Keeper, Mark};
-use std::alloc::{AllocError, Global};
+use sqlite_items::Items;
+use std::alloc::Global;
 use std::marker::Model;
+use std::panic::Expect;
+use std::process::Abort;
+use std::slice;
 
-/// A store, the tables and the constraints that were added to it, and how many marks it has. Contracts see it as the
-/// store's state.
-#[derive(Drop)]
+/// A store, what was added to it, and how many marks it has. Contracts see it as the store's state.
 pub struct Tested<K: Keeper + Drop> {
     store: K,
-    tables: Vec<Table>,
-    constraints: Vec<Constraint>,
+    // The tables that were added to the store; and the constraints once more, whose modes are made of it.
+    catalogue: Catalogue,
+    constraints: Items<Constraint>,
     marks: usize,
 }
 
@@ -36,27 +40,39 @@ impl<K: Keeper + Drop> Model for Tested<K> {
 
     ghost view = { λ t. K.view t.store };
 
-    ghost invariant = { λ t. IsKnown (K.view t.store) t.tables.items t.constraints.items t.marks };
+    ghost invariant = { λ t. IsKnown (K.view t.store) t.catalogue.tables t.constraints t.marks };
 }
 
-// The values of a row, where it is in this table.
-fn values_of(row: &StoredRow, table: TableId) -> Result<Row, Stopped>
-    ensures { IfOk result (λ values. row.now ≡ record { table = table; number = row.now.number; values = values }) }
-{
-    if row.table.place() != table.place() {
-        return Err(Stopped::Unasked);
+impl<K: Keeper + Drop> Drop for Tested<K> {
+    fn drop(self) {
+        let Tested {
+            store,
+            catalogue,
+            constraints,
+            marks: _,
+        } = self;
+        drop(store);
+        drop(catalogue);
+        drop(constraints);
     }
-    Ok(row.values.clone()?)
 }
 
-// What the row of a number holds, where it isn't one of another table.
-fn held<K: Keeper>(store: &K, table: TableId, number: u64) -> Result<Option<Row>, Stopped>
-    ensures current { IfOk result (λ old. values_at (K.view store.now).base.rows number ≡ old) }
-    ensures own { IfOk result (λ old. IfSome (row_at (K.view store.now).base.rows number) (λ row. row.table ≡ table)) }
+// The values of a row, which is in this table.
+fn values_of(rt: &impl Abort, row: &StoredRow, table: TableId) -> Row
+    ensures { row.now ≡ record { table = table; number = row.now.number; values = result } }
+{
+    assert!(rt; row.table.place() == table.place());
+    row.values.clone().expect(rt, "memory")
+}
+
+// What the row of a number holds, which isn't one of another table.
+fn held<K: Keeper>(rt: &impl Abort, store: &K, table: TableId, number: u64) -> Option<Row>
+    ensures current { values_at (K.view store.now).base.rows number ≡ result }
+    ensures own { IfSome (row_at (K.view store.now).base.rows number) (λ row. row.table ≡ table) }
 {
     match store.row(number) {
-        Some(row) => Ok(Some(values_of(row, table)?)),
-        None => Ok(None),
+        Some(row) => Some(values_of(rt, row, table)),
+        None => None,
     }
 }
 
@@ -78,36 +94,38 @@ fn are_few(constraints: usize, more: usize) -> bool
     constraints <= most && more <= most - constraints
 }
 
+// The row for which a constraint isn't added.
+fn violating_row(rt: &impl Abort, fault: AddFault) -> u64 {
+    match fault {
+        AddFault::Row(row) => row,
+        AddFault::NoMemory => panic!(rt; "memory"),
+    }
+}
+
 impl<K: Keeper + Drop> Tested<K> {
     /// A store of no table.
     pub fn new(alloc: Global) -> Self {
         Tested {
             store: K::new(alloc),
-            tables: Vec::new(alloc),
-            constraints: Vec::new(alloc),
+            catalogue: Catalogue::new(alloc),
+            constraints: Items::new(alloc),
             marks: 0,
         }
     }
 
     /// The store.
-    pub fn store(&self) -> &K
-        ensures { K.view result.now ≡ self.now }
-    {
+    pub fn store(&self) -> &K {
         &self.store
     }
 
-    /// The tables that were added.
-    pub fn tables(&self) -> &[Table]
-        ensures { result.now ≡ self.now.tables }
-    {
-        self.tables.as_slice()
+    /// The tables and constraints that were added.
+    pub fn catalogue(&self) -> &Catalogue {
+        &self.catalogue
     }
 
-    /// The constraints that were added.
-    pub fn constraints(&self) -> &[Constraint]
-        ensures { result.now ≡ self.now.constraints }
-    {
-        self.constraints.as_slice()
+    /// How many constraints were added.
+    pub fn constraints(&self) -> usize {
+        self.constraints.len()
     }
 
     /// How many marks there are.
@@ -115,128 +133,94 @@ impl<K: Keeper + Drop> Tested<K> {
         self.marks
     }
 
-    /// Adds the table that a list has, with its constraints. Both are taken out of their lists.
+    /// Adds a table with its constraints.
     pub fn add_table(
         &mut self,
-        tables: &mut Vec<Table>,
-        constraints: &mut Vec<Constraint>,
-    ) -> Result<(), Stopped> {
-        if self.marks > 0
-            || !are_few(self.constraints.len(), constraints.len())
-            || !are_on(self.tables.len(), constraints.as_slice())
-            || !have_keys(self.constraints.as_slice(), constraints.as_slice())
-        {
-            return Err(Stopped::Unasked);
-        }
-        self.tables.reserve(tables.len())?;
-        self.constraints.reserve(constraints.len())?;
-        let [table] = tables.as_slice() else {
-            return Err(Stopped::Unasked);
-        };
-        self.store.add_table(table, constraints.as_slice())?;
-        let Ok(()) = self.tables.append(tables) else {
-            unreachable!()
-        };
-        let Ok(()) = self.constraints.append(constraints) else {
-            unreachable!()
-        };
-        Ok(())
+        rt: &impl Abort,
+        alloc: Global,
+        table: Table,
+        constraints: Items<Constraint>,
+    ) {
+        let more = constraints.as_slice();
+        assert!(rt; self.marks == 0);
+        assert!(rt; are_few(self.constraints.len(), more.len()));
+        assert!(rt; are_on(self.catalogue.tables().len(), more));
+        assert!(rt; have_keys(self.constraints.as_slice(), more));
+        self.store.add_table(&table, more).expect(rt, "memory");
+        put_table(rt, alloc, &mut self.catalogue, table);
+        put_copies(rt, alloc, &mut self.catalogue, more);
+        self.constraints.append(constraints).expect(rt, "memory");
     }
 
-    /// Adds the constraint that a list has, which is taken out of it; or tells the first row that violates it.
+    /// Adds a constraint, or tells the first row that violates it.
     pub fn add_constraint(
         &mut self,
-        constraints: &mut Vec<Constraint>,
-    ) -> Result<Option<u64>, Stopped> {
-        if self.marks > 0
-            || !are_few(self.constraints.len(), 1)
-            || !have_keys(self.constraints.as_slice(), constraints.as_slice())
-        {
-            return Err(Stopped::Unasked);
+        rt: &impl Abort,
+        alloc: Global,
+        constraint: &Constraint,
+    ) -> Option<u64> {
+        assert!(rt; self.marks == 0);
+        assert!(rt; are_few(self.constraints.len(), 1));
+        assert!(rt; have_keys(self.constraints.as_slice(), slice::from_ref(constraint)));
+        if let Err(fault) = self.store.add_constraint(constraint) {
+            return Some(violating_row(rt, fault));
         }
-        self.constraints.reserve(constraints.len())?;
-        let [constraint] = constraints.as_slice() else {
-            return Err(Stopped::Unasked);
-        };
-        match self.store.add_constraint(constraint) {
-            Ok(()) => {
-                let Ok(()) = self.constraints.append(constraints) else {
-                    unreachable!()
-                };
-                Ok(None)
-            }
-            Err(AddFault::Row(row)) => Ok(Some(row)),
-            Err(AddFault::NoMemory) => Err(Stopped::Memory),
-        }
+        put_copy(rt, alloc, &mut self.catalogue, constraint);
+        let copy = copy_constraint(alloc, constraint).expect(rt, "memory");
+        self.constraints.push(copy).expect(rt, "memory");
+        None
     }
 
     /// Gives the row of a number these values, or takes it out, where it isn't one of another table.
-    pub fn set(&mut self, table: u32, number: u64, new: Option<Row>) -> Result<(), Stopped> {
+    pub fn set(&mut self, rt: &impl Abort, table: u32, number: u64, new: Option<Row>) {
         let table = TableId::new(table);
-        if number == 0 || number > LAST_ROW_NUMBER {
-            return Err(Stopped::Unasked);
-        }
-        if self.store.change_count() >= MOST_CHANGES_IN_A_TRANSACTION {
-            return Err(Stopped::Unasked);
-        }
-        if table.place() as usize >= self.tables.len()
-            || !fits_new(self.tables.as_slice(), table, &new)
-        {
-            return Err(Stopped::Unasked);
-        }
-        let old = held(&self.store, table, number)?;
-        self.store.change(Change {
+        assert!(rt; number > 0 && number <= LAST_ROW_NUMBER);
+        assert!(rt; self.store.change_count() < MOST_CHANGES_IN_A_TRANSACTION);
+        assert!(rt; (table.place() as usize) < self.catalogue.tables().len());
+        assert!(rt; fits_new(self.catalogue.tables(), table, &new));
+        let old = held(rt, &self.store, table, number);
+        let change = Change {
             table,
             row: number,
             old,
             new,
-        })?;
-        Ok(())
+        };
+        self.store.change(change).expect(rt, "memory");
     }
 
     /// The rows that hold a key by a foreign key.
-    pub fn children(&mut self, constraint: u32, key: &Key<'_>) -> Result<Vec<u64>, AllocError> {
-        self.store.children(ConstraintId::new(constraint), key)
+    pub fn children(&mut self, rt: &impl Abort, constraint: u32, key: &Key<'_>) -> Vec<u64> {
+        let constraint = ConstraintId::new(constraint);
+        self.store.children(constraint, key).expect(rt, "memory")
     }
 
     /// Marks the database, and tells the mark's place.
-    pub fn mark(&mut self) -> Result<usize, Stopped> {
-        if self.marks == usize::MAX {
-            return Err(Stopped::Unasked);
-        }
-        let mark = self.store.mark()?;
+    pub fn mark(&mut self, rt: &impl Abort) -> usize {
+        assert!(rt; self.marks < usize::MAX);
+        let mark = self.store.mark().expect(rt, "memory");
         self.marks += 1;
-        Ok(mark.place())
+        mark.place()
     }
 
     /// Goes back to the mark of a place, which stays.
-    pub fn undo_to(&mut self, place: usize) -> Result<(), Stopped> {
-        if place >= self.marks {
-            return Err(Stopped::Unasked);
-        }
-        self.store.undo_to(Mark::new(place))?;
+    pub fn undo_to(&mut self, rt: &impl Abort, place: usize) {
+        assert!(rt; place < self.marks);
+        self.store.undo_to(Mark::new(place)).expect(rt, "memory");
         self.marks = place + 1;
-        Ok(())
     }
 
     /// Goes back to the mark of a place, which goes.
-    pub fn undo(&mut self, place: usize) -> Result<(), Stopped> {
-        if place >= self.marks {
-            return Err(Stopped::Unasked);
-        }
+    pub fn undo(&mut self, rt: &impl Abort, place: usize) {
+        assert!(rt; place < self.marks);
         self.store.undo(Mark::new(place));
         self.marks = place;
-        Ok(())
     }
 
     /// Drops the mark of a place.
-    pub fn forget(&mut self, place: usize) -> Result<(), Stopped> {
-        if place >= self.marks {
-            return Err(Stopped::Unasked);
-        }
+    pub fn forget(&mut self, rt: &impl Abort, place: usize) {
+        assert!(rt; place < self.marks);
         self.store.forget(Mark::new(place));
         self.marks -= 1;
-        Ok(())
     }
 
     /// Drops all marks, and counts no change.

@@ -1,69 +1,60 @@
 //! Tokens of one text that are read in another. The program reads tokens in their own text alone.
+use crate::shown::{show, show_number};
+use crate::story::compare;
 use iv_lex::{Token, TokenKind, folded_text, tokens};
 use iv_parse_data::insert;
 use iv_syntax::Insert;
-use std::alloc::{AllocError, Global};
+use std::alloc::Global;
+use std::panic::Expect;
 use std::process::Abort;
-use std::test::Fail;
 
-// A name, a word, and how many tokens are left.
-fn show(name: &str, word: &str, left: usize, shown: &mut String) -> Result<(), AllocError> {
-    write!(shown, "{name}{word}{left}")
-}
-
-fn show_insert(insert: &Insert, left: usize, shown: &mut String) -> Result<(), AllocError> {
+// The table of an INSERT, and whether it has columns and rows or defaults.
+fn show_insert(rt: &impl Abort, insert: &Insert, shown: &mut String) {
     match insert {
-        Insert::DefaultValues(table) => show(table.as_str(), " defaults, ", left, shown),
-        Insert::Rows { table, .. } => show(table.as_str(), " rows, ", left, shown),
+        Insert::DefaultValues(table) => {
+            show(rt, table.as_str(), shown);
+            show(rt, " defaults, ", shown);
+        }
+        Insert::Rows { table, .. } => {
+            show(rt, table.as_str(), shown);
+            show(rt, " rows, ", shown);
+        }
     }
 }
 
+// What `insert` finds in a text by these tokens, and how many of them are left.
 fn show_insert_in(
+    rt: &impl Abort,
     alloc: Global,
     text: &str,
     tokens: &[Token],
     shown: &mut String,
-) -> Result<(), AllocError> {
-    match insert(alloc, text, tokens)? {
+) {
+    match insert(alloc, text, tokens).expect(rt, "memory") {
         Some((found, rest)) => {
-            let done = show_insert(&found, rest.len(), shown);
+            show_insert(rt, &found, shown);
             drop(found);
-            done
+            show_number(rt, "", rest.len() as u64, "", shown);
         }
-        None => shown.push_str("none"),
+        None => show(rt, "none", shown),
     }
 }
 
-// What `insert` finds in one text by the tokens of another.
-fn show_elsewhere(
-    alloc: Global,
-    source: &str,
-    text: &str,
-    shown: &mut String,
-) -> Result<(), AllocError> {
-    let lexed = tokens(alloc, source)?;
-    let done = show_insert_in(alloc, text, lexed.tokens.as_slice(), shown);
-    drop(lexed);
-    done
-}
-
-// Asserts that this is shown of a text.
-fn compare(rt: &impl Abort, text: &str, shown: &str, wanted: &str) {
-    assert_eq!(rt; shown, wanted, "in {text}");
-}
-
-// Asserts what is found in a text, where the name of the table is looked for at byte 5.
-fn finds(rt: &impl Abort, alloc: Global, text: &str, wanted: &str) -> Result<(), Fail> {
+// So by the tokens of another text, where the name of the table is at byte 5.
+fn shown_elsewhere(rt: &impl Abort, alloc: Global, text: &str) -> String {
     let mut shown = String::new(alloc);
-    let done = show_elsewhere(alloc, "INTO t DEFAULT VALUES", text, &mut shown);
+    let lexed = tokens(alloc, "INTO t DEFAULT VALUES").expect(rt, "memory");
+    show_insert_in(rt, alloc, text, lexed.tokens.as_slice(), &mut shown);
+    shown
+}
+
+fn finds(rt: &impl Abort, alloc: Global, text: &str, wanted: &str) {
+    let shown = shown_elsewhere(rt, alloc, text);
     compare(rt, text, shown.as_str(), wanted);
-    drop(shown);
-    done?;
-    Ok(())
 }
 
 #[test]
-fn names_of_another_text_are_none(rt: HostRuntime) -> Result<(), Fail> {
+fn names_of_another_text_are_none(rt: HostRuntime) {
     for (text, wanted) in [
         ("INTO u DEFAULT VALUES", "U defaults, 0"),
         ("INTO u", "U defaults, 0"),
@@ -72,23 +63,23 @@ fn names_of_another_text_are_none(rt: HostRuntime) -> Result<(), Fail> {
         ("INT\u{e9}\u{e9}", "none"),
         ("INTO \u{e9}", "none"),
     ] {
-        finds(&rt, rt.alloc(), text, wanted)?;
+        finds(&rt, rt.alloc(), text, wanted);
     }
-    Ok(())
 }
 
-// Whether a name from one byte to another of a text of nine bytes, with two in the third character, is none.
-fn is_outside(alloc: Global, start: usize, end: usize) -> Result<bool, AllocError> {
+// A name from one byte to another of a text of nine bytes, with two in the third character, is none.
+fn is_outside(rt: &impl Abort, alloc: Global, start: usize, end: usize) {
     let token = Token {
         kind: TokenKind::Quoted,
         start,
         end,
     };
-    Ok(folded_text(alloc, "ab\u{e9}cdefg", token)?.is_none())
+    let folded = folded_text(alloc, "ab\u{e9}cdefg", token).expect(rt, "memory");
+    assert!(rt; folded.is_none(), "from {start} to {end}");
 }
 
 #[test]
-fn places_outside_the_text(rt: HostRuntime) -> Result<(), Fail> {
+fn places_outside_the_text(rt: HostRuntime) {
     for (start, end) in [
         (0, 10),
         (9, 10),
@@ -99,8 +90,6 @@ fn places_outside_the_text(rt: HostRuntime) -> Result<(), Fail> {
         (usize::MAX, 0),
         (usize::MAX, usize::MAX),
     ] {
-        let outside = is_outside(rt.alloc(), start, end)?;
-        assert!(rt; outside, "from {start} to {end}");
+        is_outside(&rt, rt.alloc(), start, end);
     }
-    Ok(())
 }
