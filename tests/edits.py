@@ -13,9 +13,10 @@ The file tests/edits/DIGESTS has a digest for each crate whose edits were all re
 what it names in the crates below, and that in turn: modules of proofs and definitions, and of code the files that define
 a name or have an `impl` of it. Tests, comments and the breaks of lines of code are no part of it; of the crates below
 neither are private functions and fields, tactics, drops without a clause, the bodies of functions that have a contract,
-and imports for these, since a proof above sees models and the contracts of public functions alone. Where it is still the
-same the edits aren't tried again, except with --all; where they are tried and all are refused it is written anew. A crate
-that is tried is proved first where its kept work is missing or old."""
+and imports for these, since a proof above sees models and the contracts of public functions alone; nor is a public
+function with a contract that neither the crate, nor its edits, nor what else is in the digest names. Where it is still
+the same the edits aren't tried again, except with --all; where they are tried and all are refused it is written anew. A
+crate that is tried is proved first where its kept work is missing or old."""
 import argparse
 import functools
 import hashlib
@@ -33,7 +34,9 @@ import crates as repository
 import rooms
 
 FUNCTION = re.compile(r"^( *)(?:pub(?:\([a-z]+\))? )?(?:const )?(?:extern \"C\" )?fn (\w+)", re.M)
-# The body of a function that has clauses: the layout has its braces on lines of their own.
+# A public function that has clauses: the layout has its braces on lines of their own.
+CONTRACTED = re.compile(r"^( *)pub (?:const )?fn (\w+)[^\n]*\n(?:\1[ )][^\n]*\n)*\1\{\n(?:\1 [^\n]*\n|\n)*\1\}\n", re.M)
+# The body of a function that has clauses.
 BODY = re.compile(r"^( *)\{\n.*?^\1\}\n", re.M | re.S)
 # A function outside of every `impl` that no other crate can call, and how a function is to be proved.
 PRIVATE = re.compile(r"^(?:pub\([a-z]+\) )?(?:const )?fn .*?(?:^| )\{\n.*?^\}\n", re.M | re.S)
@@ -149,21 +152,40 @@ def with_public_fields(struct):
     return struct[1] + "".join(kept) + struct[3]
 
 
-def seen_from_above(source):
+def seen_from_above(source, called=None):
     """What a crate above sees of a file of code: no private functions and fields, tactics, drops without a clause, and bodies of functions
-    that have clauses, and no imports for these."""
+    that have clauses, and no imports for these; and, where it is said which public functions that have clauses it calls, no others of them."""
+    if called is not None:
+        source = CONTRACTED.sub(lambda function: function[0] if function[2] in called else "", source)
     seen = BODY.sub("", PRIVATE.sub("", TACTIC.sub("", source)))
     return with_used_imports(FIELDS.sub(with_public_fields, DROPPED.sub("", seen)))
 
 
-def bare(path, from_above=False):
+@functools.lru_cache(maxsize=None)
+def contracted(path):
+    """The names of the public functions of a file that have clauses."""
+    return frozenset(name for _, name in CONTRACTED.findall(without_comments(path)))
+
+
+@functools.lru_cache(maxsize=None)
+def words_of(path, from_above):
+    """The words of a file of code or of an edit, or of what is seen of a file from above without the names under which its functions are
+    declared. A definition or a proof calls no function."""
+    text = "" if path.endswith(".antt") else without_comments(path)
+    if from_above:
+        text = re.sub(r"\bfn \w+", "", seen_from_above(text))
+    return frozenset(re.findall(r"\w+", text))
+
+
+@functools.lru_cache(maxsize=None)
+def bare(path, from_above=False, called=None):
     """A file's text without the lines that hold a comment alone; of code also without the breaks of its lines, without
     the module of tests, and without the marks that the layout puts before the first case and after the last field of
     what it writes over several lines; and, where it is asked, as a crate above sees it. No proof depends on the rest."""
     source = without_comments(path)
     if not path.endswith(".rt"):
         return source
-    text = " ".join((seen_from_above(source) if from_above else source).split()).replace("#[cfg(test)] mod tests;", "").replace("  ", " ")
+    text = " ".join((seen_from_above(source, called) if from_above else source).split()).replace("#[cfg(test)] mod tests;", "").replace("  ", " ")
     return re.sub(r"(\brecord \{[^{}]*); \}", r"\1 }", text.replace("[ | ", "[ "))
 
 
@@ -207,12 +229,12 @@ def code_named(crate, parts):
 
 
 @functools.lru_cache(maxsize=None)
-def named_in(path, from_above):
+def named_in(path, from_above, called=None):
     """The files of the repository's crates that a file names by their modules, or of which it names what they offer; of a file of a crate
     below, in what is seen of it from above."""
     text = without_comments(path)
     if from_above and path.endswith(".rt"):
-        text = seen_from_above(text)
+        text = seen_from_above(text, called)
     found = set()
     for crate, kind, rest in PROOF_PATH.findall(text):
         folder, parts = os.path.join(ROOT, "crates", crate), rest.split(".")
@@ -233,14 +255,14 @@ def named_in(path, from_above):
     return frozenset(found)
 
 
-def reached(files):
-    """The files of a crate, and those that they name, and so on."""
+def reached(files, words=None):
+    """The files of a crate, and those that they name, and so on; where words are given, without the functions that none of them names."""
     found, left = set(), list(files)
     while left:
         path = left.pop()
         if path not in found:
             found.add(path)
-            left += named_in(path, path not in files)
+            left += named_in(path, path not in files, None if words is None else contracted(path) & words)
     return found
 
 
@@ -249,11 +271,13 @@ def digest_of(crate):
     turn, without tests. Proofs of the crates below are no part of it, but what they name is."""
     folder = os.path.join(ROOT, "crates", crate)
     own = [path for part in ("src", "specs", "proofs") for path in files_in(os.path.join(folder, part)) if path.endswith((".rt", ".antt"))]
-    lower = [path for path in reached(own) if not path.startswith((os.path.join(folder, ""), os.path.join(ROOT, "tests"))) and "proofs" not in os.path.relpath(path, ROOT).split(os.sep)]
+    edits = files_in(os.path.join(HERE, "edits", crate))
+    words = frozenset().union(*(words_of(path, path not in own) for path in reached(own)), *(words_of(path, False) for path in edits))
+    lower = {path for path in reached(own, words) if not path.startswith((os.path.join(folder, ""), os.path.join(ROOT, "tests"))) and "proofs" not in os.path.relpath(path, ROOT).split(os.sep)}
     digest = hashlib.sha256()
-    for path in sorted({*files_in(os.path.join(HERE, "edits", crate)), *own, *lower}):
-        from_above = path in lower
-        digest.update(os.path.relpath(path, ROOT).encode() + b"\0" + bare(path, from_above).encode() + b"\0")
+    for path in sorted({*edits, *own, *lower}):
+        text = bare(path, True, contracted(path) & words) if path in lower else bare(path)
+        digest.update(os.path.relpath(path, ROOT).encode() + b"\0" + text.encode() + b"\0")
     return digest.hexdigest()
 
 
