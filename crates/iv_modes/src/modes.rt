@@ -4,7 +4,7 @@ ghost use Rattle.iv_machine.specs.Databases.{initial_modes, is_deferred};
 ghost use Rattle.iv_machine.specs.Machine.{with_modes};
 ghost use Rattle.iv_modes.specs.ModeMaps.{OnlyTheseAreSet, first_not_deferrable, initial_map, is_deferrable, with_mode};
 
-use iv_catalogue::{Catalogue, Constraint, ConstraintId};
+use iv_catalogue::{Constraint, ConstraintId};
 use iv_syntax::ConstraintMode;
 use std::alloc::{AllocError, Global};
 use std::marker::Model;
@@ -15,10 +15,18 @@ pub struct NotDeferrable(pub ConstraintId);
 
 /// The mode of each constraint, and whether it may be set. Contracts see it as a finite map by the
 /// constraint's number.
-#[derive(Drop)]
 pub struct Modes {
     deferrable: Vec<bool>,
     modes: Vec<ConstraintMode>,
+}
+
+// Written out, so that it is proved once, and not again in each crate that drops modes.
+impl Drop for Modes {
+    fn drop(self) {
+        let Modes { deferrable, modes } = self;
+        drop(deferrable);
+        drop(modes);
+    }
 }
 
 impl Model for Modes {
@@ -83,11 +91,10 @@ fn copy_each(modes: &mut [ConstraintMode], others: &[ConstraintMode])
 }
 
 impl Modes {
-    /// The modes at the start of a transaction.
-    pub fn initial(alloc: Global, catalogue: &Catalogue) -> Result<Modes, AllocError>
-        ensures { IfOk result (λ m. m ≡ initial_map catalogue.now.constraints) }
+    /// The modes of these constraints, all that there are, at the start of a transaction.
+    pub fn initial(alloc: Global, constraints: &[Constraint]) -> Result<Modes, AllocError>
+        ensures { IfOk result (λ m. m ≡ initial_map constraints.now) }
     {
-        let constraints = catalogue.constraints();
         Ok(Modes {
             deferrable: deferrable_of(alloc, constraints)?,
             modes: initial_modes(alloc, constraints)?,

@@ -29,7 +29,7 @@ fn copy_table<K: Keeper>(
         ≡ store_with_table (K.view store.old) table.now constraints.now) }
     ensures err { OnErr result (K.view store.new ≡ K.view store.old) }
 {
-    let modes = Modes::initial(store.allocator(), catalogue)?;
+    let modes = Modes::initial(store.allocator(), catalogue.constraints())?;
     store.add_table(table, constraints)?;
     Ok(modes)
 }
@@ -82,7 +82,7 @@ fn copy_constraint<K: Keeper>(
         ≡ store_with_constraint (K.view store.old) constraint.now) }
     ensures err { OnErr result (K.view store.new ≡ K.view store.old) }
 {
-    let modes = Modes::initial(store.allocator(), catalogue)?;
+    let modes = Modes::initial(store.allocator(), catalogue.constraints())?;
     store.add_constraint(constraint)?;
     Ok(modes)
 }

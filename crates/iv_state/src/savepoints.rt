@@ -114,9 +114,9 @@ impl<K: Keeper + Drop> SessionState<K> {
             (accept (state_with_savepoint self.old.state name.now) Done) result self.new }
         ensures still { self.new.looked_up ≡ self.old.looked_up }
     {
+        self.saves.make_room()?;
         let own = String::from_str(self.store.allocator(), name.as_str())?;
         let modes = copied(&self.changed)?;
-        self.saves.make_room()?;
         let _ = self.store.mark()?;
         take_named(&mut self.store, &mut self.saves, name.as_str());
         self.saves.push(own, modes);

@@ -99,19 +99,11 @@ impl<K: Keeper + Drop> SessionState<K> {
               account = no_account false;
             }) }
     {
-        let catalogue = Catalogue::new(alloc);
-        let initial = match Modes::initial(alloc, &catalogue) {
-            Ok(modes) => modes,
-            Err(error) => {
-                drop(catalogue);
-                return Err(error);
-            }
-        };
         Ok(SessionState {
             limits,
-            catalogue,
+            initial: Modes::initial(alloc, &[])?,
+            catalogue: Catalogue::new(alloc),
             store: K::new(alloc),
-            initial,
             changed: None,
             active: false,
             saves: SavepointList::new(alloc),
