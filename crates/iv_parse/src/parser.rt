@@ -17,10 +17,34 @@ pub struct SyntaxFault {
 }
 
 /// The statements of a script, and the fault where it ends too soon.
-#[derive(Drop)]
 pub struct Parsed {
     pub statements: Items<Statement>,
     pub fault: Option<SyntaxFault>,
+}
+
+// Written out, so that what drops a statement is proved once, and not again in each crate that drops a script. No other
+// crate can take a `Parsed` apart for that.
+impl Drop for Parsed {
+    fn drop(self) {
+        let Parsed {
+            statements,
+            fault: _,
+        } = self;
+        drop(statements);
+    }
+}
+
+impl Parsed {
+    /// The statements alone.
+    pub fn into_statements(self) -> Items<Statement>
+        ensures { result ≡ self.statements }
+    {
+        let Parsed {
+            statements: taken,
+            fault: _,
+        } = self;
+        taken
+    }
 }
 
 fn first_place(tokens: &[Token], fault: Option<usize>) -> Option<usize>

@@ -14,7 +14,7 @@ use crate::read::{LONGEST, read_script};
 use crate::statements::{Tally, run_statements};
 use crate::summary::{RunFault, Summary};
 use iv_machine::Limits;
-use iv_parse::{Parsed, SyntaxFault, script};
+use iv_parse::{SyntaxFault, script};
 use iv_print::{Buffered, DeviceFault, Sink, Source, write_all, write_number};
 use iv_step::Executor;
 use iv_syntax::Statement;
@@ -119,7 +119,7 @@ fn run_text<S: Executor + Drop, W: Sink>(
     ensures silent { IfErr result (λ e. e ≢ RunFault.Write → writer.new ≡ writer.old) }
     ensures works { OnOk result (FailsNever (W.state writer.old) (W.state writer.new)) }
 {
-    let Parsed { statements, fault } = script(alloc, text)?;
+    let parsed = script(alloc, text)?;
     let mut session = S::new(alloc, limits)?;
     session.explain(explain);
     let explained = Explained {
@@ -130,11 +130,13 @@ fn run_text<S: Executor + Drop, W: Sink>(
         &mut session,
         explained,
         text,
-        statements.as_slice(),
-        fault,
+        parsed.statements.as_slice(),
+        parsed.fault,
         writer,
     );
+    let fault = parsed.fault;
     drop(session);
+    drop(parsed);
     match done {
         Ok(tally) => Ok(Summary {
             accepted: tally.accepted,

@@ -85,9 +85,9 @@ pub extern "C" fn sqlkeep_read(
         return CLOSED;
     };
     match parsed(alloc, text) {
-        Ok(Parsed { statements, fault }) => {
-            *script = shown(statements.len(), fault);
-            opened.statements = statements;
+        Ok(parsed) => {
+            *script = shown(parsed.statements.len(), parsed.fault);
+            opened.statements = parsed.into_statements();
             opened.executed = None;
             put(handle, opened);
             OK

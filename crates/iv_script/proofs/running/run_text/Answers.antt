@@ -8,14 +8,14 @@ pub returns-in-Ok-clause-with_memory : goal.returns-in-Ok-clause-with_memory
 returns-in-Ok-clause-with_memory g c = λ plain none.
     let before = g.W.Sink.state c.args.writer.now in
     let after = g.W.Sink.state c.run_buffered-done.new.writer in
-    let fault = c.in_ok-statements.field-0.fault in
+    let fault = c.in_ok-parsed.parsed.fault in
     let place = option_map (λ f. f.at) fault in
     let tally = c.in-Ok.tally in
     let plainly : RanParsed false (g.S.Executor.state c.explain.new.self) c.args.text.now c.as_slice.result.now place tally before after
     = subst (λ (b : Bool). RanParsed b (g.S.Executor.state c.explain.new.self) c.args.text.now c.as_slice.result.now place tally before after) plain c.in-Ok.ensures in
     let from_empty : RanParsed false (empty_state c.args.limits) c.args.text.now c.as_slice.result.now place tally before after
     = subst (λ s. RanParsed false s c.args.text.now c.as_slice.result.now place tally before after) (c.explain.ensures.state ∙ c.in_ok-session.ensures.state) plainly in
-    let of_script : RanParsed false (empty_state c.args.limits) c.args.text.now c.in_ok-statements.field-0.statements place tally before after
+    let of_script : RanParsed false (empty_state c.args.limits) c.args.text.now c.in_ok-parsed.parsed.statements place tally before after
     = subst (λ l. RanParsed false (empty_state c.args.limits) c.args.text.now l place tally before after) c.as_slice.ensures from_empty in
     ran_with_memory c.args.text.now c.args.limits (summary_of tally fault) before after
-    (ran_script c.args.text.now c.args.limits false c.in_ok-statements.field-0.statements fault tally before after c.in_ok-statements.ensures of_script) none
+    (ran_script c.args.text.now c.args.limits false c.in_ok-parsed.parsed.statements fault tally before after c.in_ok-parsed.ensures of_script) none
