@@ -1,1 +1,4 @@
+pub mod OneMark
 pub mod Sets
+pub mod TakenBack
+pub mod Watched

@@ -1,4 +1,4 @@
-//! What a store asks of its calls, as tests.
+//! What a store asks of its calls, as tests, and how it is asserted.
 ghost use Rattle.std.specs.Prelude.{◌≡◌, ◌++◌, ◌==◌, true};
 ghost use Rattle.std.specs.List.{list_all, list_any};
 ghost use Rattle.iv_catalogue.specs.Catalogues.{AllOn};
@@ -8,6 +8,16 @@ ghost use Rattle.iv_store.specs.Stores.{all_among, are_same_columns, fits_column
 use iv_catalogue::{Column, Constraint, ForeignKey, Rule, Table};
 use iv_expr::TableId;
 use iv_value::{Fit, Value, fit};
+use std::process::Abort;
+
+/// Asserts that a condition holds, and else tells what isn't so. An `assert!` is twice as much to prove as this call.
+pub fn assert_that(rt: &impl Abort, holds: bool, otherwise: &str)
+    ensures { holds ≡ true }
+{
+    if !holds {
+        rt.panic(otherwise);
+    }
+}
 
 /// Whether each constraint is on the table of this number.
 pub fn are_on(table: usize, constraints: &[Constraint]) -> bool

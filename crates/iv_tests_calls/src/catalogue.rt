@@ -1,10 +1,14 @@
-//! A table that is taken out of a catalogue again, as a session does where its store is refused memory.
+//! A table that is taken out of a catalogue again, as a session does where its store is refused memory; and one that is
+//! copied.
 ghost use Rattle.std.specs.Prelude.{◌≡◌};
 ghost use Rattle.iv_catalogue.specs.Catalogues.{empty_schema};
 
 use crate::schema::{put_table, table_of};
-use iv_catalogue::Catalogue;
+use iv_catalogue::{Catalogue, Column};
+use iv_copies::copy_table;
+use iv_value::{Kind, Value};
 use std::alloc::Global;
+use std::panic::Expect;
 use std::process::Abort;
 
 // Adds a table to a catalogue of nothing, and takes it out.
@@ -32,4 +36,28 @@ fn told(rt: &impl Abort, alloc: Global) -> (usize, bool) {
 #[test]
 fn a_table_is_taken(rt: HostRuntime) {
     assert_eq!(rt; told(&rt, rt.alloc()), (0, false));
+}
+
+// Whether a column has this name and type, and no default.
+fn is_column(column: &Column, name: &str, kind: Kind) -> bool {
+    column.name.as_str() == name && column.kind == kind && matches!(&column.default, Value::Null)
+}
+
+// Whether the copy of the table T0_7 of an integer and a text has its name and its columns.
+fn is_copied(rt: &impl Abort, alloc: Global) -> bool {
+    let table = table_of(rt, alloc, 7, &[Kind::Integer, Kind::Varchar(3)]);
+    let copy = copy_table(alloc, &table).expect(rt, "memory");
+    drop(table);
+    let columns = match copy.columns.as_slice() {
+        [first, second] => {
+            is_column(first, "C0_0", Kind::Integer) && is_column(second, "C0_1", Kind::Varchar(3))
+        }
+        _ => false,
+    };
+    columns && copy.name.as_str() == "T0_7"
+}
+
+#[test]
+fn a_table_is_copied(rt: HostRuntime) {
+    assert!(rt; is_copied(&rt, rt.alloc()));
 }

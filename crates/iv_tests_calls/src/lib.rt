@@ -1,5 +1,5 @@
-//! Tests of both stores of rows by the calls of their trait, and calls that the program doesn't make. A crate's own tests have the
-//! whole crate proved once more.
+//! Tests of both stores of rows by the calls of their trait, of the parts of the store with keys, and of calls that the program
+//! doesn't make. A crate's own tests have the whole crate proved once more.
 #![tactic(auto)]
 
 #[cfg(test)]
@@ -16,6 +16,8 @@ mod expressions;
 mod names;
 #[cfg(test)]
 mod numbers;
+#[cfg(test)]
+mod parts;
 #[cfg(test)]
 mod random;
 #[cfg(test)]

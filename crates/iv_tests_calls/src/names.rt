@@ -1,33 +1,10 @@
 //! The name that a refusal is about, over a catalogue that has nothing.
 use iv_catalogue::{Catalogue, Cause};
+use iv_parse::script;
 use iv_resolve_name_faults::{NameFault, NamedItem, duplicate_name, name_fault, unknown_name};
-use iv_syntax::{Insert, InsertSource, Name, Statement};
-use iv_value::Text;
-use sqlite_items::Items;
+use iv_syntax::Statement;
 use std::alloc::Global;
 use std::panic::Expect;
-use std::process::Abort;
-
-fn name(rt: &impl Abort, alloc: Global, text: &str) -> Name {
-    Name::new(Text::new(alloc, text).expect(rt, "memory"))
-}
-
-fn names(rt: &impl Abort, alloc: Global, texts: &[&str]) -> Items<Name> {
-    let mut names = Items::new(alloc);
-    for text in texts {
-        names.push(name(rt, alloc, text)).expect(rt, "memory");
-    }
-    names
-}
-
-// INSERT INTO t (a, b, b, a), with no values.
-fn insert(rt: &impl Abort, alloc: Global) -> Statement {
-    Statement::Insert(Insert::Rows {
-        table: name(rt, alloc, "T"),
-        columns: Some(names(rt, alloc, &["A", "B", "B", "A"])),
-        source: InsertSource::Values(Items::new(alloc)),
-    })
-}
 
 // Whether the table T is unknown, for the call that tells an unknown name and for the one that tells any; whether
 // the column B comes twice, for both; and whether a wrong shape is about no name.
@@ -46,10 +23,14 @@ fn told<'a>(alloc: Global, catalogue: &'a Catalogue, statement: &'a Statement) -
 
 #[test]
 fn names_of_an_insert(rt: HostRuntime) {
-    let statement = insert(&rt, rt.alloc());
+    let text = "INSERT INTO t (a, b, b, a) VALUES (1, 2, 3, 4);";
+    let parsed = script(rt.alloc(), text).expect(&rt, "memory");
     let catalogue = Catalogue::new(rt.alloc());
-    let told = told(rt.alloc(), &catalogue, &statement);
+    let told = match parsed.statements.as_slice() {
+        [statement] => told(rt.alloc(), &catalogue, statement),
+        _ => [false; 5],
+    };
     drop(catalogue);
-    drop(statement);
+    drop(parsed);
     assert_eq!(rt; told, [true; 5]);
 }

@@ -374,7 +374,7 @@ fn least_done(
     index: &mut Tested<IndexStore>,
 ) -> u32 {
     let mut tally = [0; 10];
-    let initial = Modes::initial(alloc, plain.catalogue()).expect(rt, "memory");
+    let initial = Modes::initial(alloc, plain.catalogue().constraints()).expect(rt, "memory");
     let mut switched = initial.copy().expect(rt, "memory");
     switch(rt, &mut switched);
     same_after_each(

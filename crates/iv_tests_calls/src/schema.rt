@@ -2,6 +2,7 @@
 ghost use Rattle.std.specs.Prelude.{◌≡◌, []};
 ghost use Rattle.iv_catalogue.specs.Catalogues.{has_constraint, has_table, with_table};
 
+use crate::asked::assert_that;
 use iv_catalogue::{
     Catalogue, Column, Constraint, Constraints, MOST_CONSTRAINTS, MOST_TABLES, Table,
 };
@@ -86,8 +87,16 @@ fn has_constraint(catalogue: &Catalogue, name: &str) -> bool
 pub fn put_table(rt: &impl Abort, alloc: Global, catalogue: &mut Catalogue, table: Table)
     ensures { catalogue.new ≡ with_table catalogue.old table [] }
 {
-    assert!(rt; catalogue.tables().len() < MOST_TABLES);
-    assert!(rt; !has_table(catalogue, table.name.as_str()));
+    assert_that(
+        rt,
+        catalogue.tables().len() < MOST_TABLES,
+        "too many tables",
+    );
+    assert_that(
+        rt,
+        !has_table(catalogue, table.name.as_str()),
+        "a table of this name",
+    );
     catalogue
         .add_table(table, Constraints::from_vec(Vec::new(alloc)))
         .expect(rt, "memory");
@@ -97,9 +106,16 @@ pub fn put_table(rt: &impl Abort, alloc: Global, catalogue: &mut Catalogue, tabl
 pub fn put_copy(rt: &impl Abort, alloc: Global, catalogue: &mut Catalogue, constraint: &Constraint)
     ensures { catalogue.new.tables ≡ catalogue.old.tables }
 {
-    assert!(rt; (constraint.table.place() as usize) < catalogue.tables().len());
-    assert!(rt; catalogue.constraints_of(constraint.table).len() < MOST_CONSTRAINTS);
-    assert!(rt; !has_constraint(catalogue, constraint.name.as_str()));
+    let table = constraint.table;
+    assert_that(
+        rt,
+        (table.place() as usize) < catalogue.tables().len(),
+        "no such table",
+    );
+    let constraints = catalogue.constraints_of(table).len();
+    assert_that(rt, constraints < MOST_CONSTRAINTS, "too many constraints");
+    let is_new = !has_constraint(catalogue, constraint.name.as_str());
+    assert_that(rt, is_new, "a constraint of this name");
     let copy = copy_constraint(alloc, constraint).expect(rt, "memory");
     catalogue.add_constraint(copy).expect(rt, "memory");
 }

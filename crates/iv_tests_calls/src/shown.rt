@@ -31,16 +31,16 @@ pub fn show_number(rt: &impl Abort, before: &str, number: u64, after: &str, show
     write!(shown, "{before}{number}{after}").expect(rt, "memory");
 }
 
-// Numbers, each with a space after it, and a bar.
-fn show_numbers(rt: &impl Abort, numbers: &[u64], shown: &mut String) {
+/// Numbers, each with a space after it, and a bar.
+pub fn show_numbers(rt: &impl Abort, numbers: &[u64], shown: &mut String) {
     for number in numbers {
         show_number(rt, "", *number, " ", shown);
     }
     show(rt, "| ", shown);
 }
 
-// Violations: each the place of its constraint and the number of its row; and a bar.
-fn show_faults(rt: &impl Abort, faults: &[Fault], shown: &mut String) {
+/// Violations: each the place of its constraint and the number of its row; and a bar.
+pub fn show_faults(rt: &impl Abort, faults: &[Fault], shown: &mut String) {
     for fault in faults {
         show_number(rt, "", u64::from(fault.constraint.place()), ":", shown);
         show_number(rt, "", fault.row, " ", shown);
@@ -83,7 +83,7 @@ pub fn show_at_first<K: Keeper + Drop>(
     each: &[Which],
     shown: &mut String,
 ) {
-    let modes = Modes::initial(alloc, store.catalogue()).expect(rt, "memory");
+    let modes = Modes::initial(alloc, store.catalogue().constraints()).expect(rt, "memory");
     show_each(rt, store.store(), &modes, each, shown);
 }
 

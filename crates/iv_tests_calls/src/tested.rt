@@ -4,7 +4,7 @@ ghost use Rattle.iv_machine.specs.Databases.{row_at};
 ghost use Rattle.iv_machine.specs.Waves.{values_at};
 ghost use Rattle.iv_store.specs.Stores.{fits_table};
 
-use crate::asked::{are_on, fits, have_keys};
+use crate::asked::{are_on, assert_that, fits, have_keys};
 use crate::schema::{put_copies, put_copy, put_table};
 use iv_catalogue::{Catalogue, Constraint, ConstraintId, MOST_CONSTRAINTS, MOST_TABLES, Table};
 use iv_copies::copy_constraint;
@@ -61,7 +61,11 @@ impl<K: Keeper + Drop> Drop for Tested<K> {
 fn values_of(rt: &impl Abort, row: &StoredRow, table: TableId) -> Row
     ensures { row.now ≡ record { table = table; number = row.now.number; values = result } }
 {
-    assert!(rt; row.table.place() == table.place());
+    assert_that(
+        rt,
+        row.table.place() == table.place(),
+        "a row of another table",
+    );
     row.values.clone().expect(rt, "memory")
 }
 
@@ -142,10 +146,22 @@ impl<K: Keeper + Drop> Tested<K> {
         constraints: Items<Constraint>,
     ) {
         let more = constraints.as_slice();
-        assert!(rt; self.marks == 0);
-        assert!(rt; are_few(self.constraints.len(), more.len()));
-        assert!(rt; are_on(self.catalogue.tables().len(), more));
-        assert!(rt; have_keys(self.constraints.as_slice(), more));
+        assert_that(rt, self.marks == 0, "there are marks");
+        assert_that(
+            rt,
+            are_few(self.constraints.len(), more.len()),
+            "too many constraints",
+        );
+        assert_that(
+            rt,
+            are_on(self.catalogue.tables().len(), more),
+            "of another table",
+        );
+        assert_that(
+            rt,
+            have_keys(self.constraints.as_slice(), more),
+            "no such key",
+        );
         self.store.add_table(&table, more).expect(rt, "memory");
         put_table(rt, alloc, &mut self.catalogue, table);
         put_copies(rt, alloc, &mut self.catalogue, more);
@@ -159,9 +175,18 @@ impl<K: Keeper + Drop> Tested<K> {
         alloc: Global,
         constraint: &Constraint,
     ) -> Option<u64> {
-        assert!(rt; self.marks == 0);
-        assert!(rt; are_few(self.constraints.len(), 1));
-        assert!(rt; have_keys(self.constraints.as_slice(), slice::from_ref(constraint)));
+        assert_that(rt, self.marks == 0, "there are marks");
+        assert_that(
+            rt,
+            are_few(self.constraints.len(), 1),
+            "too many constraints",
+        );
+        let more = slice::from_ref(constraint);
+        assert_that(
+            rt,
+            have_keys(self.constraints.as_slice(), more),
+            "no such key",
+        );
         if let Err(fault) = self.store.add_constraint(constraint) {
             return Some(violating_row(rt, fault));
         }
@@ -174,10 +199,17 @@ impl<K: Keeper + Drop> Tested<K> {
     /// Gives the row of a number these values, or takes it out, where it isn't one of another table.
     pub fn set(&mut self, rt: &impl Abort, table: u32, number: u64, new: Option<Row>) {
         let table = TableId::new(table);
-        assert!(rt; number > 0 && number <= LAST_ROW_NUMBER);
-        assert!(rt; self.store.change_count() < MOST_CHANGES_IN_A_TRANSACTION);
-        assert!(rt; (table.place() as usize) < self.catalogue.tables().len());
-        assert!(rt; fits_new(self.catalogue.tables(), table, &new));
+        assert_that(rt, number > 0, "no number");
+        assert_that(rt, number <= LAST_ROW_NUMBER, "no number");
+        let changes = self.store.change_count();
+        assert_that(
+            rt,
+            changes < MOST_CHANGES_IN_A_TRANSACTION,
+            "too many changes",
+        );
+        let tables = self.catalogue.tables();
+        assert_that(rt, (table.place() as usize) < tables.len(), "no such table");
+        assert_that(rt, fits_new(tables, table, &new), "a row that doesn't fit");
         let old = held(rt, &self.store, table, number);
         let change = Change {
             table,
@@ -196,7 +228,7 @@ impl<K: Keeper + Drop> Tested<K> {
 
     /// Marks the database, and tells the mark's place.
     pub fn mark(&mut self, rt: &impl Abort) -> usize {
-        assert!(rt; self.marks < usize::MAX);
+        assert_that(rt, self.marks < usize::MAX, "too many marks");
         let mark = self.store.mark().expect(rt, "memory");
         self.marks += 1;
         mark.place()
@@ -204,21 +236,21 @@ impl<K: Keeper + Drop> Tested<K> {
 
     /// Goes back to the mark of a place, which stays.
     pub fn undo_to(&mut self, rt: &impl Abort, place: usize) {
-        assert!(rt; place < self.marks);
+        assert_that(rt, place < self.marks, "no such mark");
         self.store.undo_to(Mark::new(place)).expect(rt, "memory");
         self.marks = place + 1;
     }
 
     /// Goes back to the mark of a place, which goes.
     pub fn undo(&mut self, rt: &impl Abort, place: usize) {
-        assert!(rt; place < self.marks);
+        assert_that(rt, place < self.marks, "no such mark");
         self.store.undo(Mark::new(place));
         self.marks = place;
     }
 
     /// Drops the mark of a place.
     pub fn forget(&mut self, rt: &impl Abort, place: usize) {
-        assert!(rt; place < self.marks);
+        assert_that(rt, place < self.marks, "no such mark");
         self.store.forget(Mark::new(place));
         self.marks -= 1;
     }

@@ -8,7 +8,6 @@ use crate::triggers::{Action, Run};
 use crate::waves::Asked::Columns;
 use crate::waves::Waves::These;
 use iv_syntax::{ActionTime, Granularity, TriggerEvent};
-use std::test::Fail;
 
 static LEVEL: [Case; 1] = [OfWaves(
     These(&[
@@ -19,8 +18,8 @@ static LEVEL: [Case; 1] = [OfWaves(
 )];
 
 #[test]
-fn a_level_has_each_column_once(rt: HostRuntime) -> Result<(), Fail> {
-    shows(&rt, rt.alloc(), &LEVEL, "0 1, 2 0, 2 1, done; ")
+fn a_level_has_each_column_once(rt: HostRuntime) {
+    shows(&rt, rt.alloc(), &LEVEL, "0 1, 2 0, 2 1, done; ");
 }
 
 // An AFTER trigger of UPDATE.
@@ -75,9 +74,9 @@ static FIRINGS: [Case; 7] = [
 // A trigger of the statement fires without rows, one of rows for each, and one with a list where the level names one of
 // its columns.
 #[test]
-fn triggers_fire_by_event_by_granularity_and_by_column(rt: HostRuntime) -> Result<(), Fail> {
+fn triggers_fire_by_event_by_granularity_and_by_column(rt: HostRuntime) {
     let wanted = "once on 0, done; never, done; once on 1, done; \
                   for each of 0, done; for each of 1, done; \
                   never, done; once on 1, done; ";
-    shows(&rt, rt.alloc(), &FIRINGS, wanted)
+    shows(&rt, rt.alloc(), &FIRINGS, wanted);
 }

@@ -6,7 +6,6 @@ use crate::statements::Doing::{Delete, SetFirst, SetSecond};
 use crate::triggers::Question::{Rows, Statement};
 use crate::triggers::{Action, Run};
 use iv_syntax::{ActionTime, Granularity, TriggerEvent};
-use std::test::Fail;
 
 // ---- of a statement
 
@@ -35,11 +34,9 @@ static STATEMENTS: [Case; 4] = [
 ];
 
 #[test]
-fn a_signal_refuses_statements_of_its_event_that_set_one_of_its_columns(
-    rt: HostRuntime,
-) -> Result<(), Fail> {
+fn a_signal_refuses_statements_of_its_event_that_set_one_of_its_columns(rt: HostRuntime) {
     let wanted = "signal 1 of 0 in 0; done; done; signal 1 of 0 in 0; ";
-    shows(&rt, rt.alloc(), &STATEMENTS, wanted)
+    shows(&rt, rt.alloc(), &STATEMENTS, wanted);
 }
 
 // ---- of rows
@@ -76,9 +73,7 @@ static ROWS: [Case; 3] = [
 ];
 
 #[test]
-fn a_null_is_filled_in_waves_of_the_event_that_name_one_of_its_columns(
-    rt: HostRuntime,
-) -> Result<(), Fail> {
+fn a_null_is_filled_in_waves_of_the_event_that_name_one_of_its_columns(rt: HostRuntime) {
     let wanted = "0 1: none to 9 2, done; 0 1: 1 2 to null 3, done; 0 1: 1 2 to 9 3, done; ";
-    shows(&rt, rt.alloc(), &ROWS, wanted)
+    shows(&rt, rt.alloc(), &ROWS, wanted);
 }

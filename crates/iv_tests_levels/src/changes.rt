@@ -1,9 +1,9 @@
 //! Changes of rows and waves, as data and as they are made of it.
-ghost use Rattle.std.specs.Prelude.{◌≡◌, IfOk};
-
 use iv_expr::{Change, Row, TableColumn, TableId, Wave};
 use iv_value::Value;
-use std::alloc::{AllocError, Global};
+use std::alloc::Global;
+use std::panic::Expect;
+use std::process::Abort;
 
 /// NULL in a row.
 pub const NULL: i64 = -1;
@@ -17,56 +17,51 @@ pub struct Changed(pub u32, pub u64, pub &'static [i64], pub &'static [i64]);
 pub struct Planned(pub &'static [(u32, u32)], pub &'static [Changed]);
 
 // A row of these integers, or no row where there is none.
-fn row(alloc: Global, integers: &[i64]) -> Result<Option<Row>, AllocError> {
+fn row(rt: &impl Abort, alloc: Global, integers: &[i64]) -> Option<Row> {
     if integers.is_empty() {
-        return Ok(None);
+        return None;
     }
     let mut values = Vec::new(alloc);
     for integer in integers {
-        values.push(if *integer == NULL {
+        let value = if *integer == NULL {
             Value::Null
         } else {
             Value::Int(*integer)
-        })?;
+        };
+        values.push(value).expect(rt, "memory");
     }
-    Ok(Some(Row::new(values)?))
+    Some(Row::new(values).expect(rt, "memory"))
 }
 
-fn change(alloc: Global, changed: &Changed) -> Result<Change, AllocError>
-    ensures { IfOk result (λ c. c.row ≡ changed.now.1) }
-{
-    Ok(Change {
+/// Adds a change, whose row is above those that are there.
+pub fn add(rt: &impl Abort, alloc: Global, wave: &mut Wave, changed: &Changed) {
+    assert!(rt; wave.last_row() < changed.1);
+    let change = Change {
         table: TableId::new(changed.0),
         row: changed.1,
-        old: row(alloc, changed.2)?,
-        new: row(alloc, changed.3)?,
-    })
+        old: row(rt, alloc, changed.2),
+        new: row(rt, alloc, changed.3),
+    };
+    wave.push(change).expect(rt, "memory");
 }
 
-/// Adds a change, where its row is above those that are there.
-pub fn add(alloc: Global, wave: &mut Wave, changed: &Changed) -> Result<(), AllocError> {
-    if wave.last_row() >= changed.1 {
-        return Ok(());
-    }
-    wave.push(change(alloc, changed)?)
-}
-
-fn columns(alloc: Global, places: &[(u32, u32)]) -> Result<Vec<TableColumn>, AllocError> {
+fn columns(rt: &impl Abort, alloc: Global, places: &[(u32, u32)]) -> Vec<TableColumn> {
     let mut columns = Vec::new(alloc);
     for place in places {
-        columns.push(TableColumn {
+        let column = TableColumn {
             table: TableId::new(place.0),
             column: place.1,
-        })?;
+        };
+        columns.push(column).expect(rt, "memory");
     }
-    Ok(columns)
+    columns
 }
 
 /// The wave that is meant.
-pub fn wave(alloc: Global, planned: &Planned) -> Result<Wave, AllocError> {
-    let mut wave = Wave::from_parts(Vec::new(alloc), columns(alloc, planned.0)?);
+pub fn wave(rt: &impl Abort, alloc: Global, planned: &Planned) -> Wave {
+    let mut wave = Wave::from_parts(Vec::new(alloc), columns(rt, alloc, planned.0));
     for changed in planned.1 {
-        add(alloc, &mut wave, changed)?;
+        add(rt, alloc, &mut wave, changed);
     }
-    Ok(wave)
+    wave
 }

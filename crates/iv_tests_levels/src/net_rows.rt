@@ -5,7 +5,6 @@ use crate::changes::{Changed, NULL, Planned};
 use crate::waves::Asked::{CountOf, Net, NetOf};
 use crate::waves::Waves::{self, Insertions, These};
 use iv_syntax::TriggerEvent;
-use std::test::Fail;
 
 // Row 1 is updated twice and row 2 once; row 3 is updated and deleted; row 7 is inserted and deleted; row 8 is
 // inserted and updated; row 5 of another table is deleted.
@@ -63,18 +62,18 @@ static FEW: [Case; 6] = [
 
 // The changes of each row are one; those of a table and an event; and a deletion wins over SET NULL.
 #[test]
-fn net_changes_of_few_waves(rt: HostRuntime) -> Result<(), Fail> {
+fn net_changes_of_few_waves(rt: HostRuntime) {
     let wanted =
         "0 1: 1 to 3, 0 2: 20 to 20, 0 3: 30 to none, 2 5: 50 to none, 0 8: none to 81, done; \
                   0 1: 1 to 3, 0 2: 20 to 20, done; 2 5: 50 to none, done; done; \
                   0 1: 10 to none, 1 2: 20 to none, 2 3: 30 to none, done; \
                   0 1: 1 to none, 1 2: 2 1 to none, 2 3: 1 2 to none, done; ";
-    shows(&rt, rt.alloc(), &FEW, wanted)
+    shows(&rt, rt.alloc(), &FEW, wanted);
 }
 
 static MANY: [Case; 1] = [OfWaves(Insertions(65_536), CountOf(0, TriggerEvent::Insert))];
 
 #[test]
-fn net_changes_of_many_waves(rt: HostRuntime) -> Result<(), Fail> {
-    shows(&rt, rt.alloc(), &MANY, "65536, done; ")
+fn net_changes_of_many_waves(rt: HostRuntime) {
+    shows(&rt, rt.alloc(), &MANY, "65536, done; ");
 }

@@ -4,7 +4,6 @@ use crate::cases::shows;
 use crate::changes::{Changed, NULL, Planned};
 use crate::statements::Doing::Insert;
 use crate::steps::Step::{self, Follow, Run};
-use std::test::Fail;
 
 // Rows 1 and 2 swapped the keys 1 and 2; rows 3 and 4 refer to what they were.
 const SWAPPED: Step = Run(Insert(&[(2, Some(3)), (1, Some(4)), (3, Some(1)), (4, Some(2))]));
@@ -39,9 +38,9 @@ static IN_BOTH: [Case; 4] = [
 
 // The second is restricted by a row that goes too.
 #[test]
-fn swapped_keys_cascade_and_a_lost_key_is_restricted(rt: HostRuntime) -> Result<(), Fail> {
+fn swapped_keys_cascade_and_a_lost_key_is_restricted(rt: HostRuntime) {
     let wanted = "4, 0 3: 3 1 to 3 2, 0 4: 4 2 to 4 1, on 0 1, done; \
                   4, 0 3: 3 1 to 3 2, 0 4: 4 2 to 4 1, on 0 1, done; \
                   4, restrict 1 at 6; 4, restrict 1 at 6; ";
-    shows(&rt, rt.alloc(), &IN_BOTH, wanted)
+    shows(&rt, rt.alloc(), &IN_BOTH, wanted);
 }

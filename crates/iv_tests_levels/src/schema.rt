@@ -1,5 +1,5 @@
 //! CREATE TABLE t (k INT UNIQUE, up INT REFERENCES t (k) ON DELETE RESTRICT ON UPDATE CASCADE).
-ghost use Rattle.std.specs.Prelude.{◌≡◌, ◌++◌, [], ◌∷◌, IfOk, OnOk};
+ghost use Rattle.std.specs.Prelude.{◌≡◌};
 ghost use Rattle.iv_catalogue.specs.Catalogues.{empty_schema};
 ghost use Rattle.iv_store.specs.Stores.{empty_store};
 ghost use Rattle.iv_laws_rows.specs.Changing.{StoreFits};
@@ -11,41 +11,46 @@ use iv_store::Keeper;
 use iv_syntax::{ConstraintMode, MatchType, Name, NullTreatment, ReferentialAction};
 use iv_value::{Kind, Text, Value};
 use sqlite_items::Items;
-use std::alloc::{AllocError, Global};
+use std::alloc::Global;
+use std::panic::Expect;
+use std::process::Abort;
 
 /// A name.
-pub fn name(alloc: Global, text: &str) -> Result<Name, AllocError>
-    ensures { IfOk result (λ n. n ≡ text.now) }
+pub fn name(rt: &impl Abort, alloc: Global, text: &str) -> Name
+    ensures { result ≡ text.now }
 {
-    Ok(Name::new(Text::new(alloc, text)?))
+    Name::new(Text::new(alloc, text).expect(rt, "memory"))
 }
 
-fn push(columns: &mut Items<Column>, name: Name) -> Result<(), AllocError>
-    ensures { OnOk result (columns.new ≡ columns.old ++ column_of name ∷ []) }
+fn column(name: Name) -> Column
+    ensures { result ≡ column_of name }
 {
-    columns.push(Column {
+    Column {
         name,
         kind: Kind::Integer,
         default: Value::Null,
-    })
+    }
 }
 
-fn columns(alloc: Global) -> Result<Items<Column>, AllocError>
-    ensures { IfOk result (λ cs. cs ≡ pair_columns) }
+fn columns(rt: &impl Abort, alloc: Global) -> Items<Column>
+    ensures { result ≡ pair_columns }
 {
-    let mut columns = Items::new(alloc);
-    push(&mut columns, name(alloc, "K")?)?;
-    push(&mut columns, name(alloc, "UP")?)?;
-    Ok(columns)
+    let mut columns = Vec::new(alloc);
+    let key = column(name(rt, alloc, "K"));
+    columns.push(key).expect(rt, "memory");
+    let up = column(name(rt, alloc, "UP"));
+    columns.push(up).expect(rt, "memory");
+    Items::from_vec(columns)
 }
 
 /// The table.
-pub fn table(alloc: Global) -> Result<Table, AllocError>
-    ensures { IfOk result (λ t. t ≡ pair_table) }
+pub fn table(rt: &impl Abort, alloc: Global) -> Table
+    ensures { result ≡ pair_table }
 {
-    let columns = columns(alloc)?;
-    let name = name(alloc, "T")?;
-    Ok(Table { name, columns })
+    Table {
+        name: name(rt, alloc, "T"),
+        columns: columns(rt, alloc),
+    }
 }
 
 fn constraint(name: Name, rule: Rule) -> Constraint
@@ -60,59 +65,54 @@ fn constraint(name: Name, rule: Rule) -> Constraint
     }
 }
 
-fn reference(alloc: Global) -> Result<ForeignKey, AllocError>
-    ensures { IfOk result (λ fk. fk ≡ up_to_key) }
+fn reference(rt: &impl Abort, alloc: Global) -> ForeignKey
+    ensures { result ≡ up_to_key }
 {
-    Ok(ForeignKey {
-        columns: Items::from_slice(alloc, &[1])?,
+    ForeignKey {
+        columns: Items::from_slice(alloc, &[1]).expect(rt, "memory"),
         referenced: TableId::new(0),
-        key: Items::from_slice(alloc, &[0])?,
+        key: Items::from_slice(alloc, &[0]).expect(rt, "memory"),
         matching: MatchType::Simple,
         on_delete: ReferentialAction::Restrict,
         on_update: ReferentialAction::Cascade,
-    })
+    }
 }
 
-fn unique(alloc: Global) -> Result<Constraint, AllocError>
-    ensures { IfOk result (λ k. k ≡ unique_key) }
+fn unique(rt: &impl Abort, alloc: Global) -> Constraint
+    ensures { result ≡ unique_key }
 {
-    let name = name(alloc, "U")?;
-    let columns = Items::from_slice(alloc, &[0])?;
-    Ok(constraint(name, Rule::Unique(NullTreatment::Distinct, columns)))
+    let name = name(rt, alloc, "U");
+    let columns = Items::from_slice(alloc, &[0]).expect(rt, "memory");
+    constraint(name, Rule::Unique(NullTreatment::Distinct, columns))
 }
 
-fn foreign(alloc: Global) -> Result<Constraint, AllocError>
-    ensures { IfOk result (λ k. k ≡ foreign_key) }
+fn foreign(rt: &impl Abort, alloc: Global) -> Constraint
+    ensures { result ≡ foreign_key }
 {
-    let name = name(alloc, "F")?;
-    let reference = reference(alloc)?;
-    Ok(constraint(name, Rule::ForeignKey(reference)))
+    let name = name(rt, alloc, "F");
+    constraint(name, Rule::ForeignKey(reference(rt, alloc)))
 }
 
-fn keys(alloc: Global) -> Result<Constraints, AllocError>
-    ensures { IfOk result (λ ks. ks ≡ pair_keys) }
+fn keys(rt: &impl Abort, alloc: Global) -> Constraints
+    ensures { result ≡ pair_keys }
 {
     let mut keys = Vec::new(alloc);
-    keys.push(unique(alloc)?)?;
-    keys.push(foreign(alloc)?)?;
-    Ok(Constraints::from_vec(keys))
+    keys.push(unique(rt, alloc)).expect(rt, "memory");
+    keys.push(foreign(rt, alloc)).expect(rt, "memory");
+    Constraints::from_vec(keys)
 }
 
 /// Creates the table with its constraints.
 #[tactic(auto, using(crate::proofs::Pairs::pairs_fit), unfolding(iv_catalogue::specs::Names::has_repeated))]
-pub fn create<K: Keeper>(
-    alloc: Global,
-    store: &mut K,
-    catalogue: &mut Catalogue,
-) -> Result<(), AllocError>
+pub fn create<K: Keeper>(rt: &impl Abort, alloc: Global, store: &mut K, catalogue: &mut Catalogue)
     requires store { K.view store.old ≡ empty_store }
     requires catalogue { catalogue.old ≡ empty_schema }
-    ensures fits { OnOk result (StoreFits catalogue.new (K.view store.new)) }
-    ensures pairs { OnOk result (HasPairs catalogue.new.tables) }
+    ensures fits { StoreFits catalogue.new (K.view store.new) }
+    ensures pairs { HasPairs catalogue.new.tables }
 {
-    let keys = keys(alloc)?;
-    let table = table(alloc)?;
+    let keys = keys(rt, alloc);
+    let table = table(rt, alloc);
     let added = store.add_table(&table, keys.as_slice());
-    catalogue.add_table(table, keys)?;
-    added
+    added.expect(rt, "memory");
+    catalogue.add_table(table, keys).expect(rt, "memory");
 }

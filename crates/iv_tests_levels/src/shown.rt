@@ -3,146 +3,125 @@ use iv_account::Entry;
 use iv_catalogue::{Cause, Fault, Refusal};
 use iv_expr::{Change, Row, StoredRow, TableColumn, TableId};
 use iv_value::Value;
-use std::alloc::AllocError;
+use std::panic::Expect;
+use std::process::Abort;
 
-// Two numbers between these words.
-fn show_two(
-    before: &str,
-    first: u64,
-    between: &str,
-    second: u64,
-    after: &str,
-    text: &mut String,
-) -> Result<(), AllocError> {
-    write!(text, "{before}{first}{between}{second}{after}")
+/// Adds these words.
+pub fn show(rt: &impl Abort, words: &str, shown: &mut String) {
+    shown.push_str(words).expect(rt, "memory");
 }
 
-/// A number between these words.
-pub fn show_number(
-    before: &str,
-    number: u64,
-    after: &str,
-    text: &mut String,
-) -> Result<(), AllocError> {
-    write!(text, "{before}{number}{after}")
+/// Adds a number between these words.
+pub fn show_number(rt: &impl Abort, before: &str, number: u64, after: &str, shown: &mut String) {
+    write!(shown, "{before}{number}{after}").expect(rt, "memory");
 }
 
 // ---- rows
 
-fn show_value(value: &Value, text: &mut String) -> Result<(), AllocError> {
+fn show_value(rt: &impl Abort, value: &Value, shown: &mut String) {
     match value {
-        Value::Null => text.push_str(" null"),
-        Value::Int(integer) => write!(text, " {integer}"),
-        Value::Text(_) => text.push_str(" a text"),
+        Value::Null => show(rt, " null", shown),
+        Value::Int(integer) => write!(shown, " {integer}").expect(rt, "memory"),
+        Value::Text(_) => show(rt, " a text", shown),
     }
 }
 
 /// Each value with a space before it.
-pub fn show_values(values: &[Value], text: &mut String) -> Result<(), AllocError> {
+pub fn show_values(rt: &impl Abort, values: &[Value], shown: &mut String) {
     for value in values {
-        show_value(value, text)?;
+        show_value(rt, value, shown);
     }
-    Ok(())
 }
 
 // The table and the number of a row.
-fn show_place(table: TableId, number: u64, text: &mut String) -> Result<(), AllocError> {
-    show_two("", u64::from(table.place()), " ", number, ":", text)
+fn show_place(rt: &impl Abort, table: TableId, number: u64, shown: &mut String) {
+    show_number(rt, "", u64::from(table.place()), " ", shown);
+    show_number(rt, "", number, ":", shown);
 }
 
-fn show_side(row: &Option<Row>, text: &mut String) -> Result<(), AllocError> {
+fn show_side(rt: &impl Abort, row: &Option<Row>, shown: &mut String) {
     match row {
-        Some(row) => show_values(row.values(), text),
-        None => text.push_str(" none"),
+        Some(row) => show_values(rt, row.values(), shown),
+        None => show(rt, " none", shown),
     }
-}
-
-fn show_change(change: &Change, text: &mut String) -> Result<(), AllocError> {
-    show_place(change.table, change.row, text)?;
-    show_side(&change.old, text)?;
-    text.push_str(" to")?;
-    show_side(&change.new, text)?;
-    text.push_str(", ")
 }
 
 /// Table and row number of each change, what the row was, and what it is.
-pub fn show_changes(changes: &[Change], text: &mut String) -> Result<(), AllocError> {
+pub fn show_changes(rt: &impl Abort, changes: &[Change], shown: &mut String) {
     for change in changes {
-        show_change(change, text)?;
+        show_place(rt, change.table, change.row, shown);
+        show_side(rt, &change.old, shown);
+        show(rt, " to", shown);
+        show_side(rt, &change.new, shown);
+        show(rt, ", ", shown);
     }
-    Ok(())
 }
 
 /// Table and place of each column.
-pub fn show_columns(columns: &[TableColumn], text: &mut String) -> Result<(), AllocError> {
+pub fn show_columns(rt: &impl Abort, columns: &[TableColumn], shown: &mut String) {
     for named in columns {
-        let table = u64::from(named.table.place());
-        show_two("", table, " ", u64::from(named.column), ", ", text)?;
+        show_number(rt, "", u64::from(named.table.place()), " ", shown);
+        show_number(rt, "", u64::from(named.column), ", ", shown);
     }
-    Ok(())
 }
 
 // ---- refusals
 
-fn show_fault(before: &str, fault: &Fault, text: &mut String) -> Result<(), AllocError> {
+fn show_fault(rt: &impl Abort, before: &str, fault: &Fault, shown: &mut String) {
     let constraint = u64::from(fault.constraint.place());
-    show_two(before, constraint, " at ", fault.row, "", text)
+    show_number(rt, before, constraint, " at ", shown);
+    show_number(rt, "", fault.row, "", shown);
 }
 
-fn show_cause(cause: &Cause, text: &mut String) -> Result<(), AllocError> {
+fn show_cause(rt: &impl Abort, cause: &Cause, shown: &mut String) {
     match cause {
-        Cause::Violation(fault) => show_fault("violates ", fault, text),
-        Cause::Restrict(fault) => show_fault("restrict ", fault, text),
+        Cause::Violation(fault) => show_fault(rt, "violates ", fault, shown),
+        Cause::Restrict(fault) => show_fault(rt, "restrict ", fault, shown),
         Cause::Signal(trigger, place) => {
-            let trigger = u64::from(trigger.place());
-            show_two("signal ", u64::from(*place), " of ", trigger, "", text)
+            show_number(rt, "signal ", u64::from(*place), " of ", shown);
+            show_number(rt, "", u64::from(trigger.place()), "", shown)
         }
-        _ => text.push_str("another refusal"),
+        _ => show(rt, "another refusal", shown),
     }
 }
 
 /// The cause of a refusal, and the trigger that was running.
-pub fn show_refusal(refusal: &Refusal, text: &mut String) -> Result<(), AllocError> {
-    show_cause(&refusal.cause, text)?;
+pub fn show_refusal(rt: &impl Abort, refusal: &Refusal, shown: &mut String) {
+    show_cause(rt, &refusal.cause, shown);
     match &refusal.trigger {
-        Some(running) => show_number(" in ", u64::from(running.place()), "; ", text),
-        None => text.push_str("; "),
+        Some(running) => show_number(rt, " in ", u64::from(running.place()), "; ", shown),
+        None => show(rt, "; ", shown),
     }
 }
 
 // ---- accounts
 
-fn show_row(row: &StoredRow, text: &mut String) -> Result<(), AllocError> {
-    text.push_str(", ")?;
-    show_place(row.table, row.number, text)?;
-    show_values(row.values.values(), text)
-}
-
-fn show_rows(rows: &[StoredRow], text: &mut String) -> Result<(), AllocError> {
+fn show_rows(rt: &impl Abort, rows: &[StoredRow], shown: &mut String) {
     for row in rows {
-        show_row(row, text)?;
+        show(rt, ", ", shown);
+        show_place(rt, row.table, row.number, shown);
+        show_values(rt, row.values.values(), shown);
     }
-    text.push_str(", ")
+    show(rt, ", ", shown);
 }
 
-fn show_entry(entry: &Entry, text: &mut String) -> Result<(), AllocError> {
+fn show_entry(rt: &impl Abort, entry: &Entry, shown: &mut String) {
     match entry {
         Entry::Changed(changes) => {
-            text.push_str("changed ")?;
-            show_changes(changes.as_slice(), text)
+            show(rt, "changed ", shown);
+            show_changes(rt, changes.as_slice(), shown)
         }
         Entry::Faulted(fault, rows) => {
-            show_fault("faulted ", fault, text)?;
-            show_rows(rows.as_slice(), text)
+            show_fault(rt, "faulted ", fault, shown);
+            show_rows(rt, rows.as_slice(), shown)
         }
-        _ => text.push_str("another entry, "),
+        _ => show(rt, "another entry, ", shown),
     }
 }
 
 /// The waves of an account, its fault, and the rows of that.
-pub fn show_entries(entries: &[Entry], text: &mut String) -> Result<(), AllocError> {
+pub fn show_entries(rt: &impl Abort, entries: &[Entry], shown: &mut String) {
     for entry in entries {
-        show_entry(entry, text)?;
+        show_entry(rt, entry, shown);
     }
-    Ok(())
 }

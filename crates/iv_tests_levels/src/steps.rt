@@ -1,26 +1,28 @@
 //! Steps in a store of one table, and what each tells.
-ghost use Rattle.std.specs.Prelude.{◌≡◌, OnOk};
-ghost use Rattle.iv_catalogue.specs.Catalogues.{empty_schema};
-ghost use Rattle.iv_store.specs.Stores.{empty_store};
+ghost use Rattle.std.specs.Prelude.{◌≡◌, true};
 ghost use Rattle.iv_laws_rows.specs.Changing.{StoreFits};
 ghost use Rattle.iv_tests_levels.specs.Pairs.{HasPairs};
 
 use crate::changes::{Planned, wave};
 use crate::schema::create;
-use crate::shown::{show_changes, show_columns, show_entries, show_number, show_values};
+use crate::shown::{
+    show, show_changes, show_columns, show_entries, show_number, show_refusal, show_values,
+};
 use crate::statements::{Doing, statement};
 use iv_account::Account;
 use iv_actions::next_wave;
-use iv_catalogue::{Catalogue, Outputs, QueryPlan, Refusal};
+use iv_catalogue::{Catalogue, Outputs, QueryPlan};
 use iv_exec::change;
-use iv_expr::{Comparison, Cond, Expr, Row, TableId, Wave};
+use iv_expr::{Comparison, Cond, Expr, TableId};
 use iv_machine::Limits;
 use iv_modes::Modes;
 use iv_proposals::select;
 use iv_store::Keeper;
 use iv_value::Value;
 use sqlite_items::Boxed;
-use std::alloc::{AllocError, Global};
+use std::alloc::Global;
+use std::panic::Expect;
+use std::process::Abort;
 
 /// A query.
 #[derive(Clone, Copy)]
@@ -46,178 +48,177 @@ pub enum Step {
 
 // ---- statements
 
-fn limits() -> Limits {
-    match Limits::new(16, 100) {
-        Some(limits) => limits,
-        None => unreachable!(),
-    }
-}
-
+// Whether a statement is done. Its account is shown, and then how many rows it changed, or why it is refused.
 fn run<K: Keeper>(
+    rt: &impl Abort,
     alloc: Global,
     store: &mut K,
     catalogue: &Catalogue,
     modes: &Modes,
     doing: &Doing,
     explains: bool,
-    text: &mut String,
-) -> Result<(), Refusal>
+    shown: &mut String,
+) -> bool
     requires store { StoreFits catalogue.now (K.view store.old) }
     requires pairs { HasPairs catalogue.now.tables }
-    ensures { OnOk result (StoreFits catalogue.now (K.view store.new)) }
+    ensures { result ≡ true → StoreFits catalogue.now (K.view store.new) }
 {
-    let statement = statement(alloc, doing)?;
+    let statement = statement(rt, alloc, doing);
+    let limits = Limits::new(16, 100).expect(rt, "limits");
     let mut account = Account::new(alloc, explains);
     let ran = change(
         store,
         statement.get(),
         catalogue,
         modes,
-        limits(),
+        limits,
         &mut account,
     );
     drop(statement);
-    let shown = show_entries(account.entries(), text);
+    show_entries(rt, account.entries(), shown);
     drop(account);
-    shown?;
-    show_number("", ran?, ", ", text)?;
-    Ok(())
+    match ran {
+        Ok(count) => {
+            show_number(rt, "", count, ", ", shown);
+            true
+        }
+        Err(refusal) => {
+            show_refusal(rt, &refusal, shown);
+            false
+        }
+    }
 }
 
 // ---- queries
 
-// k > 2.
-fn above_2() -> Cond {
-    Cond::Compare(
-        Comparison::Greater,
-        Expr::Column(0, 0),
-        Expr::Literal(Value::Int(2)),
-    )
-}
-
-fn plan(alloc: Global, query: Query) -> Result<Boxed<QueryPlan>, AllocError> {
+fn plan(rt: &impl Abort, alloc: Global, query: Query) -> Boxed<QueryPlan> {
     let table = TableId::new(0);
     let plan = match query {
         Query::Above2 => QueryPlan::Rows {
             table,
             outputs: Outputs::Star,
-            filter: above_2(),
+            filter: Cond::Compare(
+                Comparison::Greater,
+                Expr::Column(0, 0),
+                Expr::Literal(Value::Int(2)),
+            ),
         },
         Query::Count => QueryPlan::Count {
             table,
             filter: Cond::Always,
         },
     };
-    Boxed::new(alloc, plan)
+    Boxed::new(alloc, plan).expect(rt, "memory")
 }
 
-fn show_rows(rows: &[Row], text: &mut String) -> Result<(), AllocError> {
-    for row in rows {
-        show_values(row.values(), text)?;
-    }
-    text.push_str(", ")
-}
-
+// No query here is refused but for memory.
 fn show_query<K: Keeper>(
+    rt: &impl Abort,
     alloc: Global,
     store: &K,
     query: Query,
-    text: &mut String,
-) -> Result<(), Refusal> {
-    let plan = plan(alloc, query)?;
-    let rows = select(store, plan.get());
+    shown: &mut String,
+) {
+    let plan = plan(rt, alloc, query);
+    let rows = select(store, plan.get()).expect(rt, "the rows of a query");
     drop(plan);
-    show_rows(rows?.as_slice(), text)?;
-    Ok(())
+    for row in rows.as_slice() {
+        show_values(rt, row.values(), shown);
+    }
+    show(rt, ", ", shown);
 }
 
 // ---- waves
 
-fn show_wave(wave: &Wave, text: &mut String) -> Result<(), AllocError> {
-    show_changes(wave.changes(), text)?;
-    text.push_str("on ")?;
-    show_columns(wave.columns(), text)
-}
-
+// Whether a wave may follow. It is shown, or why it is refused.
 fn follow<K: Keeper>(
+    rt: &impl Abort,
     alloc: Global,
     store: &mut K,
     catalogue: &Catalogue,
     planned: &Planned,
-    text: &mut String,
-) -> Result<(), Refusal>
+    shown: &mut String,
+) -> bool
     ensures { K.view store.new ≡ K.view store.old }
 {
-    let wave = wave(alloc, planned)?;
+    let wave = wave(rt, alloc, planned);
     let next = next_wave(store, catalogue, &wave);
     drop(wave);
-    show_wave(&next?, text)?;
-    Ok(())
+    match next {
+        Ok(next) => {
+            show_changes(rt, next.changes(), shown);
+            show(rt, "on ", shown);
+            show_columns(rt, next.columns(), shown);
+            drop(next);
+            true
+        }
+        Err(refusal) => {
+            show_refusal(rt, &refusal, shown);
+            false
+        }
+    }
 }
 
 // ---- steps
 
+// Whether a step is done.
 fn take<K: Keeper>(
+    rt: &impl Abort,
     alloc: Global,
     store: &mut K,
     catalogue: &Catalogue,
     modes: &Modes,
     step: &Step,
-    text: &mut String,
-) -> Result<(), Refusal>
+    shown: &mut String,
+) -> bool
     requires store { StoreFits catalogue.now (K.view store.old) }
     requires pairs { HasPairs catalogue.now.tables }
-    ensures { OnOk result (StoreFits catalogue.now (K.view store.new)) }
+    ensures { result ≡ true → StoreFits catalogue.now (K.view store.new) }
 {
     match step {
-        Step::Run(doing) => run(alloc, store, catalogue, modes, doing, false, text),
-        Step::Explain(doing) => run(alloc, store, catalogue, modes, doing, true, text),
-        Step::Select(query) => show_query(alloc, &*store, *query, text),
-        Step::Follow(planned) => follow(alloc, store, catalogue, planned, text),
+        Step::Run(doing) => run(rt, alloc, store, catalogue, modes, doing, false, shown),
+        Step::Explain(doing) => run(rt, alloc, store, catalogue, modes, doing, true, shown),
+        Step::Select(query) => {
+            show_query(rt, alloc, &*store, *query, shown);
+            true
+        }
+        Step::Follow(planned) => follow(rt, alloc, store, catalogue, planned, shown),
     }
 }
 
 fn take_each<K: Keeper>(
+    rt: &impl Abort,
     alloc: Global,
     store: &mut K,
     catalogue: &Catalogue,
     modes: &Modes,
     steps: &[Step],
-    text: &mut String,
-) -> Result<(), Refusal>
+    shown: &mut String,
+) -> bool
     requires store { StoreFits catalogue.now (K.view store.old) }
     requires pairs { HasPairs catalogue.now.tables }
 {
     for step in steps {
-        take(alloc, store, catalogue, modes, step, text)?;
+        if !take(rt, alloc, store, catalogue, modes, step, shown) {
+            return false;
+        }
     }
-    Ok(())
+    true
 }
 
-fn create_and_take<K: Keeper>(
-    alloc: Global,
-    store: &mut K,
-    catalogue: &mut Catalogue,
-    steps: &[Step],
-    text: &mut String,
-) -> Result<(), Refusal>
-    requires store { K.view store.old ≡ empty_store }
-    requires catalogue { catalogue.old ≡ empty_schema }
-{
-    create(alloc, store, catalogue)?;
-    let modes = Modes::initial(alloc, &*catalogue)?;
-    take_each(alloc, store, &*catalogue, &modes, steps, text)
-}
-
-/// Tells what steps tell in a new store, up to the first that is refused.
+/// Tells what steps tell in a new store, up to the first that is refused, and whether all are done.
 pub fn tell_steps<K: Keeper + Drop>(
+    rt: &impl Abort,
     alloc: Global,
     steps: &[Step],
-    text: &mut String,
-) -> Result<(), Refusal> {
+    shown: &mut String,
+) -> bool {
     let mut store = K::new(alloc);
     let mut catalogue = Catalogue::new(alloc);
-    let done = create_and_take(alloc, &mut store, &mut catalogue, steps, text);
+    create(rt, alloc, &mut store, &mut catalogue);
+    let modes = Modes::initial(alloc, catalogue.constraints()).expect(rt, "memory");
+    let done = take_each(rt, alloc, &mut store, &catalogue, &modes, steps, shown);
+    drop(modes);
     drop(catalogue);
     drop(store);
     done

@@ -4,7 +4,6 @@ use crate::cases::shows;
 use crate::statements::Doing::{Insert, SetFirst, Shift};
 use crate::steps::Query::{Above2, Count};
 use crate::steps::Step::{self, Explain, Run, Select};
-use std::test::Fail;
 
 // Rows 1 to 3 are there, and each is shifted by one. Then all become 7.
 const SHIFT: [Step; 7] = [
@@ -34,7 +33,7 @@ static IN_BOTH: [Case; 4] = [
 ];
 
 #[test]
-fn unique_after_a_shift_and_an_account_of_a_refused_update(rt: HostRuntime) -> Result<(), Fail> {
+fn unique_after_a_shift_and_an_account_of_a_refused_update(rt: HostRuntime) {
     let wanted = "1, 1, 1, 3,  3 null 4 null,  3, violates 0 at 1; \
                   1, 1, 1, 3,  3 null 4 null,  3, violates 0 at 1; \
                   1, 1, 1, 3, \
@@ -43,5 +42,5 @@ fn unique_after_a_shift_and_an_account_of_a_refused_update(rt: HostRuntime) -> R
                   1, 1, 1, 3, \
                   changed 0 1: 2 null to 7 null, 0 2: 3 null to 7 null, 0 3: 4 null to 7 null, \
                   faulted 0 at 1, 0 1: 7 null, 0 2: 7 null, violates 0 at 1; ";
-    shows(&rt, rt.alloc(), &IN_BOTH, wanted)
+    shows(&rt, rt.alloc(), &IN_BOTH, wanted);
 }

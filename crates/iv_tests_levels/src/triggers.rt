@@ -1,15 +1,13 @@
 //! A trigger on table 0, and what is asked of it.
-ghost use Rattle.std.specs.Prelude.{◌≡◌, [], length, IfOk};
+ghost use Rattle.std.specs.Prelude.{◌≡◌, [], length};
 ghost use Rattle.iv_catalogue.specs.Catalogues.{empty_schema};
 
 use crate::changes::{Planned, wave};
 use crate::schema::{name, table};
-use crate::shown::{show_changes, show_number};
+use crate::shown::{show, show_changes, show_number, show_refusal};
 use crate::statements::{Doing, statement};
 use iv_account::Account;
-use iv_catalogue::{
-    BodyStatement, Catalogue, Constraints, DataStatement, Refusal, Setting, Trigger, TriggerId,
-};
+use iv_catalogue::{BodyStatement, Catalogue, Constraints, Refusal, Setting, Trigger, TriggerId};
 use iv_expr::{Cond, Expr, Rows, Side, TableId};
 use iv_modes::Modes;
 use iv_syntax::{ActionTime, Granularity, TriggerEvent};
@@ -17,7 +15,9 @@ use iv_transitions::{Fires, firings, transitions_of};
 use iv_triggers::{Context, before_rows, before_statement};
 use iv_value::{Text, Value};
 use sqlite_items::Items;
-use std::alloc::{AllocError, Global};
+use std::alloc::Global;
+use std::panic::Expect;
+use std::process::Abort;
 
 /// What a trigger does.
 #[derive(Clone, Copy)]
@@ -58,45 +58,46 @@ fn when(action: Action) -> Cond {
     }
 }
 
-fn body(alloc: Global, action: Action) -> Result<Items<BodyStatement>, AllocError>
-    ensures { IfOk result (λ body. length body ≡ 1) }
+fn body(rt: &impl Abort, alloc: Global, action: Action) -> Items<BodyStatement>
+    ensures { length result ≡ 1 }
 {
-    let mut body = Items::new(alloc);
-    match action {
-        Action::Signal => body.push(BodyStatement::Signal(Text::new(alloc, "no")?))?,
-        Action::Fill => body.push(BodyStatement::Set(Setting {
+    let statement = match action {
+        Action::Signal => BodyStatement::Signal(Text::new(alloc, "no").expect(rt, "memory")),
+        Action::Fill => BodyStatement::Set(Setting {
             column: 0,
             value: Expr::Literal(Value::Int(9)),
-        }))?,
-    }
-    Ok(body)
+        }),
+    };
+    let mut body = Vec::new(alloc);
+    body.push(statement).expect(rt, "memory");
+    Items::from_vec(body)
 }
 
-fn trigger(alloc: Global, run: &Run) -> Result<Trigger, AllocError>
-    ensures { IfOk result (λ t. length t.body ≡ 1) }
+fn trigger(rt: &impl Abort, alloc: Global, run: &Run) -> Trigger
+    ensures { length result.body ≡ 1 }
 {
-    let name = name(alloc, "R")?;
-    let columns = Items::from_slice(alloc, run.listed)?;
-    let body = body(alloc, run.action)?;
-    Ok(Trigger {
+    Trigger {
         id: TriggerId::new(0),
-        name,
+        name: name(rt, alloc, "R"),
         table: TableId::new(0),
         time: run.time,
         event: run.event,
-        columns,
+        columns: Items::from_slice(alloc, run.listed).expect(rt, "memory"),
         granularity: run.granularity,
         when: when(run.action),
-        body,
-    })
+        body: body(rt, alloc, run.action),
+    }
 }
 
 #[tactic(auto, unfolding(iv_catalogue::specs::Names::has_repeated))]
-fn create(alloc: Global, catalogue: &mut Catalogue, run: &Run) -> Result<(), AllocError>
+fn create(rt: &impl Abort, alloc: Global, catalogue: &mut Catalogue, run: &Run)
     requires { catalogue.old ≡ empty_schema }
 {
-    catalogue.add_table(table(alloc)?, Constraints::from_vec(Vec::new(alloc)))?;
-    catalogue.add_trigger(trigger(alloc, run)?)
+    let none = Constraints::from_vec(Vec::new(alloc));
+    let added = catalogue.add_table(table(rt, alloc), none);
+    added.expect(rt, "memory");
+    let created = catalogue.add_trigger(trigger(rt, alloc, run));
+    created.expect(rt, "memory");
 }
 
 // ---- before a statement and its waves
@@ -115,28 +116,42 @@ impl Rows for NoTables {
     }
 }
 
-fn refuses(
+// Whether nothing is refused: why it is refused is shown.
+fn is_allowed(rt: &impl Abort, answer: Result<(), Refusal>, shown: &mut String) -> bool {
+    match answer {
+        Ok(()) => true,
+        Err(refusal) => {
+            show_refusal(rt, &refusal, shown);
+            false
+        }
+    }
+}
+
+fn tell_statement(
+    rt: &impl Abort,
     alloc: Global,
     context: &Context<'_>,
     doing: &Doing,
     account: &mut Account,
-) -> Result<(), Refusal> {
-    let statement = statement(alloc, doing)?;
-    let done = before_statement(context, &NoTables {}, statement.get(), account);
+    shown: &mut String,
+) -> bool {
+    let statement = statement(rt, alloc, doing);
+    let answer = before_statement(context, &NoTables {}, statement.get(), account);
     drop(statement);
-    done
+    is_allowed(rt, answer, shown)
 }
 
 // The changes are shown as they are left.
 fn tell_rows(
+    rt: &impl Abort,
     alloc: Global,
     context: &Context<'_>,
     planned: &Planned,
     account: &mut Account,
-    text: &mut String,
-) -> Result<(), Refusal> {
-    let (mut changes, columns) = wave(alloc, planned)?.into_parts();
-    let done = before_rows(
+    shown: &mut String,
+) -> bool {
+    let (mut changes, columns) = wave(rt, alloc, planned).into_parts();
+    let answer = before_rows(
         alloc,
         context,
         &NoTables {},
@@ -145,88 +160,72 @@ fn tell_rows(
         account,
     );
     drop(columns);
-    let shown = show_changes(changes.as_slice(), text);
+    show_changes(rt, changes.as_slice(), shown);
     drop(changes);
-    shown?;
-    done
+    is_allowed(rt, answer, shown)
 }
 
 // ---- after a statement
 
-fn show_fires(fires: &Fires<'_>, text: &mut String) -> Result<(), AllocError> {
+fn show_fires(rt: &impl Abort, fires: &Fires<'_>, shown: &mut String) {
     match fires {
-        Fires::Never => text.push_str("never, "),
-        Fires::Once(changes) => show_number("once on ", changes.len() as u64, ", ", text),
-        Fires::EachRow(changes) => show_number("for each of ", changes.len() as u64, ", ", text),
+        Fires::Never => show(rt, "never, ", shown),
+        Fires::Once(changes) => show_number(rt, "once on ", changes.len() as u64, ", ", shown),
+        Fires::EachRow(changes) => {
+            show_number(rt, "for each of ", changes.len() as u64, ", ", shown)
+        }
     }
 }
 
 // How each trigger fires.
-fn show_firings(
-    alloc: Global,
-    triggers: &[Trigger],
-    statement: &DataStatement,
-    planned: &Planned,
-    text: &mut String,
-) -> Result<(), AllocError> {
-    let net = wave(alloc, planned)?;
-    let transitions = transitions_of(alloc, &net)?;
-    for trigger in triggers {
-        let fires = firings(statement, trigger, net.columns(), &transitions);
-        show_fires(&fires, text)?;
-    }
-    Ok(())
-}
-
 fn tell_firings(
+    rt: &impl Abort,
     alloc: Global,
     triggers: &[Trigger],
     doing: &Doing,
     planned: &Planned,
-    text: &mut String,
-) -> Result<(), Refusal> {
-    let statement = statement(alloc, doing)?;
-    let done = show_firings(alloc, triggers, statement.get(), planned, text);
+    shown: &mut String,
+) {
+    let statement = statement(rt, alloc, doing);
+    let net = wave(rt, alloc, planned);
+    let transitions = transitions_of(alloc, &net).expect(rt, "memory");
+    for trigger in triggers {
+        let fires = firings(statement.get(), trigger, net.columns(), &transitions);
+        show_fires(rt, &fires, shown);
+    }
+    drop(transitions);
+    drop(net);
     drop(statement);
-    done?;
-    Ok(())
 }
 
 // ---- in a catalogue
 
-fn create_and_tell(
+/// Tells what is asked of a trigger, and whether nothing is refused.
+pub fn tell_of_trigger(
+    rt: &impl Abort,
     alloc: Global,
-    catalogue: &mut Catalogue,
     run: &Run,
     question: &Question,
-    text: &mut String,
-) -> Result<(), Refusal>
-    requires { catalogue.old ≡ empty_schema }
-{
-    create(alloc, catalogue, run)?;
-    let modes = Modes::initial(alloc, &*catalogue)?;
-    let context = Context::new(&*catalogue, &modes);
+    shown: &mut String,
+) -> bool {
+    let mut catalogue = Catalogue::new(alloc);
+    create(rt, alloc, &mut catalogue, run);
+    let modes = Modes::initial(alloc, catalogue.constraints()).expect(rt, "memory");
+    let context = Context::new(&catalogue, &modes);
     let mut account = Account::new(alloc, false);
     let done = match question {
-        Question::Statement(doing) => refuses(alloc, &context, doing, &mut account),
-        Question::Rows(planned) => tell_rows(alloc, &context, planned, &mut account, text),
+        Question::Statement(doing) => {
+            tell_statement(rt, alloc, &context, doing, &mut account, shown)
+        }
+        Question::Rows(planned) => tell_rows(rt, alloc, &context, planned, &mut account, shown),
         Question::Fires(doing, planned) => {
-            tell_firings(alloc, catalogue.triggers(), doing, planned, text)
+            tell_firings(rt, alloc, catalogue.triggers(), doing, planned, shown);
+            true
         }
     };
     drop(account);
-    done
-}
-
-/// Tells what is asked of a trigger.
-pub fn tell_of_trigger(
-    alloc: Global,
-    run: &Run,
-    question: &Question,
-    text: &mut String,
-) -> Result<(), Refusal> {
-    let mut catalogue = Catalogue::new(alloc);
-    let done = create_and_tell(alloc, &mut catalogue, run, question, text);
+    drop(context);
+    drop(modes);
     drop(catalogue);
     done
 }

@@ -2,11 +2,12 @@
 use crate::changes::{Changed, Planned, add, wave};
 use crate::shown::{show_changes, show_columns, show_number};
 use crate::statements::{Doing, statement};
-use iv_catalogue::Refusal;
 use iv_expr::{TableId, Wave};
 use iv_syntax::TriggerEvent;
-use iv_transitions::{Transitions, level_columns, transitions, transitions_of};
-use std::alloc::{AllocError, Global};
+use iv_transitions::{level_columns, transitions, transitions_of};
+use std::alloc::Global;
+use std::panic::Expect;
+use std::process::Abort;
 
 /// The waves of a data statement.
 #[derive(Clone, Copy)]
@@ -29,95 +30,79 @@ pub enum Asked {
     Columns(Doing),
 }
 
-fn these(alloc: Global, planned: &[Planned]) -> Result<Vec<Wave>, AllocError> {
+fn these(rt: &impl Abort, alloc: Global, planned: &[Planned]) -> Vec<Wave> {
     let mut waves = Vec::new(alloc);
     for one in planned {
-        waves.push(wave(alloc, one)?)?;
+        waves.push(wave(rt, alloc, one)).expect(rt, "memory");
     }
-    Ok(waves)
+    waves
 }
 
-fn insertion(alloc: Global, number: u64) -> Result<Wave, AllocError> {
-    let mut wave = Wave::new(alloc);
-    add(alloc, &mut wave, &Changed(0, number, &[], &[1]))?;
-    Ok(wave)
-}
-
-fn insertions(alloc: Global, count: u64) -> Result<Vec<Wave>, AllocError> {
+fn insertions(rt: &impl Abort, alloc: Global, count: u64) -> Vec<Wave> {
     let mut waves = Vec::new(alloc);
     for number in 0..count {
-        waves.push(insertion(alloc, number + 1)?)?;
+        let mut wave = Wave::new(alloc);
+        add(rt, alloc, &mut wave, &Changed(0, number + 1, &[], &[1]));
+        waves.push(wave).expect(rt, "memory");
     }
-    Ok(waves)
+    waves
 }
 
-fn made(alloc: Global, waves: &Waves) -> Result<Vec<Wave>, AllocError> {
+fn made(rt: &impl Abort, alloc: Global, waves: &Waves) -> Vec<Wave> {
     match waves {
-        Waves::These(planned) => these(alloc, planned),
-        Waves::Insertions(count) => insertions(alloc, *count),
+        Waves::These(planned) => these(rt, alloc, planned),
+        Waves::Insertions(count) => insertions(rt, alloc, *count),
     }
 }
 
-fn show_net(alloc: Global, waves: &[Wave], text: &mut String) -> Result<(), AllocError> {
-    let net = transitions(alloc, waves)?;
-    let done = show_changes(net.changes(), text);
+fn show_net(rt: &impl Abort, alloc: Global, waves: &[Wave], shown: &mut String) {
+    let net = transitions(alloc, waves).expect(rt, "memory");
+    show_changes(rt, net.changes(), shown);
     drop(net);
-    done
-}
-
-fn parts(alloc: Global, waves: &[Wave]) -> Result<Transitions, AllocError> {
-    let net = transitions(alloc, waves)?;
-    let parts = transitions_of(alloc, &net);
-    drop(net);
-    parts
 }
 
 fn show_part(
+    rt: &impl Abort,
     alloc: Global,
     waves: &[Wave],
     (table, event): (u32, TriggerEvent),
     counts: bool,
-    text: &mut String,
-) -> Result<(), AllocError> {
-    let parts = parts(alloc, waves)?;
+    shown: &mut String,
+) {
+    let net = transitions(alloc, waves).expect(rt, "memory");
+    let parts = transitions_of(alloc, &net).expect(rt, "memory");
+    drop(net);
     let changes = parts.of(TableId::new(table), event);
-    let done = if counts {
-        show_number("", changes.len() as u64, ", ", text)
+    if counts {
+        show_number(rt, "", changes.len() as u64, ", ", shown);
     } else {
-        show_changes(changes, text)
-    };
+        show_changes(rt, changes, shown);
+    }
     drop(parts);
-    done
 }
 
-fn show_level(
-    alloc: Global,
-    waves: &[Wave],
-    doing: &Doing,
-    text: &mut String,
-) -> Result<(), AllocError> {
-    let statement = statement(alloc, doing)?;
-    let columns = level_columns(alloc, statement.get(), waves);
+fn show_level(rt: &impl Abort, alloc: Global, waves: &[Wave], doing: &Doing, shown: &mut String) {
+    let statement = statement(rt, alloc, doing);
+    let columns = level_columns(alloc, statement.get(), waves).expect(rt, "memory");
     drop(statement);
-    show_columns(columns?.as_slice(), text)
+    show_columns(rt, columns.as_slice(), shown);
 }
 
 /// Shows what is asked of waves.
 pub fn show_of_waves(
+    rt: &impl Abort,
     alloc: Global,
     waves: &Waves,
     asked: &Asked,
-    text: &mut String,
-) -> Result<(), Refusal> {
-    let made = made(alloc, waves)?;
+    shown: &mut String,
+) {
+    let made = made(rt, alloc, waves);
     let waves = made.as_slice();
-    let done = match asked {
-        Asked::Net => show_net(alloc, waves, text),
-        Asked::NetOf(table, event) => show_part(alloc, waves, (*table, *event), false, text),
-        Asked::CountOf(table, event) => show_part(alloc, waves, (*table, *event), true, text),
-        Asked::Columns(doing) => show_level(alloc, waves, doing, text),
-    };
+    match asked {
+        Asked::Net => show_net(rt, alloc, waves, shown),
+        Asked::NetOf(table, event) => show_part(rt, alloc, waves, (*table, *event), false, shown),
+        Asked::CountOf(table, event) => show_part(rt, alloc, waves, (*table, *event), true, shown),
+        Asked::Columns(doing) => show_level(rt, alloc, waves, doing, shown),
+    }
     drop(made);
-    done?;
-    Ok(())
 }

@@ -1,7 +1,6 @@
 //! The account of the last statement or call, as a session gives it.
 use crate::calls::{Call, shows};
 use iv_plain_store::PlainStore;
-use std::test::Fail;
 
 const CASCADE: &str =
     "CREATE TABLE p (k INT PRIMARY KEY); CREATE TABLE c (x INT REFERENCES p ON DELETE CASCADE); CREATE TABLE log (n INT); CREATE TRIGGER r AFTER DELETE ON c REFERENCING OLD AS o FOR EACH ROW INSERT INTO log VALUES (o.x); INSERT INTO p VALUES (7); INSERT INTO c VALUES (7), (7); DELETE FROM p;";
@@ -14,34 +13,34 @@ const DEFERRED: &str =
 
 // C_C1 is the constraint at place 1; the rows of C are 2 and 3, those of LOG 4 and 5.
 #[test]
-fn a_cascade_is_told(rt: HostRuntime) -> Result<(), Fail> {
-    let calls = [Call::Explain(true), Call::Execute, Call::Account];
+fn a_cascade_is_told(rt: HostRuntime) {
+    static CALLS: [Call; 3] = [Call::Explain(true), Call::Execute, Call::Account];
     let wanted =
         "changed 1; acted 1 on 2 1 on 3; changed 2 3; ran 0 true false 0; began 1; changed 4; ended; ran 0 true false 0; began 1; changed 5; ended; ";
-    shows::<PlainStore>(&rt, rt.alloc(), CASCADE, &calls, wanted)
+    shows::<PlainStore>(&rt, rt.alloc(), CASCADE, &CALLS, wanted)
 }
 
 #[test]
-fn nothing_is_told_where_it_is_not_asked_for(rt: HostRuntime) -> Result<(), Fail> {
-    let calls = [Call::Explain(false), Call::Execute, Call::Account];
-    shows::<PlainStore>(&rt, rt.alloc(), CASCADE, &calls, "")
+fn nothing_is_told_where_it_is_not_asked_for(rt: HostRuntime) {
+    static CALLS: [Call; 3] = [Call::Explain(false), Call::Execute, Call::Account];
+    shows::<PlainStore>(&rt, rt.alloc(), CASCADE, &CALLS, "")
 }
 
 #[test]
-fn both_rows_of_a_key_are_told(rt: HostRuntime) -> Result<(), Fail> {
-    let calls = [Call::Explain(true), Call::Execute, Call::Account];
+fn both_rows_of_a_key_are_told(rt: HostRuntime) {
+    static CALLS: [Call; 3] = [Call::Explain(true), Call::Execute, Call::Account];
     shows::<PlainStore>(
         &rt,
         rt.alloc(),
         SAME_KEY,
-        &calls,
+        &CALLS,
         "changed 2 3; faulted 0 1, 1, 3; ",
     )
 }
 
 #[test]
-fn all_violations_of_a_commit_are_told(rt: HostRuntime) -> Result<(), Fail> {
-    let calls = [
+fn all_violations_of_a_commit_are_told(rt: HostRuntime) {
+    static CALLS: [Call; 4] = [
         Call::Explain(true),
         Call::Execute,
         Call::CommitUnseen,
@@ -51,18 +50,18 @@ fn all_violations_of_a_commit_are_told(rt: HostRuntime) -> Result<(), Fail> {
         &rt,
         rt.alloc(),
         DEFERRED,
-        &calls,
+        &CALLS,
         "faulted 0 1, 1; faulted 0 3, 3; ",
     )
 }
 
 #[test]
-fn a_rollback_is_told_nothing(rt: HostRuntime) -> Result<(), Fail> {
-    let calls = [
+fn a_rollback_is_told_nothing(rt: HostRuntime) {
+    static CALLS: [Call; 4] = [
         Call::Explain(true),
         Call::Execute,
         Call::Rollback,
         Call::Account,
     ];
-    shows::<PlainStore>(&rt, rt.alloc(), DEFERRED, &calls, "")
+    shows::<PlainStore>(&rt, rt.alloc(), DEFERRED, &CALLS, "")
 }

@@ -2,17 +2,17 @@
 //! drops it, and all else borrows it: what owns a session has its drop proved at each of its exits.
 use crate::load::{Load, load_rows};
 use crate::shown::{
-    compare, show_account, show_catalogue, show_fault, show_number, show_outcome, show_outcomes,
-    show_work,
+    compare, show, show_account, show_catalogue, show_fault, show_number, show_outcome,
+    show_outcomes, show_work,
 };
 use iv_machine::Limits;
 use iv_parse::script;
 use iv_session::{Outcome, Session};
 use iv_store::Keeper;
 use iv_syntax::Statement;
-use std::alloc::{AllocError, Global};
+use std::alloc::Global;
+use std::panic::Expect;
 use std::process::Abort;
-use std::test::Fail;
 
 /// A call, or several, of which what they answer is added to a text.
 #[derive(Clone, Copy)]
@@ -57,190 +57,184 @@ enum Which {
     Last,
 }
 
-fn show_which(outcomes: &[Outcome], which: Which, shown: &mut String) -> Result<(), AllocError> {
+fn show_which(rt: &impl Abort, outcomes: &[Outcome], which: Which, shown: &mut String) {
     let from = match which {
         Which::None => outcomes.len(),
         Which::All => 0,
         Which::Last => outcomes.len().saturating_sub(1),
     };
-    show_outcomes(&outcomes[from..], shown)
+    show_outcomes(rt, &outcomes[from..], shown)
 }
 
 // Runs all statements, and shows these of their outcomes.
 fn run_all<K: Keeper + Drop>(
+    rt: &impl Abort,
     session: &mut Session<K>,
     statements: &[Statement],
     which: Which,
     shown: &mut String,
-) -> Result<(), AllocError> {
-    let outcomes = session.run_all(statements)?;
-    let done = show_which(outcomes.as_slice(), which, shown);
+) {
+    let outcomes = session.run_all(statements).expect(rt, "memory");
+    show_which(rt, outcomes.as_slice(), which, shown);
     drop(outcomes);
-    done
 }
 
 // The constraint's place and the row of each violation that is pending, and how many there are.
-fn show_pending<K: Keeper + Drop>(
-    session: &Session<K>,
-    shown: &mut String,
-) -> Result<(), AllocError> {
-    let pending = session.pending()?;
+fn show_pending<K: Keeper + Drop>(rt: &impl Abort, session: &Session<K>, shown: &mut String) {
+    let pending = session.pending().expect(rt, "memory");
     for fault in pending.as_slice() {
-        show_fault("", fault, ", ", shown)?;
+        show_fault(rt, "", fault, ", ", shown);
     }
-    show_number("", session.pending_count(), "; ", shown)
+    show_number(rt, "", session.pending_count(), "; ", shown)
 }
 
 // Runs each statement by itself, and shows what is pending after it where that is wanted.
 fn execute_each<K: Keeper + Drop>(
+    rt: &impl Abort,
     session: &mut Session<K>,
     statements: &[Statement],
     with_pending: bool,
     shown: &mut String,
-) -> Result<(), AllocError> {
+) {
     for statement in statements {
         drop(session.execute(statement));
         if with_pending {
-            show_pending(session, shown)?;
+            show_pending(rt, session, shown);
         }
     }
-    Ok(())
 }
 
 // A number of look-ups, where it is more than the most.
-fn show_look_ups(look_ups: u64, most: u64, shown: &mut String) -> Result<(), AllocError> {
+fn show_look_ups(rt: &impl Abort, look_ups: u64, most: u64, shown: &mut String) {
     if look_ups > most {
-        show_number("looked up ", look_ups, "; ", shown)?;
+        show_number(rt, "looked up ", look_ups, "; ", shown);
     }
-    Ok(())
 }
 
 fn load<K: Keeper + Drop>(
+    rt: &impl Abort,
     alloc: Global,
     session: &mut Session<K>,
     rows: u64,
     most: u64,
     shown: &mut String,
-) -> Result<(), AllocError> {
+) {
     let mut load = Load::default();
-    load_rows(alloc, session, rows, &mut load)?;
-    show_number("inserted ", load.inserted, "; ", shown)?;
-    show_look_ups(load.most, most, shown)
+    load_rows(rt, alloc, session, rows, &mut load);
+    show_number(rt, "inserted ", load.inserted, "; ", shown);
+    show_look_ups(rt, load.most, most, shown)
 }
 
-fn commit<K: Keeper + Drop>(
-    session: &mut Session<K>,
-    shown: &mut String,
-) -> Result<(), AllocError> {
+fn commit<K: Keeper + Drop>(rt: &impl Abort, session: &mut Session<K>, shown: &mut String) {
     match session.commit() {
-        Ok(()) => shown.push_str("committed; "),
-        Err(fault) => show_fault("violated ", &fault, "; ", shown),
+        Ok(()) => show(rt, "committed; ", shown),
+        Err(fault) => show_fault(rt, "violated ", &fault, "; ", shown),
     }
 }
 
 fn roll_back_to<K: Keeper + Drop>(
+    rt: &impl Abort,
     session: &mut Session<K>,
     name: &str,
     shown: &mut String,
-) -> Result<(), AllocError> {
+) {
     let outcome = session.rollback_to(name);
-    let done = show_outcome(&outcome, shown);
+    show_outcome(rt, &outcome, shown);
     drop(outcome);
-    done?;
-    shown.push_str("; ")
+    show(rt, "; ", shown)
 }
 
-fn show_state<K: Keeper + Drop>(
-    session: &Session<K>,
-    shown: &mut String,
-) -> Result<(), AllocError> {
+fn show_state<K: Keeper + Drop>(rt: &impl Abort, session: &Session<K>, shown: &mut String) {
     let open = if session.in_transaction() {
         " open "
     } else {
         " closed "
     };
-    show_number("", session.pending_count(), open, shown)?;
-    show_work(session.work(), shown)
+    show_number(rt, "", session.pending_count(), open, shown);
+    show_work(rt, session.work(), shown)
 }
 
 fn make_call<K: Keeper + Drop>(
+    rt: &impl Abort,
     alloc: Global,
     session: &mut Session<K>,
     statements: &[Statement],
     call: &Call,
     shown: &mut String,
-) -> Result<(), AllocError> {
+) {
     match call {
-        Call::Run => run_all(session, statements, Which::None, shown),
-        Call::RunAndShow => run_all(session, statements, Which::All, shown),
-        Call::RunAndShowLast => run_all(session, statements, Which::Last, shown),
-        Call::Execute => execute_each(session, statements, false, shown),
-        Call::ExecuteWithPending => execute_each(session, statements, true, shown),
-        Call::Load { rows, most } => load(alloc, session, *rows, *most, shown),
+        Call::Run => run_all(rt, session, statements, Which::None, shown),
+        Call::RunAndShow => run_all(rt, session, statements, Which::All, shown),
+        Call::RunAndShowLast => run_all(rt, session, statements, Which::Last, shown),
+        Call::Execute => execute_each(rt, session, statements, false, shown),
+        Call::ExecuteWithPending => execute_each(rt, session, statements, true, shown),
+        Call::Load { rows, most } => load(rt, alloc, session, *rows, *most, shown),
         Call::Explain(asked) => {
             session.explain(*asked);
-            Ok(())
         }
-        Call::Account => show_account(session.account(), shown),
-        Call::Commit => commit(session, shown),
+        Call::Account => show_account(rt, session.account(), shown),
+        Call::Commit => commit(rt, session, shown),
         Call::CommitUnseen => {
             let _ = session.commit();
-            Ok(())
         }
         Call::Rollback => {
             session.rollback();
-            Ok(())
         }
-        Call::RollbackTo(name) => roll_back_to(session, name, shown),
-        Call::State => show_state(session, shown),
-        Call::Work => show_work(session.work(), shown),
-        Call::LookUps(most) => show_look_ups(session.work().lookups, *most, shown),
-        Call::Catalogue => show_catalogue(session.catalogue(), shown),
+        Call::RollbackTo(name) => roll_back_to(rt, session, name, shown),
+        Call::State => show_state(rt, session, shown),
+        Call::Work => show_work(rt, session.work(), shown),
+        Call::LookUps(most) => show_look_ups(rt, session.work().lookups, *most, shown),
+        Call::Catalogue => show_catalogue(rt, session.catalogue(), shown),
     }
 }
 
 fn make_calls<K: Keeper + Drop>(
+    rt: &impl Abort,
     alloc: Global,
     session: &mut Session<K>,
     statements: &[Statement],
     calls: &[Call],
     shown: &mut String,
-) -> Result<(), AllocError> {
+) {
     for call in calls {
-        make_call(alloc, session, statements, call, shown)?;
+        make_call(rt, alloc, session, statements, call, shown);
     }
-    Ok(())
 }
 
 // So in a new session.
 fn call_anew<K: Keeper + Drop>(
+    rt: &impl Abort,
     alloc: Global,
     limits: Limits,
     statements: &[Statement],
     calls: &[Call],
     shown: &mut String,
-) -> Result<(), AllocError> {
-    let mut session = Session::<K>::new(alloc, limits)?;
-    let done = make_calls(alloc, &mut session, statements, calls, shown);
+) {
+    let mut session = Session::<K>::new(alloc, limits).expect(rt, "memory");
+    make_calls(rt, alloc, &mut session, statements, calls, shown);
     drop(session);
-    done
 }
 
 // So over the statements of a script.
 fn call_over<K: Keeper + Drop>(
+    rt: &impl Abort,
     alloc: Global,
     text: &str,
     (depth, changes): (u8, u32),
     calls: &[Call],
     shown: &mut String,
-) -> Result<(), AllocError> {
-    let Some(limits) = Limits::new(depth, changes) else {
-        return shown.push_str("no limits");
-    };
-    let parsed = script(alloc, text)?;
-    let done = call_anew::<K>(alloc, limits, parsed.statements.as_slice(), calls, shown);
+) {
+    let limits = Limits::new(depth, changes).expect(rt, "limits");
+    let parsed = script(alloc, text).expect(rt, "memory");
+    call_anew::<K>(
+        rt,
+        alloc,
+        limits,
+        parsed.statements.as_slice(),
+        calls,
+        shown,
+    );
     drop(parsed);
-    done
 }
 
 /// Asserts what calls over the statements of a script show, where triggers may nest so deep, and a statement may make so
@@ -252,13 +246,10 @@ pub fn shows_within<K: Keeper + Drop>(
     limits: (u8, u32),
     calls: &[Call],
     wanted: &str,
-) -> Result<(), Fail> {
+) {
     let mut shown = String::new(alloc);
-    let done = call_over::<K>(alloc, text, limits, calls, &mut shown);
+    call_over::<K>(rt, alloc, text, limits, calls, &mut shown);
     compare(rt, text, shown.as_str(), wanted);
-    drop(shown);
-    done?;
-    Ok(())
 }
 
 /// The same within the limits that a session usually has.
@@ -268,6 +259,6 @@ pub fn shows<K: Keeper + Drop>(
     text: &str,
     calls: &[Call],
     wanted: &str,
-) -> Result<(), Fail> {
+) {
     shows_within::<K>(rt, alloc, text, (16, 65_536), calls, wanted)
 }

@@ -6,7 +6,8 @@ use iv_session::Session;
 use std::alloc::Global;
 use std::io;
 use std::io::{ErrorKind, Read, Write};
-use std::test::Fail;
+use std::panic::Expect;
+use std::process::Abort;
 
 const ONE_CHECK: &str =
     "CREATE TABLE t (a INTEGER, CHECK (a > 0)); INSERT INTO t VALUES (1); COMMIT; SELECT * FROM t;";
@@ -154,61 +155,62 @@ impl Write for InTurn {
     }
 }
 
-fn usual_limits() -> Option<Limits> {
-    Limits::new(16, 65_536)
-}
-
-// A run in a session.
+// A run in a session, within the limits that a session usually has.
 fn run_session<R: Source, W: Sink>(
+    rt: &impl Abort,
     alloc: Global,
     source: &mut R,
     sink: &mut W,
-    limits: Limits,
 ) -> Result<Summary, RunFault> {
+    let limits = Limits::new(16, 65_536).expect(rt, "limits");
     run::<Session<PlainStore>, R, W>(alloc, source, sink, limits, false)
 }
 
-// What a run over this source answers and writes.
-fn ran<R: Source>(
-    alloc: Global,
-    source: &mut R,
-) -> Result<(Result<Summary, RunFault>, Vec<u8>), Fail> {
-    let mut sink = Std::new(Vec::new(alloc));
-    let Some(limits) = usual_limits() else {
-        return Ok((Err(RunFault::NoMemory), sink.into_inner()));
-    };
-    let done = run_session(alloc, source, &mut sink, limits);
-    Ok((done, sink.into_inner()))
+// What a run answers, in a word.
+fn word_of(done: Result<Summary, RunFault>) -> &'static str {
+    match done {
+        Ok(_) => "ran",
+        Err(RunFault::Read) => "read",
+        Err(RunFault::Write) => "write",
+        Err(_) => "another",
+    }
+}
+
+// What a run over this source answers, how often it writes, and how many bytes.
+fn ran<R: Source>(rt: &impl Abort, alloc: Global, source: &mut R) -> (&'static str, u64, u64) {
+    let mut sink = CountingSink { calls: 0, bytes: 0 };
+    let done = run_session(rt, alloc, source, &mut sink);
+    (word_of(done), sink.calls, sink.bytes)
 }
 
 #[test]
-fn counts_what_it_ran(rt: HostRuntime) -> Result<(), Fail> {
-    let (done, text) = ran(rt.alloc(), &mut Std::new(ONE_CHECK.as_bytes()))?;
+fn counts_what_it_ran(rt: HostRuntime) {
+    let mut sink = Std::new(Vec::new(rt.alloc()));
+    let mut source = Std::new(ONE_CHECK.as_bytes());
+    let done = run_session(&rt, rt.alloc(), &mut source, &mut sink);
     let wanted = Summary {
         accepted: 4,
         refused: 0,
         memory_refused: 0,
         fault: None,
     };
-    assert_eq!(rt; done, Ok(wanted));
-    assert_eq!(rt;
-        text.as_slice(),
-        b"1 ok\n2 ok 1\n3 ok\n4 rows 1\n| 1\n".as_slice()
-    );
-    Ok(())
+    let text = sink.into_inner();
+    assert!(rt; done == Ok(wanted));
+    assert!(rt; text.as_slice() == b"1 ok\n2 ok 1\n3 ok\n4 rows 1\n| 1\n".as_slice());
 }
 
+// Three calls give the text's 94 bytes, and a fourth reports its end. The transcript has 30 bytes.
 #[test]
-fn tells_a_read_that_fails(rt: HostRuntime) -> Result<(), Fail> {
-    // Three calls give the text's 94 bytes, and a fourth reports its end.
-    for fails_at in [1u64, 2, 4] {
-        let (done, text) = ran(rt.alloc(), &mut chunks(ONE_CHECK.as_bytes(), fails_at))?;
-        assert_eq!(rt; done, Err(RunFault::Read), "at {fails_at}");
-        assert_eq!(rt; text.len(), 0);
+fn tells_a_read_that_fails(rt: HostRuntime) {
+    for (fails_at, wanted) in [
+        (1u64, ("read", 0u64, 0u64)),
+        (2, ("read", 0, 0)),
+        (4, ("read", 0, 0)),
+        (5, ("ran", 1, 30)),
+    ] {
+        let mut source = chunks(ONE_CHECK.as_bytes(), fails_at);
+        assert_eq!(rt; ran(&rt, rt.alloc(), &mut source), wanted);
     }
-    let (done, _) = ran(rt.alloc(), &mut chunks(ONE_CHECK.as_bytes(), 5))?;
-    assert_eq!(rt; done.is_ok(), true);
-    Ok(())
 }
 
 #[test]
@@ -222,41 +224,36 @@ fn device_fails_where_the_one_under_it_does(rt: HostRuntime) {
         } else {
             Err(DeviceFault)
         };
-        assert_eq!(rt; Source::read(&mut reader, &mut buffer), wanted);
-        assert_eq!(rt; Sink::write(&mut writer, b"xy"), wanted);
+        assert!(rt; Source::read(&mut reader, &mut buffer) == wanted);
+        assert!(rt; Sink::write(&mut writer, b"xy") == wanted);
     }
 }
 
-#[test]
-fn tells_each_write_that_fails(rt: HostRuntime) -> Result<(), Fail> {
-    // The transcript has 30 bytes, each of which is a write of its own.
-    let Some(limits) = usual_limits() else {
-        return Ok(());
-    };
-    for fails_at in 1..31u64 {
-        let mut source = Std::new(ONE_CHECK.as_bytes());
-        let done = run_session(rt.alloc(), &mut source, &mut drops(fails_at), limits);
-        assert_eq!(rt; done, Err(RunFault::Write), "at {fails_at}");
-    }
+// What a run answers whose sink fails at this call.
+fn written_until(rt: &impl Abort, alloc: Global, fails_at: u64) -> &'static str {
     let mut source = Std::new(ONE_CHECK.as_bytes());
-    let done = run_session(rt.alloc(), &mut source, &mut drops(31), limits);
-    assert_eq!(rt; done.is_ok(), true);
-    Ok(())
+    word_of(run_session(rt, alloc, &mut source, &mut drops(fails_at)))
 }
 
+// Each byte of the transcript is a write of its own.
 #[test]
-fn writes_are_few(rt: HostRuntime) -> Result<(), Fail> {
-    let Some(limits) = usual_limits() else {
-        return Ok(());
-    };
-    // The line of a COMMIT has its number and four bytes more.
-    for (statements, calls, bytes) in [(0usize, 0u64, 0u64), (1000, 1, 6893), (2000, 2, 14893)] {
-        let text = "COMMIT;".repeat(rt.alloc(), statements)?;
-        let mut source = Std::new(text.as_bytes());
-        let mut sink = CountingSink { calls: 0, bytes: 0 };
-        let done = run_session(rt.alloc(), &mut source, &mut sink, limits);
-        assert_eq!(rt; done.is_ok(), true, "{statements}");
-        assert_eq!(rt; (sink.calls, sink.bytes), (calls, bytes), "{statements}");
+fn tells_each_write_that_fails(rt: HostRuntime) {
+    for fails_at in 1..31u64 {
+        assert!(rt; written_until(&rt, rt.alloc(), fails_at) == "write");
     }
-    Ok(())
+    assert!(rt; written_until(&rt, rt.alloc(), 31) == "ran");
+}
+
+// What a run of so many COMMITs answers, how often it writes, and how many bytes.
+fn ran_commits(rt: &impl Abort, alloc: Global, statements: usize) -> (&'static str, u64, u64) {
+    let text = "COMMIT;".repeat(alloc, statements).expect(rt, "memory");
+    ran(rt, alloc, &mut Std::new(text.as_bytes()))
+}
+
+// The line of a COMMIT has its number and four bytes more.
+#[test]
+fn writes_are_few(rt: HostRuntime) {
+    assert_eq!(rt; ran_commits(&rt, rt.alloc(), 0), ("ran", 0, 0));
+    assert_eq!(rt; ran_commits(&rt, rt.alloc(), 1000), ("ran", 1, 6893));
+    assert_eq!(rt; ran_commits(&rt, rt.alloc(), 2000), ("ran", 2, 14893));
 }

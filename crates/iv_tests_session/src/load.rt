@@ -4,7 +4,9 @@ use iv_parse::script;
 use iv_session::{Outcome, Session};
 use iv_store::Keeper;
 use iv_syntax::Statement;
-use std::alloc::{AllocError, Global};
+use std::alloc::Global;
+use std::panic::Expect;
+use std::process::Abort;
 
 /// How many of the statements inserted a row, and the most keys that one of them looked up.
 #[derive(Clone, Copy, Default)]
@@ -35,29 +37,28 @@ fn count_each<K: Keeper + Drop>(
 
 // The statements of a text, which are counted.
 fn count_text<K: Keeper + Drop>(
+    rt: &impl Abort,
     alloc: Global,
     session: &mut Session<K>,
     text: &str,
     load: &mut Load,
-) -> Result<(), AllocError> {
-    let parsed = script(alloc, text)?;
+) {
+    let parsed = script(alloc, text).expect(rt, "memory");
     count_each(session, parsed.statements.as_slice(), load);
     drop(parsed);
-    Ok(())
 }
 
 /// Inserts each number from 0 up to this into a table T.
 pub fn load_rows<K: Keeper + Drop>(
+    rt: &impl Abort,
     alloc: Global,
     session: &mut Session<K>,
     rows: u64,
     load: &mut Load,
-) -> Result<(), AllocError> {
+) {
     for number in 0..rows {
-        let text = format!(in alloc; "INSERT INTO t VALUES ({number});")?;
-        let done = count_text(alloc, session, text.as_str(), load);
+        let text = format!(in alloc; "INSERT INTO t VALUES ({number});").expect(rt, "memory");
+        count_text(rt, alloc, session, text.as_str(), load);
         drop(text);
-        done?;
     }
-    Ok(())
 }

@@ -1,7 +1,6 @@
 //! Sessions between the statements of scripts: work, what is pending, and the calls that no statement makes.
 use crate::calls::{Call, shows};
 use iv_plain_store::PlainStore;
-use std::test::Fail;
 
 const AFTER_A_REFUSED_COMMIT: &str =
     "CREATE TABLE p (k INT PRIMARY KEY); CREATE TABLE c (x INT CONSTRAINT fk REFERENCES p INITIALLY DEFERRED); INSERT INTO c VALUES (7); COMMIT; SELECT * FROM c; START TRANSACTION;";
@@ -23,31 +22,31 @@ const ONE_ROW_PENDING: &str =
 
 // P's key and POS are the constraint at place 0, FK and BIG the one at place 1.
 #[test]
-fn pending_is_shown_after_each_statement(rt: HostRuntime) -> Result<(), Fail> {
-    let calls = [Call::ExecuteWithPending];
+fn pending_is_shown_after_each_statement(rt: HostRuntime) {
+    static CALLS: [Call; 1] = [Call::ExecuteWithPending];
     let alloc = rt.alloc();
     let wanted = "0; 0 row 1, 1; 0 row 1, 1; 0; ";
-    shows::<PlainStore>(&rt, alloc, TWO_CHECKS, &calls, wanted)?;
+    shows::<PlainStore>(&rt, alloc, TWO_CHECKS, &CALLS, wanted);
     let wanted = "0; 0; 1 row 1, 1; 0; 0; ";
-    shows::<PlainStore>(&rt, alloc, MENDED, &calls, wanted)?;
+    shows::<PlainStore>(&rt, alloc, MENDED, &CALLS, wanted);
     let wanted = "0; 0; 1 row 1, 1; 0; 0; 0; ";
-    shows::<PlainStore>(&rt, alloc, AFTER_A_REFUSED_COMMIT, &calls, wanted)?;
+    shows::<PlainStore>(&rt, alloc, AFTER_A_REFUSED_COMMIT, &CALLS, wanted);
     let wanted =
         "0; 0; 0; 0; 0; 1 row 1, 1; 1 row 1, 1; 0; 0; 1 row 1, 1; 1 row 1, 1 row 2, 2; 1 row 1, 1; 1 row 1, 1; 1 row 1, 1; 1 row 1, 1; 0; ";
-    shows::<PlainStore>(&rt, alloc, BACK_AND_FORTH, &calls, wanted)
+    shows::<PlainStore>(&rt, alloc, BACK_AND_FORTH, &CALLS, wanted)
 }
 
 #[test]
-fn statements_are_run_all_together(rt: HostRuntime) -> Result<(), Fail> {
-    let calls = [Call::RunAndShow, Call::State, Call::Catalogue];
+fn statements_are_run_all_together(rt: HostRuntime) {
+    static CALLS: [Call; 3] = [Call::RunAndShow, Call::State, Call::Catalogue];
     let wanted =
         "done; done; changed 1; commit refused 1 row 1; rows 0; done; 0 open 0 0; 2 tables, 2 constraints; ";
-    shows::<PlainStore>(&rt, rt.alloc(), AFTER_A_REFUSED_COMMIT, &calls, wanted)
+    shows::<PlainStore>(&rt, rt.alloc(), AFTER_A_REFUSED_COMMIT, &CALLS, wanted)
 }
 
 #[test]
-fn rollback_to_restores_modes(rt: HostRuntime) -> Result<(), Fail> {
-    let calls = [
+fn rollback_to_restores_modes(rt: HostRuntime) {
+    static CALLS: [Call; 10] = [
         Call::Run,
         Call::State,
         Call::RollbackTo("S"),
@@ -61,12 +60,12 @@ fn rollback_to_restores_modes(rt: HostRuntime) -> Result<(), Fail> {
     ];
     let wanted =
         "0 open 0 0; done; 1 open 0 1; unknown savepoint; 1 open 0 0; 0 closed 0 1; no transaction; 0 closed 0 0; ";
-    shows::<PlainStore>(&rt, rt.alloc(), TWO_SAVEPOINTS, &calls, wanted)
+    shows::<PlainStore>(&rt, rt.alloc(), TWO_SAVEPOINTS, &CALLS, wanted)
 }
 
 #[test]
-fn refused_commit_ends_the_transaction(rt: HostRuntime) -> Result<(), Fail> {
-    let calls = [
+fn refused_commit_ends_the_transaction(rt: HostRuntime) {
+    static CALLS: [Call; 6] = [
         Call::Run,
         Call::State,
         Call::Commit,
@@ -75,5 +74,5 @@ fn refused_commit_ends_the_transaction(rt: HostRuntime) -> Result<(), Fail> {
         Call::State,
     ];
     let wanted = "1 open 1 0; violated 0 row 1; 0 closed 0 1; committed; 0 closed 0 0; ";
-    shows::<PlainStore>(&rt, rt.alloc(), ONE_ROW_PENDING, &calls, wanted)
+    shows::<PlainStore>(&rt, rt.alloc(), ONE_ROW_PENDING, &CALLS, wanted)
 }

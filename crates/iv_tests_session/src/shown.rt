@@ -4,80 +4,74 @@ use iv_account::{Entry, RowAction, Seen};
 use iv_catalogue::{Catalogue, Cause, Fault, TriggerId};
 use iv_machine::Answer;
 use iv_session::{Outcome, Work};
-use std::alloc::AllocError;
+use std::panic::Expect;
 use std::process::Abort;
 
+/// Adds these words.
+pub fn show(rt: &impl Abort, words: &str, shown: &mut String) {
+    shown.push_str(words).expect(rt, "memory");
+}
+
 /// A number between these words.
-pub fn show_number(
-    before: &str,
-    number: u64,
-    after: &str,
-    shown: &mut String,
-) -> Result<(), AllocError> {
-    write!(shown, "{before}{number}{after}")
+pub fn show_number(rt: &impl Abort, before: &str, number: u64, after: &str, shown: &mut String) {
+    write!(shown, "{before}{number}{after}").expect(rt, "memory");
 }
 
 /// The place of a constraint and a row, between these words.
-pub fn show_fault(
-    before: &str,
-    fault: &Fault,
-    after: &str,
-    shown: &mut String,
-) -> Result<(), AllocError> {
-    show_number(before, fault.constraint.place() as u64, " row ", shown)?;
-    show_number("", fault.row, after, shown)
+pub fn show_fault(rt: &impl Abort, before: &str, fault: &Fault, after: &str, shown: &mut String) {
+    show_number(rt, before, fault.constraint.place() as u64, " row ", shown);
+    show_number(rt, "", fault.row, after, shown)
 }
 
-fn show_cause(cause: &Cause, shown: &mut String) -> Result<(), AllocError> {
+fn show_cause(rt: &impl Abort, cause: &Cause, shown: &mut String) {
     match cause {
-        Cause::CommitRefused(fault) => show_fault("commit refused ", fault, "", shown),
+        Cause::CommitRefused(fault) => show_fault(rt, "commit refused ", fault, "", shown),
         Cause::DepthLimit(trigger) => {
-            show_number("depth limit ", trigger.place() as u64, "", shown)
+            show_number(rt, "depth limit ", trigger.place() as u64, "", shown)
         }
-        Cause::TooManyChanges => shown.push_str("too many changes"),
-        Cause::UnknownSavepoint => shown.push_str("unknown savepoint"),
-        Cause::NoTransaction => shown.push_str("no transaction"),
-        _ => shown.push_str("another refusal"),
+        Cause::TooManyChanges => show(rt, "too many changes", shown),
+        Cause::UnknownSavepoint => show(rt, "unknown savepoint", shown),
+        Cause::NoTransaction => show(rt, "no transaction", shown),
+        _ => show(rt, "another refusal", shown),
     }
 }
 
 /// An answer, or the cause of a refusal.
-pub fn show_outcome(outcome: &Outcome, shown: &mut String) -> Result<(), AllocError> {
+pub fn show_outcome(rt: &impl Abort, outcome: &Outcome, shown: &mut String) {
     match outcome {
-        Ok(Answer::Done) => shown.push_str("done"),
-        Ok(Answer::Changed(count)) => show_number("changed ", *count, "", shown),
-        Ok(Answer::Rows(rows)) => show_number("rows ", rows.as_slice().len() as u64, "", shown),
-        Err(refusal) => show_cause(&refusal.cause, shown),
+        Ok(Answer::Done) => show(rt, "done", shown),
+        Ok(Answer::Changed(count)) => show_number(rt, "changed ", *count, "", shown),
+        Ok(Answer::Rows(rows)) => show_number(rt, "rows ", rows.as_slice().len() as u64, "", shown),
+        Err(refusal) => show_cause(rt, &refusal.cause, shown),
     }
 }
 
 /// So for each of these, with an end.
-pub fn show_outcomes(outcomes: &[Outcome], shown: &mut String) -> Result<(), AllocError> {
+pub fn show_outcomes(rt: &impl Abort, outcomes: &[Outcome], shown: &mut String) {
     for outcome in outcomes {
-        show_outcome(outcome, shown)?;
-        shown.push_str("; ")?;
+        show_outcome(rt, outcome, shown);
+        show(rt, "; ", shown);
     }
-    Ok(())
 }
 
 /// An answer that isn't wanted any more, and a number after it.
-pub fn show_with(outcome: Outcome, number: u64, shown: &mut String) -> Result<(), AllocError> {
-    let done = show_outcome(&outcome, shown);
+pub fn show_with(rt: &impl Abort, outcome: Outcome, number: u64, shown: &mut String) {
+    show_outcome(rt, &outcome, shown);
     drop(outcome);
-    done?;
-    show_number(" ", number, "; ", shown)
+    show_number(rt, " ", number, "; ", shown)
 }
 
 /// How many changes were made and undone.
-pub fn show_work(work: Work, shown: &mut String) -> Result<(), AllocError> {
-    show_number("", work.changes, " ", shown)?;
-    show_number("", work.undone, "; ", shown)
+pub fn show_work(rt: &impl Abort, work: Work, shown: &mut String) {
+    show_number(rt, "", work.changes, " ", shown);
+    show_number(rt, "", work.undone, "; ", shown)
 }
 
 /// How many tables and constraints there are.
-pub fn show_catalogue(catalogue: &Catalogue, shown: &mut String) -> Result<(), AllocError> {
-    show_number("", catalogue.tables().len() as u64, " tables, ", shown)?;
+pub fn show_catalogue(rt: &impl Abort, catalogue: &Catalogue, shown: &mut String) {
+    show_number(rt, "", catalogue.tables().len() as u64, " tables, ", shown);
     show_number(
+        rt,
         "",
         catalogue.constraints().len() as u64,
         " constraints; ",
@@ -90,68 +84,64 @@ fn word_of(truth: bool) -> &'static str {
 }
 
 // The trigger's place, whether it saw OLD and NEW, and how many changes of transition tables.
-fn show_seen(trigger: &TriggerId, seen: &Seen, shown: &mut String) -> Result<(), AllocError> {
-    show_number("ran ", trigger.place() as u64, "", shown)?;
-    shown.push_str(word_of(seen.old.is_some()))?;
-    shown.push_str(word_of(seen.new.is_some()))?;
-    show_number(" ", seen.transition.len() as u64, "", shown)
+fn show_seen(rt: &impl Abort, trigger: &TriggerId, seen: &Seen, shown: &mut String) {
+    show_number(rt, "ran ", trigger.place() as u64, "", shown);
+    show(rt, word_of(seen.old.is_some()), shown);
+    show(rt, word_of(seen.new.is_some()), shown);
+    show_number(rt, " ", seen.transition.len() as u64, "", shown)
 }
 
-fn show_actions(actions: &[RowAction], shown: &mut String) -> Result<(), AllocError> {
-    shown.push_str("acted")?;
+fn show_actions(rt: &impl Abort, actions: &[RowAction], shown: &mut String) {
+    show(rt, "acted", shown);
     for action in actions {
-        show_number(" ", action.constraint.place() as u64, " on ", shown)?;
-        show_number("", action.row, "", shown)?;
+        show_number(rt, " ", action.constraint.place() as u64, " on ", shown);
+        show_number(rt, "", action.row, "", shown);
     }
-    Ok(())
 }
 
 // The rows of a wave, of which nothing else is shown.
-fn show_changes(entry: &Entry, shown: &mut String) -> Result<(), AllocError> {
+fn show_changes(rt: &impl Abort, entry: &Entry, shown: &mut String) {
     if let Entry::Changed(changes) = entry {
         for change in changes.as_slice() {
-            show_number(" ", change.row, "", shown)?;
+            show_number(rt, " ", change.row, "", shown);
         }
     }
-    Ok(())
 }
 
 // The rows that are told with a violation.
-fn show_rows(entry: &Entry, shown: &mut String) -> Result<(), AllocError> {
+fn show_rows(rt: &impl Abort, entry: &Entry, shown: &mut String) {
     if let Entry::Faulted(_, rows) = entry {
         for row in rows.as_slice() {
-            show_number(", ", row.number, "", shown)?;
+            show_number(rt, ", ", row.number, "", shown);
         }
     }
-    Ok(())
 }
 
 // An entry in words, without an end.
-fn show_entry(entry: &Entry, shown: &mut String) -> Result<(), AllocError> {
+fn show_entry(rt: &impl Abort, entry: &Entry, shown: &mut String) {
     match entry {
         Entry::Changed(_) => {
-            shown.push_str("changed")?;
-            show_changes(entry, shown)
+            show(rt, "changed", shown);
+            show_changes(rt, entry, shown)
         }
-        Entry::Acted(actions) => show_actions(actions.as_slice(), shown),
-        Entry::Ran(trigger, seen) => show_seen(trigger, seen, shown),
-        Entry::Began(place) => show_number("began ", u64::from(*place), "", shown),
-        Entry::Ended => shown.push_str("ended"),
+        Entry::Acted(actions) => show_actions(rt, actions.as_slice(), shown),
+        Entry::Ran(trigger, seen) => show_seen(rt, trigger, seen, shown),
+        Entry::Began(place) => show_number(rt, "began ", u64::from(*place), "", shown),
+        Entry::Ended => show(rt, "ended", shown),
         Entry::Faulted(fault, _) => {
-            show_number("faulted ", fault.constraint.place() as u64, " ", shown)?;
-            show_number("", fault.row, "", shown)?;
-            show_rows(entry, shown)
+            show_number(rt, "faulted ", fault.constraint.place() as u64, " ", shown);
+            show_number(rt, "", fault.row, "", shown);
+            show_rows(rt, entry, shown)
         }
     }
 }
 
 /// The entries of an account: the numbers of their rows, and the places of what they name.
-pub fn show_account(account: &[Entry], shown: &mut String) -> Result<(), AllocError> {
+pub fn show_account(rt: &impl Abort, account: &[Entry], shown: &mut String) {
     for entry in account {
-        show_entry(entry, shown)?;
-        shown.push_str("; ")?;
+        show_entry(rt, entry, shown);
+        show(rt, "; ", shown);
     }
-    Ok(())
 }
 
 /// Asserts that this is shown of a text.

@@ -9,8 +9,9 @@ use iv_machine::Limits;
 use iv_parse::script;
 use iv_session::{Outcome, Session};
 use iv_syntax::Statement;
-use std::alloc::{AllocError, Global};
-use std::test::Fail;
+use std::alloc::Global;
+use std::panic::Expect;
+use std::process::Abort;
 
 // Goes back as a call.
 fn roll_back_to(session: &mut Session<IndexStore>, name: &str) -> Outcome
@@ -39,57 +40,62 @@ fn execute(session: &mut Session<IndexStore>, statement: &Statement) -> Outcome
 
 // Runs these statements, and shows what each answers and undoes.
 fn show_each(
+    rt: &impl Abort,
     session: &mut Session<IndexStore>,
     statements: &[Statement],
     shown: &mut String,
-) -> Result<(), AllocError> {
+) {
     for statement in statements {
         let outcome = execute(session, statement);
-        show_with(outcome, session.work().undone, shown)?;
+        show_with(rt, outcome, session.work().undone, shown);
     }
-    Ok(())
 }
 
 // So for the statements of a text.
 fn show_text(
+    rt: &impl Abort,
     alloc: Global,
     session: &mut Session<IndexStore>,
     text: &str,
     shown: &mut String,
-) -> Result<(), AllocError> {
-    let parsed = script(alloc, text)?;
-    let done = show_each(session, parsed.statements.as_slice(), shown);
+) {
+    let parsed = script(alloc, text).expect(rt, "memory");
+    show_each(rt, session, parsed.statements.as_slice(), shown);
     drop(parsed);
-    done
 }
 
 // Goes back as a call, and shows what it answers and undoes.
-fn show_back(
-    session: &mut Session<IndexStore>,
-    name: &str,
-    shown: &mut String,
-) -> Result<(), AllocError> {
+fn show_back(rt: &impl Abort, session: &mut Session<IndexStore>, name: &str, shown: &mut String) {
     let outcome = roll_back_to(session, name);
-    show_with(outcome, session.work().undone, shown)
+    show_with(rt, outcome, session.work().undone, shown)
 }
 
 // Back by the call and by the statement, to a savepoint and to none, in a transaction and outside of it.
 fn show_ways_back(
+    rt: &impl Abort,
     alloc: Global,
     session: &mut Session<IndexStore>,
     shown: &mut String,
-) -> Result<(), AllocError> {
-    show_text(alloc, session, "CREATE TABLE t (a INT PRIMARY KEY);", shown)?;
-    show_back(session, "S", shown)?;
+) {
     show_text(
+        rt,
+        alloc,
+        session,
+        "CREATE TABLE t (a INT PRIMARY KEY);",
+        shown,
+    );
+    show_back(rt, session, "S", shown);
+    show_text(
+        rt,
         alloc,
         session,
         "INSERT INTO t VALUES (1); SAVEPOINT s; INSERT INTO t VALUES (2), (3);",
         shown,
-    )?;
-    show_back(session, "S", shown)?;
-    show_back(session, "T", shown)?;
+    );
+    show_back(rt, session, "S", shown);
+    show_back(rt, session, "T", shown);
     show_text(
+        rt,
         alloc,
         session,
         "INSERT INTO t VALUES (2); ROLLBACK TO SAVEPOINT s; ROLLBACK TO SAVEPOINT t; COMMIT; ROLLBACK TO SAVEPOINT s; SELECT * FROM t;",
@@ -98,25 +104,19 @@ fn show_ways_back(
 }
 
 // So in a new session.
-fn ways_back(alloc: Global, shown: &mut String) -> Result<(), AllocError> {
-    let Some(limits) = Limits::new(16, 65_536) else {
-        return shown.push_str("no limits");
-    };
-    let mut session = Session::<IndexStore>::new(alloc, limits)?;
-    let done = show_ways_back(alloc, &mut session, shown);
+fn ways_back(rt: &impl Abort, alloc: Global, shown: &mut String) {
+    let limits = Limits::new(16, 65_536).expect(rt, "limits");
+    let mut session = Session::<IndexStore>::new(alloc, limits).expect(rt, "memory");
+    show_ways_back(rt, alloc, &mut session, shown);
     drop(session);
-    done
 }
 
 #[test]
-fn a_session_goes_back_to_a_savepoint(rt: HostRuntime) -> Result<(), Fail> {
+fn a_session_goes_back_to_a_savepoint(rt: HostRuntime) {
     let mut shown = String::new(rt.alloc());
-    let done = ways_back(rt.alloc(), &mut shown);
+    ways_back(&rt, rt.alloc(), &mut shown);
     let wanted =
         "done 0; no transaction 0; changed 1 0; done 0; changed 2 0; done 2; unknown savepoint 0; \
                   changed 1 0; done 1; unknown savepoint 0; done 0; no transaction 0; rows 1 0; ";
     compare(&rt, "ways back", shown.as_str(), wanted);
-    drop(shown);
-    done?;
-    Ok(())
 }

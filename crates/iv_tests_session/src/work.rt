@@ -6,7 +6,6 @@ use iv_plain_store::PlainStore;
 use iv_store::Keeper;
 use std::alloc::Global;
 use std::process::Abort;
-use std::test::Fail;
 
 const SWAP: &str =
     "CREATE TABLE p (k INT PRIMARY KEY); CREATE TABLE c (x INT REFERENCES p ON UPDATE CASCADE); INSERT INTO p VALUES (1), (2); INSERT INTO c VALUES (1), (2); UPDATE p SET k = 3 - k;";
@@ -86,35 +85,33 @@ const CASES: [Case; 8] = [
 ];
 
 // All scripts, on a store that looks keys up or doesn't.
-fn check_all<K: Keeper + Drop>(rt: &impl Abort, alloc: Global, looks_up: bool) -> Result<(), Fail> {
+fn check_all<K: Keeper + Drop>(rt: &impl Abort, alloc: Global, looks_up: bool) {
     for case in CASES.as_slice() {
         let most = if looks_up { case.most } else { 0 };
         let calls = [Call::RunAndShowLast, Call::Work, Call::LookUps(most)];
-        shows_within::<K>(rt, alloc, case.text, case.limits, &calls, case.wanted)?;
+        shows_within::<K>(rt, alloc, case.text, case.limits, &calls, case.wanted);
     }
-    Ok(())
 }
 
 #[test]
-fn a_store_of_lists_looks_nothing_up(rt: HostRuntime) -> Result<(), Fail> {
+fn a_store_of_lists_looks_nothing_up(rt: HostRuntime) {
     check_all::<PlainStore>(&rt, rt.alloc(), false)
 }
 
 #[test]
-fn a_store_of_groups_looks_few_keys_up(rt: HostRuntime) -> Result<(), Fail> {
+fn a_store_of_groups_looks_few_keys_up(rt: HostRuntime) {
     check_all::<IndexStore>(&rt, rt.alloc(), true)
 }
 
 #[test]
-fn each_row_of_a_load_looks_few_keys_up(rt: HostRuntime) -> Result<(), Fail> {
-    let load = Call::Load {
-        rows: 65_536,
-        most: 8,
-    };
-    let calls = [
+fn each_row_of_a_load_looks_few_keys_up(rt: HostRuntime) {
+    static CALLS: [Call; 5] = [
         Call::RunAndShow,
         Call::LookUps(0),
-        load,
+        Call::Load {
+            rows: 65_536,
+            most: 8,
+        },
         Call::Commit,
         Call::LookUps(0),
     ];
@@ -123,16 +120,15 @@ fn each_row_of_a_load_looks_few_keys_up(rt: HostRuntime) -> Result<(), Fail> {
         &rt,
         rt.alloc(),
         text,
-        &calls,
+        &CALLS,
         "done; inserted 65536; committed; ",
     )
 }
 
 #[test]
-fn limits_are_within_their_ranges(rt: HostRuntime) -> Result<(), Fail> {
+fn limits_are_within_their_ranges(rt: HostRuntime) {
     assert!(rt; Limits::new(1, 1).is_some());
     assert!(rt; Limits::new(64, 1).is_some());
     assert!(rt; Limits::new(65, 1).is_none());
     assert!(rt; Limits::new(0, 1).is_none());
-    Ok(())
 }

@@ -1,3 +1,0 @@
-pub mod OneMark
-pub mod TakenBack
-pub mod Watched
