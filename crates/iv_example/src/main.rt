@@ -4,11 +4,12 @@
 
 mod showing;
 
-use crate::showing::{show_account, show_name, show_outcome, show_pending};
+use crate::showing::{show_account, show_answer, show_outcome, show_pending};
 use iv_index_store::IndexStore;
-use iv_parse::script;
+use iv_parse::{SyntaxFault, script};
 use iv_script::{place_at, words_at};
 use iv_session::{Limits, Session};
+use iv_syntax::Statement;
 use std::io;
 use std::process::ExitCode;
 
@@ -27,15 +28,24 @@ const MISSPELT: &str = "SELECT owner FROM acount;\n  SELEKT owner FROM account;"
 
 const BALANCES: &str = "SELECT owner, balance FROM account;";
 
-// Executes the statements of a text, and shows what each of them answers.
-fn run(rt: &HostRuntime, database: &mut Database, text: &str) -> io::Result<()> {
-    let parsed = script(rt.alloc(), text)?;
-    for statement in parsed.statements.as_slice() {
+// Executes statements, and shows what each of them answers.
+fn execute_each(
+    rt: &HostRuntime,
+    database: &mut Database,
+    statements: &[Statement],
+) -> io::Result<()> {
+    for statement in statements {
         let outcome = database.execute(statement);
-        show_outcome(rt, database.catalogue(), &outcome)?;
-        show_name(rt, database.catalogue(), statement, &outcome)?;
+        let shown = show_answer(rt, database.catalogue(), statement, &outcome);
+        drop(outcome);
+        shown?;
     }
-    match parsed.fault {
+    Ok(())
+}
+
+// Shows where a text ceases to be statements.
+fn show_end(rt: &HostRuntime, text: &str, fault: Option<SyntaxFault>) -> io::Result<()> {
+    match fault {
         Some(fault) => {
             let place = place_at(text, fault.at);
             let words = words_at(text, fault.at).len();
@@ -46,6 +56,34 @@ fn run(rt: &HostRuntime, database: &mut Database, text: &str) -> io::Result<()> 
         }
         None => Ok(()),
     }
+}
+
+// Executes the statements of a text, and shows what each of them answers.
+fn run(rt: &HostRuntime, database: &mut Database, text: &str) -> io::Result<()> {
+    let parsed = script(rt.alloc(), text)?;
+    let shown = execute_each(rt, database, parsed.statements.as_slice());
+    let fault = parsed.fault;
+    drop(parsed);
+    shown?;
+    show_end(rt, text, fault)
+}
+
+// Shows what COMMIT would find.
+fn show_violations(rt: &HostRuntime, database: &Database) -> io::Result<()> {
+    let pending = database.pending()?;
+    let shown = show_pending(rt, database.catalogue(), pending.as_slice());
+    drop(pending);
+    shown
+}
+
+// Goes back to a savepoint by the call, and shows what that undid.
+fn roll_back_to(rt: &HostRuntime, database: &mut Database, name: &str) -> io::Result<()> {
+    let outcome = database.rollback_to(name);
+    let shown = show_outcome(rt, database.catalogue(), &outcome);
+    drop(outcome);
+    shown?;
+    let work = database.work();
+    println!(rt; "undone {}, keys looked up {}", work.undone, work.lookups)
 }
 
 // Commits by the call, and shows the violation where it is refused.
@@ -63,12 +101,8 @@ fn commit(rt: &HostRuntime, database: &mut Database) -> io::Result<()> {
 fn transfers(rt: &HostRuntime, database: &mut Database) -> io::Result<()> {
     run(rt, database, ACCOUNTS)?;
     run(rt, database, TRANSFER)?;
-    let pending = database.pending()?;
-    show_pending(rt, database.catalogue(), pending.as_slice())?;
-    let back = database.rollback_to("TAKEN");
-    show_outcome(rt, database.catalogue(), &back)?;
-    let work = database.work();
-    println!(rt; "undone {}, keys looked up {}", work.undone, work.lookups)?;
+    show_violations(rt, &*database)?;
+    roll_back_to(rt, database, "TAKEN")?;
     commit(rt, database)?;
     database.explain(true);
     run(rt, database, TWICE)?;

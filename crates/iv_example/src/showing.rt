@@ -65,8 +65,8 @@ pub fn show_outcome(rt: &HostRuntime, catalogue: &Catalogue, outcome: &Outcome) 
     }
 }
 
-/// The name that the refusal of a statement is about, where it is that of a table that isn't there.
-pub fn show_name(
+// The name that the refusal of a statement is about, where it is that of a table that isn't there.
+fn show_name(
     rt: &HostRuntime,
     catalogue: &Catalogue,
     statement: &Statement,
@@ -79,6 +79,17 @@ pub fn show_name(
         Some(NameFault::Unknown(NamedItem::Table(name))) => println!(rt; "no table {name}"),
         _ => Ok(()),
     }
+}
+
+/// What a statement answers, and the name that its refusal is about.
+pub fn show_answer(
+    rt: &HostRuntime,
+    catalogue: &Catalogue,
+    statement: &Statement,
+    outcome: &Outcome,
+) -> io::Result<()> {
+    show_outcome(rt, catalogue, outcome)?;
+    show_name(rt, catalogue, statement, outcome)
 }
 
 // An entry of an account.

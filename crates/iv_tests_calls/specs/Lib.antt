@@ -1,2 +1,4 @@
-pub mod Words
 pub mod Known
+pub mod Pairs
+pub mod Statements
+pub mod Words

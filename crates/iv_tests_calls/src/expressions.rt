@@ -12,9 +12,9 @@ use std::alloc::Global;
 use std::panic::Expect;
 use std::process::Abort;
 
-// No tables at all.
+/// No tables at all.
 #[derive(Drop)]
-struct NoTables {}
+pub struct NoTables {}
 
 impl Rows for NoTables {
     ghost rows = { λ s. [] };

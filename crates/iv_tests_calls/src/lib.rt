@@ -1,5 +1,6 @@
-//! Tests of both stores of rows by the calls of their trait, of the parts of the store with keys, and of calls that the program
-//! doesn't make. A crate's own tests have the whole crate proved once more.
+//! Tests of both stores of rows by the calls of their trait, of the parts of the store with keys, of the calls that a data
+//! statement is made of, and of calls that the program doesn't make; and calls of the laws. A crate's own tests have the whole
+//! crate proved once more.
 #![tactic(auto)]
 
 #[cfg(test)]
@@ -12,6 +13,10 @@ mod catalogue;
 mod demand;
 #[cfg(test)]
 mod expressions;
+#[cfg(test)]
+mod laws;
+#[cfg(test)]
+mod levels;
 #[cfg(test)]
 mod names;
 #[cfg(test)]

@@ -1,20 +1,11 @@
-//! Changes, columns, answers and accounts as text. One function writes a number: each `write!` is much code to prove.
+//! Changes, columns, answers and accounts as text.
+use crate::shown::{show, show_number};
 use iv_account::Entry;
 use iv_catalogue::{Cause, Fault, Refusal};
 use iv_expr::{Change, Row, StoredRow, TableColumn, TableId};
 use iv_value::Value;
 use std::panic::Expect;
 use std::process::Abort;
-
-/// Adds these words.
-pub fn show(rt: &impl Abort, words: &str, shown: &mut String) {
-    shown.push_str(words).expect(rt, "memory");
-}
-
-/// Adds a number between these words.
-pub fn show_number(rt: &impl Abort, before: &str, number: u64, after: &str, shown: &mut String) {
-    write!(shown, "{before}{number}{after}").expect(rt, "memory");
-}
 
 // ---- rows
 

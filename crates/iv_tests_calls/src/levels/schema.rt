@@ -3,7 +3,7 @@ ghost use Rattle.std.specs.Prelude.{◌≡◌};
 ghost use Rattle.iv_catalogue.specs.Catalogues.{empty_schema};
 ghost use Rattle.iv_store.specs.Stores.{empty_store};
 ghost use Rattle.iv_laws_rows.specs.Changing.{StoreFits};
-ghost use Rattle.iv_tests_levels.specs.Pairs.{HasPairs, column_of, foreign_key, immediate, pair_columns, pair_keys, pair_table, unique_key, up_to_key};
+ghost use Rattle.iv_tests_calls.specs.Pairs.{HasPairs, column_of, foreign_key, immediate, pair_columns, pair_keys, pair_table, unique_key, up_to_key};
 
 use iv_catalogue::{Catalogue, Column, Constraint, Constraints, ForeignKey, Rule, Table};
 use iv_expr::TableId;

@@ -8,7 +8,7 @@ use Rattle.iv_expr.specs.declared.tree.Cond.TheVariants.{Always}
 use Rattle.iv_expr.specs.Suiting.{Shape}
 use Rattle.iv_catalogue.specs.declared.plan.DataStatement.TheVariants.{Delete}
 use Rattle.iv_laws_fitting.specs.PlanShapes.{plain_shape, values_suit}
-use Rattle.iv_tests_levels.specs.Statements.{SuitsPairs, insertion, one_more, set_to, tuple_of}
+use Rattle.iv_tests_calls.specs.Statements.{SuitsPairs, insertion, one_more, set_to, tuple_of}
 
 tuple_suits : (shape : Shape) (row : ℤ × Option ℤ) → values_suit shape (Some Integer ∷ Some Integer ∷ []) (tuple_of row) ≡ true
 tuple_suits shape (a, Some b) = refl

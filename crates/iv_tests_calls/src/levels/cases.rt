@@ -1,8 +1,9 @@
 //! Cases as data, and what they tell as one text. One function runs them all, and a test is their list and the text.
+use super::steps::{Step, tell_steps};
+use super::triggers::{Question, Run, tell_of_trigger};
+use super::waves::{Asked, Waves, show_of_waves};
 use crate::shown::show;
-use crate::steps::{Step, tell_steps};
-use crate::triggers::{Question, Run, tell_of_trigger};
-use crate::waves::{Asked, Waves, show_of_waves};
+use crate::story::compare;
 use iv_index_store::IndexStore;
 use iv_plain_store::PlainStore;
 use std::alloc::Global;
@@ -34,10 +35,6 @@ fn tell(rt: &impl Abort, alloc: Global, case: &Case, shown: &mut String) -> bool
     }
 }
 
-fn compare(rt: &impl Abort, shown: &str, wanted: &str) {
-    assert_eq!(rt; shown, wanted);
-}
-
 /// Asserts what cases tell, one after another.
 pub fn shows(rt: &impl Abort, alloc: Global, cases: &[Case], wanted: &str) {
     let mut shown = String::new(alloc);
@@ -46,6 +43,6 @@ pub fn shows(rt: &impl Abort, alloc: Global, cases: &[Case], wanted: &str) {
             show(rt, "done; ", &mut shown);
         }
     }
-    compare(rt, shown.as_str(), wanted);
+    compare(rt, "cases", shown.as_str(), wanted);
     drop(shown);
 }

@@ -1,9 +1,9 @@
 //! A statement with all that follows from it, and a query, over both stores.
-use crate::cases::Case::{self, InIndex, InPlain};
-use crate::cases::shows;
-use crate::statements::Doing::{Insert, SetFirst, Shift};
-use crate::steps::Query::{Above2, Count};
-use crate::steps::Step::{self, Explain, Run, Select};
+use super::cases::Case::{self, InIndex, InPlain};
+use super::cases::shows;
+use super::statements::Doing::{Insert, SetFirst, Shift};
+use super::steps::Query::{Above2, Count};
+use super::steps::Step::{self, Explain, Run, Select};
 
 // Rows 1 to 3 are there, and each is shifted by one. Then all become 7.
 const SHIFT: [Step; 7] = [

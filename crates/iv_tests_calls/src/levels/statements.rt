@@ -1,6 +1,6 @@
 //! Data statements on table 0, as data and as they are made of it.
 ghost use Rattle.std.specs.Prelude.{◌≡◌, map};
-ghost use Rattle.iv_tests_levels.specs.Statements.{SuitsPairs, insertion, one_more, set_to, tuple_of};
+ghost use Rattle.iv_tests_calls.specs.Statements.{SuitsPairs, insertion, one_more, set_to, tuple_of};
 
 use iv_catalogue::{DataStatement, InsertColumns, InsertRows, Setting};
 use iv_expr::{Cond, Expr, TableId};

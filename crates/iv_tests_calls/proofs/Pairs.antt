@@ -4,7 +4,7 @@ use Rattle.iv_resolution.specs.Constraints.{comes_twice}
 use Rattle.iv_laws_fitting.specs.PlanShapes.{table_suits}
 use Rattle.iv_store.specs.Stores.{empty_store, store_with_table}
 use Rattle.iv_laws_rows.specs.Changing.{StoreFits}
-use Rattle.iv_tests_levels.specs.Pairs.{pair_keys, pair_table}
+use Rattle.iv_tests_calls.specs.Pairs.{pair_keys, pair_table}
 
 -- no name comes twice
 pair_table_suits : table_suits pair_table ≡ true

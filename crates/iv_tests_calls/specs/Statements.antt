@@ -12,7 +12,7 @@ use Rattle.iv_catalogue.specs.declared.plan.DataStatement.TheVariants.{Insert, U
 use Rattle.iv_catalogue.specs.declared.plan.InsertColumns.TheVariants.{All}
 use Rattle.iv_catalogue.specs.declared.plan.InsertRows.TheVariants.{Values}
 use Rattle.iv_laws_fitting.specs.PlanShapes.{data_suits, plain_shape}
-use Rattle.iv_tests_levels.specs.Pairs.{HasPairs}
+use Rattle.iv_tests_calls.specs.Pairs.{HasPairs}
 
 abbrev pub value_of : Option ℤ → Value
 value_of (Some a) = Int a

@@ -1,12 +1,12 @@
 //! Which AFTER triggers fire on what a data statement with its waves changes, and the columns of its level.
-use crate::cases::Case::{self, OfTrigger, OfWaves};
-use crate::cases::shows;
-use crate::changes::{Changed, Planned};
-use crate::statements::Doing::{Delete, SetFirst, SetSecond};
-use crate::triggers::Question::Fires;
-use crate::triggers::{Action, Run};
-use crate::waves::Asked::Columns;
-use crate::waves::Waves::These;
+use super::cases::Case::{self, OfTrigger, OfWaves};
+use super::cases::shows;
+use super::changes::{Changed, Planned};
+use super::statements::Doing::{Delete, SetFirst, SetSecond};
+use super::triggers::Question::Fires;
+use super::triggers::{Action, Run};
+use super::waves::Asked::Columns;
+use super::waves::Waves::These;
 use iv_syntax::{ActionTime, Granularity, TriggerEvent};
 
 static LEVEL: [Case; 1] = [OfWaves(

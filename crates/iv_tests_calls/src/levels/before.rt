@@ -1,10 +1,10 @@
 //! BEFORE triggers of a statement, and of the rows of a wave.
-use crate::cases::Case::{self, OfTrigger};
-use crate::cases::shows;
-use crate::changes::{Changed, NULL, Planned};
-use crate::statements::Doing::{Delete, SetFirst, SetSecond};
-use crate::triggers::Question::{Rows, Statement};
-use crate::triggers::{Action, Run};
+use super::cases::Case::{self, OfTrigger};
+use super::cases::shows;
+use super::changes::{Changed, NULL, Planned};
+use super::statements::Doing::{Delete, SetFirst, SetSecond};
+use super::triggers::Question::{Rows, Statement};
+use super::triggers::{Action, Run};
 use iv_syntax::{ActionTime, Granularity, TriggerEvent};
 
 // ---- of a statement

@@ -1,9 +1,9 @@
 //! The net changes of waves, and those of each table and event.
-use crate::cases::Case::{self, OfWaves};
-use crate::cases::shows;
-use crate::changes::{Changed, NULL, Planned};
-use crate::waves::Asked::{CountOf, Net, NetOf};
-use crate::waves::Waves::{self, Insertions, These};
+use super::cases::Case::{self, OfWaves};
+use super::cases::shows;
+use super::changes::{Changed, NULL, Planned};
+use super::waves::Asked::{CountOf, Net, NetOf};
+use super::waves::Waves::{self, Insertions, These};
 use iv_syntax::TriggerEvent;
 
 // Row 1 is updated twice and row 2 once; row 3 is updated and deleted; row 7 is inserted and deleted; row 8 is

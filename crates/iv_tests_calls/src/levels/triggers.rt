@@ -1,14 +1,16 @@
 //! A trigger on table 0, and what is asked of it.
-ghost use Rattle.std.specs.Prelude.{◌≡◌, [], length};
+ghost use Rattle.std.specs.Prelude.{◌≡◌, length};
 ghost use Rattle.iv_catalogue.specs.Catalogues.{empty_schema};
 
-use crate::changes::{Planned, wave};
-use crate::schema::{name, table};
-use crate::shown::{show, show_changes, show_number, show_refusal};
-use crate::statements::{Doing, statement};
+use super::changes::{Planned, wave};
+use super::schema::{name, table};
+use super::shown::{show_changes, show_refusal};
+use super::statements::{Doing, statement};
+use crate::expressions::NoTables;
+use crate::shown::{show, show_number};
 use iv_account::Account;
 use iv_catalogue::{BodyStatement, Catalogue, Constraints, Refusal, Setting, Trigger, TriggerId};
-use iv_expr::{Cond, Expr, Rows, Side, TableId};
+use iv_expr::{Cond, Expr, Side, TableId};
 use iv_modes::Modes;
 use iv_syntax::{ActionTime, Granularity, TriggerEvent};
 use iv_transitions::{Fires, firings, transitions_of};
@@ -101,20 +103,6 @@ fn create(rt: &impl Abort, alloc: Global, catalogue: &mut Catalogue, run: &Run)
 }
 
 // ---- before a statement and its waves
-
-// No tables at all: no condition of these triggers looks at one.
-#[derive(Drop)]
-struct NoTables {}
-
-impl Rows for NoTables {
-    ghost rows = { λ s. [] };
-
-    fn known(&self) {}
-
-    fn scan(&self, _table: TableId, _after: u64) -> Option<(u64, &[Value])> {
-        None
-    }
-}
 
 // Whether nothing is refused: why it is refused is shown.
 fn is_allowed(rt: &impl Abort, answer: Result<(), Refusal>, shown: &mut String) -> bool {

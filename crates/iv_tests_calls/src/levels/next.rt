@@ -1,9 +1,9 @@
 //! The wave that follows by referential actions, over both stores.
-use crate::cases::Case::{self, InIndex, InPlain};
-use crate::cases::shows;
-use crate::changes::{Changed, NULL, Planned};
-use crate::statements::Doing::Insert;
-use crate::steps::Step::{self, Follow, Run};
+use super::cases::Case::{self, InIndex, InPlain};
+use super::cases::shows;
+use super::changes::{Changed, NULL, Planned};
+use super::statements::Doing::Insert;
+use super::steps::Step::{self, Follow, Run};
 
 // Rows 1 and 2 swapped the keys 1 and 2; rows 3 and 4 refer to what they were.
 const SWAPPED: Step = Run(Insert(&[(2, Some(3)), (1, Some(4)), (3, Some(1)), (4, Some(2))]));

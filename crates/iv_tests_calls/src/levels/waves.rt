@@ -1,7 +1,8 @@
 //! What is asked of the waves of a data statement.
-use crate::changes::{Changed, Planned, add, wave};
-use crate::shown::{show_changes, show_columns, show_number};
-use crate::statements::{Doing, statement};
+use super::changes::{Changed, Planned, add, wave};
+use super::shown::{show_changes, show_columns};
+use super::statements::{Doing, statement};
+use crate::shown::show_number;
 use iv_expr::{TableId, Wave};
 use iv_syntax::TriggerEvent;
 use iv_transitions::{level_columns, transitions, transitions_of};

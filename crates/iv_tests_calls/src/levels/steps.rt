@@ -1,14 +1,13 @@
 //! Steps in a store of one table, and what each tells.
 ghost use Rattle.std.specs.Prelude.{◌≡◌, true};
 ghost use Rattle.iv_laws_rows.specs.Changing.{StoreFits};
-ghost use Rattle.iv_tests_levels.specs.Pairs.{HasPairs};
+ghost use Rattle.iv_tests_calls.specs.Pairs.{HasPairs};
 
-use crate::changes::{Planned, wave};
-use crate::schema::create;
-use crate::shown::{
-    show, show_changes, show_columns, show_entries, show_number, show_refusal, show_values,
-};
-use crate::statements::{Doing, statement};
+use super::changes::{Planned, wave};
+use super::schema::create;
+use super::shown::{show_changes, show_columns, show_entries, show_refusal, show_values};
+use super::statements::{Doing, statement};
+use crate::shown::{show, show_number};
 use iv_account::Account;
 use iv_actions::next_wave;
 use iv_catalogue::{Catalogue, Outputs, QueryPlan};
