@@ -36,6 +36,8 @@ import rooms
 FUNCTION = re.compile(r"^( *)(?:pub(?:\([a-z]+\))? )?(?:const )?(?:extern \"C\" )?fn (\w+)", re.M)
 # A public function that has clauses: the layout has its braces on lines of their own.
 CONTRACTED = re.compile(r"^( *)pub (?:const )?fn (\w+)[^\n]*\n(?:\1[ )][^\n]*\n)*\1\{\n(?:\1 [^\n]*\n|\n)*\1\}\n", re.M)
+# An `impl` of a type, and of no trait, in which nothing is left.
+EMPTY = re.compile(r"^impl\b(?:(?! for )[^{])*\{\n\s*\}\n", re.M)
 # The body of a function that has clauses.
 BODY = re.compile(r"^( *)\{\n.*?^\1\}\n", re.M | re.S)
 # A function outside of every `impl` that no other crate can call, and how a function is to be proved.
@@ -156,7 +158,7 @@ def seen_from_above(source, called=None):
     """What a crate above sees of a file of code: no private functions and fields, tactics, drops without a clause, and bodies of functions
     that have clauses, and no imports for these; and, where it is said which public functions that have clauses it calls, no others of them."""
     if called is not None:
-        source = CONTRACTED.sub(lambda function: function[0] if function[2] in called else "", source)
+        source = EMPTY.sub("", CONTRACTED.sub(lambda function: function[0] if function[2] in called else "", source))
     seen = BODY.sub("", PRIVATE.sub("", TACTIC.sub("", source)))
     return with_used_imports(FIELDS.sub(with_public_fields, DROPPED.sub("", seen)))
 
