@@ -71,7 +71,8 @@ impl<'a> Key<'a> {
         copied(alloc, self.columns, self.row)
     }
 
-    /// Its hash of 64 bits: SipHash with a fixed key, the same in every run.
+    /// Its hash of 64 bits, the same in every run. A key of one integer is its own hash; in others a last integer is
+    /// added to the lowest 24 bits of a hash by SipHash with a fixed key.
     pub fn hash(&self) -> u64
         ensures { result ≡ hash_of self.now }
     {

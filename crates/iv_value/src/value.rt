@@ -6,9 +6,10 @@ ghost use Rattle.iv_value.specs.declared.value.Value.TheVariants as variant;
 use crate::shared_text::Text;
 use std::alloc::{AllocError, Global};
 
-/// A value of a row.
-#[derive(Drop)]
+/// A value of a row; null unless it is said otherwise.
+#[derive(Default, Drop)]
 pub enum Value {
+    #[default]
     Null,
     Int(i64),
     Text(Text),
