@@ -1,7 +1,7 @@
 #!/usr/bin/env python3
 """Tries the edits of tests/edits/CRATE/*.edit, many in one check: the prover has to refuse each function that is edited.
 
-  tests/edits.py [CRATE..] [--all] [--jobs N] [--keep FOLDER]
+  tests/edits.py [CRATE..] [--all] [--jobs N] [--keep FOLDER] [--minutes N]
 
 An edit has a line `file: src/..`, and pairs of lines `old: TEXT` and `new: TEXT`; each old text occurs once in its file.
 A round has at most one edit of a function, and an edit outside of every function has a round of its own. A function
@@ -16,21 +16,27 @@ neither are private functions and fields, tactics, drops without a clause, the b
 and imports for these, since a proof above sees models and the contracts of public functions alone; nor is a public
 function with a contract that neither the crate, nor its edits, nor what else is in the digest names. Where it is still
 the same the edits aren't tried again, except with --all; where they are tried and all are refused it is written anew. A
-crate that is tried is proved first where its kept work is missing or old."""
+crate that is tried is proved first where its kept work is missing or old.
+
+With --minutes the edits are tried over the libraries that `rt ci` left, those of the crates that changed last first, and for so
+many minutes by the clock at most. What wasn't tried then is counted as skipped, and the last line is `N passed, N failed, N skipped`."""
 import argparse
 import functools
 import hashlib
 import os
 import re
 import shutil
+import subprocess
 import sys
 import tempfile
+import time
 from concurrent.futures import ThreadPoolExecutor, as_completed
 
 HERE = os.path.dirname(os.path.abspath(__file__))
 ROOT = os.path.dirname(HERE)
 sys.path.insert(0, os.path.join(ROOT, "tools"))
-import crates as repository
+import libraries
+import repository
 import rooms
 
 FUNCTION = re.compile(r"^( *)(?:pub(?:\([a-z]+\))? )?(?:const )?(?:extern \"C\" )?fn (\w+)", re.M)
@@ -327,12 +333,15 @@ def refused(crate, edit, output):
     return line.search(output) is not None
 
 
-def tried(crate, copy, edits):
-    """The edits of a round that were not refused, what the check said, and the processor seconds that it took."""
+def tried(crate, copy, edits, words=("rt", "check", "--jobs", "1"), until=None):
+    """The edits of a round that were not refused, what the check said, and the processor seconds that it took; nothing where it was
+    stopped at that time."""
     files = make(crate, copy, edits)
-    status, output, used = rooms.timed(["rt", "check", "--jobs", "1"], copy)
+    status, output, used = rooms.timed(words, copy, until)
     for file in files:
         shutil.copy2(os.path.join(ROOT, "crates", crate, file), os.path.join(copy, file))
+    if until is not None and time.monotonic() >= until:
+        return None
     if status != 1 or "logic=not-proved" not in output:
         return edits, output, used
     return [edit for edit in edits if not refused(crate, edit, output)], output, used
@@ -345,11 +354,31 @@ def tried_apart(crate, edits, room):
     return said
 
 
+def tried_in_turn(crate, rounds, room, until):
+    """What each round of a crate came to over the libraries that `rt ci` left, as far as it was tried until that time. The first check
+    proves the crate but for the edits; the others go on from it."""
+    said, rlibs = {}, libraries.left_by_gate(crate)
+    if rlibs is None:
+        return said
+    copy = os.path.join(room, crate)
+    shutil.copytree(os.path.join(ROOT, "crates", crate), copy, ignore=shutil.ignore_patterns("out"))
+    os.makedirs(os.path.join(copy, "out", "incremental"))
+    words = [*libraries.words("check", crate, rlibs), "--jobs", "1"]
+    for number, edits in enumerate(rounds):
+        one = tried(crate, copy, edits, words, until) if time.monotonic() < until else None
+        if one is None:
+            break
+        said[number] = one
+    shutil.rmtree(copy)
+    return said
+
+
 def report(crate, rounds, said, keep):
-    """Prints what the rounds of a crate came to, and gives the number of edits that were refused and of those that were not."""
+    """Prints what the rounds of a crate came to, as far as they were tried, and gives the number of edits that were refused and of those
+    that were not."""
     passed = failed = 0
-    for number, one in enumerate(rounds):
-        kept, output, used = said[number]
+    for number, (kept, output, used) in sorted(said.items()):
+        one = rounds[number]
         passed, failed = passed + len(one) - len(kept), failed + len(kept)
         print(f"{crate}: {len(one) - len(kept)} of {len(one)} refused in one check, {used / 60:.1f} processor minutes", flush=True)
         for edit in kept:
@@ -359,6 +388,17 @@ def report(crate, rounds, said, keep):
         elif kept:
             print("\n".join(output.splitlines()[:20]))
     return passed, failed
+
+
+def changed_last():
+    """The crates whose files, or whose edits, changed since digests were written; none where git can't tell."""
+    def told(*words):
+        done = subprocess.run(["git", "-C", ROOT, *words], stdout=subprocess.PIPE, stderr=subprocess.DEVNULL, text=True, check=False)
+        return done.stdout.split() if done.returncode == 0 else []
+
+    written = told("log", "-1", "--format=%H", "--", "tests/edits/DIGESTS")
+    paths = told("diff", "--name-only", written[0], "--", "crates", "tests/edits") if written else []
+    return {path.removeprefix("tests/edits/").removeprefix("crates/").split("/")[0] for path in paths}
 
 
 def stale(crates, known):
@@ -374,22 +414,13 @@ def stale(crates, known):
     return rounds, refused_before
 
 
-def main():
-    parser = argparse.ArgumentParser()
-    parser.add_argument("crates", nargs="*")
-    parser.add_argument("--all", action="store_true")
-    parser.add_argument("--jobs", type=int, default=os.cpu_count() or 1)
-    parser.add_argument("--keep")
-    words = parser.parse_args()
-    folder = os.path.join(HERE, "edits")
-    crates = words.crates or sorted(name for name in os.listdir(folder) if os.path.isdir(os.path.join(folder, name)))
-    known = {} if words.all else digests()
-    rounds, passed = stale(crates, known)
-    failed = 0
-    if not repository.prove(repository.below(rounds, repository.crates()), repository.crates(), words.jobs):
-        print(f"{passed} passed, {failed + 1} failed")
-        return 1
-    with tempfile.TemporaryDirectory(prefix="edits-", dir=rooms.place()) as room, ThreadPoolExecutor(words.jobs) as pool:
+def try_all(rounds, jobs, keep):
+    """Tries all rounds, each in a room of its own over the work that a check kept; the number of edits that were refused and of those
+    that were not."""
+    passed = failed = 0
+    if not rooms.prove(repository.below(rounds, repository.crates()), repository.crates(), jobs):
+        return 0, 1
+    with tempfile.TemporaryDirectory(prefix="edits-", dir=rooms.place()) as room, ThreadPoolExecutor(jobs) as pool:
         longest_first = sorted(rounds, key=lambda crate: -sum(map(len, rounds[crate])))
         begun = {pool.submit(tried_apart, crate, one, os.path.join(room, f"{crate}-{number}")): (crate, number) for crate in longest_first for number, one in enumerate(rounds[crate])}
         said = {crate: {} for crate in rounds}
@@ -397,11 +428,50 @@ def main():
             crate, number = begun[done]
             said[crate][number] = done.result()
             if len(said[crate]) == len(rounds[crate]):
-                refused_now, kept_now = report(crate, rounds[crate], said[crate], words.keep)
+                refused_now, kept_now = report(crate, rounds[crate], said[crate], keep)
                 passed, failed = passed + refused_now, failed + kept_now
                 if not kept_now:
                     remember([crate])
-    print(f"{passed} passed, {failed} failed")
+    return passed, failed
+
+
+def try_some(rounds, jobs, keep, minutes):
+    """Tries what can be tried in so many minutes; the number of edits that were refused, of those that were not, and of those that
+    weren't tried."""
+    passed = failed = 0
+    until, last = time.monotonic() + 60 * minutes, changed_last()
+    order = list(repository.crates())
+    first = sorted(rounds, key=lambda crate: (crate not in last, order.index(crate)))
+    with tempfile.TemporaryDirectory(prefix="edits-", dir=rooms.place()) as room, ThreadPoolExecutor(jobs) as pool:
+        begun = {pool.submit(tried_in_turn, crate, rounds[crate], room, until): crate for crate in first}
+        for done in as_completed(begun):
+            crate = begun[done]
+            refused_now, kept_now = report(crate, rounds[crate], done.result(), keep)
+            passed, failed = passed + refused_now, failed + kept_now
+    skipped = sum(len(one) for each in rounds.values() for one in each) - passed - failed
+    return passed, failed, skipped
+
+
+def main():
+    parser = argparse.ArgumentParser()
+    parser.add_argument("crates", nargs="*")
+    parser.add_argument("--all", action="store_true")
+    parser.add_argument("--jobs", type=int, default=os.cpu_count() or 1)
+    parser.add_argument("--keep")
+    parser.add_argument("--minutes", type=float)
+    words = parser.parse_args()
+    folder = os.path.join(HERE, "edits")
+    crates = words.crates or sorted(name for name in os.listdir(folder) if os.path.isdir(os.path.join(folder, name)))
+    known = {} if words.all else digests()
+    rounds, passed = stale(crates, known)
+    failed = skipped = 0
+    if rounds and words.minutes is not None and not words.all:
+        refused_now, failed, skipped = try_some(rounds, words.jobs, words.keep, words.minutes)
+    elif rounds:
+        refused_now, failed = try_all(rounds, words.jobs, words.keep)
+    else:
+        refused_now = 0
+    print(f"{passed + refused_now} passed, {failed} failed" + (f", {skipped} skipped" if skipped else ""))
     return int(failed > 0)
 
 

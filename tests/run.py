@@ -92,10 +92,15 @@ def scripts(program):
 
 
 def options(program):
-    """The text of --help, which names every option, and nothing else."""
+    """The text of --help, which names every option, and the line of --version, and nothing else."""
     out, status, err = run(program, b'SELECT * FROM t;', ['--help'])
-    good = status == 0 and err == b'' and all(word in out for word in (b'--depth', b'--changes', b'--explain', b'FILE'))
+    words = (b'--depth', b'--changes', b'--explain', b'--version', b'FILE', b'Limits:', b'Examples:')
+    good = status == 0 and err == b'' and out.endswith(b'\n') and all(word in out for word in words)
     yield 'options: --help', [] if good else ['status %d, got %r, standard error %r' % (status, out[:200], err[:200])]
+    for word in ('--version', '-V'):
+        out, status, err = run(program, b'SELECT * FROM t;', [word])
+        good = status == 0 and err == b'' and re.fullmatch(rb'sqlkeep %s \([^\n]*\)\n' % re.escape(read('../VERSION').strip()), out)
+        yield 'options: ' + word, [] if good else ['status %d, got %r, standard error %r' % (status, out[:200], err[:200])]
 
 
 def pages(program):
@@ -113,7 +118,7 @@ def statements(program):
             continue
         kind, text = line.split(b' | ', 1)
         out, status, err = run(program, text + b';')
-        at = int(kind.lstrip(b'readfult ') or 0)
+        at = int(kind.split()[1]) if kind.startswith(b'fault ') else 0
         fault = rb'^%s fault %d\n(end rolled back\n)?\Z' % (rb'\d+' if at > 0 else rb'\A1', at)
         good = READ.fullmatch(out) if kind == b'read' else re.search(fault, out, re.M)
         good = good and status == status_of(out) and err == b''

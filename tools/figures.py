@@ -16,7 +16,7 @@ import shutil
 import sys
 import tempfile
 
-import crates as repository
+import repository
 import rooms
 
 ROOT = repository.ROOT

@@ -14,7 +14,7 @@ import subprocess
 import sys
 import time
 
-import crates as repository
+import repository
 
 TICKS = os.sysconf("SC_CLK_TCK")
 STEPS = ["proof", "tests", "edits"]

@@ -5,17 +5,21 @@ is a folder with a copy of a crate and of those below it. The work kept for thos
 the crate itself moves into the room, and back when the check has ended. The libraries of the crates below that the
 check had to build go to the checkout too, so that each is built once. A crate that was proved here is proved again only
 where its sources, those of a crate below it or the kit have changed."""
+import contextlib
+import fcntl
 import functools
 import hashlib
 import os
 import shutil
+import signal
 import subprocess
 import tempfile
 import threading
 import time
 from concurrent.futures import FIRST_COMPLETED, ThreadPoolExecutor, wait
 
-ROOT = os.path.dirname(os.path.dirname(os.path.realpath(__file__)))
+import progress
+from repository import ROOT, below, folder
 
 # What a check makes anew for its own crate alone, so that rooms share that of the crates below: compiled modules, and
 # the files of libraries.
@@ -31,10 +35,6 @@ def place():
     """The folder that rooms are made in: on the file system of the checkout, and no part of it."""
     os.makedirs(os.path.join(ROOT, "out"), exist_ok=True)
     return os.path.join(ROOT, "out")
-
-
-def folder(crate):
-    return os.path.join(ROOT, "crates", crate)
 
 
 def copy_or_link(source, target):
@@ -124,11 +124,23 @@ def weights(wanted, named):
     return {crate: weight(crate) for crate in wanted}
 
 
-def timed(words, place):
-    """Runs a command, and gives its status, its output, and the processor seconds of all its processes."""
+def stop(child):
+    """Ends a command and all processes that it started."""
+    with contextlib.suppress(ProcessLookupError):
+        os.killpg(child.pid, signal.SIGKILL)
+
+
+def timed(words, place, until=None):
+    """Runs a command, and gives its status, its output, and the processor seconds of all its processes. Where it hasn't ended at a
+    time of the monotonic clock it is stopped."""
     with tempfile.TemporaryFile() as output:
-        child = subprocess.Popen(words, cwd=place, stdin=subprocess.DEVNULL, stdout=output, stderr=subprocess.STDOUT)
+        child = subprocess.Popen(words, cwd=place, stdin=subprocess.DEVNULL, stdout=output, stderr=subprocess.STDOUT, start_new_session=until is not None)
+        stopper = threading.Timer(max(0.0, until - time.monotonic()), stop, [child]) if until is not None else None
+        if stopper:
+            stopper.start()
         _, status, used = os.wait4(child.pid, 0)
+        if stopper:
+            stopper.cancel()
         child.returncode = os.waitstatus_to_exitcode(status)
         output.seek(0)
         return child.returncode, output.read().decode("utf-8", "replace"), used.ru_utime + used.ru_stime
@@ -152,15 +164,46 @@ def check(room, crate, names, jobs):
     return status, output, time.monotonic() - began, used
 
 
-def prove(wanted, named, below, jobs, say):
+def abandoned():
+    """Takes away the rooms of a run that was killed: those that no run holds."""
+    for name in os.listdir(place()):
+        path = os.path.join(place(), name)
+        if name.startswith("rooms-"):
+            # A folder that has no lock is being made.
+            with contextlib.suppress(FileNotFoundError, BlockingIOError), open(os.path.join(path, "lock"), encoding="utf-8") as file:
+                fcntl.flock(file, fcntl.LOCK_EX | fcntl.LOCK_NB)
+                shutil.rmtree(path, ignore_errors=True)
+
+
+@contextlib.contextmanager
+def held():
+    """A folder for rooms that is taken away at the end."""
+    abandoned()
+    with tempfile.TemporaryDirectory(prefix="rooms-", dir=place()) as folder, open(os.path.join(folder, "lock"), "w", encoding="utf-8") as file:
+        fcntl.flock(file, fcntl.LOCK_EX)
+        yield folder
+
+
+def note_ended(crate, ended, its_mark, shown):
+    """Notes how a crate's check ended; whether it is proved."""
+    status, output, seconds, used = ended.result()
+    if status != 0:
+        shown.say(output)
+        shown.say(f"{crate}: not proved")
+        return False
+    with open(os.path.join(folder(crate), PROVED), "w", encoding="utf-8") as file:
+        file.write(its_mark)
+    shown.ended(crate, seconds, used)
+    return True
+
+
+def prove(wanted, named, jobs):
     """Proves the crates, so many at a time, each after those below it and the heaviest chain first; whether all are proved."""
     heavy, marks = weights(wanted, named), {crate: mark(below([crate], named), named) for crate in wanted}
     done, running = {crate for crate in wanted if was_proved(crate, marks[crate])}, {}
-    left = set(wanted) - done
-    if done:
-        say(f"{len(done)} of {len(wanted)} crates are proved over these sources already")
-    proved = True
-    with tempfile.TemporaryDirectory(prefix="rooms-", dir=place()) as rooms, ThreadPoolExecutor(jobs) as pool:
+    left, proved, shown = set(wanted) - done, True, progress.Progress(wanted, named, jobs)
+    shown.proved_before(done)
+    with held() as rooms, ThreadPoolExecutor(jobs) as pool:
         while left or running:
             ready = [crate for crate in left if set(named[crate]) & set(wanted) <= done] if proved else []
             ready.sort(key=lambda crate: -heavy[crate])
@@ -168,19 +211,16 @@ def prove(wanted, named, below, jobs, say):
             each = max(2, jobs // max(1, len(ready) + len(running)))
             for crate in ready[: jobs - len(running)]:
                 left.discard(crate)
+                shown.begun(crate)
                 running[pool.submit(check, os.path.join(rooms, crate), crate, below([crate], named), each)] = crate
             if not running:
                 break
-            for ended in wait(running, return_when=FIRST_COMPLETED).done:
+            shown.show()
+            for ended in wait(running, timeout=1, return_when=FIRST_COMPLETED).done:
                 crate = running.pop(ended)
-                status, output, seconds, used = ended.result()
-                if status == 0:
+                if note_ended(crate, ended, marks[crate], shown):
                     done.add(crate)
-                    with open(os.path.join(folder(crate), PROVED), "w", encoding="utf-8") as file:
-                        file.write(marks[crate])
-                    say(f"{crate}: proved, {seconds:.0f} s, {used / 60:.1f} processor minutes; {len(left) + len(running)} to go")
                 else:
                     proved = False
-                    say(output)
-                    say(f"{crate}: not proved")
+    shown.clear()
     return proved and not left

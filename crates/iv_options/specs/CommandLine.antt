@@ -1,5 +1,5 @@
 -- The command line of `sqlkeep` as clap's definitions read it, and what its matches mean.
-use Rattle.std.specs.Prelude.{ℕ, Bool, false, List, Option, Some, None, codes, pos}
+use Rattle.std.specs.Prelude.{ℕ, Bool, true, false, List, Option, Some, None, codes, pos}
 use Rattle.std.specs.Option.{option_map_or}
 use Rattle.std.specs.Str.{bytes_eq}
 use Rattle.std.specs.Str.Parse.{digits_value, without_leading_plus}
@@ -38,10 +38,14 @@ explain_rule = record (new_rule (codes "explain")) {
 abbrev pub file_rule : Rule
 file_rule = record (new_rule (codes "file")) { value_names = 1 }
 
+-- a command that has a version, so that it takes --version
+abbrev pub with_version : App → App
+with_version app = record app { top = record app.top { has_version = true } }
+
 -- sqlkeep [--depth N] [--changes N] [--explain] [FILE]
 abbrev pub command_line : App
 command_line =
-    with_rule (with_rule (with_rule (with_rule (new_app (codes "sqlkeep")) depth_rule) changes_rule) explain_rule) file_rule
+    with_rule (with_rule (with_rule (with_rule (with_version (new_app (codes "sqlkeep"))) depth_rule) changes_rule) explain_rule) file_rule
 
 -- the number that a text's digits write, or another one where there is no text
 abbrev pub number_or : ℕ → Option Text → ℕ

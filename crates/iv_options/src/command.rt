@@ -1,8 +1,9 @@
 //! The command that `clap` reads words for.
-ghost use Rattle.std.specs.Prelude.{◌≡◌, false, IfOk};
-ghost use Rattle.clap.specs.Words.{app_of, rule_of};
-ghost use Rattle.iv_options.specs.CommandLine.{changes_rule, command_line, depth_rule, explain_rule, file_rule};
+ghost use Rattle.std.specs.Prelude.{◌≡◌, codes, false, IfOk};
+ghost use Rattle.clap.specs.Words.{app_of, new_app, rule_of};
+ghost use Rattle.iv_options.specs.CommandLine.{changes_rule, command_line, depth_rule, explain_rule, file_rule, with_version};
 
+use crate::version::version;
 use clap::{Arg, ArgAction, Command, value_parser};
 use iv_machine::{
     FEWEST_CHANGES_IN_A_STATEMENT, GREATEST_DEPTH, LEAST_DEPTH, MOST_CHANGES_IN_A_STATEMENT,
@@ -19,6 +20,7 @@ fn depth<'a>(alloc: Global) -> Arg<'a>
     Arg::new(alloc, "depth")
         .long("depth")
         .value_name("N")
+        .help_heading("Limits")
         .value_parser(value_parser!(u8).range(LEAST_DEPTH as i64..=GREATEST_DEPTH as i64))
         .help("How deep triggers may nest, 16 if not given")
 }
@@ -31,6 +33,7 @@ fn changes<'a>(alloc: Global) -> Arg<'a>
     Arg::new(alloc, "changes")
         .long("changes")
         .value_name("N")
+        .help_heading("Limits")
         .value_parser(value_parser!(u32).range(range))
         .help("How many row changes one statement may make, 65536 if not given")
 }
@@ -42,6 +45,7 @@ fn explain<'a>(alloc: Global) -> Arg<'a>
     Arg::new(alloc, "explain")
         .long("explain")
         .action(ArgAction::SetTrue)
+        .help_heading("Transcript")
         .help("Writes after each statement's line what happened in it")
 }
 
@@ -54,12 +58,29 @@ fn file<'a>(alloc: Global) -> Arg<'a>
         .help("The script, standard input if not given")
 }
 
-/// `sqlkeep [--depth N] [--changes N] [--explain] [FILE]`.
-pub fn command<'a>(alloc: Global) -> Result<Command<'a>, AllocError>
-    ensures { IfOk result (λ c. app_of c ≡ command_line) }
+const EXAMPLES: &str = "Examples:
+  sqlkeep --explain authors.sql          what each statement did, and why one is refused
+  echo 'CREATE TABLE t (a INT CHECK (a > 0)); INSERT INTO t VALUES (0);' | sqlkeep
+
+The status is 0 if every statement was accepted, 1 if one was refused or the script has a fault,
+and 2 if the script was not run to its end.
+";
+
+// The command with its texts and no options.
+fn described<'a>(alloc: Global) -> Command<'a>
+    ensures { app_of result ≡ with_version (new_app (codes "sqlkeep")) }
 {
     Command::new(alloc, "sqlkeep")
         .about("Runs a script of SQL statements in a new database and writes its transcript")
+        .version(version())
+        .after_help(EXAMPLES)
+}
+
+/// `sqlkeep [--depth N] [--changes N] [--explain] [FILE]`, with `--help` and `--version`.
+pub fn command<'a>(alloc: Global) -> Result<Command<'a>, AllocError>
+    ensures { IfOk result (λ c. app_of c ≡ command_line) }
+{
+    described(alloc)
         .arg(depth(alloc))?
         .arg(changes(alloc))?
         .arg(explain(alloc))?

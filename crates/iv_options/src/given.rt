@@ -20,6 +20,8 @@ pub enum WordsError {
     NoMemory,
     /// They ask for the help, which is this text.
     Help(String),
+    /// They ask for the version, which this line tells.
+    Version(String),
     /// They are refused: the text that says why.
     Refused(String),
 }

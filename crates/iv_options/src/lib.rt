@@ -4,6 +4,7 @@
 mod command;
 mod given;
 mod reading;
+mod version;
 
 pub use command::USUAL_DEPTH;
 pub use given::{Options, WordsError};

@@ -96,10 +96,12 @@ fn words_error(alloc: Global, error: &Error) -> Result<WordsError, AllocError>
     }
     let text = format!(in alloc; "{error}")?;
     if kind == ErrorKind::DisplayHelp {
-        Ok(WordsError::Help(text))
-    } else {
-        Ok(WordsError::Refused(text))
+        return Ok(WordsError::Help(text));
     }
+    if kind == ErrorKind::DisplayVersion {
+        return Ok(WordsError::Version(text));
+    }
+    Ok(WordsError::Refused(text))
 }
 
 /// Reads the words of a command line, of which the first is the program's name.

@@ -13,14 +13,14 @@ use std::fs::{File, Files};
 use std::io;
 use std::io::Input;
 
-// Writes the help to `writer`, and why words are refused to `faults`. A line that can't be written there changes no
+// Writes the help or the version to `writer`, and why words are refused to `faults`. A line that can't be written there changes no
 // status.
 fn refuse_words<W: Sink, E: Sink>(error: WordsError, writer: &mut W, faults: &mut E) -> u8
     ensures { result ≤ 2 }
 {
     match error {
         WordsError::NoMemory => status(faults, Err(RunFault::NoMemory)),
-        WordsError::Help(text) => match write_all(writer, text.as_bytes()) {
+        WordsError::Help(text) | WordsError::Version(text) => match write_all(writer, text.as_bytes()) {
             Ok(()) => 0,
             Err(_) => status(faults, Err(RunFault::Write)),
         },
