@@ -1,16 +1,19 @@
 #!/usr/bin/env python3
 """The built program beside SQLite: processor time and peak memory over the same work.
 
-  ./bench [--program PATH] [--only WORD].. [--runs 5] [--save]
+  ./bench [--program PATH] [--library FOLDER] [--only WORD].. [--runs 5] [--save]
+  ./bench --compare COMMIT [--instructions] [--only WORD].. [--runs 5]
 
-Each kind of work is a script for each engine, at most 1 MB long, and again of about half the work. The engines take turns, and
-what is told is the median of the runs: processor seconds of the user and of the kernel, from start to end of the process, and
-the ratio to SQLite's (`:memory:`). The last SELECT has to give both the same number. Where SQLite has another way for the same
-work, it is named. With --save the table goes into docs/speed/README.md, with the machine, the versions and the date."""
+Each kind of work (made/work.py) is a script for each engine, and again of about half the work. The engines take turns, and what is told is
+the median of the runs: processor seconds of the user and of the kernel, from start to end of the process, and the ratio to SQLite's
+(`:memory:`). The last SELECT has to give both the same number. A script of more than 1 MB is run through the library, in one session. With
+--save the table goes into docs/speed/README.md, with the machine, the versions and the date.
+
+With --compare the programs of a commit and of HEAD are compiled without proof, optimised, and compared; with --instructions their
+instructions are counted by callgrind too, which a busy machine doesn't change."""
 import argparse
 import ctypes
 import datetime
-import itertools
 import os
 import platform
 import re
@@ -20,200 +23,12 @@ import subprocess
 import sys
 import tempfile
 
+from made.work import KINDS, LONGEST, OTHERWISE, Ours, SQLite
+
 ROOT = os.path.dirname(os.path.dirname(os.path.realpath(__file__)))
-LONGEST = 1_048_576
+PROGRAMS = [os.path.join(ROOT, 'out/sqlkeep'), os.path.join(ROOT, 'crates/sqlkeep/out/sqlkeep'), os.path.join(ROOT, 'dist/sqlkeep')]
 # Python's module runs a script as the command does; the interpreter's own start is part of its time.
 BY_MODULE = 'import sqlite3, sys\nbase = sqlite3.connect(":memory:", isolation_level=None)\nfor part in sys.stdin.read().split(";\\n"):\n    for row in base.execute(part):\n        print(*row)\n'
-
-
-# Work. A script is a list of statements. `one` is the word for the whole work, and `half` for half of it.
-
-
-class Ours:
-    """How the work is written for this engine: a data statement begins a transaction by itself."""
-
-    name = 'ours'
-    first = []
-
-    def transaction(self, statements, end='COMMIT'):
-        return [*statements, end]
-
-    def opened(self, statements, end='COMMIT'):
-        """A transaction that begins by a statement of its own, as savepoints ask for."""
-        return ['START TRANSACTION', *statements, end]
-
-    def shift(self, table, column):
-        return ['UPDATE %s SET %s = %s + 1' % (table, column, column)]
-
-    def log(self, table, columns):
-        """A trigger that logs these columns of a new row."""
-        values = ', '.join('n.' + column for column in columns)
-        return 'CREATE TRIGGER r AFTER INSERT ON %s REFERENCING NEW AS n FOR EACH ROW INSERT INTO log VALUES (%s)' % (table, values)
-
-    def set_before(self, table, column, key, value):
-        return 'CREATE TRIGGER r BEFORE UPDATE ON %s REFERENCING NEW AS n FOR EACH ROW SET n.%s = %s' % (table, column, value.replace('new.', 'n.'))
-
-
-class SQLite:
-    """How it is written for SQLite."""
-
-    name = 'SQLite'
-    first = ['PRAGMA foreign_keys = ON']
-
-    def transaction(self, statements, end='COMMIT'):
-        return ['BEGIN', *statements, end]
-
-    opened = transaction
-
-    def shift(self, table, column):
-        """SQLite checks a UNIQUE row by row, so the keys go out of the way and come back."""
-        return ['UPDATE %s SET %s = -%s' % (table, column, column), 'UPDATE %s SET %s = 1 - %s' % (table, column, column)]
-
-    def log(self, table, columns):
-        values = ', '.join('NEW.' + column for column in columns)
-        return 'CREATE TRIGGER r AFTER INSERT ON %s FOR EACH ROW BEGIN INSERT INTO log VALUES (%s); END' % (table, values)
-
-    def set_before(self, table, column, key, value):
-        """SQLite can't set a column of the new row, so the row is changed once more after the change."""
-        return 'CREATE TRIGGER r AFTER UPDATE OF %s ON %s FOR EACH ROW BEGIN UPDATE %s SET %s = %s WHERE %s = NEW.%s; END' % ('l', table, table, column, value.replace('new.', 'NEW.'), key, key)
-
-
-def doubling(rows):
-    """The numbers of rows before each doubling of one row up to so many."""
-    return itertools.takewhile(lambda count: count < rows, (2 ** power for power in itertools.count()))
-
-
-def filled(engine, rows, table='t (k INT PRIMARY KEY, l INT)'):
-    """A table of so many rows under a key, k from 1 on."""
-    name = table.split()[0]
-    fill = ['INSERT INTO %s SELECT k + %d, l + %d FROM %s WHERE k <= %d' % (name, count, count, name, rows - count) for count in doubling(rows)]
-    return ['CREATE TABLE ' + table, *engine.transaction(['INSERT INTO %s VALUES (1, 1)' % name, *fill])]
-
-
-def start_up(engine, part):
-    return ['CREATE TABLE t (k INT)', 'SELECT COUNT(*) FROM t']
-
-
-def inserts(engine, part):
-    rows = 25_000 // part
-    return ['CREATE TABLE t (k INT PRIMARY KEY, l INT)', *engine.transaction(['INSERT INTO t VALUES (%d, %d)' % (n, n % 7) for n in range(1, rows + 1)]), 'SELECT COUNT(*) FROM t WHERE l = 3']
-
-
-def children_first(engine, part):
-    children, parents = 20_000 // part, 5_000 // part
-    texts = ['INSERT INTO c VALUES (%d, %d)' % (n, n % parents) for n in range(children)] + ['INSERT INTO p VALUES (%d)' % n for n in range(parents)]
-    tables = ['CREATE TABLE p (k INT PRIMARY KEY)', 'CREATE TABLE c (k INT, x INT REFERENCES p (k) DEFERRABLE INITIALLY DEFERRED)']
-    indexes = [] if engine.name == 'ours' else ['CREATE INDEX c_x ON c (x)']
-    return [*tables, *indexes, *engine.transaction(texts), 'SELECT COUNT(*) FROM c WHERE x = 3']
-
-
-def copies(engine, part):
-    rows = 32_768 // part
-    tables = ['CREATE TABLE t%d (k INT PRIMARY KEY, l INT CHECK (l > 0))' % n for n in range(8)]
-    return [*filled(engine, rows), *tables, *engine.transaction(['INSERT INTO t%d SELECT k, l FROM t' % n for n in range(8)]), 'SELECT COUNT(*) FROM t7']
-
-
-def cascade(engine, part):
-    middle = 20_000 // part
-    tables = ['CREATE TABLE p (k INT PRIMARY KEY)', 'CREATE TABLE m (k INT PRIMARY KEY, l INT REFERENCES p (k) ON DELETE CASCADE)', 'CREATE TABLE c (k INT, l INT REFERENCES m (k) ON DELETE CASCADE)']
-    fill = ['INSERT INTO p VALUES (1)', 'INSERT INTO m VALUES (1, 1)', *('INSERT INTO m SELECT k + %d, 1 FROM m WHERE k <= %d' % (count, middle - count) for count in doubling(middle))]
-    indexes = [] if engine.name == 'ours' else ['CREATE INDEX m_l ON m (l)', 'CREATE INDEX c_l ON c (l)']
-    gone = list(itertools.chain.from_iterable(engine.transaction(['DELETE FROM p'], 'ROLLBACK') for _ in range(4)))
-    return [*tables, *indexes, *engine.transaction([*fill, 'INSERT INTO c SELECT k, k FROM m', 'INSERT INTO c SELECT k, k FROM m']), *gone, 'SELECT COUNT(*) FROM c']
-
-
-def shifted(engine, part):
-    shifts = list(itertools.chain.from_iterable(engine.transaction(engine.shift('t', 'k')) for _ in range(20)))
-    return [*filled(engine, 32_768 // part, 't (k INT UNIQUE, l INT)'), *shifts, 'SELECT COUNT(*) FROM t WHERE k > 1000']
-
-
-def logged(engine, part):
-    rows = 16_384 // part
-    return [*filled(engine, rows), 'CREATE TABLE u (k INT, l INT)', 'CREATE TABLE log (k INT, l INT)', engine.log('u', ['k', 'l']), *engine.transaction(['INSERT INTO u SELECT k, l FROM t']), 'SELECT COUNT(*) FROM log']
-
-
-def set_before(engine, part):
-    rows = 16_384 // part
-    changes = list(itertools.chain.from_iterable(engine.transaction(['UPDATE t SET l = l + 1']) for _ in range(10)))
-    return [*three(engine, rows), engine.set_before('t', 'm', 'k', 'new.l + new.k'), *changes, 'SELECT COUNT(*) FROM t WHERE m > 100']
-
-
-def three(engine, rows):
-    """A table of so many rows with a third column."""
-    fill = ['INSERT INTO t SELECT k + %d, l + %d, m FROM t WHERE k <= %d' % (count, count, rows - count) for count in doubling(rows)]
-    return ['CREATE TABLE t (k INT PRIMARY KEY, l INT, m INT)', *engine.transaction(['INSERT INTO t VALUES (1, 1, 0)', *fill])]
-
-
-def undone(engine, part):
-    rows = 32_768 // part
-    work = ['INSERT INTO u SELECT k, l FROM t', 'UPDATE u SET l = l + 1', 'DELETE FROM u']
-    return [*filled(engine, rows), 'CREATE TABLE u (k INT PRIMARY KEY, l INT)', *engine.transaction(work, 'ROLLBACK'), 'SELECT COUNT(*) FROM u']
-
-
-def savepoints(engine, part):
-    times, rows = 2_000 // part, 32_768 // part
-    each = (['SAVEPOINT s%d' % n, 'INSERT INTO t VALUES (%d, 0)' % (rows + n), 'ROLLBACK TO SAVEPOINT s%d' % n] for n in range(1, times + 1))
-    return [*filled(engine, rows), *engine.opened(list(itertools.chain.from_iterable(each))), 'SELECT COUNT(*) FROM t']
-
-
-def inserts_over(rows, engine, part):
-    times, first = 10_000 // part, max(rows // part, 1)
-    each = (engine.transaction(['INSERT INTO t VALUES (%d, 0)' % (first + n)]) for n in range(1, times + 1))
-    return [*filled(engine, first), *itertools.chain.from_iterable(each), 'SELECT COUNT(*) FROM t']
-
-
-def updates_over(rows, engine, part):
-    times = 500 // part
-    each = (engine.transaction(['UPDATE t SET l = l + 1 WHERE k = %d' % (n * 2 + 1)]) for n in range(times))
-    return [*filled(engine, rows // part), *itertools.chain.from_iterable(each), 'SELECT COUNT(*) FROM t WHERE l > k']
-
-
-def updates_without_key(engine, part):
-    times, rows = 200 // part, 32_768 // part
-    each = (engine.transaction(['UPDATE t SET l = l + 1 WHERE l = %d' % (n * 3)]) for n in range(times))
-    return [*filled(engine, rows), *itertools.chain.from_iterable(each), 'SELECT COUNT(*) FROM t WHERE l > k']
-
-
-def correlated(engine, part):
-    rows = 10_000 // part
-    return [*filled(engine, rows, 'p (k INT PRIMARY KEY, l INT)'), *filled(engine, rows, 'c (k INT, l INT)'), 'SELECT COUNT(*) FROM c WHERE EXISTS (SELECT * FROM p WHERE p.k = c.l)']
-
-
-def checked_load(engine, part):
-    tuples = ["(%d, '%s')" % (n, 'x' * 20) for n in range(1, 30_000 // part)]
-    return ["CREATE TABLE t (k INT CHECK (k > 0), v VARCHAR(30) CHECK (v <> 'y'))", *engine.transaction(['INSERT INTO t VALUES ' + ', '.join(tuples)]), 'SELECT COUNT(*) FROM t']
-
-
-KINDS = {
-    'start-up': start_up,
-    '25,000 INSERTs of a row under a key, one COMMIT': inserts,
-    '20,000 children before their 5,000 parents, deferred': children_first,
-    'INSERT .. SELECT to 8 tables of 32,768 rows, a key and a CHECK': copies,
-    'a cascade of 60,000 rows on two levels, rolled back 4 times': cascade,
-    'a UNIQUE shifted by one over 32,768 rows, 20 times': shifted,
-    'an AFTER row trigger that logs 16,384 rows': logged,
-    'a BEFORE row trigger that sets a column of 16,384 rows, 10 times': set_before,
-    'INSERT, UPDATE, DELETE of 32,768 rows, rolled back': undone,
-    '2,000 savepoints over 32,768 rows': savepoints,
-    '10,000 INSERT, COMMIT over 32,768 rows': lambda engine, part: inserts_over(32_768, engine, part),
-    '10,000 INSERT, COMMIT over one row': lambda engine, part: inserts_over(1, engine, part),
-    '500 UPDATE by key, COMMIT over 32,768 rows': lambda engine, part: updates_over(32_768, engine, part),
-    '500 UPDATE by key, COMMIT over 1,024 rows': lambda engine, part: updates_over(1_024, engine, part),
-    '200 UPDATE without a key over 32,768 rows': updates_without_key,
-    'EXISTS by key, correlated, two tables of 10,000 rows': correlated,
-    'a load of 1 MB with two CHECKs': checked_load,
-}
-
-# The usual way round in SQLite, where it can't do the same.
-OTHERWISE = {
-    'a UNIQUE shifted by one over 32,768 rows, 20 times': 'two UPDATEs, since SQLite checks a UNIQUE row by row',
-    'a BEFORE row trigger that sets a column of 16,384 rows, 10 times': 'an AFTER row trigger that changes the row once more',
-    '20,000 children before their 5,000 parents, deferred': 'with an index of the foreign key, which SQLite does not make by itself',
-    'a cascade of 60,000 rows on two levels, rolled back 4 times': 'with an index of each foreign key',
-}
-
-
-# Runs.
 
 
 def sqlite_command():
@@ -267,25 +82,95 @@ def last_number(text):
     return int(re.findall(r'-?\d+', text.strip().splitlines()[-1])[-1])
 
 
-def compared(engines, make, part, runs):
+def parts_of(statements):
+    """The statements as scripts of which none is longer than a script may be."""
+    parts, size = [[]], 0
+    for text in statements:
+        more = len(text) + 2
+        if size + more > LONGEST:
+            parts.append([])
+            size = 0
+        parts[-1].append(text + ';\n')
+        size += more
+    return [''.join(part).encode() for part in parts]
+
+
+class Engine:
+    """What runs a script: a program, and for a script that is too long for it one that runs several in a session."""
+
+    def __init__(self, name, way, words, session=None):
+        self.name, self.way, self.words, self.session = name, way, words, session
+
+    def lay_out(self, make, part, folder):
+        """The words that run the work, and what they are given on standard input; none where that can't be had."""
+        scripts = parts_of([*self.way.first, *make(self.way, part)])
+        if len(scripts) == 1 or self.way.name != 'ours':
+            return self.words, b''.join(scripts)
+        if self.session is None:
+            return None
+        files = [os.path.join(folder, '%s-%d-%d.sql' % (self.name.replace(os.sep, '_'), part, place)) for place in range(len(scripts))]
+        for file, script in zip(files, scripts):
+            with open(file, 'wb') as out:
+                out.write(script)
+        return [*self.session, *files], b''
+
+
+def compared(engines, make, part, runs, folder):
     """For each engine the medians of processor time and peak memory; they have to answer the same."""
-    scripts = {engine.name: (''.join(text + ';\n' for text in engine.first + make(engine, part))).encode() for engine, _ in engines}
-    assert all(len(script) <= LONGEST for script in scripts.values()), {name: len(script) for name, script in scripts.items()}
-    seen = {engine.name: [] for engine, _ in engines}
+    works = {engine.name: engine.lay_out(make, part, folder) for engine in engines}
+    if None in works.values():
+        return None
+    seen = {name: [] for name in works}
     for _ in range(runs):
-        for engine, words in engines:
-            seen[engine.name].append(timed(words, scripts[engine.name]))
+        for name, (words, given) in works.items():
+            seen[name].append(timed(words, given))
     answers = {name: last_number(results[0][2]) for name, results in seen.items()}
     if len(set(answers.values())) > 1:
         raise SystemExit('the last SELECT answers %s' % answers)
     return {name: tuple(statistics.median(result[at] for result in results) for at in (0, 1)) for name, results in seen.items()}
 
 
+def instructions(words, given):
+    """How many instructions a run takes, as callgrind counts them."""
+    with tempfile.TemporaryDirectory() as folder:
+        counted = ['valgrind', '--tool=callgrind', '--callgrind-out-file=' + os.path.join(folder, 'out'), *words]
+        done = subprocess.run(counted, input=given, stdout=subprocess.DEVNULL, stderr=subprocess.PIPE, check=False)
+    found = re.search(rb'Collected : (\d+)', done.stderr)
+    if not found:
+        raise SystemExit(done.stderr.decode(errors='replace')[-300:])
+    return int(found[1])
+
+
+def session_driver(library, folder):
+    """The words that run several scripts in one session through a library; none where it isn't built."""
+    archive = os.path.join(library, 'libsqlkeep.a')
+    if not os.path.exists(archive):
+        return None
+    driver = os.path.join(folder, 'session-' + re.sub(r'\W', '_', library))
+    source = os.path.join(ROOT, 'tests', 'bench_session.c')
+    subprocess.run([os.environ.get('CC', 'cc'), '-O1', '-I', library, source, archive, '-o', driver], check=True)
+    return [driver]
+
+
+def of_commit(commit, folder):
+    """The program of a commit, without proof but optimised, and its library: both are made in a checkout of its own in out/, which stays."""
+    name = subprocess.run(['git', '-C', ROOT, 'rev-parse', '--short=12', commit], capture_output=True, text=True, check=True).stdout.strip()
+    place = os.path.join(ROOT, 'out', 'commits', name)
+    if not os.path.exists(place):
+        subprocess.run(['git', 'clone', '--quiet', '--shared', '--no-checkout', ROOT, place], check=True)
+        subprocess.run(['git', '-C', place, 'checkout', '--quiet', name], check=True)
+    made = os.path.join(place, 'out', 'unproved')
+    for more in ([], ['--library']):
+        if subprocess.run([os.path.join(place, 'build'), '--unproved', '--optimise', *more], check=False).returncode:
+            raise SystemExit('%s has no program without proof: only later commits can be compared' % commit)
+    return Engine(name, Ours(), [os.path.join(made, 'sqlkeep')], session_driver(made, folder))
+
+
 def row_of(kind, whole, half):
     """A line of the table: seconds, ratio, growth from half the work to the whole, memory."""
-    ours, other = whole['ours'], whole.get('SQLite')
-    cells = [kind, '%.3f' % ours[0], '%.3f' % other[0] if other else '-', '%.2f' % (ours[0] / max(other[0], 0.001)) if other else '-']
-    return cells + ['%.1f' % (ours[0] / max(half['ours'][0], 0.001)), '%.0f' % ours[1], '%.0f' % other[1] if other else '-']
+    ours, other = whole['ours'], whole['SQLite']
+    cells = [kind, '%.3f' % ours[0], '%.3f' % other[0], '%.2f' % (ours[0] / max(other[0], 0.001))]
+    return cells + ['%.1f' % (ours[0] / max(half['ours'][0], 0.001)), '%.0f' % ours[1], '%.0f' % other[1]]
 
 
 HEADS = ['work', 'seconds', 'SQLite', 'ratio', 'whole / half', 'MB', 'SQLite MB']
@@ -323,26 +208,58 @@ Where SQLite takes another way for the same work:
 %s'''
 
 
+def wanted(words):
+    return [(kind, make) for kind, make in KINDS.items() if not words.only or any(word in kind for word in words.only)]
+
+
+def beside_sqlite(words, folder):
+    """The table of our program beside SQLite."""
+    engines = [Engine('ours', Ours(), [words.program], session_driver(words.library, folder)), Engine('SQLite', SQLite(), sqlite_command())]
+    print(' | '.join(HEADS))
+    rows = []
+    for kind, make in wanted(words):
+        both = [compared(engines, make, part, words.runs, folder) for part in (1, 2)]
+        if None in both:
+            print('%s: skipped; ./build --library makes the library that runs it' % kind)
+            continue
+        rows.append(row_of(kind, *both))
+        print(' | '.join(rows[-1]), flush=True)
+    return rows
+
+
+def beside_commit(words, folder):
+    """The table of two commits: seconds of each, and with --instructions what callgrind counts."""
+    engines = [of_commit(words.compare, folder), of_commit('HEAD', folder)]
+    print(' | '.join(['work', *(engine.name for engine in engines), 'ratio', 'MB', 'MB', *(['instructions'] if words.instructions else [])]))
+    for kind, make in wanted(words):
+        seen = compared(engines, make, 1, words.runs, folder)
+        before, after = (seen[engine.name] for engine in engines)
+        cells = [kind, '%.3f' % before[0], '%.3f' % after[0], '%.2f' % (after[0] / max(before[0], 0.001)), '%.0f' % before[1], '%.0f' % after[1]]
+        if words.instructions:
+            counts = [instructions(*engine.lay_out(make, 1, folder)) for engine in engines]
+            cells.append('%.2f' % (counts[1] / counts[0]))
+        print(' | '.join(cells), flush=True)
+
+
 def main():
     parser = argparse.ArgumentParser(description=__doc__, formatter_class=argparse.RawDescriptionHelpFormatter)
-    parser.add_argument('--program', default=os.path.join(ROOT, 'crates/sqlkeep/out/sqlkeep'))
+    parser.add_argument('--program', default=next((path for path in PROGRAMS if os.path.exists(path)), PROGRAMS[0]))
+    parser.add_argument('--library', default=os.path.join(ROOT, 'out'))
     parser.add_argument('--only', action='append')
     parser.add_argument('--runs', type=int, default=5)
     parser.add_argument('--save', action='store_true')
+    parser.add_argument('--compare', metavar='COMMIT')
+    parser.add_argument('--instructions', action='store_true')
     words = parser.parse_args()
-    if not os.path.exists(words.program):
-        raise SystemExit('there is no %s: ./build makes it' % words.program)
-    engines = [(Ours(), [words.program]), (SQLite(), sqlite_command())]
-    print(' | '.join(HEADS))
-    rows = []
-    for kind, make in KINDS.items():
-        if not words.only or any(word in kind for word in words.only):
-            rows.append(row_of(kind, *(compared(engines, make, part, words.runs) for part in (1, 2))))
-            print(' | '.join(rows[-1]), flush=True)
+    with tempfile.TemporaryDirectory(prefix='bench-') as folder:
+        if words.compare:
+            beside_commit(words, folder)
+            return
+        if not os.path.exists(words.program):
+            raise SystemExit('there is no %s: ./build makes it' % words.program)
+        rows = beside_sqlite(words, folder)
     if words.save:
-        folder = os.path.join(ROOT, 'docs/speed')
-        os.makedirs(folder, exist_ok=True)
-        with open(os.path.join(folder, 'README.md'), 'w', encoding='utf-8') as out:
+        with open(os.path.join(ROOT, 'docs/speed/README.md'), 'w', encoding='utf-8') as out:
             out.write(page(rows, words.runs))
 
 

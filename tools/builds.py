@@ -11,6 +11,7 @@ import sys
 from pathlib import Path
 
 sys.path.insert(0, os.path.dirname(os.path.realpath(__file__)))
+import old_glibc
 import repository
 
 DIST = Path(repository.ROOT, "dist")
@@ -99,8 +100,9 @@ def stripped(program, to):
 
 
 def ready(program, to, its_commit=None):
-    """Makes of the program that `rt` built the one that users get: stripped and signed."""
+    """Makes of the program that `rt` built the one that users get: stripped, for old systems too, and signed."""
     stripped(program, to)
+    old_glibc.bind(to)
     sign(to, line("proved", repository.PROGRAM, its_commit))
     os.chmod(to, 0o755)
 

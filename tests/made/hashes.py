@@ -1,23 +1,17 @@
-"""INTEGER keys whose hashes share their low bits.
+"""Keys whose hashes share their lowest bits, so that all but the first go to the tree of the index.
 
-The hash of a key of one INTEGER is that of `crates/iv_key/src/hash.rt`: SipHash-1-3 with both keys 0, over the eight bytes of the
-number. Nothing but trying finds such keys, so many numbers are hashed at a time: each has its place, of WIDTH bits, in one large
-integer. A turn to the left by 13 bits brings 51 bits down from the place above; 120 bits leave them room above the 64 that count."""
-import functools
-import itertools
+The hash of a key of one INTEGER is the number itself. That of a key of two has as its lowest 24 bits the sum of the second number and the
+hash of the first, which is SipHash-1-3 with both keys 0 over a byte 1 and the eight bytes of the number (`crates/iv_key/specs/Hashes.antt`)."""
 
-WIDTH, PLACES = 120, 1024
-ONES = sum(1 << WIDTH * place for place in range(PLACES))
-STEPS = sum(place << WIDTH * place for place in range(PLACES))
-WHOLE = (2 ** 64 - 1) * ONES
-INITIAL = [number * ONES for number in (0x736f6d6570736575, 0x646f72616e646f6d, 0x6c7967656e657261, 0x7465646279746573)]
-# How many low bits the keys share: all are 0.
-SHARED = 10
+WHOLE = 2 ** 64 - 1
+INITIAL = 0x736F6D6570736575, 0x646F72616E646F6D, 0x6C7967656E657261, 0x7465646279746573
+# How many low bits the numbers share, and the pairs: all are 0.
+SHARED, SHARED_BY_PAIRS = 20, 24
 
 
-def turned(words, count):
-    """Each word, turned to the left by so many bits."""
-    return (words << count | words >> (64 - count)) & WHOLE
+def turned(word, count):
+    """A word of 64 bits, turned to the left."""
+    return (word << count | word >> (64 - count)) & WHOLE
 
 
 def mixed(v0, v1, v2, v3):
@@ -28,37 +22,33 @@ def mixed(v0, v1, v2, v3):
     return v0, turned(v1, 17) ^ v2, turned(v2, 32), turned(v3, 21) ^ v0
 
 
-def after_word(v0, v1, v2, v3, words):
+def after_word(v0, v1, v2, v3, word):
     """The state after eight bytes more."""
-    v0, v1, v2, v3 = mixed(v0, v1, v2, v3 ^ words)
-    return v0 ^ words, v1, v2, v3
+    v0, v1, v2, v3 = mixed(v0, v1, v2, v3 ^ word)
+    return v0 ^ word, v1, v2, v3
 
 
-def hashes(first):
-    """The hashes of so many numbers as there are places, from this one on."""
-    numbers = STEPS + first * ONES
-    v0, v1, v2, v3 = after_word(*after_word(*INITIAL, numbers), (8 << 56) * ONES)
-    v0, v1, v2, v3 = mixed(*mixed(*mixed(v0, v1, v2 ^ 255 * ONES, v3)))
+def sip(text):
+    """The hash of some bytes."""
+    state, whole = INITIAL, len(text) // 8 * 8
+    for place in range(0, whole, 8):
+        state = after_word(*state, int.from_bytes(text[place:place + 8], 'little'))
+    state = after_word(*state, int.from_bytes(text[whole:], 'little') | (len(text) & 255) << 56)
+    v0, v1, v2, v3 = state
+    v0, v1, v2, v3 = mixed(*mixed(*mixed(v0, v1, v2 ^ 255, v3)))
     return v0 ^ v1 ^ v2 ^ v3
 
 
-def shared():
-    """All numbers from 1 on whose hashes have SHARED low bits that are 0."""
-    for first in itertools.count(1, PLACES):
-        found = hashes(first) & (2 ** SHARED - 1) * ONES
-        bits = found.to_bytes(WIDTH // 8 * PLACES, 'little')
-        low, high = bits[::WIDTH // 8], bits[1::WIDTH // 8]
-        yield from [first + place for place, pair in enumerate(zip(low, high)) if pair == (0, 0)]
-
-
-@functools.lru_cache(maxsize=1)
-def search():
-    """The search for such keys, which goes on where it was left, and those that it found."""
-    return shared(), []
+def of_first(number):
+    """The hash of a key's first number, to which the second is added."""
+    return sip(b'\1' + (number & WHOLE).to_bytes(8, 'little'))
 
 
 def keys(count):
-    """So many such keys. For 16,384 it hashes about 16 million numbers, which takes 10 to 15 seconds of a processor, once."""
-    more, found = search()
-    found += itertools.islice(more, max(0, count - len(found)))
-    return found[:count]
+    """So many numbers from 1 on whose hashes share their low bits."""
+    return [number << SHARED for number in range(1, count + 1)]
+
+
+def pairs(count):
+    """So many pairs of numbers whose hashes share their low bits."""
+    return [(number, -of_first(number) % 2 ** SHARED_BY_PAIRS) for number in range(1, count + 1)]

@@ -1,12 +1,8 @@
 """Hostile scripts, each with the transcript that the rules give it. `SIZE` is how long a script may be; where a script is of one kind of text, it is as
 long."""
-import functools
-import os
-import subprocess
-import tempfile
+from made import hashes
 
 SIZE = 1_048_576
-HERE = os.path.dirname(os.path.abspath(__file__))
 LETTERS = 'abcdefghijklmnopqrstuvwxyz0123456789_'
 
 
@@ -271,30 +267,29 @@ def long_savepoints():
     return ';'.join(texts) + ';', answered(*['ok'] * (len(texts) - 2), 'refused 7 UnknownSavepoint', 'ok')
 
 
-@functools.lru_cache(maxsize=1)
-def colliding():
-    """65,000 numbers whose hashes share their low ten bits. The machine's C compiler builds the program that finds them, which takes a second."""
-    with tempfile.TemporaryDirectory() as folder:
-        finder = os.path.join(folder, 'colliding_keys')
-        source = os.path.join(HERE, '..', 'colliding_keys.c')
-        subprocess.run([os.environ.get('CC', 'cc'), '-O2', '-o', finder, source], check=True)
-        return subprocess.run([finder, '65000', '10'], check=True, capture_output=True, text=True).stdout.split()
-
-
 def colliding_keys():
-    """65,000 such keys of one table, which are all inserted, changed to others and back, and deleted; and one that is there already."""
-    keys = colliding()
-    texts = ['CREATE TABLE t (k INT PRIMARY KEY)', 'INSERT INTO t VALUES ' + ','.join('(%s)' % key for key in keys), 'INSERT INTO t VALUES (%s)' % keys[-1]]
+    """65,000 numbers whose hashes share their low 20 bits, which are all inserted, changed to others and back, and deleted; and one that is there already."""
+    keys = hashes.keys(65_000)
+    texts = ['CREATE TABLE t (k INT PRIMARY KEY)', 'INSERT INTO t VALUES ' + ','.join('(%d)' % key for key in keys), 'INSERT INTO t VALUES (%d)' % keys[-1]]
     texts += ['UPDATE t SET k = k + 1', 'UPDATE t SET k = k - 1', 'COMMIT', 'DELETE FROM t', 'ROLLBACK', 'SELECT COUNT(*) FROM t']
     answers = ['ok', 'ok 65000', 'refused 13 Violation T_C1 row 65000', 'ok 65000', 'ok 65000', 'ok', 'ok 65000', 'ok', 'rows 1', '| 65000']
     return ';'.join(texts) + ';', answered(*answers)
 
 
+def colliding_pairs():
+    """40,000 pairs whose hashes share their low 24 bits, which are all inserted, changed to others and back, and deleted; and one that is there already."""
+    pairs = hashes.pairs(40_000)
+    texts = ['CREATE TABLE t (a INT, b INT, UNIQUE (a, b))', 'INSERT INTO t VALUES ' + ','.join('(%d,%d)' % pair for pair in pairs), 'INSERT INTO t VALUES (%d, %d)' % pairs[-1]]
+    texts += ['UPDATE t SET b = b + 1', 'UPDATE t SET b = b - 1', 'COMMIT', 'DELETE FROM t', 'ROLLBACK', 'SELECT COUNT(*) FROM t']
+    answers = ['ok', 'ok 40000', 'refused 13 Violation T_C1 row 40000', 'ok 40000', 'ok 40000', 'ok', 'ok 40000', 'ok', 'rows 1', '| 40000']
+    return ';'.join(texts) + ';', answered(*answers)
+
+
 def colliding_children():
-    """32,000 such keys, each with a child, which CASCADE deletes with them: 64,000 row changes in one statement."""
-    keys = colliding()[:32_000]
+    """32,000 such numbers, each with a child, which CASCADE deletes with them: 64,000 row changes in one statement."""
+    keys = hashes.keys(32_000)
     texts = ['CREATE TABLE p (k INT PRIMARY KEY)', 'CREATE TABLE c (x INT REFERENCES p ON DELETE CASCADE ON UPDATE CASCADE)']
-    texts += ['INSERT INTO p VALUES ' + ','.join('(%s)' % key for key in keys), 'INSERT INTO c SELECT k FROM p', 'COMMIT']
+    texts += ['INSERT INTO p VALUES ' + ','.join('(%d)' % key for key in keys), 'INSERT INTO c SELECT k FROM p', 'COMMIT']
     texts += ['UPDATE p SET k = -k', 'ROLLBACK', 'DELETE FROM p', 'SELECT COUNT(*) FROM c', 'ROLLBACK']
     return ';'.join(texts) + ';', answered('ok', 'ok', 'ok 32000', 'ok 32000', 'ok', 'ok 32000', 'ok', 'ok 32000', 'rows 1', '| 0', 'ok')
 
@@ -578,7 +573,8 @@ def cases():
     yield Case('74,898 statements of an unknown table', lambda: refused_at_once('DELETE FROM t;', 'refused 1 Unknown'))
     yield Case('names of 128 characters that differ in the last', long_names)
     yield Case('1,000 savepoints of 128 characters that differ in the last two', long_savepoints)
-    yield Case('65,000 keys whose hashes share ten bits', colliding_keys)
+    yield Case('65,000 keys whose hashes share 20 bits', colliding_keys)
+    yield Case('40,000 pairs whose hashes share 24 bits', colliding_pairs)
     yield Case('32,000 such keys with a child each', colliding_children)
     yield Case('256 triggers on one table, and 200 statements', lambda: row_triggers(200))
     yield Case('256 BEFORE triggers over 20,000 rows', before_triggers)
