@@ -2,8 +2,11 @@
 
 The programs of the kit use a dozen functions of the C library, all of them in glibc since 2.14 or longer. Only the start of the process is
 bound to a newer version: since 2.34 `__libc_start_main` has a second version, which the linker prefers. Here the program's table of versions
-names the first one, which every glibc has. With it the C library calls no constructors of the program in versions before 2.34; the programs
-have none of their own.
+names the first one, which every glibc has.
+
+With it a C library before 2.34 doesn't call what the program has in its table of first calls (DT_INIT_ARRAY): the part of the process that
+starts a program did that then. So the table is named as the one that the loader itself goes through, in all versions (DT_PREINIT_ARRAY).
+What stands in it only notes where the words of the command line are.
 """
 import struct
 import sys
@@ -11,9 +14,9 @@ from pathlib import Path
 
 START = b"__libc_start_main"
 OLD = b"GLIBC_2.2.5"
-# Says of a needed version that the loader may go on without it.
-WEAK = 2
-DYNAMIC_SYMBOLS, TEXTS, NEEDED, VERSIONS = 11, 3, 0x6FFFFFFE, 0x6FFFFFFF
+DYNAMIC, DYNAMIC_SYMBOLS, NEEDED, VERSIONS = 6, 11, 0x6FFFFFFE, 0x6FFFFFFF
+# The tags of the table of first calls and of its size, as the linker writes them and as the loader heeds them.
+FIRST_CALLS = {25: 32, 27: 33}
 
 
 class Section:
@@ -62,6 +65,14 @@ def start_symbol(code, found):
     raise ValueError("it doesn't call " + START.decode())
 
 
+def rename_first_calls(code, found):
+    """Names the table of first calls as the one that the loader goes through."""
+    dynamic = next(each for each in found if each.kind == DYNAMIC)
+    for at in range(dynamic.at, dynamic.at + dynamic.size, 16):
+        tag = struct.unpack_from("<Q", code, at)[0]
+        struct.pack_into("<Q", code, at, FIRST_CALLS.get(tag, tag))
+
+
 def bind(path):
     """Binds the program's start to the first version of the function; whether that changed the file."""
     code = bytearray(Path(path).read_bytes())
@@ -72,9 +83,12 @@ def bind(path):
     if newer == entries[OLD][0]:
         return False
     struct.pack_into("<H", code, place, entries[OLD][0])
+    # No symbol has the newer version now, so its entry may ask for the old one too: its sum, and its name.
+    old = entries[OLD][1]
     for number, entry in entries.values():
         if number == newer:
-            struct.pack_into("<H", code, entry + 4, WEAK)
+            code[entry : entry + 4], code[entry + 8 : entry + 12] = code[old : old + 4], code[old + 8 : old + 12]
+    rename_first_calls(code, found)
     Path(path).write_bytes(code)
     return True
 
