@@ -3,6 +3,7 @@
 The minutes that are left are reckoned from what each crate took when it was proved last. That is kept in out/minutes; for a crate that was
 never proved here it is taken from the table of docs/proving, and is a third of a minute for one that isn't in it.
 """
+import math
 import os
 import re
 import sys
@@ -72,7 +73,7 @@ class Progress:
 
     def far(self):
         gone = (time.monotonic() - self.began) / 60
-        return f"{len(self.done)} of {self.all} crates proved, {gone:.0f} min gone, about {self.left():.0f} left"
+        return f"{len(self.done)} of {self.all} crates proved, {gone:.0f} min gone, about {math.ceil(self.left())} left"
 
     def show(self):
         """Writes the line at the foot over the last one."""

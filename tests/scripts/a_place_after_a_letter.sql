@@ -1,0 +1,1 @@
+INSERT INTO t VALUES ('À'); COMIT;
