@@ -15,3 +15,5 @@ pub mod WorkedOccasions
 pub mod WorkedNulls
 pub mod WorkedColumns
 pub mod WorkedAccounts
+pub mod WorkedOrders
+pub mod WorkedTellings
