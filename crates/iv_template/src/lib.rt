@@ -1,0 +1,14 @@
+//! Templates: texts with question marks in place of literals, filled with values.
+#![tactic(auto)]
+
+mod counting;
+mod fault;
+mod filling;
+mod holes;
+pub mod laws;
+#[cfg(test)]
+mod tests;
+mod writing;
+
+pub use fault::FillFault;
+pub use filling::filled;

@@ -1,0 +1,90 @@
+//! What a template becomes.
+use crate::fault::FillFault;
+use crate::filling::filled;
+use iv_value::{Value, text};
+use std::alloc::Global;
+use std::panic::Expect;
+use std::process::Abort;
+
+// The filled text, or the word of the fault.
+fn shown(rt: &impl Abort, alloc: Global, template: &str, values: &[Value]) -> String {
+    match filled(alloc, template, values) {
+        Ok(text) => text,
+        Err(fault) => {
+            let told = match fault {
+                FillFault::NoMemory => format!(in alloc; "memory"),
+                FillFault::NoToken(at) => format!(in alloc; "no token at {at}"),
+                FillFault::WrongCount(holes, values) => {
+                    format!(in alloc; "{values} for {holes}")
+                }
+            };
+            told.expect(rt, "memory")
+        }
+    }
+}
+
+// The template with the values from one place up to another.
+fn becomes(
+    rt: &impl Abort,
+    alloc: Global,
+    values: &[Value],
+    (template, from, to, wanted): (&str, usize, usize, &str),
+) {
+    let some = values.get(from..to).expect(rt, "places");
+    let found = shown(rt, alloc, template, some);
+    assert!(rt; found.as_str() == wanted, "{template}");
+}
+
+fn all_become(
+    rt: &impl Abort,
+    alloc: Global,
+    values: &[Value],
+    cases: &[(&str, usize, usize, &str)],
+) {
+    for case in cases {
+        becomes(rt, alloc, values, *case);
+    }
+}
+
+const NUMBERS: [(&str, usize, usize, &str); 12] = [
+    ("", 0, 0, ""),
+    ("a?", 0, 1, "a 5 "),
+    ("-?,?", 0, 2, "- 5 , ( -5 ) "),
+    ("??", 1, 3, " ( -5 )  NULL "),
+    ("?;", 3, 4, " 9223372036854775807 ;"),
+    ("?", 4, 5, " ( - 9223372036854775807 - 1 ) "),
+    ("'?' -- ?\n?", 0, 1, "'?' -- ?\n 5 "),
+    ("? 'it''s ?'", 2, 3, " NULL  'it''s ?'"),
+    ("?, ?, ?", 0, 1, "1 for 3"),
+    ("'?'", 0, 1, "1 for 0"),
+    ("? # ?", 0, 2, "no token at 2"),
+    ("? ? '?", 0, 1, "no token at 4"),
+];
+
+#[test]
+fn numbers_and_nulls(rt: HostRuntime) {
+    let values = [
+        Value::Int(5),
+        Value::Int(-5),
+        Value::Null,
+        Value::Int(i64::MAX),
+        Value::Int(i64::MIN),
+    ];
+    all_become(&rt, rt.alloc(), &values, &NUMBERS);
+}
+
+const TEXTS: [(&str, usize, usize, &str); 2] = [
+    ("VALUES (?)", 0, 1, "VALUES ( '''; DROP TABLE t; --' )"),
+    ("?,?", 1, 3, " '' , '?\u{e9}''''' "),
+];
+
+#[test]
+fn texts(rt: HostRuntime) {
+    let alloc = rt.alloc();
+    let values = [
+        text(alloc, "'; DROP TABLE t; --").expect(&rt, "memory"),
+        text(alloc, "").expect(&rt, "memory"),
+        text(alloc, "?\u{e9}''").expect(&rt, "memory"),
+    ];
+    all_become(&rt, alloc, &values, &TEXTS);
+}
