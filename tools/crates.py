@@ -5,6 +5,7 @@
     crates.py build --library                proves the library for C and all below it, and puts it into out/ with its header
     crates.py build --unproved [--library] [--optimise]
                                              compiles the program or the library without proof, into out/unproved
+    crates.py build --page [--unproved]      makes sqlkeep.wasm and sqlkeep.mjs of the library, for browsers and for node
     crates.py library                        makes out/ of what `rt ci` left: the program, and the library for C in the time of its own proof
     crates.py check CRATE.. [--above] [--edits] [--jobs N]
                                              proves these crates, and with --above those that depend on them
@@ -69,6 +70,14 @@ def build_library():
     return 0
 
 
+def build_page(words):
+    """Makes the engine for browsers and node, of the proved library or of the sources."""
+    named = crates()
+    if "--unproved" not in words and not prove(below([LIBRARY], named), named, os.cpu_count() or 1):
+        return 1
+    return subprocess.run([sys.executable, os.path.join(ROOT, "tools", "page.py"), *words], check=False).returncode
+
+
 def build_unproved(words):
     """Compiles the program or the library without proof, into out/unproved."""
     return subprocess.run([sys.executable, os.path.join(ROOT, "tools", "unproved.py"), *words], check=False).returncode
@@ -119,6 +128,8 @@ def check(words):
 
 
 def main(words):
+    if words[:2] == ["build", "--page"]:
+        return build_page(words[2:])
     known = {"--library", "--dist", "--unproved", "--optimise"}
     if words[:1] == ["build"] and set(words[1:]) <= known:
         options = [word for word in words[1:] if word != "--unproved"]

@@ -1,0 +1,306 @@
+// The engine in JavaScript: the library for C, compiled to WebAssembly, with a memory of its own.
+//
+//     import { load } from "./sqlkeep.mjs";
+//     const engine = await load(bytes);          // of sqlkeep.wasm
+//     engine.run("COMMIT;").transcript;          // a whole script, as the program writes it
+//     const session = engine.open();
+//     session.execute("CREATE TABLE t (a INT PRIMARY KEY);");
+//     session.query("SELECT a FROM t;");         // [[1], [2]]
+//
+// Values are null, numbers, BigInts where a number isn't exact, and strings. A statement that is refused throws a Refusal. Numbers and
+// addresses of 64 bits cross to the module as BigInts; its memory has addresses of 32 bits.
+
+const OK = 0, CLOSED = 1, LIMITS = 3, NOT_UTF8 = 4, TOO_LONG = 5, NO_MEMORY = 6, NOTHING = 7;
+const CHANGED = 1, ROWS = 2, REFUSED = 3;
+const NULL = 0, INTEGER = 1;
+const HANDLE_BYTES = 16, RESULT_BYTES = 64, BUFFER_BYTES = 1 << 16;
+
+const WORDS = new Map([
+  [CLOSED, "the session is closed"],
+  [LIMITS, "a limit isn't in its range: depth is 1 to 64, changes 1 to 65536"],
+  [NOT_UTF8, "the text is not UTF-8"],
+  [TOO_LONG, "the script is longer than 1048576 bytes"],
+  [NO_MEMORY, "out of memory"],
+  [NOTHING, "there is nothing at this place"],
+]);
+
+/** A call that could not be made; `status` is that of the library for C. */
+export class EngineError extends Error {
+  constructor(message, status) {
+    super(message);
+    this.name = "EngineError";
+    this.status = status;
+  }
+}
+
+/** A text with something that is no statement; `at` is the byte at which that begins. */
+export class SyntaxFault extends Error {
+  constructor(at, place) {
+    super(place ? `no statement: ${place}` : `no statement at byte ${at}`);
+    this.name = "SyntaxFault";
+    this.at = at;
+    this.place = place;
+  }
+}
+
+/** A statement that was refused. `lines` are those of the program, with its account where one is asked for. */
+export class Refusal extends Error {
+  constructor(outcome) {
+    super(outcome.lines.split("\n")[0].replace(/^\d+ refused /, ""));
+    this.name = "Refusal";
+    Object.assign(this, outcome);
+  }
+}
+
+/** Makes an engine of the bytes of sqlkeep.wasm, or of a module that was compiled of them. */
+export async function load(source) {
+  const made = source instanceof WebAssembly.Module ? source : await WebAssembly.compile(source);
+  return new Engine(made);
+}
+
+/** What sessions are opened of. Each has a memory of its own, which goes with it. */
+export class Engine {
+  #module;
+
+  constructor(module) {
+    this.#module = module;
+  }
+
+  /** A database without tables. Triggers may nest `depth` deep, and a statement may make `changes` row changes. */
+  open({ depth = 16, changes = 65536, explain = false } = {}) {
+    return new Session(new WebAssembly.Instance(this.#module, {}), depth, changes, explain);
+  }
+
+  /** Runs a script, a string or bytes, in a new database. */
+  run(script, options = {}) {
+    const session = this.open(options);
+    try {
+      return session.run(script);
+    } finally {
+      session.close();
+    }
+  }
+}
+
+/** A database with its transaction. */
+export class Session {
+  #exports;
+  #handle;
+  #result;
+  #buffer;
+  #trapped = false;
+  #isOpen = false;
+
+  constructor(instance, depth, changes, explain) {
+    this.#exports = instance.exports;
+    this.#handle = this.#alloc(HANDLE_BYTES);
+    this.#result = this.#alloc(RESULT_BYTES);
+    this.#buffer = this.#alloc(BUFFER_BYTES);
+    this.#ask("sqlkeep_open", depth, changes);
+    this.#isOpen = true;
+    this.explain(explain);
+  }
+
+  /** From now on an account of each statement is asked for, or isn't. */
+  explain(asked = true) {
+    this.#ask("sqlkeep_explain", asked ? 1 : 0);
+  }
+
+  /** Runs a whole script in a new database, with the limits of this session, and leaves the session as it is. */
+  run(script) {
+    this.#withText(script, (at, length) => this.#ask("sqlkeep_run", at, length, this.#result));
+    const [accepted, refused, memoryRefused, hasFault, faultAt] = [0, 1, 2, 3, 4].map((place) => this.#number(place));
+    return { accepted, refused, memoryRefused, faultAt: hasFault ? faultAt : null, transcript: this.#transcript() };
+  }
+
+  /** Executes the statements of a text, and gives the outcome of each. The first that is refused throws a Refusal. */
+  execute(text) {
+    return [...this.steps(text)];
+  }
+
+  /** So one after the other: the next is executed when it is asked for. Where the text has a fault nothing is executed. */
+  *steps(text) {
+    this.#withText(text, (at, length) => this.#ask("sqlkeep_read", at, length, this.#result));
+    const [statements, hasFault, faultAt] = [0, 1, 2].map((place) => this.#number(place));
+    if (hasFault) {
+      throw new SyntaxFault(faultAt, null);
+    }
+    for (let at = 0; at < statements; at++) {
+      yield this.#executed(at);
+    }
+  }
+
+  /** The rows of the last statement of a text, which is a query. */
+  query(text) {
+    const last = this.execute(text).at(-1);
+    if (!last || last.kind !== "rows") {
+      throw new EngineError("the last statement is no query", NOTHING);
+    }
+    return last.rows;
+  }
+
+  /** COMMIT. */
+  commit() {
+    this.#ask("sqlkeep_commit", this.#result);
+    this.#outcome(1);
+  }
+
+  /** ROLLBACK. */
+  rollback() {
+    this.#ask("sqlkeep_rollback");
+  }
+
+  /** ROLLBACK TO SAVEPOINT, with the name as it is folded, in upper case. */
+  rollbackTo(name) {
+    this.#withText(name, (at, length) => this.#ask("sqlkeep_rollback_to", at, length, this.#result));
+    this.#outcome(1);
+  }
+
+  get inTransaction() {
+    this.#ask("sqlkeep_in_transaction", this.#result);
+    return this.#view.getUint8(Number(this.#result)) !== 0;
+  }
+
+  /** The violations of deferred constraints, what COMMIT would find first at the front. */
+  pending() {
+    this.#ask("sqlkeep_pending", this.#result);
+    const count = this.#number(0);
+    return Array.from({ length: count }, (_, at) => {
+      this.#ask("sqlkeep_violation", BigInt(at), this.#result, this.#buffer, BigInt(BUFFER_BYTES), this.#result + 8n);
+      const length = this.#number(1);
+      return { row: this.#number(0), constraint: new TextDecoder().decode(this.#bytes(this.#buffer, length)) };
+    });
+  }
+
+  /** How many row changes the last statement made and undid, and how many keys it looked up for constraints. */
+  work() {
+    this.#ask("sqlkeep_work", this.#result);
+    return { changes: this.#number(0), undone: this.#number(1), lookups: this.#number(2) };
+  }
+
+  /** Frees what the session holds. A transaction that is open is lost. */
+  close() {
+    if (this.#isOpen && !this.#trapped) {
+      this.#isOpen = false;
+      this.#call("sqlkeep_close", this.#handle);
+    }
+  }
+
+  [Symbol.dispose ?? Symbol("dispose")]() {
+    this.close();
+  }
+
+  get #view() {
+    return new DataView(this.#exports.memory.buffer);
+  }
+
+  #bytes(at, length) {
+    return new Uint8Array(this.#exports.memory.buffer, Number(at), length);
+  }
+
+  #number(place) {
+    return Number(this.#view.getBigUint64(Number(this.#result) + 8 * place, true));
+  }
+
+  #alloc(length) {
+    const at = this.#exports.page_alloc(BigInt(length));
+    if (!at) {
+      throw new EngineError(WORDS.get(NO_MEMORY), NO_MEMORY);
+    }
+    this.#bytes(at, length).fill(0);
+    return BigInt.asUintN(64, BigInt(at));
+  }
+
+  // After a trap nothing is known of the module's memory, so nothing more is asked of it.
+  #call(name, ...words) {
+    if (this.#trapped) {
+      throw new EngineError("the session was given up after a trap", CLOSED);
+    }
+    try {
+      return this.#exports[name](...words);
+    } catch (error) {
+      this.#trapped = true;
+      throw new EngineError(`the engine stopped in ${name}: ${error.message}`, CLOSED);
+    }
+  }
+
+  #ask(name, ...words) {
+    const status = this.#call(name, this.#handle, ...words);
+    if (status !== OK) {
+      throw new EngineError(WORDS.get(status) ?? `status ${status}`, status);
+    }
+  }
+
+  #withText(text, ask) {
+    const bytes = typeof text === "string" ? new TextEncoder().encode(text) : text;
+    const at = this.#alloc(bytes.length || 1);
+    try {
+      this.#bytes(at, bytes.length).set(bytes);
+      ask(at, BigInt(bytes.length));
+    } finally {
+      if (!this.#trapped) {
+        this.#exports.page_free(at);
+      }
+    }
+  }
+
+  // A text that a call gives in pieces.
+  #pieces(name, ...words) {
+    const decoder = new TextDecoder();
+    let whole = "";
+    for (let from = 0n; ; ) {
+      this.#ask(name, ...words, from, this.#buffer, BigInt(BUFFER_BYTES), this.#result);
+      const length = this.#number(0);
+      if (length === 0) {
+        return whole + decoder.decode();
+      }
+      whole += decoder.decode(this.#bytes(this.#buffer, length), { stream: true });
+      from += BigInt(length);
+    }
+  }
+
+  #transcript() {
+    return this.#pieces("sqlkeep_transcript");
+  }
+
+  #executed(at) {
+    this.#ask("sqlkeep_execute", BigInt(at), this.#result);
+    return this.#outcome(at + 1);
+  }
+
+  // What a statement answered; a refusal is thrown.
+  #outcome(number) {
+    const view = this.#view, at = Number(this.#result);
+    const kind = view.getUint32(at, true), cause = view.getUint32(at + 4, true), count = this.#number(1), row = this.#number(2);
+    this.#ask("sqlkeep_lines", BigInt(number));
+    const lines = this.#transcript();
+    if (kind === REFUSED) {
+      const [constraint, trigger, signal] = ["constraint", "trigger", "signal"].map((what) => this.#pieces("sqlkeep_" + what) || null);
+      throw new Refusal({ cause, reason: this.#pieces("sqlkeep_cause"), constraint, trigger, signal, row: row || null, lines, number });
+    }
+    if (kind === ROWS) {
+      return { kind: "rows", count, rows: this.#rows(count), lines };
+    }
+    return { kind: kind === CHANGED ? "changed" : "done", count, lines };
+  }
+
+  #rows(count) {
+    return Array.from({ length: count }, (_, row) => {
+      this.#ask("sqlkeep_columns", BigInt(row), this.#result);
+      return Array.from({ length: this.#number(0) }, (_, column) => this.#value(BigInt(row), BigInt(column)));
+    });
+  }
+
+  #value(row, column) {
+    this.#ask("sqlkeep_value", row, column, this.#result);
+    const kind = this.#number(0);
+    if (kind === NULL) {
+      return null;
+    }
+    if (kind === INTEGER) {
+      const integer = this.#view.getBigInt64(Number(this.#result) + 8, true);
+      return Number.isSafeInteger(Number(integer)) ? Number(integer) : integer;
+    }
+    return this.#pieces("sqlkeep_value_text", row, column);
+  }
+}

@@ -1,0 +1,88 @@
+#!/usr/bin/env python3
+"""Tries the engine in JavaScript: every script of tests/scripts and examples that has no other words than limits, with accounts where they are
+there, and the calls of a session (javascript.mjs).
+
+  tests/javascript.py --library FOLDER
+
+The folder has sqlkeep.wasm and sqlkeep.mjs, as `./build --page` leaves them in out/. It wants node. The last line is
+`N passed, N failed, N skipped`."""
+import argparse
+import base64
+import json
+import os
+import shlex
+import shutil
+import subprocess
+import sys
+import tempfile
+
+import c_library
+import run
+
+HERE = os.path.dirname(os.path.abspath(__file__))
+# What the program says of a script that it doesn't run, by the status of the library.
+STOPS = {4: b"sqlkeep: the script is not UTF-8\n", 5: b"sqlkeep: the script is longer than 1048576 bytes\n"}
+
+
+def cases():
+    """The scripts, each with its words and what is wanted: a transcript, or the line of a script that isn't run."""
+    for folder in ("scripts", "../examples"):
+        for name in sorted({file.split(".")[0] for file in run.files(folder)}):
+            script, words = run.stored(folder, name + ".sql"), (run.read(folder, name + ".args") or b"").decode()
+            if script is None or not c_library.LIMITS.fullmatch(words.strip() + (" " if words.strip() else "")):
+                continue
+            err, status = run.read(folder, name + ".err"), run.read(folder, name + ".status")
+            if status == b"2\n" and err is None:
+                continue
+            given = shlex.split(words)
+            options = {word[2:]: int(value) for word, value in zip(given[::2], given[1::2])}
+            yield name, script, options, err if err else run.stored(folder, name + ".out")
+            if run.read(folder, name + ".account") is not None:
+                yield name + " explained", script, {**options, "explain": True}, run.read(folder, name + ".account")
+
+
+def answers(folder, wanted):
+    """What the engine answers to each, by name."""
+    with tempfile.NamedTemporaryFile("w", suffix=".json", encoding="utf-8") as file:
+        for name, script, options, _ in wanted:
+            file.write(json.dumps({"name": name, "script": base64.b64encode(script).decode(), **options}) + "\n")
+        file.flush()
+        done = subprocess.run(["node", "--stack-size=4000", os.path.join(HERE, "page_scripts.mjs"), folder, file.name], capture_output=True, text=True, timeout=600, check=False)
+    print(done.stderr, end="", file=sys.stderr)
+    return {answer["name"]: answer for answer in map(json.loads, done.stdout.splitlines())}
+
+
+def said(answer):
+    if answer is None:
+        return b"no answer"
+    return answer["transcript"].encode() if "transcript" in answer else STOPS.get(answer["status"], str(answer["status"]).encode())
+
+
+def main():
+    parser = argparse.ArgumentParser()
+    parser.add_argument("--library", required=True)
+    folder = os.path.abspath(parser.parse_args().library)
+    if shutil.which("node") is None or not os.path.exists(os.path.join(folder, "sqlkeep.wasm")):
+        print("the engine in JavaScript: skipped; apt-get install nodejs binaryen, then ./build --page\n0 passed, 0 failed, 1 skipped")
+        return 0
+    wanted, passed, failed = list(cases()), 0, 0
+    found = answers(folder, wanted)
+    for name, _, _, want in wanted:
+        why = run.compare(name, want, said(found.get(name)))
+        passed, failed = passed + (not why), failed + bool(why)
+        if why:
+            print("FAILED", why[0][:300])
+    calls = subprocess.run(["node", os.path.join(HERE, "javascript.mjs"), folder], capture_output=True, text=True, timeout=300, check=False)
+    for line in calls.stdout.splitlines():
+        passed, failed = passed + line.startswith("ok "), failed + line.startswith("FAILED ")
+        if line.startswith("FAILED "):
+            print(line)
+    if calls.returncode:
+        failed += 1
+        print("FAILED", calls.stderr[-1000:])
+    print(f"{passed} passed, {failed} failed")
+    return int(failed > 0)
+
+
+if __name__ == "__main__":
+    sys.exit(main())
