@@ -15,8 +15,6 @@ use Rattle.iv_worked_machine.specs.WorkedOccasions.{WorkedOccasions}
 use Rattle.iv_worked_machine.specs.WorkedNulls.{WorkedNulls}
 use Rattle.iv_worked_machine.specs.WorkedColumns.{WorkedColumns}
 use Rattle.iv_worked_machine.specs.WorkedAccounts.{WorkedAccounts}
-use Rattle.iv_worked_machine.specs.WorkedOrders.{WorkedOrders}
-use Rattle.iv_worked_machine.specs.WorkedTellings.{WorkedTellings}
 
 pub constraints : WorkedConstraints
 constraints = record {
@@ -223,39 +221,4 @@ accounts = record {
   commit_is_refused = refl;
   set_constraints_is_refused = refl;
   start_tells_nothing = refl;
-}
-
-pub orders : WorkedOrders
-unfolding values_on_literals
-orders = record {
-  one_column_of_a_list = refl;
-  set_list_of_the_first_wave = refl;
-  columns_of_a_second_key = refl;
-  forty_one_deep = refl;
-  values_before_statement_triggers = refl;
-  after_triggers_by_creation = refl;
-  row_triggers_trigger_by_trigger = refl;
-  violations_by_constraint = refl;
-  conflict_across_a_check = refl;
-  unknown_filter_takes_no_row = refl;
-}
-
-pub tellings : WorkedTellings
-unfolding values_on_literals
-tellings = record {
-  row_trigger_refuses_once = refl;
-  statement_trigger_refuses_once = refl;
-  nothing_after_the_last_change = refl;
-  key_that_a_row_lets_go = refl;
-  first_other_row = refl;
-  null_in_a_primary_key = refl;
-  nulls_that_are_not_distinct = refl;
-  refused_proposal_tells_nothing = refl;
-  trigger_of_a_column = refl;
-  row_trigger_of_a_column = refl;
-  trigger_of_a_child = refl;
-  conflict_tells_no_action = refl;
-  named_constraint_alone = refl;
-  constraint_that_stays = refl;
-  depth_of_one = refl;
 }

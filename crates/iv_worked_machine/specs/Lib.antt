@@ -15,5 +15,3 @@ pub mod WorkedOccasions
 pub mod WorkedNulls
 pub mod WorkedColumns
 pub mod WorkedAccounts
-pub mod WorkedOrders
-pub mod WorkedTellings

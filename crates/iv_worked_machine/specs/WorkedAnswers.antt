@@ -131,10 +131,6 @@ told_from s (p ∷ q ∷ ps) = told_from (plan_outcome s p).state (q ∷ ps)
 abbrev pub told : List Plan → List Entry
 told plans = told_from (empty_state usual_limits) plans
 
--- where triggers may nest so deep
-abbrev pub told_deep : ℕ → List Plan → List Entry
-told_deep depth plans = told_from (empty_state (record { depth = depth; changes = 65536 })) plans
-
 -- under a budget of so many changes
 abbrev pub told_within : ℕ → List Plan → List Entry
 told_within changes plans = told_from (empty_state (record { depth = 16; changes = changes })) plans

@@ -10,8 +10,6 @@ ghost use Rattle.iv_worked_machine.specs.WorkedOccasions.{WorkedOccasions};
 ghost use Rattle.iv_worked_machine.specs.WorkedNulls.{WorkedNulls};
 ghost use Rattle.iv_worked_machine.specs.WorkedColumns.{WorkedColumns};
 ghost use Rattle.iv_worked_machine.specs.WorkedAccounts.{WorkedAccounts};
-ghost use Rattle.iv_worked_machine.specs.WorkedOrders.{WorkedOrders};
-ghost use Rattle.iv_worked_machine.specs.WorkedTellings.{WorkedTellings};
 ghost use Rattle.iv_worked_machine.specs.WorkedActions.{WorkedActions};
 ghost use Rattle.iv_worked_machine.specs.WorkedConstraints.{WorkedConstraints};
 ghost use Rattle.iv_worked_machine.specs.WorkedTriggers.{WorkedTriggers};
@@ -32,6 +30,4 @@ pub fn worked_scripts()
     ensures nulls { WorkedNulls }
     ensures columns { WorkedColumns }
     ensures accounts { WorkedAccounts }
-    ensures orders { WorkedOrders }
-    ensures tellings { WorkedTellings }
 {}

@@ -1,4 +1,4 @@
-use Rattle.iv_worked_machine.proofs.Worked.{constraints, actions, triggers, statements, keys, transactions, effects, before_triggers, transitions, limits, occasions, nulls, columns, accounts, orders, tellings}
+use Rattle.iv_worked_machine.proofs.Worked.{constraints, actions, triggers, statements, keys, transactions, effects, before_triggers, transitions, limits, occasions, nulls, columns, accounts}
 use Rattle.iv_worked_machine.proofs.laws.worked_scripts.Goals as goal
 
 pub returns-clause-constraints : goal.returns-clause-constraints
@@ -42,9 +42,3 @@ returns-clause-columns c = columns
 
 pub returns-clause-accounts : goal.returns-clause-accounts
 returns-clause-accounts c = accounts
-
-pub returns-clause-orders : goal.returns-clause-orders
-returns-clause-orders c = orders
-
-pub returns-clause-tellings : goal.returns-clause-tellings
-returns-clause-tellings c = tellings
