@@ -11,3 +11,4 @@ pub mod Turning
 pub mod Whole
 pub mod Follows
 pub mod Rooms
+pub mod Given

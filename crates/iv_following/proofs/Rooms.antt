@@ -15,7 +15,7 @@ use Rattle.iv_laws_kept.proofs.Naming.{Named, named_of}
 use Rattle.iv_following.specs.KeyGroups.{Marked}
 use Rattle.iv_following.specs.Sides.{IsPresent, side_key, stays_put}
 use Rattle.iv_following.specs.Steps.{IsReady}
-use Rattle.iv_following.specs.Turns.{AllStay, HasRoom}
+use Rattle.iv_following.specs.Turns.{AllStay, HasRoom, StayTurn}
 use Rattle.iv_following.specs.Following.{AreMet, Followed}
 use Rattle.iv_following.proofs.Follows.{met_either}
 use Rattle.iv_following.proofs.Steps.{marks_stay}
@@ -59,10 +59,14 @@ room_stays constraints change most start now marks later k s room c key at moves
 
 -- ---- marks
 
+-- no row of any constraint has moved
+abbrev pub NoneMoves : List Constraint → Contents → Contents → Marks → Marks → Type 0
+NoneMoves constraints start now marks later = (k : ℕ) → StayTurn constraints k (groups_of start.groups k) (marks_of marks k) (groups_of now.groups k) (marks_of later k)
+
 -- keys are referenced as before
-same_referenced : (constraints : List Constraint) (most : ℕ) (start now : Contents) (marks later : Marks) (fk : ForeignKey) (key : List Value) → AllStay constraints most start now marks later → Named constraints fk
+same_referenced : (constraints : List Constraint) (start now : Contents) (marks later : Marks) (fk : ForeignKey) (key : List Value) → NoneMoves constraints start now marks later → Named constraints fk
     → is_referenced constraints (shown now.groups) fk key ≡ is_referenced constraints (shown start.groups) fk key
-same_referenced constraints most start now marks later fk key s n =
+same_referenced constraints start now marks later fk key s n =
     said (shown now.groups) ∙ ap (λ rows. can_be_key fk.key key && not (is_empty rows)) rows ∙ sym (said (shown start.groups))
   where
     said : (g : Groups) → is_referenced constraints g fk key ≡ (can_be_key fk.key key && not (is_empty (rows_under g n.key.id (in_order_of n.key.columns fk.key key))))
@@ -73,18 +77,18 @@ same_referenced constraints most start now marks later fk key s n =
 
     rows : rows_under (shown now.groups) n.key.id (in_order_of n.key.columns fk.key key) ≡ rows_under (shown start.groups) n.key.id (in_order_of n.key.columns fk.key key)
     rows = ap (λ g. rows_in g (in_order_of n.key.columns fk.key key)) (groups_shown now.groups n.key.id)
-        ∙ (s.stay n.key.id n.constraint n.at).rows (in_order_of n.key.columns fk.key key)
+        ∙ (s n.key.id n.constraint n.at).rows (in_order_of n.key.columns fk.key key)
         ∙ ap (λ g. rows_in g (in_order_of n.key.columns fk.key key)) (sym (groups_shown start.groups n.key.id))
 
-pub stay_marked : (constraints : List Constraint) (most : ℕ) (start now : Contents) (marks later : Marks) → AllNamed constraints → AllStay constraints most start now marks later
+pub stay_marked : (constraints : List Constraint) (start now : Contents) (marks later : Marks) → AllNamed constraints → NoneMoves constraints start now marks later
     → AreMarked constraints (shown start.groups) marks → AreMarked constraints (shown now.groups) later
-stay_marked constraints most start now marks later all s =
+stay_marked constraints start now marks later all s =
     parts_make_the_whole constraints (shown start.groups) (shown now.groups) marks later
-    (λ id c referenced at e right. to_shown id referenced c ((s.stay id c at).marked referenced (from_shown id referenced c right)))
+    (λ id c referenced at e right. to_shown id referenced c ((s id c at).marked referenced (from_shown id referenced c right)))
     (λ id c fk at is right.
     marks_stay (is_referenced constraints (shown start.groups) fk) (is_referenced constraints (shown now.groups) fk) c.rule (own_groups (shown now.groups) id) (own_groups (shown now.groups) id) (marks_of later id) refl
-    (λ other given. same_referenced constraints most start now marks later fk other s (named_of constraints id c fk all at is))
-    (to_shown id (is_referenced constraints (shown start.groups) fk) c ((s.stay id c at).marked (is_referenced constraints (shown start.groups) fk) (from_shown id (is_referenced constraints (shown start.groups) fk) c right))))
+    (λ other given. same_referenced constraints start now marks later fk other s (named_of constraints id c fk all at is))
+    (to_shown id (is_referenced constraints (shown start.groups) fk) c ((s id c at).marked (is_referenced constraints (shown start.groups) fk) (from_shown id (is_referenced constraints (shown start.groups) fk) c right))))
   where
     from_shown : (id : ℕ) (referenced : List Value → Bool) (c : Constraint) → Marked referenced c.rule (own_groups (shown start.groups) id) (marks_of marks id) → Marked referenced c.rule (shown_of start.groups id) (marks_of marks id)
     from_shown id referenced c = subst (λ g. Marked referenced c.rule g (marks_of marks id)) (groups_shown start.groups id)
@@ -93,10 +97,10 @@ stay_marked constraints most start now marks later all s =
     to_shown id referenced c = subst (λ g. Marked referenced c.rule g (marks_of later id)) (sym (groups_shown now.groups id))
 
 -- the rows under a key are as before
-pub stay_rows : (constraints : List Constraint) (most : ℕ) (start now : Contents) (marks later : Marks) (id : ℕ) (c : Constraint) (key : List Value) → AllStay constraints most start now marks later
+pub stay_rows : (constraints : List Constraint) (start now : Contents) (marks later : Marks) (id : ℕ) (c : Constraint) (key : List Value) → NoneMoves constraints start now marks later
     → slice_get constraints id ≡ Some c → rows_under (shown now.groups) id key ≡ rows_under (shown start.groups) id key
-stay_rows constraints most start now marks later id c key s at =
-    ap (λ g. rows_in g key) (groups_shown now.groups id) ∙ (s.stay id c at).rows key ∙ ap (λ g. rows_in g key) (sym (groups_shown start.groups id))
+stay_rows constraints start now marks later id c key s at =
+    ap (λ g. rows_in g key) (groups_shown now.groups id) ∙ (s id c at).rows key ∙ ap (λ g. rows_in g key) (sym (groups_shown start.groups id))
 
 -- ---- room and change
 
@@ -108,7 +112,7 @@ pub ready : (constraints : List Constraint) (change : Change) (keys foreign_keys
 ready constraints change keys foreign_keys most start now marks later met present s in_keys in_foreign_keys k c at = record {
   present = λ key e.
       ap (λ g. has change.row (rows_in g key)) (sym (groups_shown now.groups k))
-      ∙ ap (has change.row) (stay_rows constraints most start now marks later k c key s at) ∙ present k c key at e;
+      ∙ ap (has change.row) (stay_rows constraints start now marks later k c key s.stay at) ∙ present k c key at e;
   room_for = λ key moves e. by_table (change.table == c.table) refl key moves e;
 }
   where
@@ -129,8 +133,8 @@ pub then_followed : (constraints : List Constraint) (change : Change) (start mid
 then_followed constraints change start mid now marks between later all s f = record {
   count = f.count ∙ s.count;
   marks_count = f.marks_count ∙ s.marks_count;
-  follow = λ id c key at. f.follow id c key at ∙ ap (rows_moved c key change) (stay_rows constraints (length constraints) start mid marks between id c key s at);
-  marked = λ right. f.marked (stay_marked constraints (length constraints) start mid marks between all s right);
+  follow = λ id c key at. f.follow id c key at ∙ ap (rows_moved c key change) (stay_rows constraints start mid marks between id c key s.stay at);
+  marked = λ right. f.marked (stay_marked constraints start mid marks between all s.stay right);
   watched = λ k w. f.watched k (s.watched k w);
   sizes = λ k key. omega (arith, s.sizes k key, f.sizes k key);
   grows = omega (arith, s.grows, f.grows);

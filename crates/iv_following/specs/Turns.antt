@@ -1,5 +1,5 @@
 -- Constraints that are changed one after the other.
-use Rattle.std.specs.Prelude.{◌≡◌, ℕ, ◌+◌, ◌*◌, ◌<◌, ◌≤◌, Bool, true, false, List, length, map, slice_get, Option, Some}
+use Rattle.std.specs.Prelude.{◌≡◌, ℕ, ◌+◌, ◌*◌, ◌<◌, ◌≤◌, ◌==◌, Bool, true, false, if◌then◌else◌, List, length, map, slice_get, Option, Some}
 use Rattle.iv_following.specs.Words.{Value, Change, Constraint}
 use Rattle.iv_index.specs.Groups.{GroupOf, Contents, groups_of, room_of}
 use Rattle.iv_index.specs.Laws.{size_of}
@@ -63,3 +63,16 @@ pub record AllStay (constraints : List Constraint) (most : ℕ) (start now : Con
   pub sizes : (k : ℕ) (key : List Value) → size_of (groups_of start.groups k) key ≤ size_of (groups_of now.groups k) key
   pub grows : start.looked_up ≤ now.looked_up
   pub looked_up : now.looked_up ≤ start.looked_up + most
+
+-- No row of any constraint has moved, and marks that were right are right: groups without rows were given back, so a key may hold fewer
+-- rows without memory. No look-up was made.
+pub record AllGiven (start now : Contents) (marks later : Marks) : Type 0 where
+  pub count : length now.groups ≡ length start.groups
+  pub marks_count : length later ≡ length marks
+  pub stay : (k : ℕ) (c : Constraint) → RowsStay c (map shown_group (groups_of start.groups k)) (marks_of marks k) (map shown_group (groups_of now.groups k)) (marks_of later k)
+  pub watched : (k : ℕ) → IsWatched k start.groups marks → IsWatched k now.groups later
+  pub looked_up : now.looked_up ≡ start.looked_up
+
+-- A place is marked, after the mark of one place, if it has one, has moved to another.
+abbrev pub moved_flag : Bool → ℕ → ℕ → ℕ → Bool → Bool
+moved_flag marked from to place was = if marked then (if place == to then true else if place == from then false else was) else was

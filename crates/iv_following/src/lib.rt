@@ -2,6 +2,7 @@
 #![tactic(auto)]
 
 mod following;
+mod giving;
 mod keys;
 mod reference;
 mod shown;
@@ -10,6 +11,7 @@ mod step;
 mod turns;
 
 pub use following::{follow, make_room_and_follow};
+pub use giving::give_back;
 pub use keys::kept_key;
 pub use reference::{Reference, is_referenced};
 pub use shown::{make_room, put};

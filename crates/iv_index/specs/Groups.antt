@@ -1,5 +1,5 @@
--- Groups: the rows of each key of each constraint. A key has at most one group in a constraint, and a group stays at its place.
-use Rattle.std.specs.Prelude.{◌≡◌, ℕ, ◌+◌, ◌-◌, ◌^◌, ◌<◌, min, List, [], ◌∷◌, length, Option, Some, None, option_map, false, if◌then◌else◌, slice_get, slice_index, slice_index_or, slice_set}
+-- Groups: the rows of each key of each constraint. A key has at most one group in a constraint, and a group stays at its place until one without rows is given back.
+use Rattle.std.specs.Prelude.{◌≡◌, ℕ, ◌+◌, ◌-◌, ◌^◌, ◌<◌, ◌==◌, Bool, true, min, List, [], ◌∷◌, length, Option, Some, None, option_map, false, if◌then◌else◌, slice_get, slice_index, slice_index_or, slice_set, swap_remove}
 use Rattle.iv_value.specs.declared.value.Value.{Value}
 use Rattle.iv_value.specs.Values.{all_same}
 use Rattle.iv_key.specs.Hashes.{hash_of}
@@ -69,6 +69,34 @@ without_row_under key row groups = with_held groups key (removed row (held_at gr
 -- A group after a change of its rows.
 abbrev pub changed : (Rows → Rows) → GroupOf → GroupOf
 changed change g = record { key = g.key; held = change g.held }
+
+-- A group of no key, which stands for one that isn't there.
+abbrev pub no_group : GroupOf
+no_group = record { key = []; held = no_rows }
+
+-- There is no row in the group at a place.
+abbrev pub is_dead : List GroupOf → ℕ → Bool
+is_dead groups place = length (rows_at groups place) == 0
+
+-- The groups without the one at a place, to which the last group comes.
+abbrev pub without_group : List GroupOf → ℕ → List GroupOf
+without_group groups place = swap_remove groups place no_group
+
+-- The rows of a key without room.
+abbrev pub tight : Rows → Rows
+tight held = record { rows = held.rows; room = 0 }
+
+-- The groups with no room in the one at a place.
+abbrev pub with_tight : List GroupOf → ℕ → List GroupOf
+with_tight groups place = slice_set groups place (changed tight (slice_index_or groups place no_group))
+
+-- The groups after the one at a place was given back, if there is no row in it; else it has no room.
+abbrev pub given_back : List GroupOf → ℕ → List GroupOf
+given_back groups place = if is_dead groups place then without_group groups place else with_tight groups place
+
+-- Where a group stands after the one at a place was taken away: the last one has come to this place, and the others stay.
+abbrev pub place_after : List GroupOf → ℕ → ℕ → ℕ
+place_after groups place old = if old == length groups - 1 then place else old
 
 -- One look-up more; the count stays at its greatest value.
 abbrev pub counted : ℕ → ℕ

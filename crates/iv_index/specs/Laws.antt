@@ -1,9 +1,9 @@
 -- What follows from the definitions: groups are a finite map from constraints and keys to rows, whose places stay, and what is undone is as before.
-use Rattle.std.specs.Prelude.{◌≡◌, ℕ, ◌+◌, ◌<◌, ◌≤◌, ◌==◌, ◌&&◌, List, length, Some, true, false, if◌then◌else◌, slice_index_or}
+use Rattle.std.specs.Prelude.{◌≡◌, ◌≢◌, ℕ, ◌+◌, ◌<◌, ◌≤◌, ◌==◌, ◌&&◌, ◌-◌, List, length, Some, None, true, false, if◌then◌else◌, slice_index_or}
 use Rattle.iv_value.specs.declared.value.Value.{Value}
 use Rattle.iv_value.specs.Values.{all_same}
 use Rattle.iv_numbers.specs.Rows.{Rows, IsRising, has_row}
-use Rattle.iv_index.specs.Groups.{GroupOf, groups_of, held_at, place_in, rows_of, room_of, with_groups, with_held, with_room_under, with_row_put, with_row_under, without_row_under}
+use Rattle.iv_index.specs.Groups.{EachIsApart, GroupOf, groups_of, given_back, held_at, is_dead, no_group, place_after, place_in, rows_of, room_of, with_groups, with_held, with_room_under, with_row_put, with_row_under, without_group, without_row_under}
 
 -- Two keys are the same exactly where they are equal.
 abbrev pub SameIsEqual : Type 0
@@ -76,3 +76,25 @@ pub record SizeStays : Type 0 where
       → size_of (without_row_under key row groups) other ≡ size_of groups other
   pub put : (groups : List GroupOf) (key other : List Value) (row : ℕ) → 0 < room_of groups key
       → size_of (with_row_put key row groups) other ≡ size_of groups other
+
+-- What there is after a group was taken away, where no two groups have one key.
+pub record GroupLeaves (groups : List GroupOf) (place : ℕ) : Type 0 where
+  -- no two have one key
+  pub apart : EachIsApart (without_group groups place)
+  -- there is one less
+  pub count : length (without_group groups place) ≡ length groups - 1
+  -- its key has none
+  pub gone : place_in (without_group groups place) (slice_index_or groups place no_group).key ≡ None
+  -- a key that had none has none
+  pub none : (key : List Value) → place_in groups key ≡ None → place_in (without_group groups place) key ≡ None
+  -- every other key has the rows and the room that it had
+  pub held : (key : List Value) → all_same (slice_index_or groups place no_group).key key ≡ false → held_at (without_group groups place) key ≡ held_at groups key
+  -- and stands where it stood, except the last group, which comes to the place
+  pub places : (key : List Value) (old : ℕ) → place_in groups key ≡ Some old → old ≢ place → place_in (without_group groups place) key ≡ Some (place_after groups place old)
+
+abbrev pub GroupsLeave : Type 0
+GroupsLeave = (groups : List GroupOf) (place : ℕ) → EachIsApart groups → place < length groups → GroupLeaves groups place
+
+-- A group that is given back leaves the rows of every key as they were.
+abbrev pub GivenBackIsNothing : Type 0
+GivenBackIsNothing = (groups : List GroupOf) (place : ℕ) → EachIsApart groups → place < length groups → (key : List Value) → rows_of (given_back groups place) key ≡ rows_of groups key

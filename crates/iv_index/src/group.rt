@@ -1,19 +1,19 @@
 //! One group: a key and the rows that hold it.
-ghost use Rattle.std.specs.Prelude.{◌≡◌, ◌<◌, true, false, IfOk, OnOk, OnErr};
+ghost use Rattle.std.specs.Prelude.{◌≡◌, ◌<◌, length, true, false, IfOk, OnOk, OnErr};
 ghost use Rattle.iv_numbers.specs.Rows.{IsRising, added, has_row, no_rows, put, removed, roomy};
 ghost use Rattle.std.specs.Borrow.{sem};
-ghost use Rattle.iv_index.specs.Groups.{changed};
+ghost use Rattle.iv_index.specs.Groups.{changed, tight};
 ghost use Rattle.iv_index.specs.Closing.{GroupStays};
 ghost use Rattle.iv_value.specs.Values.{all_same};
 
-use crate::group_key::{GroupKey, copied, values};
+use crate::group_key::{GroupKey, copied};
 use crate::group_rows::GroupRows;
 use iv_key::Key;
 use iv_numbers::HeldRows;
 use std::alloc::{AllocError, Global};
 use std::marker::Model;
 
-/// A key and the rows that hold it. A key of one value with one row takes no memory of its own.
+/// A key and the rows that hold it. A key of one or two values with one row takes no memory of its own.
 #[derive(Drop)]
 pub struct Group {
     key: GroupKey,
@@ -22,11 +22,10 @@ pub struct Group {
 
 impl Model for Group {
     ghost use Rattle.iv_index.specs.Groups.{GroupOf};
-    ghost use Rattle.iv_index.specs.Held.{rows_held, values_of};
 
     ghost Value = { GroupOf };
 
-    ghost view = { λ g. record { key = values_of g.key; held = rows_held g.rows } };
+    ghost view = { λ g. record { key = g.key.items; held = g.rows } };
 }
 
 impl Group {
@@ -36,7 +35,7 @@ impl Group {
     {
         Ok(Group {
             key: copied(alloc, key)?,
-            rows: GroupRows::with_room(alloc),
+            rows: GroupRows::with_room(),
         })
     }
 
@@ -46,7 +45,7 @@ impl Group {
     {
         Ok(Group {
             key: copied(alloc, key)?,
-            rows: GroupRows::with_row(alloc, row),
+            rows: GroupRows::with_row(row),
         })
     }
 
@@ -54,7 +53,7 @@ impl Group {
     pub fn is_of(&self, key: &Key<'_>) -> bool
         ensures { result ≡ all_same self.now.key key.now }
     {
-        key.has_values(values(&self.key))
+        key.has_values(self.key.as_slice())
     }
 
     /// Its rows.
@@ -112,5 +111,20 @@ impl Group {
         ensures { self.new ≡ changed (removed row) self.old }
     {
         self.rows.remove(row);
+    }
+
+    /// Gives its room up, and memory where it is far more than its rows need.
+    pub fn give_room_back(&mut self)
+        requires { 0 < length self.old.held.rows }
+        ensures { self.new ≡ changed tight self.old }
+    {
+        self.rows.give_room_back();
+    }
+
+    /// Whether it has no row, or far more room than rows. No clause says so: it tells whether something is to be given
+    /// back.
+    pub fn is_loose(&self) -> bool {
+        let count = self.rows().len();
+        count == 0 || self.room() / 4 > count
     }
 }

@@ -1,121 +1,61 @@
 //! The rows of one group.
-ghost use Rattle.std.specs.Prelude.{◌≡◌, ◌<◌, ◌∷◌, [], length, slice_index_or, slice_set, true, false, None, Some, IfOk, OnOk, OnErr};
+ghost use Rattle.std.specs.Prelude.{◌≡◌, ◌<◌, ◌∷◌, [], length, true, false, IfOk, OnOk, OnErr};
 ghost use Rattle.std.specs.Borrow.{sem};
 ghost use Rattle.iv_numbers.specs.Rows.{IsRising, added, has_row, no_rows, put, removed, roomy};
 ghost use Rattle.iv_index.specs.Closing.{RowsStay};
-ghost use Rattle.iv_index.specs.Held.{held, one_held, rows_held};
+ghost use Rattle.iv_index.specs.Groups.{tight};
+ghost use Rattle.iv_index.specs.Held.{rows_held};
 
 use iv_numbers::{HeldRows, RowNumbers};
 use std::alloc::{AllocError, Global};
 use std::marker::Model;
 use std::slice;
 
-/// The rows of one key. A single row stands here itself, and there is room for one where it is missing. From the second
-/// row on they are a list of their own, which is then the only one of `many`.
+/// Rows and where they stand: a single one here itself, more in a list of their own. Where there is none, there is room for
+/// one.
+#[derive(Drop)]
+pub enum Numbers {
+    Empty,
+    One(u64),
+    Many(Box<RowNumbers>),
+}
+
+/// The rows of one key. A single row takes no memory of its own.
 #[derive(Drop)]
 pub struct GroupRows {
-    one: Option<u64>,
-    many: Vec<RowNumbers>,
+    numbers: Numbers,
 }
 
 impl Model for GroupRows {
-    ghost use Rattle.iv_index.specs.Held.{Held};
+    ghost use Rattle.iv_numbers.specs.Rows.{Rows};
+    ghost use Rattle.iv_index.specs.Held.{rows_held};
 
-    ghost Value = { Held };
+    ghost Value = { Rows };
 
-    ghost view = { λ r. record { one = r.one; many = r.many.items } };
-}
-
-// A single row, where it is there.
-fn one_row(one: &Option<u64>) -> HeldRows<'_>
-    ensures value { result ≡ (one_held one.now).rows }
-    ensures rising { IsRising result }
-{
-    match one {
-        Some(row) => HeldRows::new(slice::from_ref(row), &[]),
-        None => HeldRows::new(&[], &[]),
-    }
+    ghost view = { λ r. rows_held r.numbers };
 }
 
 // The rows.
-fn rows<'a>(one: &'a Option<u64>, many: &'a [RowNumbers]) -> HeldRows<'a>
-    ensures value { result ≡ (rows_held (held one.now many.now)).rows }
+fn held(numbers: &Numbers) -> HeldRows<'_>
+    ensures value { result ≡ (rows_held numbers.now).rows }
     ensures rising { IsRising result }
 {
-    match many {
-        [rows, ..] => rows.held(),
-        [] => one_row(one),
-    }
-}
-
-// The room for a single row.
-fn one_room(one: &Option<u64>) -> usize
-    ensures { result ≡ (one_held one.now).room }
-{
-    match one {
-        Some(_) => 0,
-        None => 1,
+    match numbers {
+        Numbers::Empty => HeldRows::new(&[], &[]),
+        Numbers::One(row) => HeldRows::new(slice::from_ref(row), &[]),
+        Numbers::Many(rows) => rows.held(),
     }
 }
 
 // How many more rows there is room for.
-fn room(one: &Option<u64>, many: &[RowNumbers]) -> usize
-    ensures { result ≡ (rows_held (held one.now many.now)).room }
+fn room(numbers: &Numbers) -> usize
+    ensures { result ≡ (rows_held numbers.now).room }
 {
-    match many {
-        [rows, ..] => rows.room(),
-        [] => one_room(one),
+    match numbers {
+        Numbers::Empty => 1,
+        Numbers::One(_) => 0,
+        Numbers::Many(rows) => rows.room(),
     }
-}
-
-// Makes room in the list.
-fn make_room_in(many: &mut Vec<RowNumbers>) -> Result<(), AllocError>
-    requires { 0 < length many.old.items }
-    ensures ok { OnOk result (many.new.items
-        ≡ slice_set many.old.items 0 (roomy (slice_index_or many.old.items 0 no_rows))) }
-    ensures err { OnErr result (many.new.items ≡ many.old.items) }
-{
-    many[0].make_room()
-}
-
-// Adds a row to the list.
-fn add_in(many: &mut Vec<RowNumbers>, row: u64) -> Result<(), AllocError>
-    requires some { 0 < length many.old.items }
-    requires absent { has_row row (slice_index_or many.old.items 0 no_rows).rows ≡ false }
-    ensures ok { OnOk result (many.new.items
-        ≡ slice_set many.old.items 0 (added row (slice_index_or many.old.items 0 no_rows))) }
-    ensures err { OnErr result (many.new.items ≡ many.old.items) }
-{
-    many[0].add(row)
-}
-
-// Puts a row into the list.
-fn put_in(many: &mut Vec<RowNumbers>, row: u64)
-    requires some { 0 < length many.old.items }
-    requires room { 0 < (slice_index_or many.old.items 0 no_rows).room }
-    ensures { many.new.items ≡ slice_set many.old.items 0 (put row (slice_index_or many.old.items 0 no_rows)) }
-{
-    many[0].put(row);
-}
-
-// Removes a row from the list.
-fn remove_in(many: &mut Vec<RowNumbers>, row: u64)
-    requires some { 0 < length many.old.items }
-    requires present { has_row row (slice_index_or many.old.items 0 no_rows).rows ≡ true }
-    ensures { many.new.items ≡ slice_set many.old.items 0 (removed row (slice_index_or many.old.items 0 no_rows)) }
-{
-    many[0].remove(row);
-}
-
-// Begins the list with these rows.
-fn begin(many: &mut Vec<RowNumbers>, rows: RowNumbers) -> Result<(), AllocError>
-    requires { length many.old.items ≡ 0 }
-    ensures ok { OnOk result (many.new.items ≡ rows ∷ []) }
-    ensures err { OnErr result (many.new.items ≡ many.old.items) }
-{
-    many.reserve_exact(1)?;
-    many.push_reserved(rows);
-    Ok(())
 }
 
 // A row, and room for one more.
@@ -140,175 +80,162 @@ fn both(alloc: Global, row: u64, other: u64) -> Result<RowNumbers, AllocError>
 }
 
 // Makes room for one row at least.
-fn make_room(alloc: Global, one: &Option<u64>, many: &mut Vec<RowNumbers>) -> Result<(), AllocError>
-    ensures ok { OnOk result (rows_held (held one.now many.new.items)
-        ≡ roomy (rows_held (held one.now many.old.items))) }
-    ensures err { OnErr result (many.new.items ≡ many.old.items) }
+fn make_room(alloc: Global, numbers: &mut Numbers) -> Result<(), AllocError>
+    ensures ok { OnOk result (rows_held numbers.new ≡ roomy (rows_held numbers.old)) }
+    ensures err { OnErr result (rows_held numbers.new ≡ rows_held numbers.old) }
 {
-    if many.len() > 0 {
-        return make_room_in(many);
-    }
-    match one {
-        Some(row) => {
+    match numbers {
+        Numbers::Empty => Ok(()),
+        Numbers::One(row) => {
             let rows = with_room(alloc, *row)?;
-            begin(many, rows)
+            *numbers = Numbers::Many(Box::new(alloc, rows)?);
+            Ok(())
         }
-        None => Ok(()),
+        Numbers::Many(rows) => rows.make_room(),
     }
 }
 
 // Adds a row.
-fn add(
-    alloc: Global,
-    one: &mut Option<u64>,
-    many: &mut Vec<RowNumbers>,
-    row: u64,
-) -> Result<(), AllocError>
-    requires { has_row row (rows_held (held one.old many.old.items)).rows ≡ false }
-    ensures ok { OnOk result (rows_held (held one.new many.new.items)
-        ≡ added row (rows_held (held one.old many.old.items))) }
-    ensures one { OnErr result (one.new ≡ one.old) }
-    ensures many { OnErr result (many.new.items ≡ many.old.items) }
+fn add(alloc: Global, numbers: &mut Numbers, row: u64) -> Result<(), AllocError>
+    requires { has_row row (rows_held numbers.old).rows ≡ false }
+    ensures ok { OnOk result (rows_held numbers.new ≡ added row (rows_held numbers.old)) }
+    ensures err { OnErr result (rows_held numbers.new ≡ rows_held numbers.old) }
 {
-    if many.len() > 0 {
-        return add_in(many, row);
-    }
-    match *one {
-        Some(first) => {
-            let rows = both(alloc, first, row)?;
-            begin(many, rows)
-        }
-        None => {
-            *one = Some(row);
+    match numbers {
+        Numbers::Empty => {
+            *numbers = Numbers::One(row);
             Ok(())
         }
+        Numbers::One(first) => {
+            let rows = both(alloc, *first, row)?;
+            *numbers = Numbers::Many(Box::new(alloc, rows)?);
+            Ok(())
+        }
+        Numbers::Many(rows) => rows.add(row),
     }
 }
 
 // Puts a row where there is room.
-fn put(one: &mut Option<u64>, many: &mut Vec<RowNumbers>, row: u64)
-    requires { 0 < (rows_held (held one.old many.old.items)).room }
-    ensures { rows_held (held one.new many.new.items) ≡ put row (rows_held (held one.old many.old.items)) }
+fn put(numbers: &mut Numbers, row: u64)
+    requires { 0 < (rows_held numbers.old).room }
+    ensures { rows_held numbers.new ≡ put row (rows_held numbers.old) }
 {
-    if many.len() > 0 {
-        put_in(many, row);
-        return;
+    match numbers {
+        Numbers::Empty => *numbers = Numbers::One(row),
+        Numbers::One(_) => unreachable!(),
+        Numbers::Many(rows) => rows.put(row),
     }
-    *one = Some(row);
 }
 
 // Removes a row that is there.
-fn remove(one: &mut Option<u64>, many: &mut Vec<RowNumbers>, row: u64)
-    requires { has_row row (rows_held (held one.old many.old.items)).rows ≡ true }
-    ensures { rows_held (held one.new many.new.items) ≡ removed row (rows_held (held one.old many.old.items)) }
+fn remove(numbers: &mut Numbers, row: u64)
+    requires { has_row row (rows_held numbers.old).rows ≡ true }
+    ensures { rows_held numbers.new ≡ removed row (rows_held numbers.old) }
 {
-    if many.len() > 0 {
-        remove_in(many, row);
-        return;
+    match numbers {
+        Numbers::Empty => unreachable!(),
+        Numbers::One(_) => *numbers = Numbers::Empty,
+        Numbers::Many(rows) => rows.remove(row),
     }
-    *one = None;
+}
+
+// Gives the room of rows up.
+fn give_room_back(numbers: &mut Numbers)
+    requires { 0 < length (rows_held numbers.old).rows }
+    ensures { rows_held numbers.new ≡ tight (rows_held numbers.old) }
+{
+    match numbers {
+        Numbers::Empty => unreachable!(),
+        Numbers::One(_) => {}
+        Numbers::Many(rows) => rows.give_room_back(),
+    }
 }
 
 impl GroupRows {
     /// No row, and room for one. It takes no memory.
-    pub fn with_room(alloc: Global) -> GroupRows
-        ensures { rows_held result ≡ roomy no_rows }
+    pub fn with_room() -> GroupRows
+        ensures { result ≡ roomy no_rows }
     {
         GroupRows {
-            one: None,
-            many: Vec::new(alloc),
+            numbers: Numbers::Empty,
         }
     }
 
     /// One row, and no room. It takes no memory.
-    pub fn with_row(alloc: Global, row: u64) -> GroupRows
-        ensures { rows_held result ≡ added row no_rows }
+    pub fn with_row(row: u64) -> GroupRows
+        ensures { result ≡ added row no_rows }
     {
         GroupRows {
-            one: Some(row),
-            many: Vec::new(alloc),
+            numbers: Numbers::One(row),
         }
     }
 
     /// The rows.
     pub fn held(&self) -> HeldRows<'_>
-        ensures value { result ≡ (rows_held self.now).rows }
+        ensures value { result ≡ self.now.rows }
         ensures rising { IsRising result }
     {
-        rows(&self.one, self.many.as_slice())
-    }
-
-    // The rows of the list as one slice, which are moved for it.
-    fn many_closed(&mut self) -> &[u64]
-        requires { 0 < length self.old.many }
-        ensures* stays { sem 𝓛 (RowsStay self.entry) }
-        ensures value { result.now ≡ (slice_index_or self.old.many 0 no_rows).rows }
-        ensures rising { IsRising result.now }
-    {
-        self.many[0].closed()
-    }
-
-    // A single row, where it is there.
-    fn one_closed(&self) -> &[u64]
-        ensures value { result.now ≡ (one_held self.now.one).rows }
-        ensures rising { IsRising result.now }
-    {
-        match &self.one {
-            Some(row) => slice::from_ref(row),
-            None => &[],
-        }
+        held(&self.numbers)
     }
 
     /// The rows as one slice, which are moved for it.
     pub fn closed(&mut self) -> &[u64]
         ensures* stays { sem 𝓛 (RowsStay self.entry) }
-        ensures value { result.now ≡ (rows_held self.old).rows }
+        ensures value { result.now ≡ self.old.rows }
         ensures rising { IsRising result.now }
     {
-        if self.many.len() > 0 {
-            self.many_closed()
-        } else {
-            self.one_closed()
+        match &mut self.numbers {
+            Numbers::Empty => &[],
+            Numbers::One(row) => slice::from_ref(row),
+            Numbers::Many(rows) => rows.closed(),
         }
     }
 
     /// How many more rows there is room for without memory.
     pub fn room(&self) -> usize
-        ensures { result ≡ (rows_held self.now).room }
+        ensures { result ≡ self.now.room }
     {
-        room(&self.one, self.many.as_slice())
+        room(&self.numbers)
     }
 
     /// Sees that there is room for one row at least.
     pub fn make_room(&mut self, alloc: Global) -> Result<(), AllocError>
-        ensures ok { OnOk result (rows_held self.new ≡ roomy (rows_held self.old)) }
+        ensures ok { OnOk result (self.new ≡ roomy self.old) }
         ensures err { OnErr result (self.new ≡ self.old) }
     {
-        make_room(alloc, &self.one, &mut self.many)
+        make_room(alloc, &mut self.numbers)
     }
 
     /// Adds a row. It takes one of the room, or memory where there is no room.
     pub fn add(&mut self, alloc: Global, row: u64) -> Result<(), AllocError>
-        requires { has_row row (rows_held self.old).rows ≡ false }
-        ensures ok { OnOk result (rows_held self.new ≡ added row (rows_held self.old)) }
+        requires { has_row row self.old.rows ≡ false }
+        ensures ok { OnOk result (self.new ≡ added row self.old) }
         ensures err { OnErr result (self.new ≡ self.old) }
     {
-        add(alloc, &mut self.one, &mut self.many, row)
+        add(alloc, &mut self.numbers, row)
     }
 
     /// Puts a row where it isn't among them. It takes one of the room, and no memory.
     pub fn put(&mut self, row: u64)
-        requires { 0 < (rows_held self.old).room }
-        ensures { rows_held self.new ≡ put row (rows_held self.old) }
+        requires { 0 < self.old.room }
+        ensures { self.new ≡ put row self.old }
     {
-        put(&mut self.one, &mut self.many, row);
+        put(&mut self.numbers, row);
     }
 
     /// Removes a row. Its place is kept as room.
     pub fn remove(&mut self, row: u64)
-        requires { has_row row (rows_held self.old).rows ≡ true }
-        ensures { rows_held self.new ≡ removed row (rows_held self.old) }
+        requires { has_row row self.old.rows ≡ true }
+        ensures { self.new ≡ removed row self.old }
     {
-        remove(&mut self.one, &mut self.many, row);
+        remove(&mut self.numbers, row);
+    }
+
+    /// Gives the room up, and memory where it is far more than the rows need.
+    pub fn give_room_back(&mut self)
+        requires { 0 < length self.old.rows }
+        ensures { self.new ≡ tight self.old }
+    {
+        give_room_back(&mut self.numbers);
     }
 }

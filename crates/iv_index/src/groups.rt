@@ -1,8 +1,8 @@
 //! The groups of all constraints.
-ghost use Rattle.std.specs.Prelude.{◌≡◌, ℕ, ◌<◌, ◌≤◌, ◌^◌, [], length, min, max, true, false, IfOk, OnOk, OnErr, Some};
+ghost use Rattle.std.specs.Prelude.{◌≡◌, ℕ, ◌<◌, ◌≤◌, ◌^◌, [], length, min, max, true, false, IfSome, IfOk, OnOk, OnErr, Some};
 ghost use Rattle.std.specs.Borrow.{sem};
 ghost use Rattle.iv_numbers.specs.Rows.{IsRising, has_row};
-ghost use Rattle.iv_index.specs.Groups.{AreSound, EachIsApart, EachIsFound, EachRises, counted, groups_of, place_in, room_of, rows_at, rows_of, with_groups, with_room_under, with_row_put, with_row_under, without_row_under};
+ghost use Rattle.iv_index.specs.Groups.{AreSound, EachIsApart, EachIsFound, EachRises, counted, given_back, groups_of, is_dead, place_in, room_of, rows_at, rows_of, with_groups, with_room_under, with_row_put, with_row_under, without_row_under};
 ghost use Rattle.iv_index.specs.Lending.{Looked};
 
 use crate::key_index::KeyIndex;
@@ -11,13 +11,31 @@ use iv_numbers::HeldRows;
 use std::alloc::{AllocError, Global};
 use std::marker::Model;
 
+/// Where a group stands: at a place of a constraint.
+#[derive(Clone, Copy)]
+pub struct Place {
+    pub constraint: usize,
+    pub place: usize,
+}
+
 /// The rows of each key of each constraint. Contracts see for each constraint, by its number, the groups in the order
-/// in which their keys came. A group never leaves, so its place stays, until the constraint is cleared.
+/// in which their keys came. A group stays at its place until one is given back or the constraint is cleared.
 #[derive(Drop)]
 pub struct Groups {
     alloc: Global,
     indexes: Vec<KeyIndex>,
     looked_up: u64,
+    // A hand that goes round all groups, to find what can be given back.
+    hand: Hand,
+}
+
+// Where the hand is, and how many steps are due: one for each group that was made, and three for each row that left its
+// group without rows or with far more room than rows.
+#[derive(Clone, Copy)]
+struct Hand {
+    constraint: usize,
+    place: usize,
+    due: u64,
 }
 
 impl Model for Groups {
@@ -198,6 +216,23 @@ fn remove_under(indexes: &mut Vec<KeyIndex>, constraint: usize, key: &Key<'_>, r
     place
 }
 
+// Gives the group at a place of a constraint back where it has no row, or else its room, and tells whether it has none.
+#[tactic(auto, using(crate::proofs::SoundLemmas::sound_set))]
+fn give_back_under(indexes: &mut Vec<KeyIndex>, constraint: usize, place: usize) -> bool
+    requires known { constraint < length indexes.old.items }
+    requires place { place < length (groups_of indexes.old.items constraint) }
+    requires sound { AreSound indexes.old.items }
+    ensures dead { result ≡ is_dead (groups_of indexes.old.items constraint) place }
+    ensures groups { indexes.new.items
+        ≡ with_groups indexes.old.items constraint (given_back (groups_of indexes.old.items constraint) place) }
+    ensures sound { AreSound indexes.new.items }
+{
+    let index = &mut indexes[constraint];
+    let dead = index.give_back(place);
+    index.are_sound();
+    dead
+}
+
 // Does nothing. Its contract says what holds of the groups of every constraint.
 fn kept(indexes: &[KeyIndex])
     requires { AreSound indexes.now }
@@ -206,6 +241,76 @@ fn kept(indexes: &[KeyIndex])
     ensures rising { (constraint : ℕ) → EachRises (groups_of indexes.now constraint) }
 {
     let _ = indexes;
+}
+
+// A step more is due, where a constraint has more groups than it had.
+fn count_made(hand: &mut Hand, before: usize, now: usize) {
+    if before < now {
+        hand.due = hand.due.saturating_add(1);
+    }
+}
+
+// Whether something is to be given back of the group at a place of a constraint.
+fn is_loose(indexes: &[KeyIndex], constraint: usize, place: usize) -> bool {
+    match indexes.get(constraint) {
+        Some(index) => index.is_loose(place),
+        None => false,
+    }
+}
+
+// Three steps more are due, where a group was left with something to be given back.
+fn count_left(hand: &mut Hand, loose: bool) {
+    if loose {
+        hand.due = hand.due.saturating_add(3);
+    }
+}
+
+// How many steps a round takes: one for each group, one for each constraint, and one from the last to the first.
+fn round(indexes: &[KeyIndex]) -> u64 {
+    let mut steps = 1u64;
+    for index in indexes {
+        steps = steps.saturating_add(index.len() as u64).saturating_add(1);
+    }
+    steps
+}
+
+// The steps that are due, and not more than those of a round. Where they are fewer than the constraints, they are.
+fn due_steps(due: u64, indexes: &[KeyIndex]) -> u64 {
+    if due <= indexes.len() as u64 {
+        return due;
+    }
+    due.min(round(indexes))
+}
+
+// The hand stays at a place to which another group came.
+fn stay(hand: &mut Hand, is_new: bool, constraint: usize, place: usize) {
+    if is_new {
+        hand.constraint = constraint;
+        hand.place = place;
+    }
+}
+
+// The hand goes one step on. It tells where it was, if a group is there.
+fn step(hand: &mut Hand, indexes: &[KeyIndex]) -> Option<Place>
+    ensures known { IfSome result (λ at. at.constraint < length indexes.now) }
+    ensures place { IfSome result (λ at. at.place < length (groups_of indexes.now at.constraint)) }
+{
+    let at = Place {
+        constraint: hand.constraint,
+        place: hand.place,
+    };
+    if at.constraint >= indexes.len() {
+        hand.constraint = 0;
+        hand.place = 0;
+        return None;
+    }
+    if at.place < count_in(indexes, at.constraint) {
+        hand.place = at.place + 1;
+        return Some(at);
+    }
+    hand.constraint = at.constraint + 1;
+    hand.place = 0;
+    None
 }
 
 impl Groups {
@@ -217,6 +322,11 @@ impl Groups {
             alloc,
             indexes: Vec::new(alloc),
             looked_up: 0,
+            hand: Hand {
+                constraint: 0,
+                place: 0,
+                due: 0,
+            },
         }
     }
 
@@ -340,7 +450,11 @@ impl Groups {
         ensures grows { self.old.looked_up ≤ self.new.looked_up }
     {
         count(&mut self.looked_up);
-        make_room_under(self.alloc, &mut self.indexes, constraint, key)
+        let before = count_in(self.indexes.as_slice(), constraint);
+        let made = make_room_under(self.alloc, &mut self.indexes, constraint, key);
+        let now = count_in(self.indexes.as_slice(), constraint);
+        count_made(&mut self.hand, before, now);
+        made
     }
 
     /// Adds a row that isn't under the key. It takes one of the room, or memory where there is no room; where the key
@@ -355,7 +469,11 @@ impl Groups {
         ensures grows { self.old.looked_up ≤ self.new.looked_up }
     {
         count(&mut self.looked_up);
-        add_under(self.alloc, &mut self.indexes, constraint, key, row)
+        let before = count_in(self.indexes.as_slice(), constraint);
+        let added = add_under(self.alloc, &mut self.indexes, constraint, key, row);
+        let now = count_in(self.indexes.as_slice(), constraint);
+        count_made(&mut self.hand, before, now);
+        added
     }
 
     /// Puts a row under a key that has room, where it isn't under it, and tells the place of its group. It takes one
@@ -384,6 +502,45 @@ impl Groups {
         ensures grows { self.old.looked_up ≤ self.new.looked_up }
     {
         count(&mut self.looked_up);
-        remove_under(&mut self.indexes, constraint, key, row)
+        let place = remove_under(&mut self.indexes, constraint, key, row);
+        let loose = is_loose(self.indexes.as_slice(), constraint, place);
+        count_left(&mut self.hand, loose);
+        place
+    }
+
+    /// Gives the group at a place back where it has no row, and tells whether it has none: the constraint has it no more,
+    /// and its last group comes to the place. A group with rows gives its room up. It is no look-up, and can't be refused
+    /// memory: where a smaller block is, the larger one stays.
+    pub fn give_back(&mut self, constraint: usize, place: usize) -> bool
+        requires known { constraint < length self.old.groups }
+        requires place { place < length (groups_of self.old.groups constraint) }
+        ensures dead { result ≡ is_dead (groups_of self.old.groups constraint) place }
+        ensures groups { self.new.groups
+            ≡ with_groups self.old.groups constraint (given_back (groups_of self.old.groups constraint) place) }
+        ensures looked_up { self.new.looked_up ≡ self.old.looked_up }
+    {
+        let dead = give_back_under(&mut self.indexes, constraint, place);
+        stay(&mut self.hand, dead, constraint, place);
+        dead
+    }
+
+    /// How many steps the hand is to go to find what can be given back; they are then due no more. No clause says how
+    /// many: one for each group that was made since the last call, three for each row that left something to be given
+    /// back, and not more than once round all groups.
+    pub fn take_due(&mut self) -> u64
+        ensures { self.new ≡ self.old }
+    {
+        let steps = due_steps(self.hand.due, self.indexes.as_slice());
+        self.hand.due = 0;
+        steps
+    }
+
+    /// The hand goes one step on. It tells where it was, if a group is there; if none is, it goes to the next constraint.
+    pub fn step(&mut self) -> Option<Place>
+        ensures known { IfSome result (λ at. at.constraint < length self.old.groups) }
+        ensures place { IfSome result (λ at. at.place < length (groups_of self.old.groups at.constraint)) }
+        ensures groups { self.new ≡ self.old }
+    {
+        step(&mut self.hand, self.indexes.as_slice())
     }
 }

@@ -1,21 +1,21 @@
 //! The groups of one constraint.
-ghost use Rattle.std.specs.Prelude.{◌≡◌, ◌<◌, ◌≤◌, ◌^◌, [], ◌∷◌, ◌++◌, length, true, false, IfSome, OnOk, OnErr, Some, slice_index_or, slice_set};
+ghost use Rattle.std.specs.Prelude.{◌≡◌, ◌<◌, ◌≤◌, ◌^◌, [], ◌∷◌, ◌++◌, ◌==◌, length, swap_remove, true, false, if◌then◌else◌, IfSome, OnOk, OnErr, Some, slice_index_or, slice_set};
 ghost use Rattle.iv_value.specs.Values.{all_same};
 ghost use Rattle.iv_key.specs.Hashes.{hash_of};
 ghost use Rattle.std.specs.Borrow.{sem};
 ghost use Rattle.iv_index.specs.Closing.{IndexStays};
 ghost use Rattle.iv_index.specs.Linked.{EndsAt, NoneFrom};
 ghost use Rattle.iv_numbers.specs.Rows.{IsRising, added, has_row, put, removed, roomy};
-ghost use Rattle.iv_index.specs.Groups.{GroupOf, IsIndexed, IsSound, changed, place_in, room_of, rows_at, rows_of, with_room_under, with_row_put, with_row_under, without_row_under};
+ghost use Rattle.iv_index.specs.Groups.{GroupOf, IsIndexed, IsSound, changed, given_back, is_dead, place_in, room_of, rows_at, rows_of, tight, with_room_under, with_row_put, with_row_under, without_group, without_row_under};
 
 use crate::group::Group;
 use crate::hash_index::{HashIndex, push};
 use iv_key::Key;
-use iv_numbers::HeldRows;
+use iv_numbers::{HeldRows, give_room_back};
 use std::alloc::{AllocError, Global};
 use std::marker::Model;
 
-/// The groups of one constraint, each found by the hash of its key. A group never leaves, so its place stays.
+/// The groups of one constraint, each found by the hash of its key. A group stays at its place until one is given back.
 #[derive(Drop)]
 pub struct KeyIndex {
     hashes: HashIndex,
@@ -287,6 +287,55 @@ fn remove_under(
     }
 }
 
+// Whether the group at a place has no row.
+fn is_dead(groups: &[Group], place: usize) -> bool
+    requires { place < length groups.now }
+    ensures { result ≡ is_dead groups.now place }
+{
+    groups[place].rows().is_empty()
+}
+
+// Takes the group at a place away, whatever its rows are. The last one comes to its place.
+fn remove_group(hashes: &mut HashIndex, groups: &mut Vec<Group>, place: usize)
+    requires indexed { IsIndexed hashes.old groups.old.items }
+    requires within { place < length groups.old.items }
+    ensures groups { groups.new.items ≡ without_group groups.old.items place }
+    ensures indexed { IsIndexed hashes.new groups.new.items }
+{
+    hashes.remove(place);
+    let group = groups.swap_remove(place);
+    drop(group);
+    hashes.give_room_back();
+    give_room_back(groups);
+}
+
+// Gives up the room of the group at a place.
+fn tighten(groups: &mut Vec<Group>, place: usize)
+    requires within { place < length groups.old.items }
+    requires rows { (d : GroupOf) → 0 < length (slice_index_or groups.old.items place d).held.rows }
+    ensures { (d : GroupOf) → groups.new.items
+        ≡ slice_set groups.old.items place (changed tight (slice_index_or groups.old.items place d)) }
+{
+    let group = &mut groups[place];
+    group.give_room_back();
+}
+
+// Gives the group at a place back where it has no row, or else its room, and tells whether it has none.
+fn give_back_at(hashes: &mut HashIndex, groups: &mut Vec<Group>, place: usize) -> bool
+    requires indexed { IsIndexed hashes.old groups.old.items }
+    requires within { place < length groups.old.items }
+    ensures dead { result ≡ is_dead groups.old.items place }
+    ensures groups { groups.new.items ≡ given_back groups.old.items place }
+    ensures indexed { IsIndexed hashes.new groups.new.items }
+{
+    if is_dead(groups.as_slice(), place) {
+        remove_group(hashes, groups, place);
+        return true;
+    }
+    tighten(groups, place);
+    false
+}
+
 impl KeyIndex {
     /// No groups. It takes no memory.
     pub fn new(alloc: Global) -> KeyIndex
@@ -418,5 +467,24 @@ impl KeyIndex {
         let place = remove_under(&self.hashes, &mut self.groups, self.recent, key, row);
         self.recent = place;
         place
+    }
+
+    /// Gives the group at a place back where it has no row, and tells whether it has none: the last group comes to its
+    /// place. A group with rows gives its room up.
+    pub fn give_back(&mut self, place: usize) -> bool
+        requires { place < length self.old }
+        ensures dead { result ≡ is_dead self.old place }
+        ensures groups { self.new ≡ given_back self.old place }
+    {
+        give_back_at(&mut self.hashes, &mut self.groups, place)
+    }
+
+    /// Whether there is a group at a place that has no row, or far more room than rows. No clause says so: it tells
+    /// whether something is to be given back.
+    pub fn is_loose(&self, place: usize) -> bool {
+        match self.groups.get(place) {
+            Some(group) => group.is_loose(),
+            None => false,
+        }
     }
 }

@@ -1,5 +1,5 @@
 //! What follows from the definitions of groups, as contracts of functions that do nothing.
-ghost use Rattle.iv_index.specs.Laws.{SameIsEqual, GroupsAfter, ConstraintsStay, HeldAfter, IsFiniteMap, PlaceStays, GroupAtPlace, OtherPlacesStay, PutIsAdded, RemovedAndPutBack, AddedAndRemoved, SizeGrows, SizeStays};
+ghost use Rattle.iv_index.specs.Laws.{SameIsEqual, GroupsAfter, ConstraintsStay, HeldAfter, IsFiniteMap, PlaceStays, GroupAtPlace, OtherPlacesStay, PutIsAdded, RemovedAndPutBack, AddedAndRemoved, SizeGrows, SizeStays, GroupsLeave, GivenBackIsNothing};
 
 /// Does nothing. Its contract states that groups are a finite map from constraints and keys to rows, and that places
 /// stay.
@@ -22,4 +22,11 @@ pub fn groups_are_undone()
     ensures added { AddedAndRemoved }
     ensures grows { SizeGrows }
     ensures stays { SizeStays }
+{}
+
+/// Does nothing. Its contract states what there is after a group was taken away, and that one that is given back leaves the
+/// rows of every key as they were.
+pub fn groups_are_given_back()
+    ensures leave { GroupsLeave }
+    ensures nothing { GivenBackIsNothing }
 {}

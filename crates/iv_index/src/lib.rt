@@ -9,5 +9,5 @@ mod hash_index;
 mod key_index;
 mod laws;
 
-pub use groups::Groups;
-pub use laws::{groups_are_a_map, groups_are_undone};
+pub use groups::{Groups, Place};
+pub use laws::{groups_are_a_map, groups_are_given_back, groups_are_undone};

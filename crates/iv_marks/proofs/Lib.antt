@@ -1,4 +1,5 @@
 pub mod Exchanges
+pub mod Cut
 pub mod Flags
 pub mod MarkedPlaces
 pub mod MarksWith

@@ -1,8 +1,9 @@
 //! Places, some of them marked.
-ghost use Rattle.std.specs.Prelude.{◌≡◌, ℕ, ◌+◌, ◌<◌, ◌≤◌, ◌==◌, if◌then◌else◌, List, [], ◌∷◌, ◌++◌, length, slice_index, vec_len, true, false, OnOk, OnErr};
+ghost use Rattle.std.specs.Prelude.{◌≡◌, ℕ, ◌+◌, ◌-◌, ◌<◌, ◌≤◌, ◌==◌, if◌then◌else◌, List, [], ◌∷◌, ◌++◌, length, slice_index, vec_len, true, false, OnOk, OnErr};
 ghost use Rattle.iv_laws_kept.specs.Numbers.{has};
-ghost use Rattle.iv_marks.specs.Marking.{Paired, flag, with_flag, is_any, NoRepeats};
+ghost use Rattle.iv_marks.specs.Marking.{Paired, flag, flags, with_flag, is_any, NoRepeats};
 
+use iv_numbers::give_room_back;
 use std::alloc::{AllocError, Global};
 use std::marker::Model;
 
@@ -45,6 +46,54 @@ fn exchange(order: &mut Vec<usize>, position: &mut Vec<usize>, marked: usize, i:
     order[j] = one;
     position[one] = j;
     position[other] = i;
+}
+
+// Takes the last place away, which stands last in the order too and isn't marked.
+fn cut(order: &mut Vec<usize>, position: &mut Vec<usize>, marked: usize)
+    requires paired { Paired order.old.items position.old.items marked }
+    requires some { 0 < length order.old.items }
+    requires last { slice_index position.old.items (length order.old.items - 1) ≡ length order.old.items - 1 }
+    requires unmarked { marked ≤ length order.old.items - 1 }
+    ensures paired { Paired order.new.items position.new.items marked }
+    ensures count { length order.new.items ≡ length order.old.items - 1 }
+    ensures flags { (p : ℕ) → flag (flags marked position.new.items) p ≡ flag (flags marked position.old.items) p }
+{
+    order.pop();
+    position.pop();
+}
+
+// Takes the last place away, which is at a position behind those of the marked ones.
+fn cut_at(order: &mut Vec<usize>, position: &mut Vec<usize>, marked: usize, from: usize)
+    requires paired { Paired order.old.items position.old.items marked }
+    requires some { 0 < length order.old.items }
+    requires from { slice_index position.old.items (length order.old.items - 1) ≡ from }
+    requires unmarked { marked ≤ from }
+    ensures paired { Paired order.new.items position.new.items marked }
+    ensures count { length order.new.items ≡ length order.old.items - 1 }
+    ensures flags { (p : ℕ) → flag (flags marked position.new.items) p ≡ flag (flags marked position.old.items) p }
+{
+    let last = order.len() - 1;
+    exchange(order, position, marked, from, last);
+    cut(order, position, marked);
+}
+
+// Takes the last place away if it isn't marked, and gives memory back that is far more than the others need.
+fn drop_last(order: &mut Vec<usize>, position: &mut Vec<usize>, marked: usize)
+    requires { Paired order.old.items position.old.items marked }
+    ensures paired { Paired order.new.items position.new.items marked }
+    ensures count { length order.old.items ≤ length order.new.items + 1 }
+    ensures flags { (p : ℕ) → flag (flags marked position.new.items) p ≡ flag (flags marked position.old.items) p }
+{
+    let from = match position.last() {
+        Some(from) => *from,
+        None => return,
+    };
+    if from < marked {
+        return;
+    }
+    cut_at(order, position, marked, from);
+    give_room_back(order);
+    give_room_back(position);
 }
 
 // Adds places, until there are so many.
@@ -154,6 +203,15 @@ impl Marks {
         } else {
             self.unmark(place);
         }
+    }
+
+    /// Takes the last place away if it isn't marked. It takes no memory, and gives some back where it is far more than the
+    /// other places need.
+    pub fn drop_last(&mut self)
+        ensures count { length self.old ≤ length self.new + 1 }
+        ensures flags { (place : ℕ) → flag self.new place ≡ flag self.old place }
+    {
+        drop_last(&mut self.order, &mut self.position, self.marked);
     }
 
     /// The marked places, each once, in no order that callers know.

@@ -1,5 +1,5 @@
 //! The groups of all constraints that violate them.
-ghost use Rattle.std.specs.Prelude.{◌≡◌, ◌≢◌, ℕ, ◌<◌, ◌≤◌, [], length, max, true, false, OnOk, OnErr, take};
+ghost use Rattle.std.specs.Prelude.{◌≡◌, ◌≢◌, ℕ, ◌+◌, ◌<◌, ◌≤◌, [], length, max, true, false, OnOk, OnErr, take};
 ghost use Rattle.iv_laws_kept.specs.Marks.{marks_of};
 ghost use Rattle.iv_laws_kept.specs.Numbers.{has};
 ghost use Rattle.iv_marks.specs.Marking.{AreViolated, NoRepeats, flag, has_any, is_any, with_flag, with_marks};
@@ -81,6 +81,19 @@ fn cover_places(
         flag (marks_of constraints.new.items id) place ≡ flag (marks_of constraints.old.items id) place }
 {
     constraints[constraint].cover(count)
+}
+
+// Takes the last place of a constraint away if it isn't marked.
+fn drop_place(constraints: &mut Vec<Marks>, constraint: usize)
+    requires known { constraint < length constraints.old.items }
+    ensures places { length (marks_of constraints.old.items constraint) ≤ length (marks_of constraints.new.items constraint) + 1 }
+    ensures count { length constraints.new.items ≡ length constraints.old.items }
+    ensures others { (id : ℕ) → id ≢ constraint →
+        marks_of constraints.new.items id ≡ marks_of constraints.old.items id }
+    ensures flags { (id place : ℕ) →
+        flag (marks_of constraints.new.items id) place ≡ flag (marks_of constraints.old.items id) place }
+{
+    constraints[constraint].drop_last();
 }
 
 // Takes all places of a constraint away.
@@ -209,6 +222,19 @@ impl ViolatingGroups {
         ensures flags { (id place : ℕ) → flag (marks_of self.new id) place ≡ flag (marks_of self.old id) place }
     {
         cover_places(&mut self.constraints, constraint, count)
+    }
+
+    /// Takes the last place of a constraint away if it isn't marked. It takes no memory, and gives some back where it is
+    /// far more than the other places need.
+    #[tactic(auto, using(crate::proofs::Violated::violated_like))]
+    pub fn drop_place(&mut self, constraint: usize)
+        requires known { constraint < length self.old }
+        ensures places { length (marks_of self.old constraint) ≤ length (marks_of self.new constraint) + 1 }
+        ensures count { length self.new ≡ length self.old }
+        ensures others { (id : ℕ) → id ≢ constraint → marks_of self.new id ≡ marks_of self.old id }
+        ensures flags { (id place : ℕ) → flag (marks_of self.new id) place ≡ flag (marks_of self.old id) place }
+    {
+        drop_place(&mut self.constraints, constraint);
     }
 
     /// Takes all places of a constraint away. It takes no memory.

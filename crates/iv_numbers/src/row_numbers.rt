@@ -189,4 +189,33 @@ impl RowNumbers {
         self.live = remove_at(self.places.as_mut_slice(), self.live, at);
         self.room += 1;
     }
+
+    // Moves the numbers, which have no room, into places for them alone. If memory for these is refused, they stay where
+    // they are.
+    fn shorten(&mut self)
+        requires { self.old.room ≡ 0 }
+        ensures { self.new ≡ self.old }
+    {
+        let alloc = *self.places.allocator();
+        if let Ok(places) = self.held().to_vec(alloc) {
+            let end = places.len();
+            self.places = places;
+            self.live = Parts {
+                start: 0,
+                gap_start: end,
+                gap_end: end,
+                end,
+            };
+        }
+    }
+
+    /// Gives the room up, and memory where the numbers take less than a quarter of it.
+    pub fn give_room_back(&mut self)
+        ensures { self.new ≡ record { rows = self.old.rows; room = 0 } }
+    {
+        self.room = 0;
+        if size(self.live) < self.places.len() / 4 {
+            self.shorten();
+        }
+    }
 }

@@ -119,3 +119,10 @@ files_swept slots numbers f = record {
   rises = swept_rises 0 slots f.rises;
   covers = (λ n r e. f.covers n r (sym (ap (λ rows. row_at rows n) (live_swept slots)) ∙ e));
 }
+
+-- the numbers are as before, whatever their room
+pub files_alike : (slots : List Slot) (numbers others : List Rows) → ((t : ℕ) → (held_for others t).rows ≡ (held_for numbers t).rows) → Files slots numbers → Files slots others
+files_alike slots numbers others same f = record {
+  rises = f.rises;
+  covers = λ n r e. ap (has_row n) (same r.table) ∙ f.covers n r e;
+}

@@ -109,3 +109,21 @@ pub fn drop_number(numbers: &mut Vec<RowNumbers>, table: TableId, number: u64)
         remove_at(numbers, table.place() as usize, number);
     }
 }
+
+// Gives up the room of the numbers at a place.
+fn give_room_back_at(numbers: &mut Vec<RowNumbers>, place: usize)
+    requires { place < length numbers.old.items }
+    ensures rows { (t : ℕ) → (held_for numbers.new.items t).rows ≡ (held_for numbers.old.items t).rows }
+    ensures count { length numbers.new.items ≡ length numbers.old.items }
+{
+    numbers[place].give_room_back();
+}
+
+/// Gives up the room of all tables' numbers, and memory that is far more than the numbers need.
+pub fn give_rooms_back(numbers: &mut Vec<RowNumbers>)
+    ensures { (t : ℕ) → (held_for numbers.new.items t).rows ≡ (held_for numbers.old.items t).rows }
+{
+    for place in 0..numbers.len() {
+        give_room_back_at(numbers, place);
+    }
+}

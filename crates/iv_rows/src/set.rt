@@ -5,6 +5,7 @@ ghost use Rattle.iv_rows.specs.InSlots.{SlotsRise, slots_with, slots_without, sw
 use crate::place::{has_number, place};
 use crate::slot::Slot;
 use iv_expr::StoredRow;
+use iv_numbers::give_room_back;
 use std::alloc::AllocError;
 
 /// Puts a row into the slot of its number, or into a new one where there is none.
@@ -47,9 +48,10 @@ pub fn empty(slots: &mut Vec<Slot>, number: u64)
     }
 }
 
-/// Gives up the slots whose rows aren't there.
+/// Gives up the slots whose rows aren't there, and memory that is far more than the others need.
 pub fn keep_live(slots: &mut Vec<Slot>)
     ensures { slots.new.items ≡ swept slots.old.items }
 {
     slots.retain(|slot| slot.is_live);
+    give_room_back(slots);
 }

@@ -7,6 +7,7 @@ ghost use Rattle.iv_rows.specs.InSlots.{live_rows, has_slot_for, slots_without, 
 ghost use Rattle.iv_rows.specs.Filing.{Files, OneChanged, RoomStays, can_put_for, dropped, held_after, held_for};
 
 use crate::look::row_above;
+use crate::numbers::give_rooms_back;
 use crate::place::{live_at, place};
 use crate::set::keep_live;
 use crate::slot::Slot;
@@ -140,13 +141,14 @@ impl Slots {
         }
     }
 
-    /// Gives up the slots whose rows aren't there, where rows were taken out more often than half the slots since the
-    /// last time. It takes no memory.
+    /// Gives up the slots whose rows aren't there and the room of the tables' numbers, where rows were taken out more often
+    /// than half the slots since the last time. It can't be refused memory: where a smaller block is, the larger one stays.
     pub fn sweep(&mut self)
         ensures { live_rows self.new.slots ≡ live_rows self.old.slots }
     {
         if self.slots.len() / 2 < self.emptied {
             keep_live(&mut self.slots);
+            give_rooms_back(&mut self.numbers);
             self.emptied = 0;
         }
     }

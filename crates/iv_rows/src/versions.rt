@@ -14,6 +14,7 @@ ghost use Rattle.iv_rows.specs.Histories.{marked_databases, marked_of, after_cha
 use crate::saved::Saved;
 use crate::slots::Slots;
 use iv_expr::{Change, Rows, StoredRow, TableId};
+use iv_numbers::give_room_back;
 use iv_undo::Journal;
 use iv_value::Value;
 use std::alloc::{AllocError, Global};
@@ -256,11 +257,12 @@ impl Versions {
         self.marks.remove(place);
     }
 
-    /// Drops all marks, and counts the changes from 0 again. It takes no memory.
+    /// Drops all marks, and counts the changes from 0 again. It can't be refused memory, and gives some back.
     pub fn settle(&mut self)
         ensures kept { self.new ≡ record self.old { journal = []; marks = [] } }
         ensures marked { marked_of self.new ≡ settled (marked_of self.old) }
     {
+        give_room_back(&mut self.marks);
         self.marks.clear();
         self.journal.forget();
         self.slots.sweep();

@@ -3,6 +3,7 @@ ghost use Rattle.std.specs.Prelude.{◌≡◌, [], ◌∷◌, ◌++◌, ◌-◌,
 ghost use Rattle.std.specs.Option.{option_copied};
 
 use iv_expr::Change;
+use iv_numbers::give_room_back;
 use std::alloc::{AllocError, Global};
 use std::marker::Model;
 
@@ -63,10 +64,12 @@ impl Journal {
         self.changes.pop()
     }
 
-    /// Takes all changes out. It takes no memory.
+    /// Takes all changes out. It can't be refused memory, and gives some back where these changes took less than a quarter
+    /// of it.
     pub fn forget(&mut self)
         ensures { self.new ≡ [] }
     {
+        give_room_back(&mut self.changes);
         self.changes.clear();
     }
 }
