@@ -1,5 +1,5 @@
 -- What is asked of the table that an ALTER TABLE names.
-use Rattle.std.proofs.Common.{◌≡◌, refl, ℕ, Bool, true, false, List, Option, Some, None, slice_get, ◌∙◌, sym, ap}
+use Rattle.std.proofs.Common.{◌≡◌, ℕ, Bool, false, List, Option, Some, None, slice_get, ◌∙◌, sym, ap}
 use Rattle.iv_catalogue.specs.Catalogues.{Schema}
 use Rattle.iv_catalogue.specs.declared.catalogue.Table.{Table}
 use Rattle.iv_resolution.specs.Constraints.{Altered}
