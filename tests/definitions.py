@@ -1,5 +1,5 @@
 #!/usr/bin/env python3
-"""Changes the definitions of the machine and of accounts, one change at a time on a copy, and looks whether a worked script notices.
+"""Changes the definitions, one change at a time on a copy, and looks whether a worked script notices.
 
   tests/definitions.py [--only WORD] [--all] [--jobs N] [--minutes N]
 The changes are those of definitions.edits beside this file; a file there is of iv_machine, or of the crate whose name it begins with. Each
@@ -10,8 +10,8 @@ The file definitions.digest has a digest of the changes, and of the definitions,
 comments, where all changes were noticed. While it is still the same they aren't tried again, except with --all or --only; where all are tried and
 noticed it is written anew.
 
-With --minutes they are tried over the libraries that `rt ci` left, for so many minutes by the clock at most. What wasn't tried then is counted as
-skipped, and the last line is `N passed, N failed, N skipped`."""
+With --minutes they are tried over the libraries that `rt ci` left, for so many minutes by the clock at most. What wasn't tried then, and changes of
+crates below the machine, are counted as skipped, and the last line is `N passed, N failed, N skipped`."""
 import argparse
 import contextlib
 import hashlib
@@ -23,17 +23,24 @@ import tempfile
 import time
 from concurrent.futures import ThreadPoolExecutor
 
-from edits import bare, libraries, read, rooms, write
+from edits import bare, libraries, read, repository, rooms, write
 
 HERE = os.path.dirname(os.path.abspath(__file__))
 CRATES = os.path.join(HERE, '..', 'crates')
 BELOW = ['iv_value', 'iv_numbers', 'iv_expr', 'iv_syntax', 'iv_catalogue', 'iv_key']
-# The crates whose definitions are changed, and the crate that has to notice.
-DEFINED = ['iv_machine', 'iv_account']
-WORKED = 'iv_worked_machine'
+# The crates whose definitions are changed, each with the crate whose worked scripts have to notice.
+NOTICES = {
+    'iv_machine': 'iv_worked_machine', 'iv_account': 'iv_worked_machine', 'iv_key': 'iv_worked_machine',
+    'iv_resolution': 'iv_worked_resolution', 'iv_syntax': 'iv_worked_resolution',
+    'iv_step': 'iv_step', 'iv_print': 'iv_print', 'iv_script': 'iv_script',
+}
+# Of these the definitions alone are copied. Three have their worked scripts beside the definitions: in one file, with one of theorems.
+DEFINED = ['iv_machine', 'iv_account', 'iv_resolution', 'iv_step', 'iv_print', 'iv_script']
+OWN = {'iv_step': ('Worked', 'WorkedScripts'), 'iv_print': ('WorkedAccounts', 'Worked'), 'iv_script': ('WorkedLines', 'Worked')}
+WORKED = ['iv_worked_machine', 'iv_worked_resolution']
 CHANGES = os.path.join(HERE, 'definitions.edits')
 DIGEST = os.path.join(HERE, 'definitions.digest')
-DIGESTED = ['iv_key/specs', 'iv_machine/specs', 'iv_account/specs', 'iv_worked_machine/specs', 'iv_worked_machine/proofs', 'iv_worked_machine/src']
+DIGESTED = [crate + '/specs' for crate in ['iv_key', 'iv_syntax'] + DEFINED] + [crate + part for crate in WORKED for part in ('/specs', '/proofs', '/src')]
 
 
 def changes():
@@ -44,7 +51,7 @@ def changes():
         if key == 'change':
             pairs = found[text] = []
         elif key == 'file':
-            path = text if text.split('/')[0] in DEFINED else 'iv_machine/' + text
+            path = text if text.split('/')[0] in NOTICES else 'iv_machine/' + text
         elif key == 'old':
             old = text
         elif key == 'new':
@@ -52,10 +59,26 @@ def changes():
     return found
 
 
+def definitions(crate):
+    """The files of a crate's definitions: all, or those that its worked scripts need."""
+    folder = os.path.join(CRATES, crate, 'specs')
+    if crate not in OWN:
+        return sorted(file[:-5] for file in os.listdir(folder) if file != 'Lib.antt')
+    needed, open_ones = set(), [OWN[crate][0]]
+    while open_ones:
+        name = open_ones.pop()
+        if name not in needed and os.path.exists(os.path.join(folder, name + '.antt')):
+            needed.add(name)
+            open_ones += re.findall(r'Rattle\.%s\.specs\.(\w+)\.' % crate, read(os.path.join(folder, name + '.antt')))
+    return sorted(needed)
+
+
 def declared(name):
     """The modules of a crate whose types the definitions and the worked scripts name."""
-    folders = [os.path.join(CRATES, crate, 'specs') for crate in DEFINED + [WORKED]]
-    texts = [read(os.path.join(folder, file)) for folder in folders for file in os.listdir(folder)]
+    texts = [read(os.path.join(CRATES, crate, 'specs', file + '.antt')) for crate in DEFINED for file in definitions(crate)]
+    for crate in WORKED:
+        folder = os.path.join(CRATES, crate, 'specs')
+        texts += [read(os.path.join(folder, file)) for file in os.listdir(folder)]
     return set(re.findall(r'Rattle\.%s\.specs\.declared\.(\w+)\.' % name, '\n'.join(texts)))
 
 
@@ -79,62 +102,85 @@ def listed(names):
     return ''.join('%s: %s\n' % (name, ' '.join(words)) for name, words in kept)
 
 
+def types(text):
+    """The types and constants of a module, without its functions."""
+    items = re.findall(r'^(?://!.*|use .*;|use .*\{\n(?:    .*\n)*\};)$|^((?:(?:///.*|#\[.*\])\n)*pub (?:const .*;|(?:enum|struct) \w+(?:<.*>)? \{\n(?:.*\n)*?\}))$', text, re.M)
+    kept = [item for item in items if item]
+    uses = [line for line in re.findall(r'^use .*;$', text, re.M) if any(re.search(r'\b%s\b' % word, '\n'.join(kept)) for word in re.findall(r'\w+', line)[1:])]
+    return '\n'.join(['//! Types.'] + uses + kept) + '\n'
+
+
 def copy_definitions(crates, name):
-    """A crate's definitions and the types that they name, without code and proofs."""
-    crate, modules = os.path.join(crates, name), declared(name)
-    shutil.copytree(os.path.join(CRATES, name, 'specs'), crate + '/specs')
-    os.mkdir(crate + '/src')
+    """A crate's definitions and the types that they name, without code, and with no proof but that of its own worked scripts."""
+    crate, modules = os.path.join(crates, name), sorted(declared(name))
+    files = definitions(name)
+    for part in ('specs', 'src', 'proofs'):
+        os.makedirs(os.path.join(crate, part))
+    for file in files:
+        shutil.copy(os.path.join(CRATES, name, 'specs', file + '.antt'), crate + '/specs')
+    write(crate + '/specs/Lib.antt', ''.join('pub mod %s\n' % file for file in files))
     for module in modules:
-        shutil.copy(os.path.join(CRATES, name, 'src', module + '.rt'), crate + '/src')
+        text = read(os.path.join(CRATES, name, 'src', module + '.rt'))
+        write(crate + '/src/%s.rt' % module, types(text) if name in OWN else text)
     library = read(os.path.join(CRATES, name, 'src/lib.rt'))
-    items = re.findall(r'^(?://!.*|#!\[.*\]|(?:mod|pub use) (?:%s)\b[^;]*;)$' % '|'.join(modules), library, re.M)
+    items = re.findall(r'^(?://!.*|#!\[.*\]|(?:mod|pub use) (?:%s)\b[^;]*;)$' % '|'.join(modules or ['none']), library, re.M)
+    if name in OWN:
+        items = ['//! Definitions.', '#![tactic(auto)]'] + ['pub mod %s;' % module for module in modules]
+        shutil.copy(os.path.join(CRATES, name, 'proofs', OWN[name][1] + '.antt'), crate + '/proofs')
+        write(crate + '/proofs/Lib.antt', 'pub mod %s\n' % OWN[name][1])
     write(crate + '/src/lib.rt', '\n'.join(items) + '\n')
 
 
 def copied(room, over_gate=False):
-    """The repository as far as the worked scripts, where the crates that are changed have their definitions alone; those below them are
-    left out over the libraries that `rt ci` left."""
+    """The repository as far as the worked scripts, where the crates that are changed have their definitions alone; those below them are left
+    out over the libraries that `rt ci` left."""
     crates = os.path.join(room, 'crates')
-    write(os.path.join(room, 'crates.txt'), listed(BELOW + DEFINED + [WORKED]))
+    write(os.path.join(room, 'crates.txt'), listed(BELOW + DEFINED + WORKED))
     for name in [] if over_gate else BELOW:
         shutil.copytree(os.path.join(CRATES, name), os.path.join(crates, name), symlinks=True)
     for name in DEFINED:
         copy_definitions(crates, name)
-    shutil.copytree(os.path.join(CRATES, WORKED), os.path.join(crates, WORKED), ignore=shutil.ignore_patterns('out'))
-    return crates, os.path.join(crates, WORKED)
+    for name in WORKED:
+        shutil.copytree(os.path.join(CRATES, name), os.path.join(crates, name), ignore=shutil.ignore_patterns('out'))
+    return crates
 
 
-def steps(crates, worked, over_gate):
-    """The commands that prove the worked scripts, each with its folder: one that builds what is below it too, or, over the libraries that
-    `rt ci` left, one for each crate whose definitions are changed."""
+def steps(crates, target, over_gate):
+    """The commands that prove the worked scripts of a crate, each with its folder: one that builds what is below it too, or, over the
+    libraries that `rt ci` left, one for each crate below it whose definitions are copied."""
     if not over_gate:
-        return [(['rt', 'check', '--jobs', '1'], worked)]
-    rlibs = {name: os.path.join(CRATES, name, 'out/rlib') for name in BELOW}
-    found = []
-    for name in DEFINED:
-        own = os.path.join(crates, name, 'out/rlib')
+        return [(['rt', 'check', '--jobs', '1'], os.path.join(crates, target))]
+    copies, rlibs, found = set(DEFINED + WORKED), {name: os.path.join(CRATES, name, 'out/rlib') for name in BELOW}, []
+    named = {name: [low for low in lows if low in copies] for name, lows in repository.crates().items() if name in copies}
+    below = repository.below([target], named) - {target}
+    for name in sorted(below, key=lambda name: (len(repository.below([name], named)), name)):
+        folder, own = os.path.join(crates, name), os.path.join(crates, name, 'out/rlib')
         os.makedirs(own, exist_ok=True)
-        os.makedirs(os.path.join(crates, name, 'out/incremental'), exist_ok=True)
-        found.append(([*libraries.words('build', name, rlibs), '--jobs', '1', '-o', os.path.join(own, name + '.rlib')], os.path.join(crates, name)))
+        os.makedirs(os.path.join(folder, 'out/incremental'), exist_ok=True)
+        found.append(([*libraries.words('build', name, rlibs), '--jobs', '1', '-o', os.path.join(own, name + '.rlib')], folder))
         rlibs[name] = own
-    os.makedirs(os.path.join(worked, 'out/incremental'), exist_ok=True)
-    return [*found, ([*libraries.words('check', WORKED, rlibs), '--jobs', '1'], worked)]
+    os.makedirs(os.path.join(crates, target, 'out/incremental'), exist_ok=True)
+    return [*found, ([*libraries.words('check', target, rlibs), '--jobs', '1'], os.path.join(crates, target))]
 
 
-def checked(crates, worked, over_gate=False, until=None):
-    """Whether the crate is proved, and the scripts that are refused."""
-    for words, place in steps(crates, worked, over_gate):
+def checked(crates, target, over_gate=False, until=None):
+    """Whether a crate's worked scripts are proved, and the scripts that are refused."""
+    crate = os.path.join(crates, target)
+    for words, place in steps(crates, target, over_gate):
         status, output, _ = rooms.timed(words, place, until or time.monotonic() + 1200)
         if status != 0:
             break
-    lines = read(worked + '/proofs/Worked.antt').splitlines()
-    places = sorted({int(n) for n in re.findall(r'proofs/Worked\.antt:(\d+):', output)})
-    names = [lines[n - 1].split('=')[0].strip() for n in places if '= refl' in lines[n - 1]]
-    return status == 0, names
+    places = sorted({(file, int(n)) for file, n in re.findall(r'proofs/(\w+)\.antt:(\d+):', output) if os.path.exists('%s/proofs/%s.antt' % (crate, file))})
+    lines = [read('%s/proofs/%s.antt' % (crate, file)).splitlines()[n - 1] for file, n in places]
+    return status == 0, [line.split('=')[0].strip() for line in lines if '= refl' in line]
 
 
-def tried(crates, worked, pairs, over_gate=False, until=None):
-    """The scripts that notice the change, or why it can't be made; nothing where it was stopped at that time."""
+def is_late(until):
+    return until is not None and time.monotonic() >= until
+
+
+def tried(crates, pairs, over_gate=False, until=None):
+    """The scripts that notice the change, or why it can't be made; nothing where there was no time for it."""
     kept = {}
     try:
         for path, old, new in pairs:
@@ -144,8 +190,8 @@ def tried(crates, worked, pairs, over_gate=False, until=None):
             if text.count(old) != 1:
                 return 'its old text occurs %d times in %s: %s' % (text.count(old), os.path.basename(path), old)
             write(path, text.replace(old, new))
-        proved, names = checked(crates, worked, over_gate, until)
-        if until is not None and time.monotonic() >= until:
+        proved, names = checked(crates, NOTICES[pairs[0][0].split('/')[0]], over_gate, until)
+        if is_late(until):
             return None
         return names or ('no script notices it' if proved else 'the definitions with it are refused, and no script is')
     finally:
@@ -153,28 +199,30 @@ def tried(crates, worked, pairs, over_gate=False, until=None):
             write(path, text)
 
 
-def prepared(stack, over_gate=False, until=None):
+def prepared(stack, targets, over_gate=False, until=None):
     """A copy in which the worked scripts are proved; none where there was no time for that."""
-    crates, worked = copied(stack.enter_context(tempfile.TemporaryDirectory(prefix='definitions-')), over_gate)
-    if not checked(crates, worked, over_gate, until)[0]:
-        if until is not None and time.monotonic() >= until:
-            return None
-        raise SystemExit('the worked scripts are not proved as they are')
-    return crates, worked
+    crates = copied(stack.enter_context(tempfile.TemporaryDirectory(prefix='definitions-')), over_gate)
+    for target in targets:
+        if not checked(crates, target, over_gate, until)[0]:
+            if is_late(until):
+                return None
+            raise SystemExit('the worked scripts of %s are not proved as they are' % target)
+    return crates
 
 
 def all_tried(chosen, jobs, over_gate=False, until=None):
     """The changes, each with what `tried` says of it, in their order; nothing where there was no time for it."""
     with contextlib.ExitStack() as stack, ThreadPoolExecutor(jobs) as pool:
         free = queue.Queue()
-        for room in pool.map(lambda _: prepared(stack, over_gate, until), range(min(jobs, len(chosen)))):
+        targets = sorted({NOTICES[pairs[0][0].split('/')[0]] for pairs in chosen.values()})
+        for room in pool.map(lambda _: prepared(stack, targets, over_gate, until), range(min(jobs, len(chosen)))):
             free.put(room)
 
         def one(pairs):
             room = free.get()
             try:
-                late = room is None or (until is not None and time.monotonic() >= until)
-                return None if late else tried(*room, pairs, over_gate, until)
+                is_below = over_gate and any(path.split('/')[0] in BELOW for path, _, _ in pairs)
+                return None if room is None or is_below or is_late(until) else tried(room, pairs, over_gate, until)
             finally:
                 free.put(room)
 

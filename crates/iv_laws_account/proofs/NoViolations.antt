@@ -1,5 +1,5 @@
 -- What a statement proposes, BEFORE triggers, and a wave that is entered aren't refused for a violation.
-use Rattle.std.proofs.Common.{◌≡◌, refl, ℕ, ◌+◌, Bool, true, false, if◌then◌else◌, List, [], ◌∷◌, map, filter, filter_map, find, Option, Some, None, Result, Ok, Err}
+use Rattle.std.proofs.Common.{◌≡◌, refl, ℕ, ◌+◌, Bool, true, false, if◌then◌else◌, List, map, filter, filter_map, Option, Some, None, is_some, Result, Ok, Err}
 use Rattle.std.specs.Bool.{nat_lt}
 use Rattle.iv_value.specs.declared.value.Value.{Value}
 use Rattle.iv_value.specs.declared.value.Truth.{Truth}
@@ -8,40 +8,41 @@ use Rattle.iv_value.specs.declared.value.Fit.TheVariants.{Yes, WrongKind, TooLon
 use Rattle.iv_value.specs.Truths.{is_true}
 use Rattle.iv_value.specs.Values.{fit_of}
 use Rattle.iv_expr.specs.declared.row.StoredRow.{StoredRow}
-use Rattle.iv_expr.specs.declared.row.Change.{Change}
 use Rattle.iv_expr.specs.declared.tree.Cond.{Cond}
 use Rattle.iv_expr.specs.declared.tree.ExprFault.{ExprFault}
 use Rattle.iv_expr.specs.declared.tree.ExprFault.TheVariants.{OutOfRange, IllTyped, NoMemory}
 use Rattle.iv_expr.specs.Changes.{Wave}
 use Rattle.iv_expr.specs.Evaluation.{and_then, value, truth}
-use Rattle.iv_expr.specs.Scopes.{Scope, Frame, no_frame, scope_of, within, range_rows, table_rows}
+use Rattle.iv_expr.specs.Scopes.{Scope, Frame, scope_of, within, range_rows, table_rows}
 use Rattle.iv_catalogue.specs.declared.catalogue.Column.{Column}
 use Rattle.iv_catalogue.specs.declared.cause.Cause.{Cause}
-use Rattle.iv_catalogue.specs.declared.cause.Cause.TheVariants.{WrongShape, TextTooLong, Signal, TooManyChanges, TransactionTooLarge, Limit}
+use Rattle.iv_catalogue.specs.declared.cause.Cause.TheVariants.{WrongShape, TextTooLong, TooManyChanges, TransactionTooLarge, Limit}
+use Rattle.iv_catalogue.specs.declared.cause.Fault.{Fault}
 use Rattle.iv_catalogue.specs.declared.cause.Refusal.{Refusal}
-use Rattle.iv_catalogue.specs.declared.plan.BodyStatement.{BodyStatement}
-use Rattle.iv_catalogue.specs.declared.plan.BodyStatement.TheVariants as body
 use Rattle.iv_catalogue.specs.declared.plan.DataStatement.{DataStatement}
 use Rattle.iv_catalogue.specs.declared.plan.DataStatement.TheVariants as data_statement
 use Rattle.iv_catalogue.specs.declared.plan.InsertColumns.{InsertColumns}
 use Rattle.iv_catalogue.specs.declared.plan.InsertRows.{InsertRows}
 use Rattle.iv_catalogue.specs.declared.plan.InsertRows.TheVariants as rows
 use Rattle.iv_catalogue.specs.declared.plan.Setting.{Setting}
-use Rattle.iv_catalogue.specs.declared.plan.Trigger.{Trigger}
 use Rattle.iv_catalogue.specs.Refusals.{cause_of}
 use Rattle.iv_machine.specs.declared.database.Database.{Database}
 use Rattle.iv_machine.specs.Bounds.{most_changes_in_a_transaction}
 use Rattle.iv_machine.specs.Databases.{size}
-use Rattle.iv_machine.specs.Context.{Context, Failure, fails, while_running, with_count, each, in_turn}
+use Rattle.iv_machine.specs.Context.{Context, Failure, fails, with_count, each}
 use Rattle.iv_machine.specs.Proposals.{set_columns, with_cause, holds, column_at, value_for_column, stored_value, stored_values, with_columns, element_where_true, where_true, matching_rows, outputs_of, values_by_column, row_of_values, insertion, insertion_of, proposed_insertions, update_of, deletion, proposed_changes, proposed_wave}
-use Rattle.iv_machine.specs.BeforeTriggers.{is_before_row_on, is_before_this, is_on, event_of_change, placed_statements, is_signal, unless_signal, before_statement_run, before_statement, change_frame, with_new_value, change_after_statement, before_row_run, change_after_trigger, changes_after_triggers, wave_after_triggers}
+use Rattle.iv_machine.specs.BeforeTriggers.{before_statement, wave_after_triggers}
 use Rattle.iv_machine.specs.Waves.{numbered_wave, is_beyond_last_row, wave_as_applied}
+use Rattle.iv_laws_rows.proofs.Without.{Without, counted_without, each_without, then_without}
+use Rattle.iv_laws_rows.proofs.WithoutTriggers.{Evaluates, statement_triggers_without, wave_triggers_without}
 use Rattle.iv_laws_account.specs.AccountLaws.{violation_of}
+
+abbrev pub is_violation : Cause → Bool
+is_violation c = is_some (violation_of c)
 
 -- an answer, or a refusal for something else
 abbrev pub ApartBy : {A E : Type 0} → (E → Cause) → Result A E → Type 0
-ApartBy cause (Ok a) = Unit {0}
-ApartBy cause (Err e) = violation_of (cause e) ≡ None
+ApartBy cause r = Without (λ e. is_violation (cause e)) r
 
 abbrev pub ApartCause : {A : Type 0} → Result A Cause → Type 0
 ApartCause r = ApartBy (λ c. c) r
@@ -52,35 +53,25 @@ ApartRefusal r = ApartBy (λ x. x.cause) r
 abbrev pub ApartFailure : {A : Type 0} → Result A Failure → Type 0
 ApartFailure r = ApartBy (λ x. x.cause) r
 
+pub no_violation : (c : Cause) → is_some (violation_of c) ≡ false → violation_of c ≡ None
+no_violation c = by (violation_of c)
+  where
+    by : (o : Option Fault) → is_some o ≡ false → o ≡ None
+    by None h = refl
+    by (Some f) h = cc
+
 -- ---- one step after another
 
 then_apart : {A B E : Type 0} (cause : E → Cause) (r : Result A E) (f : A → Result B E) → ApartBy cause r → ((a : A) → ApartBy cause (f a))
     → ApartBy cause (and_then r f)
-then_apart cause (Ok a) f h more = more a
-then_apart cause (Err e) f h more = h
+then_apart cause r f h more = then_without (λ e. is_violation (cause e)) r f h (λ a e. more a)
 
 each_apart : {A B E : Type 0} (cause : E → Cause) (f : A → Result B E) → ((x : A) → ApartBy cause (f x)) → (xs : List A) → ApartBy cause (each f xs)
-each_apart cause f h [] = tt
-each_apart cause f h (x ∷ xs) =
-    then_apart cause (f x) (λ y. and_then (each f xs) (λ ys. Ok (y ∷ ys))) (h x)
-    (λ y. then_apart cause (each f xs) (λ ys. Ok (y ∷ ys)) (each_apart cause f h xs) (λ ys. tt))
-
-in_turn_apart : {A B E : Type 0} (cause : E → Cause) (f : A → B → Result B E) → ((x : A) (b : B) → ApartBy cause (f x b)) → (xs : List A) (b : B)
-    → ApartBy cause (in_turn f xs b)
-in_turn_apart cause f h [] b = tt
-in_turn_apart cause f h (x ∷ xs) b = then_apart cause (f x b) (in_turn f xs) (h x b) (in_turn_apart cause f h xs)
-
-running_apart : {A : Type 0} (trigger : ℕ) (r : Result A Cause) → ApartCause r → ApartRefusal (while_running trigger r)
-running_apart trigger (Ok a) h = tt
-running_apart trigger (Err c) h = h
-
-counted_apart : {A : Type 0} (db : Database) (r : Result A Refusal) → ApartRefusal r → ApartFailure (with_count db r)
-counted_apart db (Ok a) h = tt
-counted_apart db (Err e) h = h
+each_apart cause f h xs = each_without (λ e. is_violation (cause e)) f xs (λ x i. h x)
 
 -- ---- values and conditions
 
-fault_apart : (fault : ExprFault) → violation_of (cause_of fault) ≡ None
+fault_apart : (fault : ExprFault) → is_violation (cause_of fault) ≡ false
 fault_apart OutOfRange = refl
 fault_apart IllTyped = refl
 fault_apart NoMemory = refl
@@ -157,59 +148,15 @@ proposed_apart w db f d =
 
 -- ---- BEFORE triggers
 
-signal_apart : (t : Trigger) → ApartCause (unless_signal t)
-signal_apart t = by (find (λ s. is_signal s.1) (placed_statements t))
-  where
-    by : (o : Option (ℕ × BodyStatement)) → ApartCause (elim o as (λ x. Result (Unit {0}) Cause) [ Some s ↦ Err (Signal t.id s.0) | None ↦ Ok tt ])
-    by (Some s) = refl
-    by None = tt
-
-run_apart : (db_rows : List StoredRow) (t : Trigger) → ApartCause (before_statement_run db_rows t)
-run_apart db_rows t =
-    then_apart (λ c. c) (holds (scope_of no_frame db_rows) t.when) (λ fires. if fires then unless_signal t else Ok tt)
-    (holds_apart (scope_of no_frame db_rows) t.when) (λ fires. by fires)
-  where
-    by : (fires : Bool) → ApartCause (if fires then unless_signal t else Ok (tt {0}))
-    by true = signal_apart t
-    by false = tt
+evaluation_apart : Evaluates is_violation
+evaluation_apart = record {
+  conditions = holds_apart;
+  values = λ w table column s e. stored_apart w table column (value s e);
+  signals = λ trigger place. refl;
+}
 
 pub before_statement_apart : (w : Context) (db_rows : List StoredRow) (d : DataStatement) → ApartRefusal (before_statement w db_rows d)
-before_statement_apart w db_rows d =
-    in_turn_apart (λ (x : Refusal). x.cause) (λ t _. while_running t.id (before_statement_run db_rows t))
-    (λ t _. running_apart t.id (before_statement_run db_rows t) (run_apart db_rows t)) (filter (is_before_this d) w.schema.triggers) tt
-
-action_apart : (w : Context) (db_rows : List StoredRow) (t : Trigger) (place : ℕ) (statement : BodyStatement) (c : Change)
-    → ApartCause (change_after_statement w db_rows t place statement c)
-action_apart w db_rows t place (body.Set s) c =
-    then_apart (λ c. c) (stored_value w c.table s.column (value (scope_of (change_frame c) db_rows) s.value)) (λ v. Ok (with_new_value c s.column v))
-    (stored_apart w c.table s.column (value (scope_of (change_frame c) db_rows) s.value)) (λ v. tt)
-action_apart w db_rows t place (body.Signal text) c = refl
-action_apart w db_rows t place (body.Data statement) c = tt
-
-row_run_apart : (w : Context) (db_rows : List StoredRow) (t : Trigger) (c : Change) → ApartCause (before_row_run w db_rows t c)
-row_run_apart w db_rows t c =
-    then_apart (λ c. c) (holds (scope_of (change_frame c) db_rows) t.when)
-    (λ fires. if fires then in_turn (λ s. change_after_statement w db_rows t s.0 s.1) (placed_statements t) c else Ok c)
-    (holds_apart (scope_of (change_frame c) db_rows) t.when) (λ fires. by fires)
-  where
-    by : (fires : Bool) → ApartCause (if fires then in_turn (λ s. change_after_statement w db_rows t s.0 s.1) (placed_statements t) c else Ok c)
-    by true = in_turn_apart (λ c. c) (λ s. change_after_statement w db_rows t s.0 s.1) (λ s d. action_apart w db_rows t s.0 s.1 d) (placed_statements t) c
-    by false = tt
-
-trigger_apart : (w : Context) (db_rows : List StoredRow) (t : Trigger) (c : Change) → ApartRefusal (change_after_trigger w db_rows t c)
-trigger_apart w db_rows t c = by (is_on c.table (event_of_change c) t)
-  where
-    by : (on : Bool) → ApartRefusal (if on then while_running t.id (before_row_run w db_rows t c) else Ok c)
-    by true = running_apart t.id (before_row_run w db_rows t c) (row_run_apart w db_rows t c)
-    by false = tt
-
-wave_triggers_apart : (w : Context) (db_rows : List StoredRow) (wave : Wave) → ApartRefusal (wave_after_triggers w db_rows wave)
-wave_triggers_apart w db_rows wave =
-    then_apart (λ (x : Refusal). x.cause) (changes_after_triggers w db_rows (filter (is_before_row_on wave.columns) w.schema.triggers) wave.changes)
-    (λ changes. Ok (record wave { changes = changes }))
-    (in_turn_apart (λ (x : Refusal). x.cause) (λ t. each (change_after_trigger w db_rows t))
-    (λ t cs. each_apart (λ (x : Refusal). x.cause) (change_after_trigger w db_rows t) (trigger_apart w db_rows t) cs)
-    (filter (is_before_row_on wave.columns) w.schema.triggers) wave.changes) (λ changes. tt)
+before_statement_apart = statement_triggers_without is_violation evaluation_apart
 
 -- ---- a wave that is entered
 
@@ -225,4 +172,6 @@ applied_apart w db budget wave =
     by true large last = refl
     by false true last = refl
     by false false true = refl
-    by false false false = counted_apart db (wave_after_triggers w db.rows (numbered_wave db.next wave)) (wave_triggers_apart w db.rows (numbered_wave db.next wave))
+    by false false false =
+        counted_without is_violation db (wave_after_triggers w db.rows (numbered_wave db.next wave))
+        (wave_triggers_without is_violation evaluation_apart w db.rows (numbered_wave db.next wave))

@@ -31,7 +31,7 @@ use Rattle.iv_account.specs.declared.entry.Entry.TheVariants.{Changed, Began, En
 use Rattle.iv_account.specs.Accounts.{unless_refused, if_some, told_each, told_in_turn, fault_told, action_fault_told, ran, ran_where_true, before_statement_told, before_row_told, before_each_told, before_rows_told, entered_told, acted_told, following_told, applied_told, one_wave_told, TellsWaves, waves_told_by, no_waves_told, waves_told_within, waves_told, Tells, statement_told, body_told, firing_told, firings_told, finished_told, waves_and_after_told, level_steps_told, nested_told, account}
 use Rattle.iv_account.specs.Sessions.{change_told}
 use Rattle.iv_laws_account.specs.AccountLaws.{after_entry, database_told, running_after, running_told, violation_of, violation_in, violations_told, last_violation, EndsIn, LevelsAreTold, StatementsAreTold, AllThatBeginsEnds, NoViolationOfAccepted, OneViolationOfRefused}
-use Rattle.iv_laws_account.proofs.NoViolations.{ApartCause, ApartRefusal, ApartFailure, holds_apart, proposed_apart, before_statement_apart, applied_apart}
+use Rattle.iv_laws_account.proofs.NoViolations.{ApartCause, ApartRefusal, ApartFailure, no_violation, holds_apart, proposed_apart, before_statement_apart, applied_apart}
 
 -- ---- entries after entries
 
@@ -110,17 +110,17 @@ then_made of later db xs (Err f) make same h = h
 then_apart : {A B : Type 0} (later : B → Database) (db : Database) (r : Result A Failure) (ys : A → List Entry) (k : A → Result B Failure)
     → ApartFailure r → ((a : A) → TellOf later db (ys a) (k a)) → TellOf later db (unless_refused r ys) (and_then r k)
 then_apart later db (Ok a) ys k h more = more a
-then_apart later db (Err f) ys k h more = nothing_ends f.cause h
+then_apart later db (Err f) ys k h more = nothing_ends f.cause (no_violation f.cause h)
 
 over_apart : {A B : Type 0} (later : B → Database) (db : Database) (r : Result A Cause) (ys : A → List Entry) (k : A → Result B Failure)
     → ApartCause r → ((a : A) → TellOf later db (ys a) (k a)) → TellOf later db (unless_refused r ys) (and_then (over db r) k)
 over_apart later db (Ok a) ys k h more = more a
-over_apart later db (Err cause) ys k h more = nothing_ends cause h
+over_apart later db (Err cause) ys k h more = nothing_ends cause (no_violation cause h)
 
 counted_apart : {A B : Type 0} (later : B → Database) (db : Database) (r : Result A Refusal) (ys : A → List Entry) (k : A → Result B Failure)
     → ApartRefusal r → ((a : A) → TellOf later db (ys a) (k a)) → TellOf later db (unless_refused r ys) (and_then (with_count db r) k)
 counted_apart later db (Ok a) ys k h more = more a
-counted_apart later db (Err refusal) ys k h more = nothing_ends refusal.cause h
+counted_apart later db (Err refusal) ys k h more = nothing_ends refusal.cause (no_violation refusal.cause h)
 
 -- steps in turn
 turns_told : {A B : Type 0} (of : B → Database) (f : A → B → Result B Failure) (tell : A → B → List Entry)

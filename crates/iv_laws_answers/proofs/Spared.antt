@@ -3,8 +3,8 @@ use Rattle.std.proofs.Common.{◌≡◌, ℕ, false, List, [], ◌∷◌, map, R
 use Rattle.iv_laws_answers.specs.Words.{ExprFault, Cause, Fault, Refusal, Database}
 use Rattle.iv_expr.specs.Evaluation.{both, and_then, all_results}
 use Rattle.iv_catalogue.specs.Refusals.{is_memory_cause, cause_of}
-use Rattle.iv_machine.specs.Context.{Failure, over, unless_first, while_running, with_count, inside_trigger, each, in_turn}
-use Rattle.iv_laws_rows.proofs.Without.{Without, counted_without, each_without, in_turn_without, inside_without, over_without, running_without, then_without, unless_without, without_refused}
+use Rattle.iv_machine.specs.Context.{Failure, over, unless_first, with_count, inside_trigger, each, in_turn}
+use Rattle.iv_laws_rows.proofs.Without.{Without, counted_without, each_without, in_turn_without, inside_without, over_without, then_without, unless_without, without_refused}
 
 -- an answer, or a refusal for another cause
 abbrev pub SparedBy : {A E : Type 0} → (E → Cause) → Result A E → Type 0
@@ -48,9 +48,6 @@ all_spared f h (x ∷ xs) =
     (λ y. then_spared cause_of (all_results (map f xs)) (λ ys. Ok (y ∷ ys)) (all_spared f h xs) (λ ys. tt))
 
 -- ---- from one kind of refusal to another
-
-pub running_spared : {A : Type 0} (trigger : ℕ) (r : Result A Cause) → SparedCause r → SparedRefusal (while_running trigger r)
-running_spared = running_without is_memory_cause
 
 pub counted_spared : {A : Type 0} (db : Database) (r : Result A Refusal) → SparedRefusal r → SparedFailure (with_count db r)
 counted_spared = counted_without is_memory_cause

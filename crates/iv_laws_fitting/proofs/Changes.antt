@@ -2,6 +2,7 @@
 use Rattle.std.proofs.Common.{◌≡◌, ℕ, zero, suc, ◌≤◌, nat_le, Bool, true, false, not, ◌&&◌, ◌||◌, ◌==◌, List, [], ◌∷◌, ◌∙◌, Option, Some, None, refl, sym, ap, length, map, zip, slice_get, arith}
 use Rattle.std.proofs.lemmas.Bool.{and_from, and_parts, not-false, or_parts}
 use Rattle.std.proofs.lemmas.Option.{same_Some}
+use Rattle.std.specs.Option.{option_or}
 use Rattle.std.specs.List.{list_any, list_all, enumerate_from}
 use Rattle.std.proofs.lemmas.Bool.Decides.{nat_tests}
 use Rattle.iv_laws_fitting.specs.Words.{Kind, Expr, Range, Column}
@@ -18,10 +19,13 @@ use Rattle.iv_syntax.specs.declared.statement.InsertSource.TheVariants as source
 use Rattle.iv_syntax.specs.Trees.{condition_depth}
 use Rattle.iv_syntax.specs.declared.limits.TheConstants.{DEEPEST_TREE}
 use Rattle.iv_resolution.specs.Scopes.{NamedColumn, NamedRange, Names, Source, type_of, named_columns, source_named, is_source, source_columns, source_range, range_of}
-use Rattle.iv_resolution.specs.Terms.{unknown_expression, unknown_filter, misshaped_expression, misshaped_filter, bound_expression, bound_filter}
-use Rattle.iv_resolution.specs.Changes.{unknown_listed, unknown_value, unknown_list, unknown_source, clashes_with, value_clashes, misshaped_value, target_types, tuple_clashes, misshaped_tuple, kinds_clash, values_clash, columns_clash, list_clashes, misshaped_list, misshaped_source}
+use Rattle.iv_resolution.specs.Terms.{misshaped_expression, misshaped_filter, bound_expression, bound_filter}
+use Rattle.iv_resolution.specs.Changes.{clashes_with, value_clashes, misshaped_value, target_types, tuple_clashes, misshaped_tuple, kinds_clash, values_clash, columns_clash, list_clashes, misshaped_list, misshaped_source}
 use Rattle.iv_resolution.specs.Bound.{bound_value, target_place, bound_tuple, bound_list, bound_source, bound_columns}
 use Rattle.iv_resolution.specs.Writable.{is_filter, has_written_terms, is_list, is_range, is_insert_source}
+use Rattle.iv_resolution.specs.Items.{first_of, table_item}
+use Rattle.iv_resolution.specs.NameFaults.{unknown_in_from, unknown_in_expression, unknown_in_filter, unknown_in_listed, unknown_in_select_list, unknown_in_source, unknown_in_value}
+use Rattle.iv_resolution.proofs.Told.{none_parts, none_told, untold}
 use Rattle.iv_laws_fitting.specs.PlanShapes.{is_range_there, value_suits, values_suit, kind_suits, kinds_suit, default_suits, table_suits, target_kinds, outputs_suit, rows_suit}
 use Rattle.iv_laws_fitting.proofs.ColumnKinds.{greatest, ColumnsMatch, Matches}
 use Rattle.iv_laws_fitting.proofs.Conditions.{SourcesMatch, sources_within, range_within, source_is, range_of_source, condition_suits}
@@ -40,7 +44,7 @@ pub record Around (names : Names) (ranges : List NamedRange) (shape : Shape) : T
 -- ---- conditions
 
 pub filter_suits : (names : Names) (ranges : List NamedRange) (shape : Shape) → Matches ranges shape → length ranges ≤ 2000 → SourcesMatch names shape
-    → (f : Option Condition) → is_filter f ≡ true → unknown_filter names ranges f ≡ false → misshaped_filter names ranges f ≡ false
+    → (f : Option Condition) → is_filter f ≡ true → unknown_in_filter names ranges f ≡ None → misshaped_filter names ranges f ≡ false
     → suits shape (bound_filter names ranges f) ≡ true
 filter_suits names ranges shape m l n None w u h = refl
 filter_suits names ranges shape m l n (Some c) w u h =
@@ -54,8 +58,8 @@ equal_of : (m n : ℕ) → not (m == n) ≡ false → m ≡ n
 equal_of m n h = let e = not-false (m == n) h in grind (arith, nat_tests)
 
 tuple_suits : (ranges : List NamedRange) (shape : Shape) → Matches ranges shape → length ranges ≤ greatest → (columns : List Column) → length columns ≤ greatest
-    → list_all default_suits columns ≡ true → (listed : Option (List (List ℕ))) → unknown_listed (named_columns columns) listed ≡ false → (tuple : List ValueOrDefault)
-    → list_any (unknown_value ranges) tuple ≡ false → misshaped_tuple (target_types (named_columns columns) listed) ranges tuple ≡ false
+    → list_all default_suits columns ≡ true → (listed : Option (List (List ℕ))) → unknown_in_listed (named_columns columns) listed ≡ None → (tuple : List ValueOrDefault)
+    → first_of (unknown_in_value ranges) tuple ≡ None → misshaped_tuple (target_types (named_columns columns) listed) ranges tuple ≡ false
     → values_suit shape (target_kinds (map (λ c. c.kind) columns) (bound_columns (named_columns columns) listed)) (bound_tuple columns listed ranges tuple) ≡ true
 unfolding bound_tuple misshaped_tuple tuple_clashes
 tuple_suits ranges shape m l columns few d listed known tuple u w = values_by shape targets (map value_at (enumerate_from 0 tuple)) same each
@@ -90,7 +94,7 @@ tuple_suits ranges shape m l columns few d listed known tuple u w = values_by sh
         ∙ ap (value_suits shape (Some at.column.kind)) made.2
         ∙ ap (λ n. value_suits shape (Some at.column.kind) (bound_value columns ranges (target_place (named_columns columns) listed n) made.0.1)) place
         ∙ value_of_column ranges shape m l columns d (target_place (named_columns columns) listed j) at.column at.at made.0.1
-        (any_at (unknown_value ranges) tuple u j made.0.1 placed.0) (any_at (misshaped_value ranges) tuple of_kinds.1 j made.0.1 placed.0)
+        (none_told (unknown_in_value ranges) tuple u j made.0.1 placed.0) (any_at (misshaped_value ranges) tuple of_kinds.1 j made.0.1 placed.0)
         (any_at (λ (p : Option ColumnType × ValueOrDefault). value_clashes p.0 ranges p.1) (zip types tuple) of_kinds.0 j (Some (type_of at.column.kind), made.0.1)
         (zip_at types tuple j (Some (type_of at.column.kind)) made.0.1 at.type placed.0))
 
@@ -111,7 +115,7 @@ apart (kind.Varchar m) (kind.Varchar n) h = refl
 apart kind.Integer (kind.Varchar n) h = cc
 apart (kind.Varchar m) kind.Integer h = cc
 
-star_suits : (columns : List Column) → length columns ≤ greatest → (listed : Option (List (List ℕ))) → unknown_listed (named_columns columns) listed ≡ false
+star_suits : (columns : List Column) → length columns ≤ greatest → (listed : Option (List (List ℕ))) → unknown_in_listed (named_columns columns) listed ≡ None
     → (others : List NamedColumn) (own : List Kind) → ColumnsMatch others own → (ranges : List NamedRange)
     → list_clashes (target_types (named_columns columns) listed) others ranges list.Star ≡ false
     → kinds_suit (target_kinds (map (λ c. c.kind) columns) (bound_columns (named_columns columns) listed)) own ≡ true
@@ -142,9 +146,9 @@ star_suits columns few listed known others own m ranges w = kinds_by targets own
         ∙ any_at (λ (p : Option ColumnType × NamedColumn). kinds_clash p.0 p.1.kind) (zip types others) parts.1 j (Some (type_of at.column.kind), other.0)
         (zip_at types others j (Some (type_of at.column.kind)) other.0 at.type other.1))
 
-pub list_suits : (columns : List Column) → length columns ≤ greatest → (listed : Option (List (List ℕ))) → unknown_listed (named_columns columns) listed ≡ false
+pub list_suits : (columns : List Column) → length columns ≤ greatest → (listed : Option (List (List ℕ))) → unknown_in_listed (named_columns columns) listed ≡ None
     → (others : List NamedColumn) (own : List Kind) → ColumnsMatch others own → (ranges : List NamedRange) (shape : Shape) → Matches ranges shape → length ranges ≤ greatest
-    → (l : SelectList) → unknown_list ranges l ≡ false → misshaped_list ranges l ≡ false
+    → (l : SelectList) → unknown_in_select_list ranges l ≡ None → misshaped_list ranges l ≡ false
     → list_clashes (target_types (named_columns columns) listed) others ranges l ≡ false
     → outputs_suit shape own (target_kinds (map (λ c. c.kind) columns) (bound_columns (named_columns columns) listed)) (bound_list ranges l) ≡ true
 unfolding bound_list list_clashes values_clash columns_clash
@@ -169,7 +173,7 @@ list_suits columns few listed known others own m ranges shape n deep (list.Value
         let made = made_of (bound_expression ranges) es j e g in
         ap (λ (x : Option Kind). value_suits shape x e) at.is ∙ ap (value_suits shape (Some at.column.kind)) made.2
         ∙ expression_suits ranges shape made.0 at.column.kind
-        (sorted ranges shape n deep made.0 (any_at (unknown_expression ranges) es u j made.0 made.1) (any_at (misshaped_expression ranges) es w j made.0 made.1))
+        (sorted ranges shape n deep made.0 (none_told (unknown_in_expression ranges) es u j made.0 made.1) (any_at (misshaped_expression ranges) es w j made.0 made.1))
         (any_at (λ (p : Option ColumnType × Expression). clashes_with p.0 ranges p.1) (zip types es) parts.1 j (Some (type_of at.column.kind), made.0)
         (zip_at types es j (Some (type_of at.column.kind)) made.0 at.type made.1))
 
@@ -178,8 +182,8 @@ unfolding source_columns
 columns_of_source names name s h = ap (λ (o : Option Source). elim o as (λ x. List NamedColumn) [ Some x ↦ x.columns | None ↦ [] ]) h
 
 pub source_suits : (names : Names) (ranges : List NamedRange) (shape : Shape) → Around names ranges shape → (columns : List Column) → length columns ≤ greatest
-    → list_all default_suits columns ≡ true → (listed : Option (List (List ℕ))) → unknown_listed (named_columns columns) listed ≡ false → (s : InsertSource)
-    → is_insert_source s ≡ true → unknown_source names ranges s ≡ false → misshaped_source names ranges (target_types (named_columns columns) listed) s ≡ false
+    → list_all default_suits columns ≡ true → (listed : Option (List (List ℕ))) → unknown_in_listed (named_columns columns) listed ≡ None → (s : InsertSource)
+    → is_insert_source s ≡ true → unknown_in_source names ranges s ≡ None → misshaped_source names ranges (target_types (named_columns columns) listed) s ≡ false
     → rows_suit names.tables shape (target_kinds (map (λ c. c.kind) columns) (bound_columns (named_columns columns) listed)) (bound_source names ranges columns listed s) ≡ true
 unfolding bound_source misshaped_source
 source_suits names ranges shape a columns few d listed known (source.Values tuples) i u w =
@@ -189,18 +193,21 @@ source_suits names ranges shape a columns few d listed known (source.Values tupl
     let deep = a.few in
     ap (values_suit shape (target_kinds (map (λ c. c.kind) columns) (bound_columns (named_columns columns) listed))) made.2
     ∙ tuple_suits ranges shape a.matches (omega arith) columns few d listed known made.0
-    (any_at (λ tuple. list_any (unknown_value ranges) tuple) tuples u j made.0 made.1)
+    (none_told (λ tuple. first_of (unknown_in_value ranges) tuple) tuples u j made.0 made.1)
     (any_at (misshaped_tuple (target_types (named_columns columns) listed) ranges) tuples w j made.0 made.1))
-source_suits names ranges shape a columns few d listed known (source.Select l r filter) i u w = by (source_is names r.table of_source.0)
+source_suits names ranges shape a columns few d listed known (source.Select l r filter) i u w = by (source_is names r.table of_source)
   where
     inner : List NamedRange
     inner = range_of names r ∷ ranges
 
-    of_source : (not (is_source names r.table) ≡ false) × ((unknown_list inner l || unknown_filter names inner filter) ≡ false)
-    of_source = or_parts (not (is_source names r.table)) (unknown_list inner l || unknown_filter names inner filter) u
+    asked : (unknown_in_from names r ≡ None) × (option_or (unknown_in_select_list inner l) (unknown_in_filter names inner filter) ≡ None)
+    asked = none_parts (unknown_in_from names r) (option_or (unknown_in_select_list inner l) (unknown_in_filter names inner filter)) u
 
-    known_parts : (unknown_list inner l ≡ false) × (unknown_filter names inner filter ≡ false)
-    known_parts = or_parts (unknown_list inner l) (unknown_filter names inner filter) of_source.1
+    of_source : not (is_source names r.table) ≡ false
+    of_source = untold (not (is_source names r.table)) (table_item r.table) asked.0
+
+    known_parts : (unknown_in_select_list inner l ≡ None) × (unknown_in_filter names inner filter ≡ None)
+    known_parts = none_parts (unknown_in_select_list inner l) (unknown_in_filter names inner filter) asked.1
 
     kinds_parts : (list_clashes (target_types (named_columns columns) listed) (source_columns names r.table) inner l ≡ false) × ((misshaped_list inner l || misshaped_filter names inner filter) ≡ false)
     kinds_parts = or_parts (list_clashes (target_types (named_columns columns) listed) (source_columns names r.table) inner l) (misshaped_list inner l || misshaped_filter names inner filter) w

@@ -10,7 +10,10 @@ use Rattle.iv_syntax.specs.declared.tree.Condition.TheVariants as condition
 use Rattle.iv_syntax.specs.declared.tree.RangeName.{RangeName}
 use Rattle.iv_syntax.specs.Trees.{exists_where, enclosed, negated, both, either, condition_depth}
 use Rattle.iv_resolution.specs.Scopes.{NamedColumn, NamedRange, Names, Source, source_named, is_source, source_columns, source_range, range_of}
-use Rattle.iv_resolution.specs.Terms.{unknown_expression, unknown_condition, misshaped_expression, misshaped_condition, is_integer, is_text, clash, bound_expression, bound_condition}
+use Rattle.iv_resolution.specs.Terms.{misshaped_expression, misshaped_condition, is_integer, is_text, clash, bound_expression, bound_condition}
+use Rattle.iv_resolution.specs.Items.{table_item}
+use Rattle.iv_resolution.specs.NameFaults.{unknown_in_from, unknown_in_condition, unknown_in_expression}
+use Rattle.iv_resolution.proofs.Told.{none_parts, untold}
 use Rattle.iv_laws_fitting.proofs.ColumnKinds.{greatest, ColumnsMatch, Matches}
 use Rattle.iv_laws_fitting.proofs.Expressions.{Agrees, Sorted, sorted}
 
@@ -79,11 +82,11 @@ has_sort_of ranges shape e x = ap (λ (o : Option Sort). is_some o) x.is
 -- ---- conditions
 
 pub condition_suits : (names : Names) (ranges : List NamedRange) (shape : Shape) → Matches ranges shape → SourcesMatch names shape
-    → (c : Condition) → length ranges + condition_depth c ≤ greatest → unknown_condition names ranges c ≡ false → misshaped_condition names ranges c ≡ false
+    → (c : Condition) → length ranges + condition_depth c ≤ greatest → unknown_in_condition names ranges c ≡ None → misshaped_condition names ranges c ≡ false
     → suits shape (bound_condition names ranges c) ≡ true
-unfolding unknown_condition misshaped_condition bound_condition
+unfolding unknown_in_condition misshaped_condition bound_condition
 condition_suits names ranges shape m n (condition.Compare op a b) l u w =
-    let known = or_parts (unknown_expression ranges a) (unknown_expression ranges b) u in
+    let known = none_parts (unknown_in_expression ranges a) (unknown_in_expression ranges b) u in
     let parts = or_parts (clash ranges a b) (misshaped_expression ranges a || misshaped_expression ranges b) w in
     let each = or_parts (misshaped_expression ranges a) (misshaped_expression ranges b) parts.1 in
     compares ranges shape a b (sorted ranges shape m (omega arith) a known.0 each.0) (sorted ranges shape m (omega arith) b known.1 each.1) parts.0
@@ -91,8 +94,8 @@ condition_suits names ranges shape m n (condition.IsNull a) l u w = has_sort_of 
 condition_suits names ranges shape m n (condition.IsNotNull a) l u w = has_sort_of ranges shape a (sorted ranges shape m (omega arith) a u w)
 condition_suits names ranges shape m n (condition.Exists r) l u w = refl
 condition_suits names ranges shape m n (exists_where r a) l u w =
-    let known = or_parts (not (is_source names r.table)) (unknown_condition names (range_of names r ∷ ranges) a) u in
-    let source = source_is names r.table known.0 in
+    let known = none_parts (unknown_in_from names r) (unknown_in_condition names (range_of names r ∷ ranges) a) u in
+    let source = source_is names r.table (untold (not (is_source names r.table)) (table_item r.table) known.0) in
     let inner = range_within names ranges shape r source.0 m n source.1 in
     ap (λ (x : Range). suits (shape_within shape (range_kinds shape x)) (bound_condition names (range_of names r ∷ ranges) a)) (range_of_source names r.table source.0 source.1)
     ∙ condition_suits names (range_of names r ∷ ranges) (shape_within shape (range_kinds shape source.0.range)) inner
@@ -100,10 +103,10 @@ condition_suits names ranges shape m n (exists_where r a) l u w =
 condition_suits names ranges shape m n (enclosed a) l u w = condition_suits names ranges shape m n a (omega arith) u w
 condition_suits names ranges shape m n (negated a) l u w = condition_suits names ranges shape m n a (omega arith) u w
 condition_suits names ranges shape m n (both a b) l u w =
-    let known = or_parts (unknown_condition names ranges a) (unknown_condition names ranges b) u in
+    let known = none_parts (unknown_in_condition names ranges a) (unknown_in_condition names ranges b) u in
     let each = or_parts (misshaped_condition names ranges a) (misshaped_condition names ranges b) w in
     and_from _ _ (condition_suits names ranges shape m n a (omega arith) known.0 each.0) (condition_suits names ranges shape m n b (omega arith) known.1 each.1)
 condition_suits names ranges shape m n (either a b) l u w =
-    let known = or_parts (unknown_condition names ranges a) (unknown_condition names ranges b) u in
+    let known = none_parts (unknown_in_condition names ranges a) (unknown_in_condition names ranges b) u in
     let each = or_parts (misshaped_condition names ranges a) (misshaped_condition names ranges b) w in
     and_from _ _ (condition_suits names ranges shape m n a (omega arith) known.0 each.0) (condition_suits names ranges shape m n b (omega arith) known.1 each.1)

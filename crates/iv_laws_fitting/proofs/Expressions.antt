@@ -12,7 +12,10 @@ use Rattle.iv_syntax.specs.declared.tree.Expression.{Expression}
 use Rattle.iv_syntax.specs.declared.tree.Expression.TheVariants as expression
 use Rattle.iv_syntax.specs.Trees.{group, signed, product, sum}
 use Rattle.iv_resolution.specs.Scopes.{NamedRange, Found, column_meant}
-use Rattle.iv_resolution.specs.Terms.{unknown_expression, misshaped_expression, is_integer, is_text, is_integer_type, is_text_type, is_integer_column, is_text_column, some_text, bound_column, bound_sum, bound_expression}
+use Rattle.iv_resolution.specs.Items.{column_item}
+use Rattle.iv_resolution.specs.Terms.{unknown_column, misshaped_expression, is_integer, is_text, is_integer_type, is_text_type, is_integer_column, is_text_column, some_text, bound_column, bound_sum, bound_expression}
+use Rattle.iv_resolution.specs.NameFaults.{unknown_in_expression}
+use Rattle.iv_resolution.proofs.Told.{none_parts, untold}
 use Rattle.iv_laws_fitting.proofs.ColumnKinds.{greatest, Matches, sort_of_type, column_sorted}
 
 -- what a sort says of the tree as it is written
@@ -88,11 +91,11 @@ summed shape sign.Plus a b = refl
 summed shape sign.Minus a b = refl
 
 pub sorted : (ranges : List NamedRange) (shape : Shape) → Matches ranges shape → length ranges ≤ greatest
-    → (e : Expression) → unknown_expression ranges e ≡ false → misshaped_expression ranges e ≡ false → Sorted ranges shape e
+    → (e : Expression) → unknown_in_expression ranges e ≡ None → misshaped_expression ranges e ≡ false → Sorted ranges shape e
 sorted ranges shape m l (expression.Number n) u w = record { sort = numbers; is = refl; agrees = refl }
 sorted ranges shape m l (expression.Text t) u w = record { sort = texts; is = refl; agrees = refl }
 sorted ranges shape m l expression.Null u w = record { sort = nulls; is = refl; agrees = tt }
-sorted ranges shape m l (expression.Column c) u w = sorted_column ranges shape m l c (column_meant ranges c) refl u
+sorted ranges shape m l (expression.Column c) u w = sorted_column ranges shape m l c (column_meant ranges c) refl (untold (unknown_column ranges c) (column_item c.qualifier c.name) u)
 sorted ranges shape m l (group a) u w = let x = sorted ranges shape m l a u w in record { sort = x.sort; is = x.is; agrees = by x.sort x.agrees }
   where
     by : (s : Sort) → Agrees ranges a s → Agrees ranges (group a) s
@@ -103,7 +106,7 @@ sorted ranges shape m l (signed s a) u w =
     let parts = or_parts (is_text ranges a) (misshaped_expression ranges a) w in
     signed_sorted ranges shape s a (sorted ranges shape m l a u parts.1) parts.0
 sorted ranges shape m l (product a b) u w =
-    let known = or_parts (unknown_expression ranges a) (unknown_expression ranges b) u in
+    let known = none_parts (unknown_in_expression ranges a) (unknown_in_expression ranges b) u in
     let parts = or_parts (some_text ranges a b) (misshaped_expression ranges a || misshaped_expression ranges b) w in
     let each = or_parts (misshaped_expression ranges a) (misshaped_expression ranges b) parts.1 in
     record {
@@ -112,7 +115,7 @@ sorted ranges shape m l (product a b) u w =
       agrees = refl;
     }
 sorted ranges shape m l (sum s a b) u w =
-    let known = or_parts (unknown_expression ranges a) (unknown_expression ranges b) u in
+    let known = none_parts (unknown_in_expression ranges a) (unknown_in_expression ranges b) u in
     let parts = or_parts (some_text ranges a b) (misshaped_expression ranges a || misshaped_expression ranges b) w in
     let each = or_parts (misshaped_expression ranges a) (misshaped_expression ranges b) parts.1 in
     record {

@@ -6,7 +6,7 @@ use Rattle.std.proofs.lemmas.Option.{same_Some}
 use Rattle.std.specs.List.{list_any, list_all, enumerate_from}
 use Rattle.std.specs.Str.{bytes_eq}
 use Rattle.std.proofs.lemmas.Bool.Decides.{nat_tests}
-use Rattle.iv_catalogue.specs.Names.{is_among}
+use Rattle.iv_catalogue.specs.Names.{is_among, has_repeated}
 use Rattle.iv_laws_fitting.specs.Words.{Constraint, ForeignKey, Rule, Kind, Column, Table}
 use Rattle.iv_laws_fitting.specs.Words.rule
 use Rattle.iv_catalogue.specs.Catalogues.{Schema}
@@ -15,21 +15,21 @@ use Rattle.iv_syntax.specs.declared.table.References.{References}
 use Rattle.iv_machine.specs.ReferentialActions.{foreign_key}
 use Rattle.iv_resolution.specs.Scopes.{NamedColumn, Names, named_columns, number, place_of}
 use Rattle.iv_resolution.specs.Constraints as written
-use Rattle.iv_resolution.specs.Constraints.{WrittenRule, not_null, unique, primary_key, check, WrittenConstraint, Altered, Key, Referenced, key_of_rule, key_of_written, stored_keys, written_keys, stored_reference, referenced, constraints_of, places_of, name_at, same_set, comes_twice, pairs_differ, primary_key_of, faulty_reference, is_reliable}
-use Rattle.iv_resolution.specs.Changes.{unknown_names}
-use Rattle.iv_resolution.specs.Tables.{creating, unknown_reference, unknown_rule, faulty_rule}
+use Rattle.iv_resolution.specs.Constraints.{WrittenRule, not_null, unique, primary_key, check, WrittenConstraint, Altered, Key, Referenced, key_of_rule, key_of_written, stored_keys, written_keys, stored_reference, referenced, constraints_of, places_of, name_at, same_set, pairs_differ, faulty_reference, is_reliable}
+use Rattle.iv_resolution.specs.Tables.{creating, faulty_rule}
 use Rattle.iv_resolution.specs.Bound.{bound_rule, bound_place, bound_reference, key_places}
+use Rattle.iv_resolution.specs.NameFaults.{unknown_in_columns, unknown_in_reference, unknown_in_rule}
+use Rattle.iv_resolution.proofs.Told.{none_parts}
 use Rattle.iv_store.specs.Stores.{all_among, are_same_columns, unique_columns, is_named_key, has_key}
-use Rattle.iv_laws_naming.specs.Naming.{IsFirst, column_is_called, table_is_called}
-use Rattle.iv_laws_naming.proofs.Firsts.{Search, nothing, something, search, at_front, later, first_position, first_found, first_there, none_position, none_found}
+use Rattle.iv_laws_naming.specs.Naming.{column_is_called, table_is_called}
+use Rattle.iv_laws_naming.proofs.Firsts.{Search, nothing, something, search, later, first_position, first_found, first_there, none_position, none_found}
 use Rattle.iv_laws_fitting.specs.ConstraintShapes.{is_place, rule_suits, constraint_suits}
 use Rattle.iv_laws_fitting.specs.PlanShapes.{kinds_of, table_kinds, is_there, table_suits}
 use Rattle.iv_laws_fitting.proofs.ColumnKinds.{stored_match, there_below}
 use Rattle.iv_laws_fitting.proofs.Changes.{column_of_kind}
-use Rattle.iv_laws_fitting.proofs.NewTables.{same_either_way}
-use Rattle.iv_laws_fitting.proofs.References.{same_self, names_kept, at_place, made_by, kept_by}
+use Rattle.iv_laws_fitting.proofs.References.{distinct_is_first, names_kept, at_place, made_by, kept_by}
 use Rattle.iv_laws_fitting.proofs.Targets.{few_columns, distinct_columns}
-use Rattle.iv_laws_fitting.proofs.Pointwise.{some_pair, any_at, all_at, made_of, map_at, all_by}
+use Rattle.iv_laws_fitting.proofs.Pointwise.{some_pair, all_at, made_of, map_at, all_by}
 
 -- ---- one of a list
 
@@ -81,26 +81,13 @@ same_itself places = and_from _ _ (among_itself places) (among_itself places)
 
 -- ---- keys by name and by place
 
--- the first column of a name is the only one
-distinct_is_first : (columns : List NamedColumn) → comes_twice (map (λ c. c.name) columns) ≡ false → (p : ℕ) (c : NamedColumn) → slice_get columns p ≡ Some c
-    → IsFirst (column_is_called c.name) columns p c
-unfolding comes_twice
-distinct_is_first [] d p c h = cc
-distinct_is_first (x ∷ xs) d zero c h =
-    let e = same_Some x c h in
-    subst (λ (y : NamedColumn). IsFirst (column_is_called y.name) (x ∷ xs) zero y) e (at_front (column_is_called x.name) x xs (same_self x.name))
-distinct_is_first (x ∷ xs) d (suc p) c h =
-    let parts = or_parts (is_among (map (λ (y : NamedColumn). y.name) xs) x.name) (comes_twice (map (λ (y : NamedColumn). y.name) xs)) d in
-    let other = any_at (bytes_eq x.name) (map (λ (y : NamedColumn). y.name) xs) parts.0 p c.name (map_at (λ (y : NamedColumn). y.name) xs p ∙ ap (option_map (λ (y : NamedColumn). y.name)) h) in
-    later (column_is_called c.name) x xs p c (same_either_way c.name x.name ∙ other) (distinct_is_first xs parts.1 p c h)
-
 place_of_name : (t : Table) → table_suits t ≡ true → (place : ℕ) → is_place (kinds_of t) place ≡ true → place_of (named_columns t.columns) (name_at (named_columns t.columns) place) ≡ place
 place_of_name t s place h =
     let columns = named_columns t.columns in
     let match = stored_match t (few_columns t s) in
     let kind = at_place (kinds_of t) place h in
     let column = column_of_kind columns (kinds_of t) match.types place kind.0 kind.1 in
-    let first = distinct_is_first columns (ap comes_twice (names_kept t.columns) ∙ not-true (comes_twice (map (λ (c : Column). c.name) t.columns)) (distinct_columns t s)) place column.0 column.1 in
+    let first = distinct_is_first [] columns (ap (has_repeated []) (names_kept t.columns) ∙ not-true (has_repeated [] (map (λ (c : Column). c.name) t.columns)) (distinct_columns t s)) place column.0 column.1 in
     let few = match.few in
     let less = there_below columns place column.0 column.1 in
     let small : number place ≡ place = omega arith in
@@ -291,18 +278,18 @@ reference_key own all t n columns r w = by r.columns refl
             ∙ same_itself k.places)
 
 referred_key : (schema : Schema) (own : Altered) (all : List Constraint) → AllNamed schema own all → (columns : List (List ℕ)) (r : References) (o : Option Referenced)
-    → referenced schema own r.table ≡ o → unknown_reference o r.columns ≡ false
+    → referenced schema own r.table ≡ o → unknown_in_reference r.table o r.columns ≡ None
     → elim o as (λ x. Bool) [ Some t ↦ faulty_reference own.columns columns t r.columns | None ↦ false ] ≡ false
     → has_key all (Some (bound_reference own columns r o)) ≡ true
 referred_key schema own all n columns r None e u w = cc
 referred_key schema own all n columns r (Some t) e u w = reference_key own all t (keys_of_reference schema own all n r.table t e) columns r w
 
 pub key_of_rule_there : (schema : Schema) (names : Names) (own : Altered) (all : List Constraint) → AllNamed schema own all → (r : WrittenRule)
-    → unknown_rule schema names own r ≡ false → faulty_rule schema own r ≡ false → has_key all (foreign_key (bound_rule schema names own r)) ≡ true
+    → unknown_in_rule schema names own r ≡ None → faulty_rule schema own r ≡ false → has_key all (foreign_key (bound_rule schema names own r)) ≡ true
 key_of_rule_there schema names own all n (not_null column) u f = refl
 key_of_rule_there schema names own all n (unique nulls columns) u f = refl
 key_of_rule_there schema names own all n (primary_key columns) u f = refl
 key_of_rule_there schema names own all n (check c) u f = refl
 key_of_rule_there schema names own all n (written.foreign_key columns r) u f =
-    let known = or_parts (unknown_names own.columns columns) (unknown_reference (referenced schema own r.table) r.columns) u in
+    let known = none_parts (unknown_in_columns own.columns columns) (unknown_in_reference r.table (referenced schema own r.table) r.columns) u in
     referred_key schema own all n columns r (referenced schema own r.table) refl known.1 f

@@ -1,6 +1,6 @@
 -- What a constraint that deserves no cause means suits the tables: the columns that it names are there, its condition suits them, and a
 -- foreign key pairs columns of one type.
-use Rattle.std.proofs.Common.{◌≡◌, ℕ, zero, suc, ◌≤◌, Bool, true, false, not, ◌&&◌, ◌||◌, ◌==◌, List, [], ◌∷◌, ◌∙◌, Option, Some, is_some, refl, sym, ap, length, zip, slice_get, option_map, unwrap_or, arith}
+use Rattle.std.proofs.Common.{◌≡◌, ℕ, zero, suc, ◌≤◌, Bool, true, false, not, ◌&&◌, ◌||◌, ◌==◌, List, [], ◌∷◌, ◌∙◌, Option, Some, None, is_some, refl, sym, ap, length, zip, slice_get, option_map, unwrap_or, arith}
 use Rattle.std.proofs.lemmas.Bool.{and_from, not-false, or_parts}
 use Rattle.std.proofs.lemmas.Option.{same_Some}
 use Rattle.std.specs.List.{list_any, list_all}
@@ -13,9 +13,10 @@ use Rattle.iv_syntax.specs.declared.tree.Condition.{Condition}
 use Rattle.iv_syntax.specs.declared.tree.Condition.TheVariants as condition
 use Rattle.iv_syntax.specs.Trees.{exists_where, enclosed, negated, both, either}
 use Rattle.iv_resolution.specs.Scopes.{NamedColumn, NamedRange, Names, number, type_of, place_of, has_column, type_named, own_range}
-use Rattle.iv_resolution.specs.Terms.{unknown_expression, unknown_condition, misshaped_expression, misshaped_condition, clash, has_exists, bound_condition}
+use Rattle.iv_resolution.specs.Terms.{misshaped_expression, misshaped_condition, clash, has_exists, bound_condition}
 use Rattle.iv_resolution.specs.Constraints.{Key, places_of, types_differ, pairs_differ}
-use Rattle.iv_resolution.specs.Changes.{unknown_names}
+use Rattle.iv_resolution.specs.NameFaults.{unknown_in_columns, unknown_in_condition, unknown_in_expression}
+use Rattle.iv_resolution.proofs.Told.{known_column, none_parts}
 use Rattle.iv_laws_naming.specs.Naming.{column_is_called}
 use Rattle.iv_laws_naming.proofs.Firsts.{Search, nothing, something, search, first_position, first_found, first_there, none_position}
 use Rattle.iv_laws_fitting.specs.ConstraintShapes.{is_place, check_shape, same_kind, pair_suits}
@@ -27,11 +28,11 @@ use Rattle.iv_laws_fitting.proofs.Pointwise.{any_at, zip_at, made_of, mapped_len
 -- ---- conditions without EXISTS
 
 pub plain_condition_suits : (names : Names) (ranges : List NamedRange) (shape : Shape) → Matches ranges shape → length ranges ≤ greatest
-    → (c : Condition) → has_exists c ≡ false → unknown_condition names ranges c ≡ false → misshaped_condition names ranges c ≡ false
+    → (c : Condition) → has_exists c ≡ false → unknown_in_condition names ranges c ≡ None → misshaped_condition names ranges c ≡ false
     → suits shape (bound_condition names ranges c) ≡ true
-unfolding unknown_condition misshaped_condition bound_condition
+unfolding unknown_in_condition misshaped_condition bound_condition
 plain_condition_suits names ranges shape m l (condition.Compare op a b) e u w =
-    let known = or_parts (unknown_expression ranges a) (unknown_expression ranges b) u in
+    let known = none_parts (unknown_in_expression ranges a) (unknown_in_expression ranges b) u in
     let parts = or_parts (clash ranges a b) (misshaped_expression ranges a || misshaped_expression ranges b) w in
     let each = or_parts (misshaped_expression ranges a) (misshaped_expression ranges b) parts.1 in
     compares ranges shape a b (sorted ranges shape m l a known.0 each.0) (sorted ranges shape m l b known.1 each.1) parts.0
@@ -43,12 +44,12 @@ plain_condition_suits names ranges shape m l (enclosed a) e u w = plain_conditio
 plain_condition_suits names ranges shape m l (negated a) e u w = plain_condition_suits names ranges shape m l a e u w
 plain_condition_suits names ranges shape m l (both a b) e u w =
     let none = or_parts (has_exists a) (has_exists b) e in
-    let known = or_parts (unknown_condition names ranges a) (unknown_condition names ranges b) u in
+    let known = none_parts (unknown_in_condition names ranges a) (unknown_in_condition names ranges b) u in
     let each = or_parts (misshaped_condition names ranges a) (misshaped_condition names ranges b) w in
     and_from _ _ (plain_condition_suits names ranges shape m l a none.0 known.0 each.0) (plain_condition_suits names ranges shape m l b none.1 known.1 each.1)
 plain_condition_suits names ranges shape m l (either a b) e u w =
     let none = or_parts (has_exists a) (has_exists b) e in
-    let known = or_parts (unknown_condition names ranges a) (unknown_condition names ranges b) u in
+    let known = none_parts (unknown_in_condition names ranges a) (unknown_in_condition names ranges b) u in
     let each = or_parts (misshaped_condition names ranges a) (misshaped_condition names ranges b) w in
     and_from _ _ (plain_condition_suits names ranges shape m l a none.0 known.0 each.0) (plain_condition_suits names ranges shape m l b none.1 known.1 each.1)
 
@@ -95,13 +96,13 @@ pub named_place : (columns : List NamedColumn) (kinds : List Kind) → ColumnsMa
     → is_place kinds (place_of columns name) ≡ true
 named_place columns kinds m name h = let k = named_kind columns kinds m name h in there_is_place kinds (place_of columns name) k.kind k.at
 
-pub named_places : (columns : List NamedColumn) (kinds : List Kind) → ColumnsMatch columns kinds → (names : List (List ℕ)) → unknown_names columns names ≡ false
+pub named_places : (columns : List NamedColumn) (kinds : List Kind) → ColumnsMatch columns kinds → (names : List (List ℕ)) → unknown_in_columns columns names ≡ None
     → list_all (is_place kinds) (places_of columns names) ≡ true
 named_places columns kinds m names u =
     all_by (is_place kinds) (places_of columns names)
     (λ j place h.
     let made = made_of (place_of columns) names j place h in
-    ap (is_place kinds) made.2 ∙ named_place columns kinds m made.0 (any_at (λ n. not (has_column columns n)) names u j made.0 made.1))
+    ap (is_place kinds) made.2 ∙ named_place columns kinds m made.0 (known_column columns names u j made.0 made.1))
 
 -- ---- keys
 
@@ -111,14 +112,14 @@ pub record KeyMatches (columns : List NamedColumn) (kinds : List Kind) (k : Key)
   pub each : (j : ℕ) (name : List ℕ) (place : ℕ) → slice_get k.columns j ≡ Some name → slice_get k.places j ≡ Some place
       → (q : Kind) × (slice_get kinds place ≡ Some q) × (type_named columns name ≡ Some (type_of q))
 
-pub key_of_names : (columns : List NamedColumn) (kinds : List Kind) → ColumnsMatch columns kinds → (names : List (List ℕ)) → unknown_names columns names ≡ false
+pub key_of_names : (columns : List NamedColumn) (kinds : List Kind) → ColumnsMatch columns kinds → (names : List (List ℕ)) → unknown_in_columns columns names ≡ None
     → (primary deferrable : Bool) → KeyMatches columns kinds (record { columns = names; places = places_of columns names; is_primary = primary; deferrable = deferrable })
 key_of_names columns kinds m names u primary deferrable = record {
   same = sym (mapped_length (place_of columns) names);
   each = λ j name place h g.
       let made = made_of (place_of columns) names j place g in
       let same : made.0 ≡ name = same_Some made.0 name (sym made.1 ∙ h) in
-      let k = named_kind columns kinds m name (any_at (λ n. not (has_column columns n)) names u j name h) in
+      let k = named_kind columns kinds m name (known_column columns names u j name h) in
       (k.kind, ap (slice_get kinds) (made.2 ∙ ap (place_of columns) same) ∙ k.at, k.type);
 }
 
@@ -137,7 +138,7 @@ one_type kind.Integer (kind.Varchar n) h = cc
 one_type (kind.Varchar m) kind.Integer h = cc
 
 -- the columns of a foreign key and those of a key that it names have the same types, one by one
-pub pairs_of_key : (columns : List NamedColumn) (kinds : List Kind) → ColumnsMatch columns kinds → (referencing : List (List ℕ)) → unknown_names columns referencing ≡ false
+pub pairs_of_key : (columns : List NamedColumn) (kinds : List Kind) → ColumnsMatch columns kinds → (referencing : List (List ℕ)) → unknown_in_columns columns referencing ≡ None
     → (others : List NamedColumn) (other_kinds : List Kind) (k : Key) → KeyMatches others other_kinds k → pairs_differ columns referencing others k.columns ≡ false
     → ((length (places_of columns referencing) == length k.places) && list_all (pair_suits kinds other_kinds) (zip (places_of columns referencing) k.places)) ≡ true
 pairs_of_key columns kinds m referencing u others other_kinds k km h =
@@ -152,7 +153,7 @@ pairs_of_key columns kinds m referencing u others other_kinds k km h =
     let name = made_of (place_of columns) referencing j p.0 apart.0 in
     let less = below k.places j p.1 apart.1 in
     let there = at_place k.columns j (omega arith) in
-    let mine = named_kind columns kinds m name.0 (any_at (λ n. not (has_column columns n)) referencing u j name.0 name.1) in
+    let mine = named_kind columns kinds m name.0 (known_column columns referencing u j name.0 name.1) in
     let theirs = km.each j there.0 p.1 there.1 apart.1 in
     ap (λ (o : Option Kind). same_kind o (slice_get other_kinds p.1)) (ap (slice_get kinds) name.2 ∙ mine.at)
     ∙ ap (same_kind (Some mine.kind)) theirs.1

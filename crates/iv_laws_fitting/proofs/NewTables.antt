@@ -1,7 +1,9 @@
 -- The plan of a CREATE TABLE that deserves no cause.
-use Rattle.std.proofs.Common.{◌≡◌, ℕ, ◌≤◌, min, nat_lt, nat_le, Bool, true, false, not, ◌&&◌, ◌||◌, ◌==◌, if◌then◌else◌, List, [], ◌∷◌, ◌++◌, ◌∙◌, Option, Some, None, refl, sym, ap, chars, length, map, arith}
+use Rattle.std.proofs.Common.{◌≡◌, ℕ, ◌≤◌, min, nat_lt, nat_le, Bool, true, false, not, ◌&&◌, ◌||◌, ◌==◌, if◌then◌else◌, List, [], ◌∷◌, ◌++◌, ◌∙◌, Option, Some, None, refl, sym, ap, chars, length, map, arith, ◌+◌, append-nil}
 use Rattle.std.proofs.lemmas.Bool.{and_from, not-false, or_parts}
 use Rattle.std.specs.List.{list_any, enumerate_from}
+use Rattle.std.specs.Option.{option_or}
+use Rattle.std.proofs.lemmas.List.{append_assoc}
 use Rattle.std.specs.Str.{bytes_eq}
 use Rattle.std.proofs.lemmas.Bool.Decides.{nat_tests}
 use Rattle.std.proofs.lemmas.List.Folds.{list_any-append}
@@ -14,12 +16,16 @@ use Rattle.iv_syntax.specs.declared.table.ColumnDefinition.{ColumnDefinition}
 use Rattle.iv_syntax.specs.declared.table.Literal.{Literal}
 use Rattle.iv_syntax.specs.declared.table.Literal.TheVariants as literal
 use Rattle.iv_syntax.specs.declared.table.TableElement.{TableElement}
+use Rattle.iv_syntax.specs.declared.table.TableElement.TheVariants as element
 use Rattle.iv_catalogue.specs.Catalogues.{Schema, AllOn, has_constraint}
 use Rattle.iv_catalogue.specs.Names.{is_among, has_repeated}
 use Rattle.iv_catalogue.proofs.NamedLists.{any_map}
 use Rattle.iv_laws_fitting.specs.Words.{Column, Constraint}
 use Rattle.iv_catalogue.specs.declared.limits.TheConstants.{MOST_CHARACTERS, MOST_COLUMNS}
-use Rattle.iv_resolution.specs.Constraints.{WrittenConstraint, written_columns, constraint_name, constraint_names, comes_twice, Altered, default_fits, literal_fits}
+use Rattle.iv_resolution.specs.Constraints.{WrittenConstraint, written_columns, constraint_name, Altered, default_fits, literal_fits}
+use Rattle.iv_resolution.specs.Items.{in_use_fault, twice_fault, first_again}
+use Rattle.iv_resolution.specs.NameFaults.{item_of_constraint, constraint_in_use, constraint_again, duplicate_in_rule, duplicate_in_constraint, duplicate_in_constraints, before_column_again}
+use Rattle.iv_resolution.proofs.Told.{none_parts, untold}
 use Rattle.iv_resolution.specs.Tables.{type_beyond_limits}
 use Rattle.iv_resolution.specs.Bound.{bound_literal, bound_kind, bound_default, bound_column_definition, bound_place}
 use Rattle.iv_store.specs.Stores.{is_fit}
@@ -56,7 +62,7 @@ names_of_columns [] = refl
 names_of_columns (c ∷ cs) = ap (λ l. c.name ∷ l) (names_of_columns cs)
 
 pub columns_suit : (elements : List TableElement) → nat_lt MOST_COLUMNS (length (written_columns elements)) ≡ false → list_any (λ c. not (default_fits c)) (written_columns elements) ≡ false
-    → comes_twice (map (λ c. c.name) (written_columns elements)) ≡ false → list_any (λ c. type_beyond_limits c.kind) (written_columns elements) ≡ false
+    → has_repeated [] (map (λ c. c.name) (written_columns elements)) ≡ false → list_any (λ c. type_beyond_limits c.kind) (written_columns elements) ≡ false
     → (name : List ℕ) → table_suits (record { name = name; columns = map bound_column_definition (written_columns elements) }) ≡ true
 columns_suit elements few fits once types name =
     let length_is = mapped_length bound_column_definition (written_columns elements) in
@@ -68,7 +74,7 @@ columns_suit elements few fits once types name =
     ap default_suits made.2
     ∙ default_fit made.0.kind made.0.default (any_at (λ (x : ColumnDefinition). type_beyond_limits x.kind) (written_columns elements) types j made.0 made.1)
     (not-false (default_fits made.0) (any_at (λ (x : ColumnDefinition). not (default_fits x)) (written_columns elements) fits j made.0 made.1))))
-    (ap (λ (names : List (List ℕ)). not (comes_twice names)) (names_of_columns (written_columns elements)) ∙ ap (λ b. not b) once))
+    (ap (λ (names : List (List ℕ)). not (has_repeated [] names)) (names_of_columns (written_columns elements)) ∙ ap (λ b. not b) once))
 
 -- ---- names
 
@@ -79,49 +85,59 @@ same_either_way [] (y ∷ ys) = refl
 same_either_way (x ∷ xs) [] = refl
 same_either_way (x ∷ xs) (y ∷ ys) = let e : (x == y) ≡ (y == x) = grind (arith, nat_tests) in ap (λ b. b && bytes_eq xs ys) e ∙ ap (λ b. (y == x) && b) (same_either_way xs ys)
 
-or_false : (b : Bool) → b || false ≡ b
-or_false true = refl
-or_false false = refl
+-- columns of which none comes again
+pub columns_once : (earlier names : List (List ℕ)) → first_again (λ n. n) earlier names ≡ None → has_repeated earlier names ≡ false
+unfolding has_repeated
+columns_once earlier [] h = refl
+columns_once earlier (name ∷ names) h = by (is_among earlier name) (columns_once (earlier ++ name ∷ []) names) h
+  where
+    by : (b : Bool) → (first_again (λ n. n) (earlier ++ name ∷ []) names ≡ None → has_repeated (earlier ++ name ∷ []) names ≡ false)
+        → (if b then Some name else first_again (λ n. n) (earlier ++ name ∷ []) names) ≡ None → (b || has_repeated (earlier ++ name ∷ []) names) ≡ false
+    by true rest e = cc
+    by false rest e = rest e
 
-none_of_more : (earlier : List (List ℕ)) (name : List ℕ) (names : List (List ℕ)) → list_any (is_among earlier) names ≡ false → is_among names name ≡ false
-    → list_any (is_among (earlier ++ name ∷ [])) names ≡ false
-none_of_more earlier name [] h n = refl
-none_of_more earlier name (m ∷ ms) h n =
-    let old = or_parts (is_among earlier m) (list_any (is_among earlier) ms) h in
-    let new = or_parts (bytes_eq name m) (is_among ms name) n in
-    ap (λ b. b || list_any (is_among (earlier ++ name ∷ [])) ms)
-    (list_any-append (bytes_eq m) earlier (name ∷ []) ∙ ap (λ b. b || (bytes_eq m name || false)) old.0 ∙ or_false (bytes_eq m name) ∙ same_either_way m name ∙ new.0)
-    ∙ none_of_more earlier name ms old.1 new.1
+-- then the whole text stands before the first one that does
+pub text_whole : (before : List (List ℕ)) (elements : List TableElement) → first_again (λ n. n) before (map (λ c. c.name) (written_columns elements)) ≡ None
+    → before_column_again before elements ≡ elements
+text_whole before [] h = refl
+text_whole before (element.Constraint k ∷ elements) h = ap (λ l. element.Constraint k ∷ l) (text_whole before elements h)
+text_whole before (element.Column c ∷ elements) h = by (is_among before c.name) (text_whole (before ++ c.name ∷ []) elements) h
+  where
+    by : (b : Bool)
+        → (first_again (λ n. n) (before ++ c.name ∷ []) (map (λ (x : ColumnDefinition). x.name) (written_columns elements)) ≡ None → before_column_again (before ++ c.name ∷ []) elements ≡ elements)
+        → (if b then Some c.name else first_again (λ n. n) (before ++ c.name ∷ []) (map (λ (x : ColumnDefinition). x.name) (written_columns elements))) ≡ None
+        → (if b then [] else element.Column c ∷ before_column_again (before ++ c.name ∷ []) elements) ≡ element.Column c ∷ elements
+    by true rest e = cc
+    by false rest e = ap (λ l. element.Column c ∷ l) (rest e)
 
--- names of which none is in use and none comes twice
-pub names_are_new : (earlier names : List (List ℕ)) → list_any (is_among earlier) names ≡ false → comes_twice names ≡ false → has_repeated earlier names ≡ false
-unfolding has_repeated comes_twice
-names_are_new earlier [] h t = refl
-names_are_new earlier (name ∷ names) h t =
-    let old = or_parts (is_among earlier name) (list_any (is_among earlier) names) h in
-    let own = or_parts (is_among names name) (comes_twice names) t in
-    ap (λ b. b || has_repeated (earlier ++ name ∷ []) names) old.0 ∙ names_are_new (earlier ++ name ∷ []) names (none_of_more earlier name names old.1 own.0) own.1
-
--- names that no constraint of the schema has
-pub unused_names : (ks : List Constraint) (names : List (List ℕ)) → list_any (λ name. list_any (λ k. bytes_eq name k.name) ks) names ≡ false
-    → list_any (is_among (map (λ (k : Constraint). k.name) ks)) names ≡ false
-unused_names ks [] h = refl
-unused_names ks (name ∷ names) h =
-    let parts = or_parts (list_any (λ k. bytes_eq name k.name) ks) (list_any (λ n. list_any (λ k. bytes_eq n k.name) ks) names) h in
-    ap (λ b. b || list_any (is_among (map (λ (k : Constraint). k.name) ks)) names) (sym (any_map (bytes_eq name) (λ (k : Constraint). k.name) ks) ∙ parts.0)
-    ∙ unused_names ks names parts.1
+-- names of constraints that are neither in use nor among those before them
+constraints_once : (schema : Schema) (table : List ℕ) (place : ℕ) (before : List (List ℕ)) (ks : List WrittenConstraint) → duplicate_in_constraints schema table place before ks ≡ None
+    → has_repeated (map (λ (k : Constraint). k.name) schema.constraints ++ before) (map (λ (p : ℕ × WrittenConstraint). constraint_name table p.0 p.1) (enumerate_from place ks)) ≡ false
+unfolding has_repeated
+constraints_once schema table place before [] h = refl
+constraints_once schema table place before (k ∷ ks) h =
+    let name = constraint_name table place k in
+    let used = map (λ (x : Constraint). x.name) schema.constraints in
+    let parts = none_parts (duplicate_in_constraint schema table place before k) (duplicate_in_constraints schema table (place + 1) (before ++ name ∷ []) ks) h in
+    let named = none_parts (constraint_in_use schema table place k) (option_or (constraint_again table place before k) (duplicate_in_rule k.rule)) parts.0 in
+    let unused = untold (has_constraint schema name) (in_use_fault (item_of_constraint table place k)) named.0 in
+    let new = untold (is_among before name) (twice_fault (item_of_constraint table place k)) (none_parts (constraint_again table place before k) (duplicate_in_rule k.rule) named.1).0 in
+    ap (λ b. b || has_repeated ((used ++ before) ++ name ∷ []) (map (λ (p : ℕ × WrittenConstraint). constraint_name table p.0 p.1) (enumerate_from (place + 1) ks)))
+    (list_any-append (bytes_eq name) used before ∙ ap (λ b. b || is_among before name) (sym (any_map (bytes_eq name) (λ (x : Constraint). x.name) schema.constraints) ∙ unused) ∙ new)
+    ∙ ap (λ l. has_repeated l (map (λ (p : ℕ × WrittenConstraint). constraint_name table p.0 p.1) (enumerate_from (place + 1) ks))) (append_assoc used before (name ∷ []))
+    ∙ constraints_once schema table (place + 1) (before ++ name ∷ []) ks parts.1
 
 bound_names : (schema : Schema) (own : Altered) (ps : List (ℕ × WrittenConstraint))
     → map (λ (k : Constraint). k.name) (map (bound_place schema own) ps) ≡ map (λ (p : ℕ × WrittenConstraint). constraint_name own.name p.0 p.1) ps
 bound_names schema own [] = refl
 bound_names schema own (p ∷ ps) = ap (λ l. constraint_name own.name p.0 p.1 ∷ l) (bound_names schema own ps)
 
-pub new_names : (schema : Schema) (own : Altered) (ks : List WrittenConstraint) → list_any (has_constraint schema) (constraint_names own.name 1 ks) ≡ false
-    → comes_twice (constraint_names own.name 1 ks) ≡ false
+pub new_names : (schema : Schema) (own : Altered) (ks : List WrittenConstraint) → duplicate_in_constraints schema own.name 1 [] ks ≡ None
     → has_repeated (map (λ (k : Constraint). k.name) schema.constraints) (map (λ (k : Constraint). k.name) (map (bound_place schema own) (enumerate_from 1 ks))) ≡ false
-new_names schema own ks h t =
+new_names schema own ks h =
     ap (has_repeated (map (λ (k : Constraint). k.name) schema.constraints)) (bound_names schema own (enumerate_from 1 ks))
-    ∙ names_are_new (map (λ (k : Constraint). k.name) schema.constraints) (constraint_names own.name 1 ks) (unused_names schema.constraints (constraint_names own.name 1 ks) h) t
+    ∙ ap (λ l. has_repeated l (map (λ (p : ℕ × WrittenConstraint). constraint_name own.name p.0 p.1) (enumerate_from 1 ks))) (sym (append-nil (map (λ (k : Constraint). k.name) schema.constraints)))
+    ∙ constraints_once schema own.name 1 [] ks h
 
 -- ---- constraints of the table
 

@@ -1,6 +1,7 @@
 -- The plans of INSERT, UPDATE, DELETE and SELECT statements that deserve no cause.
-use Rattle.std.proofs.Common.{◌≡◌, ℕ, ◌≤◌, Bool, true, false, not, ◌&&◌, ◌||◌, List, [], ◌∷◌, ◌∙◌, Option, Some, None, Ok, refl, sym, ap, cond, length, map, slice_get, subst, unwrap_or, arith}
+use Rattle.std.proofs.Common.{◌≡◌, ℕ, ◌≤◌, Bool, true, false, not, ◌&&◌, List, [], ◌∷◌, ◌∙◌, Option, Some, None, Ok, refl, sym, ap, cond, length, map, slice_get, subst, unwrap_or, arith}
 use Rattle.std.proofs.lemmas.Bool.{and_from, and_parts, not-false, or_parts}
+use Rattle.std.specs.Option.{option_or}
 use Rattle.std.specs.List.{list_all}
 use Rattle.iv_laws_fitting.specs.Words.{Kind, Statement, Table, Cause, DataStatement, QueryPlan}
 use Rattle.iv_laws_fitting.specs.Words.range
@@ -19,13 +20,16 @@ use Rattle.iv_catalogue.specs.Catalogues.{Schema}
 use Rattle.iv_catalogue.specs.declared.plan.Plan.{Plan}
 use Rattle.iv_catalogue.specs.declared.plan.TransactionPlan.TheVariants as transaction
 use Rattle.iv_resolution.specs.Scopes.{NamedRange, Names, Source, source_named, is_source, range_of, named_columns, table_place}
-use Rattle.iv_resolution.specs.Terms.{unknown_expression, unknown_filter, misshaped_expression, misshaped_filter, bound_expression, bound_filter}
+use Rattle.iv_resolution.specs.Terms.{misshaped_expression, misshaped_filter, bound_expression, bound_filter}
 use Rattle.iv_resolution.specs.Constraints.{WrittenConstraint, table_constraint}
 use Rattle.iv_resolution.specs.Tables.{table_names, altered_at}
-use Rattle.iv_resolution.specs.Changes.{unknown_list, unknown_query, unknown_select, misshaped_list, misshaped_query, misshaped_select}
+use Rattle.iv_resolution.specs.Changes.{misshaped_list, misshaped_query, misshaped_select}
 use Rattle.iv_resolution.specs.Bound.{table_id, bound_list, bound_select, bound, bound_addition}
 use Rattle.iv_resolution.specs.Resolution.{is_unknown, is_duplicate, is_faulty, is_misshaped, is_too_large, is_beyond_limits, least, refused_or_planned, resolution}
 use Rattle.iv_resolution.specs.Writable.{is_writable, is_select, is_list, is_range, is_filter}
+use Rattle.iv_resolution.specs.Items.{table_item}
+use Rattle.iv_resolution.specs.NameFaults.{unknown_in_expression, unknown_in_filter, unknown_in_from, unknown_in_query, unknown_in_select, unknown_in_select_list, unknown_name, duplicate_name}
+use Rattle.iv_resolution.proofs.Told.{none_of, none_parts, none_told, untold}
 use Rattle.iv_laws_naming.specs.Naming.{NamesSource, transition, created, stored}
 use Rattle.iv_laws_naming.proofs.Firsts.{first_there, first_position}
 use Rattle.iv_laws_naming.proofs.NamesFound.{sources}
@@ -43,8 +47,8 @@ use Rattle.iv_laws_fitting.proofs.Statements.{insert_suits, update_suits, delete
 
 -- no cause is deserved, and the plan is the one that is bound
 pub record Accepted (schema : Schema) (s : Statement) (p : Plan) : Type 0 where
-  pub known : is_unknown schema s ≡ false
-  pub single : is_duplicate schema s ≡ false
+  pub known : unknown_name schema s ≡ None
+  pub single : duplicate_name schema s ≡ None
   pub allowed : is_faulty schema s ≡ false
   pub shaped : is_misshaped schema s ≡ false
   pub small : is_too_large schema s ≡ false
@@ -71,8 +75,8 @@ accepted schema s p h =
     let none = none_deserved (is_unknown schema s) (is_duplicate schema s) (is_faulty schema s) (is_misshaped schema s) (is_beyond_limits schema s) parts.0 in
     let limits = or_parts (is_too_large schema s) (not (is_writable s)) none.4 in
     record {
-      known = none.0;
-      single = none.1;
+      known = none_of (unknown_name schema s) none.0;
+      single = none_of (duplicate_name schema s) none.1;
       allowed = none.2;
       shaped = none.3;
       small = limits.0;
@@ -121,7 +125,7 @@ select_source schema name s (created t n c g e) = cc
 select_source schema name s (stored place t n c f e) = (place, t, e, first_position _ schema.tables place t f, first_there _ schema.tables place t f)
 
 given_suit : (ranges : List NamedRange) (shape : Shape) → Matches ranges shape → length ranges ≤ greatest → (l : SelectList)
-    → unknown_list ranges l ≡ false → misshaped_list ranges l ≡ false → listed_suit shape (bound_list ranges l) ≡ true
+    → unknown_in_select_list ranges l ≡ None → misshaped_list ranges l ≡ false → listed_suit shape (bound_list ranges l) ≡ true
 unfolding bound_list
 given_suit ranges shape m deep list.Star u w = refl
 given_suit ranges shape m deep (list.Values es) u w =
@@ -130,14 +134,14 @@ given_suit ranges shape m deep (list.Values es) u w =
     let made = made_of (bound_expression ranges) es j e h in
     ap (has_sort shape) made.2
     ∙ has_sort_of ranges shape made.0
-    (sorted ranges shape m deep made.0 (any_at (unknown_expression ranges) es u j made.0 made.1) (any_at (misshaped_expression ranges) es w j made.0 made.1)))
+    (sorted ranges shape m deep made.0 (none_told (unknown_in_expression ranges) es u j made.0 made.1) (any_at (misshaped_expression ranges) es w j made.0 made.1)))
 
 -- what a query asks for suits its table
 from_suits : (schema : Schema) → list_all table_suits schema.tables ≡ true → (l : SelectList) (r : RangeName) (filter : Option Condition) → is_filter filter ≡ true
-    → unknown_query (table_names schema) [] l r filter ≡ false → misshaped_query (table_names schema) [] l r filter ≡ false
+    → unknown_in_query (table_names schema) [] l r filter ≡ None → misshaped_query (table_names schema) [] l r filter ≡ false
     → query_suits schema.tables (query.Rows (table_id (table_names schema) r.table) (bound_list (range_of (table_names schema) r ∷ []) l) (bound_filter (table_names schema) (range_of (table_names schema) r ∷ []) filter)) ≡ true
 unfolding table_id
-from_suits schema d l r filter i u w = by (source_is names r.table of_source.0)
+from_suits schema d l r filter i u w = by (source_is names r.table of_source)
   where
     names : Names
     names = table_names schema
@@ -148,11 +152,14 @@ from_suits schema d l r filter i u w = by (source_is names r.table of_source.0)
     inner : List NamedRange
     inner = range_of (table_names schema) r ∷ []
 
-    of_source : (not (is_source (table_names schema) r.table) ≡ false) × ((unknown_list (range_of (table_names schema) r ∷ []) l || unknown_filter (table_names schema) (range_of (table_names schema) r ∷ []) filter) ≡ false)
-    of_source = or_parts _ _ u
+    asked : (unknown_in_from names r ≡ None) × (option_or (unknown_in_select_list inner l) (unknown_in_filter names inner filter) ≡ None)
+    asked = none_parts (unknown_in_from names r) (option_or (unknown_in_select_list inner l) (unknown_in_filter names inner filter)) u
 
-    known : (unknown_list (range_of (table_names schema) r ∷ []) l ≡ false) × (unknown_filter (table_names schema) (range_of (table_names schema) r ∷ []) filter ≡ false)
-    known = or_parts _ _ of_source.1
+    of_source : not (is_source names r.table) ≡ false
+    of_source = untold (not (is_source names r.table)) (table_item r.table) asked.0
+
+    known : (unknown_in_select_list inner l ≡ None) × (unknown_in_filter names inner filter ≡ None)
+    known = none_parts (unknown_in_select_list inner l) (unknown_in_filter names inner filter) asked.1
 
     shaped : (misshaped_list (range_of (table_names schema) r ∷ []) l ≡ false) × (misshaped_filter (table_names schema) (range_of (table_names schema) r ∷ []) filter ≡ false)
     shaped = or_parts _ _ w
@@ -179,7 +186,7 @@ from_suits schema d l r filter i u w = by (source_is names r.table of_source.0)
         (sources_within (table_names schema) (plain_shape schema.tables) (table_kinds schema.tables place) a.sources) filter i known.1 shaped.1))
 
 select_suits : (schema : Schema) → list_all table_suits schema.tables ≡ true → (s : Select) → is_select s ≡ true
-    → unknown_select (table_names schema) [] s ≡ false → misshaped_select (table_names schema) [] s ≡ false → query_suits schema.tables (bound_select (table_names schema) s) ≡ true
+    → unknown_in_select (table_names schema) [] s ≡ None → misshaped_select (table_names schema) [] s ≡ false → query_suits schema.tables (bound_select (table_names schema) s) ≡ true
 unfolding bound_list
 select_suits schema d (select.Rows l r filter) i u w =
     from_suits schema d l r filter (and_parts (is_range r) (is_filter filter) (and_parts (is_list l) (is_range r && is_filter filter) i).1).1 u w

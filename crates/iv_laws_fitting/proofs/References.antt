@@ -1,6 +1,7 @@
 -- What a foreign key refers to: the columns of its keys are there, each of the kind of its type.
-use Rattle.std.proofs.Common.{◌≡◌, ℕ, zero, suc, nat_lt, Bool, true, false, ◌&&◌, ◌==◌, List, [], ◌∷◌, ◌∙◌, Option, Some, None, refl, sym, ap, cond, length, map, filter, filter_map, find, slice_get, option_map, subst, arith}
+use Rattle.std.proofs.Common.{◌≡◌, ℕ, zero, suc, nat_lt, Bool, true, false, ◌&&◌, ◌==◌, List, [], ◌∷◌, ◌++◌, ◌∙◌, Option, Some, None, refl, sym, ap, cond, length, map, filter, filter_map, slice_get, option_map, subst, arith}
 use Rattle.std.proofs.lemmas.Bool.{and_parts, not-true, or_parts}
+use Rattle.std.proofs.lemmas.List.Folds.{list_any-append}
 use Rattle.std.proofs.lemmas.Option.{same_Some}
 use Rattle.std.specs.List.{list_all, cons_option}
 use Rattle.std.specs.Str.{bytes_eq}
@@ -9,17 +10,17 @@ use Rattle.iv_laws_fitting.specs.Words.{Kind, Column, Table, Constraint, Rule}
 use Rattle.iv_laws_fitting.specs.Words.rule
 use Rattle.iv_syntax.specs.declared.table.ColumnType.{ColumnType}
 use Rattle.iv_catalogue.specs.Catalogues.{Schema}
-use Rattle.iv_catalogue.specs.Names.{is_among}
+use Rattle.iv_catalogue.specs.Names.{is_among, has_repeated}
 use Rattle.iv_resolution.specs.Scopes.{NamedColumn, named_columns, type_named}
-use Rattle.iv_resolution.specs.Constraints.{Key, name_at, key_of_rule, stored_keys, comes_twice, constraints_of}
-use Rattle.iv_laws_naming.specs.Naming.{column_is_called}
+use Rattle.iv_resolution.specs.Constraints.{Key, name_at, key_of_rule, stored_keys, constraints_of}
+use Rattle.iv_laws_naming.specs.Naming.{IsFirst, column_is_called}
+use Rattle.iv_laws_naming.proofs.Firsts.{at_front, later, first_found}
 use Rattle.iv_laws_fitting.specs.PlanShapes.{kinds_of, table_kinds, is_there, table_suits}
 use Rattle.iv_laws_fitting.specs.ConstraintShapes.{is_place, rule_suits, constraint_suits}
 use Rattle.iv_laws_fitting.proofs.ColumnKinds.{stored_match}
 use Rattle.iv_laws_fitting.proofs.Changes.{column_of_kind}
 use Rattle.iv_laws_fitting.proofs.NewConstraints.{KeyMatches}
-use Rattle.iv_laws_fitting.proofs.NewTables.{same_either_way}
-use Rattle.iv_laws_fitting.proofs.Pointwise.{any_at, all_at, map_at, made_of, mapped_length}
+use Rattle.iv_laws_fitting.proofs.Pointwise.{all_at, made_of, mapped_length}
 use Rattle.iv_laws_fitting.proofs.Targets.{few_columns, distinct_columns}
 
 -- ---- columns of one name each
@@ -28,18 +29,31 @@ pub same_self : (n : List ℕ) → bytes_eq n n ≡ true
 same_self [] = refl
 same_self (x ∷ xs) = let e : (x == x) ≡ true = grind (arith, nat_tests) in ap (λ b. b && bytes_eq xs xs) e ∙ same_self xs
 
-distinct_first : (columns : List NamedColumn) → comes_twice (map (λ c. c.name) columns) ≡ false → (p : ℕ) (c : NamedColumn) → slice_get columns p ≡ Some c
-    → find (column_is_called c.name) columns ≡ Some c
-unfolding comes_twice
-distinct_first [] d p c h = cc
-distinct_first (x ∷ xs) d zero c h =
+-- no column has one of the names before it
+not_before : (earlier : List (List ℕ)) (columns : List NamedColumn) → has_repeated earlier (map (λ c. c.name) columns) ≡ false → (p : ℕ) (c : NamedColumn) → slice_get columns p ≡ Some c
+    → is_among earlier c.name ≡ false
+unfolding has_repeated
+not_before earlier [] d p c h = cc
+not_before earlier (x ∷ xs) d zero c h =
+    ap (λ (y : NamedColumn). is_among earlier y.name) (sym (same_Some x c h)) ∙ (or_parts (is_among earlier x.name) (has_repeated (earlier ++ x.name ∷ []) (map (λ (y : NamedColumn). y.name) xs)) d).0
+not_before earlier (x ∷ xs) d (suc p) c h =
+    let rest = (or_parts (is_among earlier x.name) (has_repeated (earlier ++ x.name ∷ []) (map (λ (y : NamedColumn). y.name) xs)) d).1 in
+    (or_parts (is_among earlier c.name) (is_among (x.name ∷ []) c.name)
+    (sym (list_any-append (bytes_eq c.name) earlier (x.name ∷ [])) ∙ not_before (earlier ++ x.name ∷ []) xs rest p c h)).0
+
+-- the first column of a name is the only one
+pub distinct_is_first : (earlier : List (List ℕ)) (columns : List NamedColumn) → has_repeated earlier (map (λ c. c.name) columns) ≡ false → (p : ℕ) (c : NamedColumn)
+    → slice_get columns p ≡ Some c → IsFirst (column_is_called c.name) columns p c
+unfolding has_repeated
+distinct_is_first earlier [] d p c h = cc
+distinct_is_first earlier (x ∷ xs) d zero c h =
     let e = same_Some x c h in
-    ap (λ (y : NamedColumn). cond (bytes_eq c.name y.name) (Some y) (find (column_is_called c.name) xs)) e
-    ∙ ap (λ b. cond b (Some c) (find (column_is_called c.name) xs)) (same_self c.name)
-distinct_first (x ∷ xs) d (suc p) c h =
-    let parts = or_parts (is_among (map (λ (y : NamedColumn). y.name) xs) x.name) (comes_twice (map (λ (y : NamedColumn). y.name) xs)) d in
-    let other = any_at (bytes_eq x.name) (map (λ (y : NamedColumn). y.name) xs) parts.0 p c.name (map_at (λ (y : NamedColumn). y.name) xs p ∙ ap (option_map (λ (y : NamedColumn). y.name)) h) in
-    ap (λ b. cond b (Some x) (find (column_is_called c.name) xs)) (same_either_way c.name x.name ∙ other) ∙ distinct_first xs parts.1 p c h
+    subst (λ (y : NamedColumn). IsFirst (column_is_called y.name) (x ∷ xs) zero y) e (at_front (column_is_called x.name) x xs (same_self x.name))
+distinct_is_first earlier (x ∷ xs) d (suc p) c h =
+    let rest = (or_parts (is_among earlier x.name) (has_repeated (earlier ++ x.name ∷ []) (map (λ (y : NamedColumn). y.name) xs)) d).1 in
+    let among = (or_parts (is_among earlier c.name) (is_among (x.name ∷ []) c.name)
+    (sym (list_any-append (bytes_eq c.name) earlier (x.name ∷ [])) ∙ not_before (earlier ++ x.name ∷ []) xs rest p c h)).1 in
+    later (column_is_called c.name) x xs p c ((or_parts (bytes_eq c.name x.name) false among).0) (distinct_is_first (earlier ++ x.name ∷ []) xs rest p c h)
 
 pub names_kept : (columns : List Column) → map (λ (c : NamedColumn). c.name) (named_columns columns) ≡ map (λ (c : Column). c.name) columns
 names_kept [] = refl
@@ -64,8 +78,9 @@ key_of_places t s places h primary deferrable = record {
       let column = column_of_kind (named_columns t.columns) (kinds_of t) (stored_match t (few_columns t s)).types place kind.0 kind.1 in
       let named : name ≡ column.0.name =
       made.2 ∙ ap (name_at (named_columns t.columns)) same ∙ ap (λ (o : Option NamedColumn). elim o as (λ x. List ℕ) [ Some c ↦ c.name | None ↦ [] ]) column.1 in
-      let first = distinct_first (named_columns t.columns)
-      (ap comes_twice (names_kept t.columns) ∙ not-true (comes_twice (map (λ (c : Column). c.name) t.columns)) (distinct_columns t s)) place column.0 column.1 in (
+      let only = distinct_is_first [] (named_columns t.columns)
+      (ap (has_repeated []) (names_kept t.columns) ∙ not-true (has_repeated [] (map (λ (c : Column). c.name) t.columns)) (distinct_columns t s)) place column.0 column.1 in
+      let first = first_found (column_is_called column.0.name) (named_columns t.columns) place column.0 only in (
         kind.0,
         kind.1,
         ap (type_named (named_columns t.columns)) named ∙ ap (option_map (λ (c : NamedColumn). c.kind)) first ∙ ap (λ (x : ColumnType). Some x) column.2,

@@ -7,11 +7,13 @@ use Rattle.std.specs.Str.{bytes_eq}
 use Rattle.iv_laws_fitting.specs.Words.{Kind, Table}
 use Rattle.iv_syntax.specs.declared.table.References.{References}
 use Rattle.iv_catalogue.specs.Catalogues.{Schema}
-use Rattle.iv_resolution.specs.Scopes.{Names, named_columns}
+use Rattle.iv_resolution.specs.Scopes.{Names, named_columns, has_column}
+use Rattle.iv_resolution.specs.Items.{column_item}
 use Rattle.iv_resolution.specs.Constraints.{WrittenRule, not_null, unique, primary_key, check, foreign_key, Key, places_of, stored_keys, constraints_of, Altered, Referenced, stored_reference, referenced, pairs_differ, faulty_reference, is_reliable}
-use Rattle.iv_resolution.specs.Changes.{unknown_names}
-use Rattle.iv_resolution.specs.Tables.{check_ranges, unknown_reference, unknown_rule, faulty_rule, misshaped_rule}
+use Rattle.iv_resolution.specs.Tables.{check_ranges, faulty_rule, misshaped_rule}
 use Rattle.iv_resolution.specs.Bound.{key_places, bound_reference, bound_rule}
+use Rattle.iv_resolution.specs.NameFaults.{unknown_in_columns, unknown_in_reference, unknown_in_rule}
+use Rattle.iv_resolution.proofs.Told.{none_parts, untold}
 use Rattle.iv_laws_naming.specs.Naming.{table_is_called}
 use Rattle.iv_laws_naming.proofs.Firsts.{Search, nothing, something, search, first_position, first_found, first_there, none_position, none_found}
 use Rattle.iv_laws_fitting.specs.PlanShapes.{kinds_of, table_kinds, is_there, table_suits}
@@ -92,15 +94,15 @@ referenced_fits schema own tables kinds o name t h = by (bytes_eq name own.name)
 -- ---- pairs of a foreign key
 
 -- the columns that are referred to, by their places
-pairs_of_reference : (own : Altered) (kinds : List Kind) → ColumnsMatch own.columns kinds → (columns : List (List ℕ)) → unknown_names own.columns columns ≡ false
-    → (tables : List Table) (t : Referenced) → ReferenceFits tables t → (names : Option (List (List ℕ))) → unknown_reference (Some t) names ≡ false
+pairs_of_reference : (own : Altered) (kinds : List Kind) → ColumnsMatch own.columns kinds → (columns : List (List ℕ)) → unknown_in_columns own.columns columns ≡ None
+    → (tables : List Table) (t : Referenced) → ReferenceFits tables t → (names : Option (List (List ℕ))) (table : List ℕ) → unknown_in_reference table (Some t) names ≡ None
     → faulty_reference own.columns columns t names ≡ false
     → ((length (places_of own.columns columns) == length (key_places t names)) && list_all (pair_suits kinds (table_kinds tables t.table)) (zip (places_of own.columns columns) (key_places t names))) ≡ true
-pairs_of_reference own kinds m columns u tables t f (Some names) n w =
+pairs_of_reference own kinds m columns u tables t f (Some names) table n w =
     let parts = or_parts (pairs_differ own.columns columns t.columns names) (not (list_any (is_reliable names) t.keys)) w in
     pairs_of_key own.columns kinds m columns u t.columns (table_kinds tables t.table) (record { columns = names; places = places_of t.columns names; is_primary = false; deferrable = false })
     (key_of_names t.columns (table_kinds tables t.table) f.columns names n false false) parts.0
-pairs_of_reference own kinds m columns u tables t f None n w = by (search (λ (k : Key). k.is_primary) t.keys)
+pairs_of_reference own kinds m columns u tables t f None table n w = by (search (λ (k : Key). k.is_primary) t.keys)
   where
     places : Option Key → List ℕ
     places o = elim o [ Some k ↦ k.places | None ↦ [] ]
@@ -118,24 +120,25 @@ pairs_of_reference own kinds m columns u tables t f None n w = by (search (λ (k
         ∙ pairs_of_key own.columns kinds m columns u t.columns (table_kinds tables t.table) k (f.keys i k (first_there (λ (x : Key). x.is_primary) t.keys i k first)) fine.1
 
 reference_suits : (schema : Schema) (own : Altered) (tables : List Table) (kinds : List Kind) → OwnFits schema own tables kinds
-    → (columns : List (List ℕ)) → unknown_names own.columns columns ≡ false → (r : References) (o : Option Referenced) → referenced schema own r.table ≡ o
-    → unknown_reference o r.columns ≡ false → elim o as (λ x. Bool) [ Some t ↦ faulty_reference own.columns columns t r.columns | None ↦ false ] ≡ false
+    → (columns : List (List ℕ)) → unknown_in_columns own.columns columns ≡ None → (r : References) (o : Option Referenced) → referenced schema own r.table ≡ o
+    → unknown_in_reference r.table o r.columns ≡ None → elim o as (λ x. Bool) [ Some t ↦ faulty_reference own.columns columns t r.columns | None ↦ false ] ≡ false
     → (is_there tables (bound_reference own columns r o).referenced && pairs_suit kinds (table_kinds tables (bound_reference own columns r o).referenced) (bound_reference own columns r o)) ≡ true
 reference_suits schema own tables kinds f columns u r None e n w = cc
 reference_suits schema own tables kinds f columns u r (Some t) e n w =
     let fits = referenced_fits schema own tables kinds f r.table t e in
-    and_from _ _ fits.there (pairs_of_reference own kinds f.columns columns u tables t fits r.columns n w)
+    and_from _ _ fits.there (pairs_of_reference own kinds f.columns columns u tables t fits r.columns r.table n w)
 
 -- ---- rules
 
 pub rule_of_written_suits : (schema : Schema) (names : Names) (own : Altered) (tables : List Table) (kinds : List Kind) → OwnFits schema own tables kinds
-    → (r : WrittenRule) → unknown_rule schema names own r ≡ false → faulty_rule schema own r ≡ false → misshaped_rule names own r ≡ false
+    → (r : WrittenRule) → unknown_in_rule schema names own r ≡ None → faulty_rule schema own r ≡ false → misshaped_rule names own r ≡ false
     → rule_suits tables kinds (bound_rule schema names own r) ≡ true
-rule_of_written_suits schema names own tables kinds o (not_null column) u f w = named_place own.columns kinds o.columns column u
+rule_of_written_suits schema names own tables kinds o (not_null column) u f w =
+    named_place own.columns kinds o.columns column (untold (not (has_column own.columns column)) (column_item None column) u)
 rule_of_written_suits schema names own tables kinds o (unique nulls columns) u f w = named_places own.columns kinds o.columns columns u
 rule_of_written_suits schema names own tables kinds o (primary_key columns) u f w = named_places own.columns kinds o.columns columns u
 rule_of_written_suits schema names own tables kinds o (check c) u f w =
     plain_condition_suits names (check_ranges own) (check_shape kinds) (check_matches own.name own.columns kinds o.columns) (omega arith) c f u w
 rule_of_written_suits schema names own tables kinds o (foreign_key columns r) u f w =
-    let known = or_parts (unknown_names own.columns columns) (unknown_reference (referenced schema own r.table) r.columns) u in
+    let known = none_parts (unknown_in_columns own.columns columns) (unknown_in_reference r.table (referenced schema own r.table) r.columns) u in
     reference_suits schema own tables kinds o columns known.0 r (referenced schema own r.table) refl known.1 f

@@ -3,6 +3,7 @@ use Rattle.std.proofs.Common.{◌≡◌, ℕ, zero, suc, ◌+◌, ◌≤◌, min
 use Rattle.std.proofs.lemmas.Bool.{and_from, or_parts}
 use Rattle.std.proofs.lemmas.Option.{same_Some}
 use Rattle.std.specs.List.{list_any, list_all, enumerate_from}
+use Rattle.std.specs.Option.{option_or}
 use Rattle.std.proofs.lemmas.Bool.Decides.{nat_tests}
 use Rattle.iv_laws_fitting.specs.Words.{Kind, Statement, Column, Table, Constraint}
 use Rattle.iv_laws_fitting.specs.Words.plan
@@ -19,10 +20,14 @@ use Rattle.iv_catalogue.specs.declared.limits.TheConstants.{MOST_CHARACTERS, MOS
 use Rattle.iv_catalogue.specs.declared.plan.Plan.{Plan}
 use Rattle.iv_catalogue.specs.declared.plan.TransactionPlan.TheVariants as transaction
 use Rattle.iv_resolution.specs.Scopes.{NamedColumn, type_of, table_place}
-use Rattle.iv_resolution.specs.Constraints.{WrittenRule, not_null, unique, primary_key, check, foreign_key, WrittenConstraint, written_columns, defined_column, defined_columns, written_constraints, table_constraint, constraint_names, comes_twice, constraints_of, is_contradictory, Key, primary_key_of, key_of_written, Altered, default_fits}
-use Rattle.iv_resolution.specs.Tables.{created_table, altered_at, creating, table_names, unknown_rule, faulty_rule, faulty_constraint, misshaped_rule, two_primary_keys, long_key, type_beyond_limits, added_name, is_primary_rule, faulty_addition, addition_beyond_limits}
+use Rattle.iv_resolution.specs.Constraints.{WrittenRule, not_null, unique, primary_key, check, foreign_key, WrittenConstraint, written_columns, defined_column, defined_columns, written_constraints, table_constraint, constraints_of, is_contradictory, Key, primary_key_of, key_of_written, Altered, default_fits}
+use Rattle.iv_resolution.specs.Tables.{created_table, altered_at, creating, table_names, faulty_rule, faulty_constraint, misshaped_rule, two_primary_keys, long_key, type_beyond_limits, added_name, is_primary_rule, faulty_addition, addition_beyond_limits}
 use Rattle.iv_resolution.specs.Bound.{table_id, bound_kind, bound_column_definition, bound_place, bound_rule, bound_constraint, bound_table, bound_addition}
-use Rattle.iv_resolution.specs.Resolution.{of_altered, is_there}
+use Rattle.iv_resolution.specs.Resolution.{of_altered}
+use Rattle.iv_resolution.specs.Changes.{is_table}
+use Rattle.iv_resolution.specs.Items.{column_item, table_item, in_use_fault, twice_fault, told_if, first_of, first_again}
+use Rattle.iv_resolution.specs.NameFaults.{unknown_in_target, unknown_in_rule, told_of_altered, column_twice, duplicate_in_rule, duplicate_in_constraints, before_column_again, addition_in_use}
+use Rattle.iv_resolution.proofs.Told.{none_parts, none_mapped, none_told, untold}
 use Rattle.iv_laws_naming.specs.Naming.{table_is_called}
 use Rattle.iv_laws_naming.proofs.Firsts.{Search, nothing, something, search, first_position, first_there, none_position}
 use Rattle.iv_laws_fitting.specs.ConstraintShapes.{has_named_key, rule_suits, constraint_suits, TableFits, ConstraintFits}
@@ -31,7 +36,7 @@ use Rattle.iv_laws_fitting.specs.PlanShapes.{kinds_of, table_kinds, table_suits}
 use Rattle.iv_laws_fitting.proofs.ColumnKinds.{ColumnsMatch, stored_match}
 use Rattle.iv_laws_fitting.proofs.KeysThere.{AllNamed, written_keys_named, stored_keys_named, others_named, key_of_rule_there}
 use Rattle.iv_laws_fitting.proofs.NewConstraints.{KeyMatches, key_of_names}
-use Rattle.iv_laws_fitting.proofs.NewTables.{columns_suit, new_names, all_on}
+use Rattle.iv_laws_fitting.proofs.NewTables.{columns_suit, columns_once, text_whole, new_names, all_on}
 use Rattle.iv_laws_fitting.proofs.Plans.{Accepted, accepted, alteration}
 use Rattle.iv_laws_fitting.proofs.Pointwise.{any_at, all_at, made_of, placed_at, mapped_length, enumerated_length, all_by}
 use Rattle.iv_laws_fitting.proofs.References.{made_by, stored_keys_match}
@@ -79,7 +84,7 @@ kinds_at tables place t h = ap (λ (o : Option Table). elim o as (λ x. List Kin
 -- ---- the keys that a CREATE TABLE writes
 
 key_written : (schema : Schema) (own : Altered) (kinds : List Kind) → ColumnsMatch own.columns kinds → (time : ConstraintTime) (r : WrittenRule)
-    → unknown_rule schema (creating schema own) own r ≡ false → (k : Key) → key_of_written own.columns time r ≡ Some k → KeyMatches own.columns kinds k
+    → unknown_in_rule schema (creating schema own) own r ≡ None → (k : Key) → key_of_written own.columns time r ≡ Some k → KeyMatches own.columns kinds k
 key_written schema own kinds m time (unique nulls names) u k h = subst (KeyMatches own.columns kinds) (same_Some _ k h) (key_of_names own.columns kinds m names u false _)
 key_written schema own kinds m time (primary_key names) u k h = subst (KeyMatches own.columns kinds) (same_Some _ k h) (key_of_names own.columns kinds m names u true _)
 key_written schema own kinds m time (not_null column) u k h = cc
@@ -89,7 +94,7 @@ key_written schema own kinds m time (foreign_key columns r) u k h = cc
 -- ---- constraints
 
 written_suit : (schema : Schema) (own : Altered) (tables : List Table) (kinds : List Kind) → OwnFits schema own tables kinds → (ks : List WrittenConstraint)
-    → list_any (λ k. unknown_rule schema (creating schema own) own k.rule) ks ≡ false → list_any (faulty_constraint schema own) ks ≡ false
+    → first_of (λ k. unknown_in_rule schema (creating schema own) own k.rule) ks ≡ None → list_any (faulty_constraint schema own) ks ≡ false
     → list_any (λ k. misshaped_rule (creating schema own) own k.rule) ks ≡ false
     → list_all (constraint_suits tables) (map (bound_place schema own) (enumerate_from 1 ks)) ≡ true
 written_suit schema own tables kinds o ks u f w =
@@ -97,7 +102,7 @@ written_suit schema own tables kinds o ks u f w =
     (λ j k h.
     let made = made_of (bound_place schema own) (enumerate_from 1 ks) j k h in
     let placed = placed_at 1 ks j made.0 made.1 in
-    let known = any_at (λ (x : WrittenConstraint). unknown_rule schema (creating schema own) own x.rule) ks u j made.0.1 placed.0 in
+    let known = none_told (λ (x : WrittenConstraint). unknown_in_rule schema (creating schema own) own x.rule) ks u j made.0.1 placed.0 in
     let fine = or_parts (is_contradictory made.0.1.time) (faulty_rule schema own made.0.1.rule) (any_at (faulty_constraint schema own) ks f j made.0.1 placed.0) in
     let shaped = any_at (λ (x : WrittenConstraint). misshaped_rule (creating schema own) own x.rule) ks w j made.0.1 placed.0 in
     ap (constraint_suits tables) made.2
@@ -107,14 +112,14 @@ written_suit schema own tables kinds o ks u f w =
 
 -- the key that each foreign key names is there, or comes with it
 written_keys_there : (schema : Schema) (own : Altered) (ks : List WrittenConstraint) → AllNamed schema own (schema.constraints ++ map (bound_place schema own) (enumerate_from 1 ks))
-    → list_any (λ k. unknown_rule schema (creating schema own) own k.rule) ks ≡ false → list_any (faulty_constraint schema own) ks ≡ false
+    → first_of (λ k. unknown_in_rule schema (creating schema own) own k.rule) ks ≡ None → list_any (faulty_constraint schema own) ks ≡ false
     → list_all (has_named_key (schema.constraints ++ map (bound_place schema own) (enumerate_from 1 ks))) (map (bound_place schema own) (enumerate_from 1 ks)) ≡ true
 written_keys_there schema own ks n u f =
     all_by (has_named_key (schema.constraints ++ map (bound_place schema own) (enumerate_from 1 ks))) (map (bound_place schema own) (enumerate_from 1 ks))
     (λ j k h.
     let made = made_of (bound_place schema own) (enumerate_from 1 ks) j k h in
     let placed = placed_at 1 ks j made.0 made.1 in
-    let known = any_at (λ (x : WrittenConstraint). unknown_rule schema (creating schema own) own x.rule) ks u j made.0.1 placed.0 in
+    let known = none_told (λ (x : WrittenConstraint). unknown_in_rule schema (creating schema own) own x.rule) ks u j made.0.1 placed.0 in
     let fine = or_parts (is_contradictory made.0.1.time) (faulty_rule schema own made.0.1.rule) (any_at (faulty_constraint schema own) ks f j made.0.1 placed.0) in
     ap (has_named_key (schema.constraints ++ map (bound_place schema own) (enumerate_from 1 ks))) made.2
     ∙ key_of_rule_there schema (creating schema own) own (schema.constraints ++ map (bound_place schema own) (enumerate_from 1 ks)) n made.0.1.rule known fine.1)
@@ -128,10 +133,13 @@ pub table_fits : (schema : Schema) → list_all table_suits schema.tables ≡ tr
 table_fits schema d c name elements a =
     let own = created_table schema name elements in
     let ks = written_constraints elements in
-    let free = or_parts (has_table schema name) _ a.single in
-    let once = or_parts (comes_twice (map (λ (x : ColumnDefinition). x.name) (written_columns elements))) _ free.1 in
-    let unused = or_parts (list_any (has_constraint schema) (constraint_names name 1 ks)) _ once.1 in
-    let distinct = or_parts (comes_twice (constraint_names name 1 ks)) _ unused.1 in
+    let columns_again = column_twice (map (λ (x : ColumnDefinition). x.name) (written_columns elements)) in
+    let listed = none_parts (told_if (has_table schema name) (in_use_fault (table_item name)))
+    (option_or (duplicate_in_constraints schema name 1 [] (written_constraints (before_column_again [] elements))) columns_again) a.single in
+    let free = untold (has_table schema name) (in_use_fault (table_item name)) listed.0 in
+    let ones = none_parts (duplicate_in_constraints schema name 1 [] (written_constraints (before_column_again [] elements))) columns_again listed.1 in
+    let once = none_mapped (λ (n : List ℕ). twice_fault (column_item None n)) (first_again (λ n. n) [] (map (λ (x : ColumnDefinition). x.name) (written_columns elements))) ones.1 in
+    let whole = text_whole [] elements once in
     let some = or_parts (length (written_columns elements) == 0) _ a.allowed in
     let defaults = or_parts (list_any (λ (x : ColumnDefinition). not (default_fits x)) (written_columns elements)) _ some.1 in
     let faults = or_parts (two_primary_keys ks) (list_any (faulty_constraint schema own) ks) defaults.1 in
@@ -152,16 +160,16 @@ table_fits schema d c name elements a =
       keys = λ j k h.
           let made = made_by (λ (x : WrittenConstraint). key_of_written own.columns x.time x.rule) ks j k h in
           key_written schema own kinds match made.1.time made.1.rule
-          (any_at (λ (x : WrittenConstraint). unknown_rule schema (creating schema own) own x.rule) ks a.known made.0 made.1 made.2) k made.3;
+          (none_told (λ (x : WrittenConstraint). unknown_in_rule schema (creating schema own) own x.rule) ks a.known made.0 made.1 made.2) k made.3;
       others = stored_fits schema d c tables (λ place t h. still_there schema.tables table place t h);
     } in
     record {
       room = let x = room.0 in grind (arith, nat_tests);
       few = let x = constraints.0 in let e = length_is in grind (arith, nat_tests);
       own = all_on schema own (enumerate_from 1 ks);
-      free = free.0;
-      names = new_names schema own ks unused.0 distinct.0;
-      suit = columns_suit elements columns.0 defaults.0 once.0 types.0 name;
+      free = free;
+      names = new_names schema own ks (ap (λ (es : List TableElement). duplicate_in_constraints schema name 1 [] (written_constraints es)) (sym whole) ∙ ones.0);
+      suit = columns_suit elements columns.0 defaults.0 (columns_once [] (map (λ (x : ColumnDefinition). x.name) (written_columns elements)) once) types.0 name;
       rules = written_suit schema own tables kinds fits ks a.known faults.1 a.shaped;
       keys = written_keys_there schema own ks (record {
         own_keys = written_keys_named schema own ks;
@@ -224,9 +232,16 @@ asked_of schema name place t h g asks =
     ap (λ (o : Option ℕ). elim o as (λ x. Bool) [ Some p ↦ elim (slice_get schema.tables p) as (λ x. Bool) [ Some x ↦ asks (altered_at schema p x) | None ↦ false ] | None ↦ false ]) h
     ∙ ap (λ (o : Option Table). elim o as (λ x. Bool) [ Some x ↦ asks (altered_at schema place x) | None ↦ false ]) g
 
+-- and what is told of it
+told_at : {A : Type 0} (schema : Schema) (name : List ℕ) (place : ℕ) (t : Table) → table_place schema.tables name ≡ Some place → slice_get schema.tables place ≡ Some t
+    → (tells : Altered → Option A) → told_of_altered schema name tells ≡ tells (altered_at schema place t)
+told_at {A} schema name place t h g tells =
+    ap (λ (o : Option ℕ). elim o as (λ x. Option A) [ Some p ↦ elim (slice_get schema.tables p) as (λ x. Option A) [ Some x ↦ tells (altered_at schema p x) | None ↦ None ] | None ↦ None ]) h
+    ∙ ap (λ (o : Option Table). elim o as (λ x. Option A) [ Some x ↦ tells (altered_at schema place x) | None ↦ None ]) g
+
 addition_fits : (schema : Schema) → list_all table_suits schema.tables ≡ true → list_all (constraint_suits schema.tables) schema.constraints ≡ true
     → (place : ℕ) (t : Table) → slice_get schema.tables place ≡ Some t → (k : WrittenConstraint)
-    → unknown_rule schema (table_names schema) (altered_at schema place t) k.rule ≡ false
+    → unknown_in_rule schema (table_names schema) (altered_at schema place t) k.rule ≡ None
     → has_constraint schema (added_name schema (altered_at schema place t) k) ≡ false
     → faulty_constraint schema (altered_at schema place t) k ≡ false
     → misshaped_rule (table_names schema) (altered_at schema place t) k.rule ≡ false
@@ -265,19 +280,22 @@ the_addition : (schema : Schema) → list_all table_suits schema.tables ≡ true
 unfolding table_id
 the_addition schema d c name k kk a = by (search (table_is_called name) schema.tables)
   where
-    parts : (not (is_there schema name) ≡ false) × (of_altered schema name (λ own. unknown_rule schema (table_names schema) own (table_constraint k).rule) ≡ false)
-    parts = or_parts (not (is_there schema name)) _ a.known
+    parts : (unknown_in_target (table_names schema) name ≡ None) × (told_of_altered schema name (λ own. unknown_in_rule schema (table_names schema) own (table_constraint k).rule) ≡ None)
+    parts = none_parts (unknown_in_target (table_names schema) name) (told_of_altered schema name (λ own. unknown_in_rule schema (table_names schema) own (table_constraint k).rule)) a.known
+
+    there_is : not (is_table (table_names schema) name) ≡ false
+    there_is = untold (not (is_table (table_names schema) name)) (table_item name) parts.0
 
     by : Search (table_is_called name) schema.tables → ConstraintFits schema kk
-    by (nothing n) = let e : true ≡ false = ap (λ (o : Option ℕ). not (is_some o)) (sym (none_position (table_is_called name) schema.tables n)) ∙ parts.0 in cc
+    by (nothing n) = let e : true ≡ false = ap (λ (o : Option ℕ). not (is_some o)) (sym (none_position (table_is_called name) schema.tables n)) ∙ there_is in cc
     by (something place t f) =
         let at = first_position (table_is_called name) schema.tables place t f in
         let there = first_there (table_is_called name) schema.tables place t f in
         let own = altered_at schema place t in
         let w = table_constraint k in
-        let known = sym (asked_of schema name place t at there (λ o. unknown_rule schema (table_names schema) o w.rule)) ∙ parts.1 in
-        let single = or_parts (of_altered schema name (λ o. has_constraint schema (added_name schema o w))) _ a.single in
-        let unused = sym (asked_of schema name place t at there (λ o. has_constraint schema (added_name schema o w))) ∙ single.0 in
+        let known = sym (told_at schema name place t at there (λ o. unknown_in_rule schema (table_names schema) o w.rule)) ∙ parts.1 in
+        let single = none_parts (told_of_altered schema name (λ o. addition_in_use schema o w)) (duplicate_in_rule w.rule) a.single in
+        let unused = untold (has_constraint schema (added_name schema own w)) _ (sym (told_at schema name place t at there (λ o. addition_in_use schema o w)) ∙ single.0) in
         let allowed = sym (asked_of schema name place t at there (λ o. faulty_addition schema o w)) ∙ a.allowed in
         let fine = or_parts (is_primary_rule w.rule && elim (primary_key_of own.keys) as (λ x. Bool) [ Some p ↦ true | None ↦ false ]) (faulty_constraint schema own w) allowed in
         let shaped = sym (asked_of schema name place t at there (λ o. misshaped_rule (table_names schema) o w.rule)) ∙ a.shaped in

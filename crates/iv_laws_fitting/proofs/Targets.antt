@@ -16,16 +16,19 @@ use Rattle.iv_syntax.specs.declared.statement.ValueOrDefault.TheVariants as give
 use Rattle.iv_catalogue.specs.declared.limits.TheConstants.{MOST_COLUMNS}
 use Rattle.iv_resolution.specs.Scopes.{NamedColumn, NamedRange, Names, number, type_of, named_column, named_columns, place_of, has_column, type_named, table_place}
 use Rattle.iv_resolution.specs.Terms.{is_text, bound_expression}
-use Rattle.iv_resolution.specs.Constraints.{places_of, comes_twice}
-use Rattle.iv_resolution.specs.Changes.{is_table, stored_columns, unknown_listed, unknown_value, clashes_with, value_clashes, misshaped_value, target_types}
+use Rattle.iv_resolution.specs.Constraints.{places_of}
+use Rattle.iv_catalogue.specs.Names.{has_repeated}
+use Rattle.iv_resolution.specs.Changes.{is_table, stored_columns, clashes_with, value_clashes, misshaped_value, target_types}
 use Rattle.iv_resolution.specs.Bound.{table_id, default_at, bound_value, target_place, bound_columns}
+use Rattle.iv_resolution.specs.NameFaults.{unknown_in_listed, unknown_in_value}
+use Rattle.iv_resolution.proofs.Told.{known_column}
 use Rattle.iv_store.specs.Stores.{is_fit}
 use Rattle.iv_laws_naming.specs.Naming.{column_is_called, table_is_called}
 use Rattle.iv_laws_naming.proofs.Firsts.{Search, nothing, something, search, first_position, first_found, first_there, none_position}
 use Rattle.iv_laws_fitting.specs.PlanShapes.{kinds_of, table_kinds, is_there, sort_suits, value_suits, default_suits, table_suits, target_kinds}
 use Rattle.iv_laws_fitting.proofs.ColumnKinds.{greatest, Matches}
 use Rattle.iv_laws_fitting.proofs.Expressions.{Agrees, Sorted, sorted}
-use Rattle.iv_laws_fitting.proofs.Pointwise.{any_at, all_at, map_at, made_of, mapped_length}
+use Rattle.iv_laws_fitting.proofs.Pointwise.{all_at, map_at, made_of, mapped_length}
 
 -- ---- the table that a statement changes
 
@@ -67,18 +70,18 @@ place_is_there (x ∷ xs) (suc n) t h = let r = place_is_there xs n t h in grind
 -- what a table that suits says of its columns
 pub few_columns : (t : Table) → table_suits t ≡ true → length t.columns ≤ greatest
 few_columns t h =
-    let p = (and_parts (nat_le (length t.columns) MOST_COLUMNS) (list_all default_suits t.columns && not (comes_twice (map (λ (c : Column). c.name) t.columns))) h).0 in
+    let p = (and_parts (nat_le (length t.columns) MOST_COLUMNS) (list_all default_suits t.columns && not (has_repeated [] (map (λ (c : Column). c.name) t.columns))) h).0 in
     grind (arith, nat_tests)
 
 pub defaults_suit : (t : Table) → table_suits t ≡ true → list_all default_suits t.columns ≡ true
 defaults_suit t h =
-    (and_parts (list_all default_suits t.columns) (not (comes_twice (map (λ (c : Column). c.name) t.columns)))
-    (and_parts (nat_le (length t.columns) MOST_COLUMNS) (list_all default_suits t.columns && not (comes_twice (map (λ (c : Column). c.name) t.columns))) h).1).0
+    (and_parts (list_all default_suits t.columns) (not (has_repeated [] (map (λ (c : Column). c.name) t.columns)))
+    (and_parts (nat_le (length t.columns) MOST_COLUMNS) (list_all default_suits t.columns && not (has_repeated [] (map (λ (c : Column). c.name) t.columns))) h).1).0
 
-pub distinct_columns : (t : Table) → table_suits t ≡ true → not (comes_twice (map (λ (c : Column). c.name) t.columns)) ≡ true
+pub distinct_columns : (t : Table) → table_suits t ≡ true → not (has_repeated [] (map (λ (c : Column). c.name) t.columns)) ≡ true
 distinct_columns t h =
-    (and_parts (list_all default_suits t.columns) (not (comes_twice (map (λ (c : Column). c.name) t.columns)))
-    (and_parts (nat_le (length t.columns) MOST_COLUMNS) (list_all default_suits t.columns && not (comes_twice (map (λ (c : Column). c.name) t.columns))) h).1).1
+    (and_parts (list_all default_suits t.columns) (not (has_repeated [] (map (λ (c : Column). c.name) t.columns)))
+    (and_parts (nat_le (length t.columns) MOST_COLUMNS) (list_all default_suits t.columns && not (has_repeated [] (map (λ (c : Column). c.name) t.columns))) h).1).1
 
 -- ---- a column of a table by its name
 
@@ -124,7 +127,7 @@ pub record TargetAt (columns : List Column) (listed : Option (List (List ℕ))) 
 abbrev column_kinds : List Column → List Kind
 column_kinds columns = map (λ c. c.kind) columns
 
-pub target_at : (columns : List Column) (listed : Option (List (List ℕ))) → length columns ≤ greatest → unknown_listed (named_columns columns) listed ≡ false
+pub target_at : (columns : List Column) (listed : Option (List (List ℕ))) → length columns ≤ greatest → unknown_in_listed (named_columns columns) listed ≡ None
     → (j : ℕ) (o : Option Kind) → slice_get (target_kinds (map (λ c. c.kind) columns) (bound_columns (named_columns columns) listed)) j ≡ Some o → TargetAt columns listed j o
 unfolding bound_columns target_place
 target_at columns None l u j o h =
@@ -140,7 +143,7 @@ target_at columns None l u j o h =
 target_at columns (Some names) l u j o h =
     let made = made_of (slice_get (column_kinds columns)) (places_of (named_columns columns) names) j o h in
     let named = made_of (place_of (named_columns columns)) names j made.0 made.1 in
-    let target = column_target columns named.0 l (any_at (λ n. not (has_column (named_columns columns) n)) names u j named.0 named.1) in
+    let target = column_target columns named.0 l (known_column (named_columns columns) names u j named.0 named.1) in
     record {
       column = target.column;
       is = made.2 ∙ ap (slice_get (column_kinds columns)) named.2 ∙ map_at (λ (c : Column). c.kind) columns (place_of (named_columns columns) named.0)
@@ -183,7 +186,7 @@ fit_sorted kind.Integer (value.Text t) h = cc
 
 pub value_of_column : (ranges : List NamedRange) (shape : Shape) → Matches ranges shape → length ranges ≤ greatest → (columns : List Column) → list_all default_suits columns ≡ true
     → (place : ℕ) (column : Column) → slice_get columns place ≡ Some column → (v : ValueOrDefault)
-    → unknown_value ranges v ≡ false → misshaped_value ranges v ≡ false → value_clashes (Some (type_of column.kind)) ranges v ≡ false
+    → unknown_in_value ranges v ≡ None → misshaped_value ranges v ≡ false → value_clashes (Some (type_of column.kind)) ranges v ≡ false
     → value_suits shape (Some column.kind) (bound_value columns ranges place v) ≡ true
 unfolding bound_value default_at misshaped_value value_clashes
 value_of_column ranges shape m l columns d place column h (given.Value e) u w c = expression_suits ranges shape e column.kind (sorted ranges shape m l e u w) c

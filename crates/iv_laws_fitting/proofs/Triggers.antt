@@ -1,6 +1,7 @@
 -- The plan of a CREATE TRIGGER that deserves no cause.
 use Rattle.std.proofs.Common.{◌≡◌, ℕ, ◌+◌, ◌≤◌, Bool, true, false, not, ◌&&◌, ◌||◌, ◌==◌, List, [], ◌∷◌, ◌∙◌, Option, Some, None, is_none, refl, sym, ap, cond, length, map, filter, slice_get, option_map, subst, suc, arith}
 use Rattle.std.proofs.lemmas.Bool.{and_from, and_parts, not-false, or_parts}
+use Rattle.std.specs.Option.{option_or}
 use Rattle.std.specs.List.{list_any, list_all}
 use Rattle.std.proofs.lemmas.Bool.Decides.{nat_tests}
 use Rattle.iv_laws_fitting.specs.Words.{Kind, Statement, Granularity, TriggerEvent, Column, Table, Trigger}
@@ -20,16 +21,18 @@ use Rattle.iv_syntax.specs.declared.trigger.TriggerAction.{TriggerAction}
 use Rattle.iv_syntax.specs.declared.trigger.TriggerAction.TheVariants as action
 use Rattle.iv_syntax.specs.declared.trigger.TriggerDefinition.{TriggerDefinition}
 use Rattle.iv_catalogue.specs.Catalogues.{Schema}
-use Rattle.iv_catalogue.specs.declared.plan.TransactionPlan.TheVariants as transaction
 use Rattle.iv_resolution.specs.declared.origin.Origin.TheVariants.{Variable}
 use Rattle.iv_resolution.specs.Scopes.{NamedColumn, NamedRange, Names, Source, named_columns, place_of, has_column, type_named}
-use Rattle.iv_resolution.specs.Terms.{unknown_expression, unknown_filter, misshaped_expression, misshaped_filter, bound_expression, bound_filter}
+use Rattle.iv_resolution.specs.Terms.{misshaped_expression, misshaped_filter, bound_expression, bound_filter}
 use Rattle.iv_resolution.specs.Constraints.{WrittenConstraint, table_constraint}
 use Rattle.iv_resolution.specs.Tables.{table_names}
-use Rattle.iv_resolution.specs.Changes.{is_table, target_columns, unknown_names, clashes_with}
-use Rattle.iv_resolution.specs.Triggers.{names_row, row_variables, transition_tables, subject_of, trigger_names, trigger_variables, variable_named, unknown_set, unknown_action, for_each_row, is_before, has_side, is_allowed_item, is_side, items_of, item_twice, some_item_twice, misshaped_action}
+use Rattle.iv_resolution.specs.Changes.{is_table, target_columns, clashes_with}
+use Rattle.iv_resolution.specs.Triggers.{names_row, row_variables, transition_tables, subject_of, trigger_names, trigger_variables, variable_named, for_each_row, is_before, has_side, is_allowed_item, is_side, items_of, item_twice, some_item_twice, misshaped_action}
 use Rattle.iv_resolution.specs.Bound.{table_id, bound_action, bound_trigger}
 use Rattle.iv_resolution.specs.Writable.{is_name, is_filter, is_action, are_event_columns}
+use Rattle.iv_resolution.specs.Items.{Item, column_item, table_item, variable_item, told_if, first_of}
+use Rattle.iv_resolution.specs.NameFaults.{unknown_in_target, unknown_in_action, unknown_in_columns, unknown_in_expression, unknown_in_filter, unknown_in_set}
+use Rattle.iv_resolution.proofs.Told.{none_parts, none_told, untold}
 use Rattle.iv_laws_naming.specs.Naming.{NamesSource, transition, created, stored}
 use Rattle.iv_laws_naming.proofs.Firsts.{first_there}
 use Rattle.iv_laws_naming.proofs.NamesFound.{sources}
@@ -169,18 +172,19 @@ around_trigger schema t columns d m allowed_items few = record {
 -- ---- the body
 
 action_suits_columns : (names : Names) (variables : List NamedRange) (shape : Shape) → Around names variables shape → (columns : List Column) → names.subject ≡ named_columns columns
-    → length columns ≤ greatest → (a : TriggerAction) → is_action a ≡ true → unknown_action names variables a ≡ false → misshaped_action names variables a ≡ false
+    → length columns ≤ greatest → (a : TriggerAction) → is_action a ≡ true → unknown_in_action names variables a ≡ None → misshaped_action names variables a ≡ false
     → action_suits names.tables shape (map (λ c. c.kind) columns) (bound_action names variables a) ≡ true
-unfolding unknown_action misshaped_action unknown_set
+unfolding unknown_in_action misshaped_action unknown_in_set
 action_suits_columns names variables shape a columns s few (action.Insert i) w u m = insert_suits names variables shape a i w u m
 action_suits_columns names variables shape a columns s few (action.Update i) w u m = update_suits names variables shape a i w u m
 action_suits_columns names variables shape a columns s few (action.Delete i) w u m = delete_suits names variables shape a i w u m
 action_suits_columns names variables shape a columns s few (action.Signal t) w u m = refl
 action_suits_columns names variables shape a columns s few (action.Set v column e) w u m =
-    let known = or_parts (is_none (variable_named variables v) || not (has_column names.subject column)) (unknown_expression variables e) u in
-    let set = or_parts (is_none (variable_named variables v)) (not (has_column names.subject column)) known.0 in
+    let known = none_parts (option_or (told_if (is_none (variable_named variables v)) (variable_item v)) (told_if (not (has_column names.subject column)) (column_item (Some v) column)))
+    (unknown_in_expression variables e) u in
+    let set = none_parts (told_if (is_none (variable_named variables v)) (variable_item v)) (told_if (not (has_column names.subject column)) (column_item (Some v) column)) known.0 in
     let shaped = or_parts (clashes_with (type_named names.subject column) variables e) (misshaped_expression variables e) m in
-    let target = column_target columns column few (ap (λ (cs : List NamedColumn). not (has_column cs column)) (sym s) ∙ set.1) in
+    let target = column_target columns column few (ap (λ (cs : List NamedColumn). not (has_column cs column)) (sym s) ∙ untold (not (has_column names.subject column)) (column_item (Some v) column) set.1) in
     let deep = a.few in
     ap (λ (cs : List NamedColumn). value_suits shape (slice_get (map (λ (c : Column). c.kind) columns) (place_of cs column)) (bound_expression variables e)) s
     ∙ ap (λ (o : Option Kind). value_suits shape o (bound_expression variables e))
@@ -199,20 +203,21 @@ trigger_fits schema d t a = by (target_of (table_names schema) t.table parts.0)
     subject : List NamedColumn
     subject = target_columns (table_names schema) t.table
 
-    unknown : List NamedColumn → Bool
+    unknown : List NamedColumn → Option Item
     unknown s =
-        unknown_filter (names_of schema t.referencing s) (row_variables s t.referencing) t.when
-        || list_any (unknown_action (names_of schema t.referencing s) (row_variables s t.referencing)) t.body
+        option_or (unknown_in_filter (names_of schema t.referencing s) (row_variables s t.referencing) t.when)
+        (first_of (unknown_in_action (names_of schema t.referencing s) (row_variables s t.referencing)) t.body)
 
     misshaped : List NamedColumn → Bool
     misshaped s =
         misshaped_filter (names_of schema t.referencing s) (row_variables s t.referencing) t.when
         || list_any (misshaped_action (names_of schema t.referencing s) (row_variables s t.referencing)) t.body
 
-    parts : (not (is_table (table_names schema) t.table) ≡ false) × (unknown (target_columns (table_names schema) t.table) ≡ false)
+    parts : (not (is_table (table_names schema) t.table) ≡ false) × (unknown (target_columns (table_names schema) t.table) ≡ None)
     parts =
-        let first = or_parts (not (is_table (table_names schema) t.table)) _ a.known in
-        (first.0, (or_parts (unknown_names (target_columns (table_names schema) t.table) t.columns) _ first.1).1)
+        let listed = unknown_in_columns (target_columns (table_names schema) t.table) t.columns in
+        let first = none_parts (unknown_in_target (table_names schema) t.table) (option_or listed (unknown (target_columns (table_names schema) t.table))) a.known in
+        (untold (not (is_table (table_names schema) t.table)) (table_item t.table) first.0, (none_parts listed (unknown (target_columns (table_names schema) t.table)) first.1).1)
 
     faults : (some_item_twice t.referencing ≡ false) × (list_any (λ i. not (is_allowed_item t i)) t.referencing ≡ false)
     faults =
@@ -253,8 +258,8 @@ trigger_fits schema d t a = by (target_of (table_names schema) t.table parts.0)
         let shape = trigger_shape schema.tables t.granularity t.event kinds in
         let around = around_trigger schema t columns d (stored_match target.table few) faults.1 faults.0 in
         let deep = around.few in
-        let known = or_parts (unknown_filter names variables t.when) (list_any (unknown_action names variables) t.body)
-        (subst (λ (s : List NamedColumn). unknown s ≡ false) stored parts.1) in
+        let known = none_parts (unknown_in_filter names variables t.when) (first_of (unknown_in_action names variables) t.body)
+        (subst (λ (s : List NamedColumn). unknown s ≡ None) stored parts.1) in
         let shaped = or_parts (misshaped_filter names variables t.when) (list_any (misshaped_action names variables) t.body)
         (subst (λ (s : List NamedColumn). misshaped s ≡ false) stored a.shaped) in
         ap (λ id. whole id (target_columns (table_names schema) t.table)) (target_id (table_names schema) t.table target)
@@ -268,7 +273,7 @@ trigger_fits schema d t a = by (target_of (table_names schema) t.table parts.0)
         let made = made_of (bound_action names variables) t.body j b h in
         ap (action_suits schema.tables shape kinds) made.2
         ∙ action_suits_columns names variables shape around columns refl few made.0 (all_at is_action t.body writable.1 j made.0 made.1)
-        (any_at (unknown_action names variables) t.body known.1 j made.0 made.1) (any_at (misshaped_action names variables) t.body shaped.1 j made.0 made.1))))
+        (none_told (unknown_in_action names variables) t.body known.1 j made.0 made.1) (any_at (misshaped_action names variables) t.body shaped.1 j made.0 made.1))))
 
 no_trigger : (schema : Schema) (place : ℕ) (k : WrittenConstraint) (t : Trigger) (P : Type 0) (o : Option Table) → alteration schema place k o ≡ plan.Schema (CreateTrigger t) → P
 no_trigger schema place k t P None h = cc

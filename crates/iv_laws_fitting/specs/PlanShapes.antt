@@ -16,7 +16,7 @@ use Rattle.iv_laws_fitting.specs.Words.query
 use Rattle.iv_value.specs.Values.{fit_of}
 use Rattle.iv_expr.specs.Suiting.{Sort, nulls, numbers, texts, Shape, shape_within, range_kinds, sort_of, suits}
 use Rattle.iv_catalogue.specs.declared.limits.TheConstants.{MOST_COLUMNS}
-use Rattle.iv_resolution.specs.Constraints.{comes_twice}
+use Rattle.iv_catalogue.specs.Names.{has_repeated}
 use Rattle.iv_store.specs.Stores.{is_fit}
 
 -- ---- kinds of tables
@@ -79,7 +79,7 @@ default_suits c = is_fit (fit_of c.default c.kind)
 
 -- A table has no more columns than it may, each has a name of its own, and each default fits its column.
 abbrev pub table_suits : Table → Bool
-table_suits t = nat_le (length t.columns) MOST_COLUMNS && (list_all default_suits t.columns && not (comes_twice (map (λ c. c.name) t.columns)))
+table_suits t = nat_le (length t.columns) MOST_COLUMNS && (list_all default_suits t.columns && not (has_repeated [] (map (λ c. c.name) t.columns)))
 
 -- ---- INSERT, UPDATE, DELETE and SELECT
 

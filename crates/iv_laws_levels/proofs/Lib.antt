@@ -27,5 +27,6 @@ pub mod PlacedRows
 pub mod Scanning
 pub mod ReachedStates
 pub mod Planned
+pub mod WavesOneByOne
 pub mod WaveEquations
 pub mod NetChanges

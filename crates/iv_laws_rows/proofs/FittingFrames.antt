@@ -1,5 +1,5 @@
 -- What the bodies of triggers see has the kinds of their shapes, so their statements fit.
-use Rattle.std.proofs.Common.{◌≡◌, ℕ, nat_lt, Bool, true, false, not, ◌&&◌, ◌||◌, ◌==◌, if◌then◌else◌, List, [], ◌∷◌, ◌∙◌, Option, Some, None, is_none, is_some, refl, sym, ap, subst, length, map, filter, slice_get, inl, inr}
+use Rattle.std.proofs.Common.{◌≡◌, ℕ, nat_lt, Bool, true, false, ◌&&◌, ◌||◌, ◌==◌, if◌then◌else◌, List, [], ◌∷◌, ◌∙◌, Option, Some, None, is_none, is_some, refl, sym, ap, subst, length, map, filter, slice_get, inl, inr}
 use Rattle.std.specs.List.{list_all, cons_option}
 use Rattle.std.proofs.lemmas.Bool.{eqb-true, and_from, and_parts}
 use Rattle.iv_laws_rows.specs.Words.{Value, StoredRow, Change, TableColumn, TriggerEvent, Table, DataStatement, Trigger}
@@ -19,7 +19,7 @@ use Rattle.iv_syntax.specs.declared.trigger.TriggerEvent.TheVariants as event
 use Rattle.iv_catalogue.specs.declared.catalogue.Column.{Column}
 use Rattle.iv_machine.specs.Context.{Context}
 use Rattle.iv_machine.specs.Proposals.{table_of, event_of}
-use Rattle.iv_machine.specs.BeforeTriggers.{is_before, for_each_row, same_event, is_on, event_of_change}
+use Rattle.iv_machine.specs.BeforeTriggers.{for_each_row, same_event, is_on, event_of_change}
 use Rattle.iv_machine.specs.Levels.{Firing, row_firing, statement_firing, firings_of, transitions_of, is_after_on, firings}
 use Rattle.iv_store.specs.Stores.{is_fit, fits_columns, fits_table}
 use Rattle.iv_laws_fitting.specs.PlanShapes.{table_kinds, plain_shape, is_there, old_kinds, new_kinds, trigger_shape, action_suits, trigger_suits}

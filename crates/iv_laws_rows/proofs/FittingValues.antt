@@ -13,7 +13,7 @@ use Rattle.iv_expr.specs.declared.tree.ExprFault.{ExprFault}
 use Rattle.iv_catalogue.specs.Catalogues.{Schema}
 use Rattle.iv_catalogue.specs.declared.catalogue.Column.{Column}
 use Rattle.iv_catalogue.specs.declared.limits.TheConstants.{MOST_COLUMNS}
-use Rattle.iv_resolution.specs.Constraints.{comes_twice}
+use Rattle.iv_catalogue.specs.Names.{has_repeated}
 use Rattle.iv_key.specs.Keys.{value_at}
 use Rattle.iv_machine.specs.Context.{Context}
 use Rattle.iv_machine.specs.Proposals.{with_cause, column_at, value_for_column, stored_value, stored_values, with_columns, defaults_of}
@@ -152,9 +152,9 @@ pub defaults_fit : (schema : Schema) (table : ℕ) → list_all table_suits sche
 defaults_fit schema table suit h =
     let there = there_at schema.tables table h in
     let t = there.0 in
-    let parts = and_parts (nat_le (length t.columns) MOST_COLUMNS) (list_all default_suits t.columns && not (comes_twice (map (λ (c : Column). c.name) t.columns)))
+    let parts = and_parts (nat_le (length t.columns) MOST_COLUMNS) (list_all default_suits t.columns && not (has_repeated [] (map (λ (c : Column). c.name) t.columns)))
     (all_at table_suits schema.tables suit table t there.1) in
-    let defaults = (and_parts (list_all default_suits t.columns) (not (comes_twice (map (λ (c : Column). c.name) t.columns))) parts.1).0 in
+    let defaults = (and_parts (list_all default_suits t.columns) (not (has_repeated [] (map (λ (c : Column). c.name) t.columns))) parts.1).0 in
     ap (λ (o : Option Table). table_fits o (elim o as (λ x. List Value) [ Some x ↦ map (λ c. c.default) x.columns | None ↦ [] ])) there.1
     ∙ defaults_in_order t.columns defaults
 

@@ -6,6 +6,7 @@ pub mod FittingValues
 pub mod FollowingRows
 pub mod FreeLevels
 pub mod Without
+pub mod WithoutTriggers
 pub mod FreeResults
 pub mod FreeTriggers
 pub mod MadeChanges

@@ -1,5 +1,5 @@
--- INSERT, UPDATE, DELETE and SELECT: which of their names name nothing, which come twice, and where values don't suit columns ("Insert
--- statement", "Update statement: searched", "Delete statement: searched", "Query specification").
+-- INSERT, UPDATE, DELETE and SELECT: the table that each is of, and where values don't suit columns ("Insert statement", "Update statement:
+-- searched", "Delete statement: searched", "Query specification").
 use Rattle.std.specs.Prelude.{ℕ, Bool, false, not, ◌&&◌, ◌||◌, ◌==◌, List, [], ◌∷◌, length, map, zip, Option, Some, None, is_some, slice_get}
 use Rattle.std.specs.List.{list_any}
 use Rattle.iv_resolution.specs.Words.{ColumnType, Condition, Expression, RangeName, ValueOrDefault, SelectList, InsertSource, Insert, Assignment, Update, Delete, Select, Column, Table}
@@ -8,9 +8,8 @@ use Rattle.iv_resolution.specs.Words.select_list as list
 use Rattle.iv_resolution.specs.Words.source
 use Rattle.iv_resolution.specs.Words.insert
 use Rattle.iv_resolution.specs.Words.select
-use Rattle.iv_resolution.specs.Scopes.{NamedColumn, NamedRange, Names, named_columns, has_column, type_named, table_place, is_source, source_columns, range_of, own_range}
-use Rattle.iv_resolution.specs.Terms.{unknown_expression, unknown_filter, is_integer_type, is_text_type, is_integer, is_text, misshaped_expression, misshaped_filter}
-use Rattle.iv_resolution.specs.Constraints.{comes_twice}
+use Rattle.iv_resolution.specs.Scopes.{NamedColumn, NamedRange, Names, named_columns, type_named, table_place, source_columns, range_of, own_range}
+use Rattle.iv_resolution.specs.Terms.{is_integer_type, is_text_type, is_integer, is_text, misshaped_expression, misshaped_filter}
 
 -- ---- the table that a statement changes: a table of the catalogue, whatever a transition table is called
 
@@ -31,63 +30,6 @@ target_columns names name = named_columns (stored_columns names.tables name)
 -- the range of UPDATE and DELETE, inside the row variables of a trigger
 abbrev pub target_ranges : Names → List ℕ → List NamedRange → List NamedRange
 target_ranges names table ranges = own_range table (target_columns names table) ∷ ranges
-
--- ---- names that name nothing
-
-abbrev pub unknown_names : List NamedColumn → List (List ℕ) → Bool
-unknown_names columns names = list_any (λ n. not (has_column columns n)) names
-
-abbrev pub unknown_listed : List NamedColumn → Option (List (List ℕ)) → Bool
-unknown_listed columns None = false
-unknown_listed columns (Some names) = unknown_names columns names
-
-abbrev pub unknown_value : List NamedRange → ValueOrDefault → Bool
-unknown_value ranges (value.Value e) = unknown_expression ranges e
-unknown_value ranges value.Default = false
-
-abbrev pub unknown_list : List NamedRange → SelectList → Bool
-unknown_list ranges list.Star = false
-unknown_list ranges (list.Values es) = list_any (unknown_expression ranges) es
-
--- a FROM with the list before it and the condition after it
-abbrev pub unknown_query : Names → List NamedRange → SelectList → RangeName → Option Condition → Bool
-unknown_query names ranges l r filter =
-    not (is_source names r.table) || (unknown_list (range_of names r ∷ ranges) l || unknown_filter names (range_of names r ∷ ranges) filter)
-
--- the values of VALUES are in no range
-abbrev pub unknown_source : Names → List NamedRange → InsertSource → Bool
-unknown_source names ranges (source.Values tuples) = list_any (λ tuple. list_any (unknown_value ranges) tuple) tuples
-unknown_source names ranges (source.Select l r filter) = unknown_query names ranges l r filter
-
-abbrev pub unknown_insert : Names → List NamedRange → Insert → Bool
-unknown_insert names ranges (insert.DefaultValues table) = not (is_table names table)
-unknown_insert names ranges (insert.Rows table columns s) =
-    not (is_table names table) || (unknown_listed (target_columns names table) columns || unknown_source names ranges s)
-
-abbrev pub unknown_assignment : List NamedColumn → List NamedRange → Assignment → Bool
-unknown_assignment columns ranges a = not (has_column columns a.column) || unknown_value ranges a.value
-
-abbrev pub unknown_update : Names → List NamedRange → Update → Bool
-unknown_update names ranges u =
-    not (is_table names u.table)
-    || (list_any (unknown_assignment (target_columns names u.table) (target_ranges names u.table ranges)) u.assignments
-    || unknown_filter names (target_ranges names u.table ranges) u.filter)
-
-abbrev pub unknown_delete : Names → List NamedRange → Delete → Bool
-unknown_delete names ranges d = not (is_table names d.table) || unknown_filter names (target_ranges names d.table ranges) d.filter
-
-abbrev pub unknown_select : Names → List NamedRange → Select → Bool
-unknown_select names ranges (select.Count r filter) = unknown_query names ranges list.Star r filter
-unknown_select names ranges (select.Rows l r filter) = unknown_query names ranges l r filter
-
--- ---- columns that come twice
-
-abbrev pub duplicate_insert : Insert → Bool
-duplicate_insert (insert.DefaultValues table) = false
-duplicate_insert (insert.Rows table columns s) = elim columns [ Some names ↦ comes_twice names | None ↦ false ]
-
-abbrev pub duplicate_update : Update → Bool
-duplicate_update u = comes_twice (map (λ a. a.column) u.assignments)
 
 -- ---- values that don't suit their columns
 

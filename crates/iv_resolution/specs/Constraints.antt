@@ -1,7 +1,7 @@
 -- The constraints that a CREATE TABLE or an ALTER TABLE writes: one list in the order of the text, their names, and the keys that
 -- foreign keys may refer to ("Table constraint definition", "Unique constraint definition", "Referential constraint definition").
 use Rattle.std.specs.Prelude.{ℕ, Bool, true, false, not, ◌&&◌, ◌||◌, ◌==◌, List, [], ◌∷◌, length, map, filter, filter_map, flat_map, find, zip, chars, Option, Some, None, nat_le, unwrap_or, option_map, slice_get}
-use Rattle.std.specs.List.{list_any, list_all, enumerate_from}
+use Rattle.std.specs.List.{list_any, list_all}
 use Rattle.std.specs.Str.{bytes_eq}
 use Rattle.iv_resolution.specs.Words.{ConstraintMode, ColumnType, Literal, ConstraintTime, NullTreatment, References, ColumnRule, ColumnConstraint, ColumnDefinition, TableRule, TableConstraint, TableElement, Condition, Constraint, Rule}
 use Rattle.iv_resolution.specs.Words.mode
@@ -79,15 +79,6 @@ written_constraints elements = flat_map element_constraints elements
 -- A constraint without a name is called after its table and its place among all constraints of the table, from 1.
 abbrev pub constraint_name : List ℕ → ℕ → WrittenConstraint → List ℕ
 constraint_name table place k = unwrap_or k.name (generated_name table place)
-
--- the names of a table's new constraints, the first of which has this place
-abbrev pub constraint_names : List ℕ → ℕ → List WrittenConstraint → List (List ℕ)
-constraint_names table place constraints = map (λ k. constraint_name table k.0 k.1) (enumerate_from place constraints)
-
--- some name comes twice
-unfoldable pub comes_twice : List (List ℕ) → Bool
-comes_twice [] = false
-comes_twice (name ∷ names) = is_among names name || comes_twice names
 
 -- the constraints of a table, in the order of creation
 abbrev pub constraints_of : Schema → ℕ → List Constraint

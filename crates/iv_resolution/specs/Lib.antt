@@ -5,6 +5,8 @@ pub mod Constraints
 pub mod Changes
 pub mod Tables
 pub mod Triggers
+pub mod Items
+pub mod NameFaults
 pub mod Writable
 pub mod Bound
 pub mod Resolution

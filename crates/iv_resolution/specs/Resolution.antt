@@ -1,17 +1,16 @@
 -- Resolution: what a statement deserves to be refused for, by cause, the least of these, and the plan of a statement that deserves none.
 use Rattle.std.specs.Prelude.{◌≡◌, ℕ, Bool, true, false, not, ◌||◌, List, [], ◌∷◌, find, Option, Some, None, is_some, is_ok, Result, Ok, Err, slice_get, MatchBool}
-use Rattle.std.specs.List.{list_any}
-use Rattle.iv_resolution.specs.Words.{ConstraintList, Statement, Cause, Refusal, Plan}
-use Rattle.iv_resolution.specs.Words.constraints
+use Rattle.iv_resolution.specs.Words.{Statement, Cause, Refusal, Plan}
 use Rattle.iv_resolution.specs.Words.statement
 use Rattle.iv_resolution.specs.Words.cause.{Unknown, Duplicate, SchemaFault, WrongShape, Limit}
-use Rattle.iv_catalogue.specs.Catalogues.{Schema, has_constraint, has_trigger}
+use Rattle.iv_catalogue.specs.Catalogues.{Schema}
 use Rattle.iv_catalogue.specs.Refusals.{refusal_answer, out_of_memory, is_memory}
 use Rattle.iv_resolution.specs.Scopes.{table_place}
 use Rattle.iv_resolution.specs.Constraints.{table_constraint, Altered}
-use Rattle.iv_resolution.specs.Changes.{unknown_insert, unknown_update, unknown_delete, unknown_select, duplicate_insert, duplicate_update, misshaped_insert, misshaped_update, misshaped_delete, misshaped_select}
-use Rattle.iv_resolution.specs.Tables.{table_names, altered_at, unknown_rule, duplicate_rule, added_name, faulty_addition, misshaped_rule, addition_beyond_limits, unknown_table, duplicate_table, faulty_table, misshaped_table, table_beyond_limits}
-use Rattle.iv_resolution.specs.Triggers.{unknown_trigger, duplicate_trigger, faulty_trigger, misshaped_trigger, trigger_beyond_limits}
+use Rattle.iv_resolution.specs.Changes.{misshaped_insert, misshaped_update, misshaped_delete, misshaped_select}
+use Rattle.iv_resolution.specs.Tables.{table_names, altered_at, faulty_addition, misshaped_rule, addition_beyond_limits, faulty_table, misshaped_table, table_beyond_limits}
+use Rattle.iv_resolution.specs.Triggers.{faulty_trigger, misshaped_trigger, trigger_beyond_limits}
+use Rattle.iv_resolution.specs.NameFaults.{unknown_name, duplicate_name}
 use Rattle.iv_resolution.specs.Writable.{is_writable}
 use Rattle.iv_resolution.specs.Bound.{bound}
 
@@ -25,40 +24,15 @@ of_altered schema table asks =
       | None ↦ false
     ]
 
-abbrev pub is_there : Schema → List ℕ → Bool
-is_there schema table = is_some (table_place schema.tables table)
-
-abbrev pub unknown_constraints : Schema → ConstraintList → Bool
-unknown_constraints schema constraints.All = false
-unknown_constraints schema (constraints.Named names) = list_any (λ n. not (has_constraint schema n)) names
-
 -- ---- the five causes
 
 -- Unknown: a table, column, range name, row variable, transition table, trigger or constraint name that names nothing there.
 abbrev pub is_unknown : Schema → Statement → Bool
-is_unknown schema (statement.CreateTable name elements) = unknown_table schema name elements
-is_unknown schema (statement.AlterTable table k) =
-    not (is_there schema table)
-    || of_altered schema table (λ own. unknown_rule schema (table_names schema) own (table_constraint k).rule)
-is_unknown schema (statement.CreateTrigger t) = unknown_trigger schema t
-is_unknown schema (statement.DropTrigger name) = not (has_trigger schema name)
-is_unknown schema (statement.Insert i) = unknown_insert (table_names schema) [] i
-is_unknown schema (statement.Update u) = unknown_update (table_names schema) [] u
-is_unknown schema (statement.Delete d) = unknown_delete (table_names schema) [] d
-is_unknown schema (statement.Select s) = unknown_select (table_names schema) [] s
-is_unknown schema (statement.SetConstraints l m) = unknown_constraints schema l
-is_unknown schema _ = false
+is_unknown schema s = is_some (unknown_name schema s)
 
 -- Duplicate: a new name that is in use or comes twice, or a column twice in a list.
 abbrev pub is_duplicate : Schema → Statement → Bool
-is_duplicate schema (statement.CreateTable name elements) = duplicate_table schema name elements
-is_duplicate schema (statement.AlterTable table k) =
-    of_altered schema table (λ own. has_constraint schema (added_name schema own (table_constraint k)))
-    || duplicate_rule (table_constraint k).rule
-is_duplicate schema (statement.CreateTrigger t) = duplicate_trigger schema t
-is_duplicate schema (statement.Insert i) = duplicate_insert i
-is_duplicate schema (statement.Update u) = duplicate_update u
-is_duplicate schema _ = false
+is_duplicate schema s = is_some (duplicate_name schema s)
 
 -- SchemaFault: a definition that no schema can have.
 abbrev pub is_faulty : Schema → Statement → Bool

@@ -1,14 +1,13 @@
 -- CREATE TABLE and ALTER TABLE: what each of their constraints is refused for ("Table definition", "Add table constraint definition").
-use Rattle.std.specs.Prelude.{ℕ, ◌+◌, Bool, true, false, not, ◌&&◌, ◌||◌, ◌==◌, List, [], ◌∷◌, length, map, filter, Option, Some, None, nat_le, nat_lt}
+use Rattle.std.specs.Prelude.{ℕ, ◌+◌, Bool, true, false, not, ◌&&◌, ◌||◌, ◌==◌, List, [], ◌∷◌, length, filter, Some, None, nat_le, nat_lt}
 use Rattle.std.specs.List.{list_any}
 use Rattle.iv_resolution.specs.Words.{ColumnType, TableElement, Table}
 use Rattle.iv_resolution.specs.Words.type
-use Rattle.iv_catalogue.specs.Catalogues.{Schema, has_constraint, has_table}
+use Rattle.iv_catalogue.specs.Catalogues.{Schema}
 use Rattle.iv_catalogue.specs.declared.limits.TheConstants.{MOST_COLUMNS, MOST_CONSTRAINTS, MOST_TABLES, MOST_KEY_COLUMNS, MOST_CHARACTERS}
-use Rattle.iv_resolution.specs.Scopes.{NamedRange, Names, named_columns, has_column, own_range}
-use Rattle.iv_resolution.specs.Terms.{unknown_condition, misshaped_condition, has_exists}
-use Rattle.iv_resolution.specs.Constraints.{WrittenRule, not_null, unique, primary_key, check, foreign_key, WrittenConstraint, written_columns, defined_columns, written_constraints, constraint_name, constraint_names, comes_twice, constraints_of, is_contradictory, stored_keys, written_keys, primary_key_of, Referenced, Altered, referenced, faulty_reference, default_fits}
-use Rattle.iv_resolution.specs.Changes.{unknown_names}
+use Rattle.iv_resolution.specs.Scopes.{NamedRange, Names, named_columns, own_range}
+use Rattle.iv_resolution.specs.Terms.{misshaped_condition, has_exists}
+use Rattle.iv_resolution.specs.Constraints.{WrittenRule, unique, primary_key, check, foreign_key, WrittenConstraint, written_columns, defined_columns, written_constraints, constraint_name, constraints_of, is_contradictory, stored_keys, written_keys, primary_key_of, Altered, referenced, faulty_reference, default_fits}
 
 -- ---- the table of the statement
 
@@ -41,31 +40,6 @@ table_names schema = record { created = None; tables = schema.tables; transition
 -- the one range of a CHECK is its table
 abbrev pub check_ranges : Altered → List NamedRange
 check_ranges own = own_range own.name own.columns ∷ []
-
--- ---- names that name nothing
-
-abbrev pub unknown_reference : Option Referenced → Option (List (List ℕ)) → Bool
-unknown_reference None names = true
-unknown_reference (Some r) None = false
-unknown_reference (Some r) (Some names) = unknown_names r.columns names
-
-abbrev pub unknown_rule : Schema → Names → Altered → WrittenRule → Bool
-unknown_rule schema names own (not_null column) = not (has_column own.columns column)
-unknown_rule schema names own (unique nulls columns) = unknown_names own.columns columns
-unknown_rule schema names own (primary_key columns) = unknown_names own.columns columns
-unknown_rule schema names own (check c) = unknown_condition names (check_ranges own) c
-unknown_rule schema names own (foreign_key columns r) =
-    unknown_names own.columns columns || unknown_reference (referenced schema own r.table) r.columns
-
--- ---- names that come twice, or are in use
-
--- a column twice in a key or in a list of a foreign key
-abbrev pub duplicate_rule : WrittenRule → Bool
-duplicate_rule (not_null column) = false
-duplicate_rule (unique nulls columns) = comes_twice columns
-duplicate_rule (primary_key columns) = comes_twice columns
-duplicate_rule (check c) = false
-duplicate_rule (foreign_key columns r) = comes_twice columns || elim r.columns [ Some names ↦ comes_twice names | None ↦ false ]
 
 -- ---- definitions that no schema can have
 
@@ -106,19 +80,6 @@ type_beyond_limits type.Integer = false
 type_beyond_limits (type.Varchar n) = (n == 0) || nat_lt MOST_CHARACTERS n
 
 -- ---- CREATE TABLE, by cause
-
-abbrev pub unknown_table : Schema → List ℕ → List TableElement → Bool
-unknown_table schema name elements =
-    list_any (λ k. unknown_rule schema (creating schema (created_table schema name elements)) (created_table schema name elements) k.rule) (written_constraints elements)
-
--- Constraint names are one space over the database, and a new name must not be in use there.
-abbrev pub duplicate_table : Schema → List ℕ → List TableElement → Bool
-duplicate_table schema name elements =
-    has_table schema name
-    || (comes_twice (map (λ c. c.name) (written_columns elements))
-    || (list_any (has_constraint schema) (constraint_names name 1 (written_constraints elements))
-    || (comes_twice (constraint_names name 1 (written_constraints elements))
-    || list_any (λ k. duplicate_rule k.rule) (written_constraints elements))))
 
 abbrev pub faulty_table : Schema → List ℕ → List TableElement → Bool
 faulty_table schema name elements =

@@ -1,5 +1,5 @@
--- Value expressions and search conditions as they are written: the names in them that name nothing, where an integer meets a text, and
--- what they mean once every name is resolved ("Value expression", "Search condition").
+-- Value expressions and search conditions as they are written: a column that names nothing, where an integer meets a text, and what they
+-- mean once every name is resolved ("Value expression", "Search condition").
 use Rattle.std.specs.Prelude.{min, ℤ, ℕ, Bool, true, false, not, ◌&&◌, ◌||◌, List, ◌∷◌, pos, Option, Some, None, is_none}
 use Rattle.iv_resolution.specs.Words.{Expr, Cond, ColumnType, Sign, ColumnName, Expression, Condition}
 use Rattle.iv_resolution.specs.Words.value
@@ -13,38 +13,13 @@ use Rattle.iv_expr.specs.Trees.{plus, minus, times, not_c, and_c, or_c, exists_c
 use Rattle.iv_syntax.specs.Trees.{group, signed, product, sum, enclosed, negated, both, either, exists_where}
 use Rattle.iv_syntax.specs.declared.limits.TheConstants.{GREATEST_INTEGER}
 use Rattle.iv_resolution.specs.declared.origin.Origin.TheVariants.{Rows, Variable}
-use Rattle.iv_resolution.specs.Scopes.{NamedRange, Found, Names, column_meant, is_source, source_range, range_of}
+use Rattle.iv_resolution.specs.Scopes.{NamedRange, Found, Names, column_meant, source_range, range_of}
 
 -- ---- names that name nothing
 
 -- a column's name that names nothing
 abbrev pub unknown_column : List NamedRange → ColumnName → Bool
 unknown_column ranges c = is_none (column_meant ranges c)
-
-abbrev pub unknown_expression : List NamedRange → Expression → Bool
-unknown_expression ranges (expression.Column c) = unknown_column ranges c
-unknown_expression ranges (group a) = unknown_expression ranges a
-unknown_expression ranges (signed s a) = unknown_expression ranges a
-unknown_expression ranges (product a b) = unknown_expression ranges a || unknown_expression ranges b
-unknown_expression ranges (sum s a b) = unknown_expression ranges a || unknown_expression ranges b
-unknown_expression ranges _ = false
-
--- the condition of an EXISTS has the range of its FROM inside the others
-unfoldable pub unknown_condition : Names → List NamedRange → Condition → Bool
-unknown_condition names ranges (condition.Compare op a b) = unknown_expression ranges a || unknown_expression ranges b
-unknown_condition names ranges (condition.IsNull a) = unknown_expression ranges a
-unknown_condition names ranges (condition.IsNotNull a) = unknown_expression ranges a
-unknown_condition names ranges (condition.Exists r) = not (is_source names r.table)
-unknown_condition names ranges (exists_where r a) = not (is_source names r.table) || unknown_condition names (range_of names r ∷ ranges) a
-unknown_condition names ranges (enclosed a) = unknown_condition names ranges a
-unknown_condition names ranges (negated a) = unknown_condition names ranges a
-unknown_condition names ranges (both a b) = unknown_condition names ranges a || unknown_condition names ranges b
-unknown_condition names ranges (either a b) = unknown_condition names ranges a || unknown_condition names ranges b
-
--- WHERE and WHEN may be left out
-abbrev pub unknown_filter : Names → List NamedRange → Option Condition → Bool
-unknown_filter names ranges None = false
-unknown_filter names ranges (Some c) = unknown_condition names ranges c
 
 -- ---- kinds, on the tree as it is written: NULL, and a name that names nothing, suit every kind
 

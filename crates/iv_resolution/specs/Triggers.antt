@@ -1,5 +1,5 @@
 -- CREATE TRIGGER: what its columns, REFERENCING, WHEN and body are refused for ("Trigger definition").
-use Rattle.std.specs.Prelude.{ℕ, Bool, true, false, not, ◌&&◌, ◌||◌, List, length, map, filter, find, Option, Some, None, nat_le, nat_lt, option_map, is_none}
+use Rattle.std.specs.Prelude.{ℕ, Bool, true, false, not, ◌&&◌, ◌||◌, List, length, map, filter, find, Option, Some, None, nat_le, nat_lt, option_map}
 use Rattle.std.specs.List.{list_any}
 use Rattle.std.specs.Str.{bytes_eq}
 use Rattle.iv_resolution.specs.Words.{Side, TriggerEvent, Referencing, TriggerAction, TriggerDefinition}
@@ -9,14 +9,13 @@ use Rattle.iv_resolution.specs.Words.event
 use Rattle.iv_resolution.specs.Words.granularity
 use Rattle.iv_resolution.specs.Words.transition as what
 use Rattle.iv_resolution.specs.Words.action
-use Rattle.iv_catalogue.specs.Catalogues.{Schema, has_trigger}
+use Rattle.iv_catalogue.specs.Catalogues.{Schema}
 use Rattle.iv_catalogue.specs.declared.limits.TheConstants.{MOST_TRIGGERS, MOST_TRIGGERS_EVER, MOST_BODY_STATEMENTS}
 use Rattle.iv_resolution.specs.declared.origin.Origin.{Origin}
 use Rattle.iv_resolution.specs.declared.origin.Origin.TheVariants.{Rows, Variable}
-use Rattle.iv_resolution.specs.Scopes.{NamedColumn, NamedRange, Names, NamedTransition, has_column, type_named}
-use Rattle.iv_resolution.specs.Terms.{unknown_expression, unknown_filter, misshaped_expression, misshaped_filter}
-use Rattle.iv_resolution.specs.Constraints.{comes_twice}
-use Rattle.iv_resolution.specs.Changes.{target_columns, is_table, unknown_names, unknown_insert, unknown_update, unknown_delete, duplicate_insert, duplicate_update, clashes_with, misshaped_insert, misshaped_update, misshaped_delete}
+use Rattle.iv_resolution.specs.Scopes.{NamedColumn, NamedRange, Names, NamedTransition, type_named}
+use Rattle.iv_resolution.specs.Terms.{misshaped_expression, misshaped_filter}
+use Rattle.iv_resolution.specs.Changes.{target_columns, clashes_with, misshaped_insert, misshaped_update, misshaped_delete}
 use Rattle.iv_resolution.specs.Tables.{table_names}
 
 -- ---- what WHEN and the body may name
@@ -44,38 +43,6 @@ trigger_variables schema t = row_variables (subject_of schema t) t.referencing
 -- the row variable of that name; none where it is no row variable's name
 unfoldable pub variable_named : List NamedRange → List ℕ → Option Origin
 variable_named variables name = option_map (λ r. r.origin) (find (λ r. bytes_eq name r.name) variables)
-
--- ---- names that name nothing
-
--- SET of a column of a row variable
-unfoldable pub unknown_set : Names → List NamedRange → List ℕ → List ℕ → Bool
-unknown_set names variables v column = is_none (variable_named variables v) || not (has_column names.subject column)
-
-unfoldable pub unknown_action : Names → List NamedRange → TriggerAction → Bool
-unknown_action names variables (action.Insert i) = unknown_insert names variables i
-unknown_action names variables (action.Update u) = unknown_update names variables u
-unknown_action names variables (action.Delete d) = unknown_delete names variables d
-unknown_action names variables (action.Signal t) = false
-unknown_action names variables (action.Set v column e) = unknown_set names variables v column || unknown_expression variables e
-
-abbrev pub unknown_trigger : Schema → TriggerDefinition → Bool
-unknown_trigger schema t =
-    not (is_table (trigger_names schema t) t.table)
-    || (unknown_names (subject_of schema t) t.columns
-    || (unknown_filter (trigger_names schema t) (trigger_variables schema t) t.when
-    || list_any (unknown_action (trigger_names schema t) (trigger_variables schema t)) t.body))
-
--- ---- names that come twice, or are in use
-
-abbrev pub duplicate_action : TriggerAction → Bool
-duplicate_action (action.Insert i) = duplicate_insert i
-duplicate_action (action.Update u) = duplicate_update u
-duplicate_action _ = false
-
-abbrev pub duplicate_trigger : Schema → TriggerDefinition → Bool
-duplicate_trigger schema t =
-    has_trigger schema t.name
-    || (comes_twice t.columns || (comes_twice (map (λ i. i.name) t.referencing) || list_any duplicate_action t.body))
 
 -- ---- what the trigger's time, event and granularity don't allow
 

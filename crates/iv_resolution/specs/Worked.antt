@@ -1,6 +1,6 @@
 -- Worked statements: what each deserves over one catalogue, and what some of them mean. The SQL is above each.
-use Rattle.std.specs.Prelude.{◌≡◌, ℕ, Bool, true, false, List, [], ◌∷◌, map, codes, Option, Some, None, pos}
-use Rattle.iv_resolution.specs.Words.{Side, RangeName, Expression, Condition, Statement, ColumnType, ColumnRule, TableRule, TableElement, Literal, References, ConstraintTime, ActionTime, TriggerEvent, TransitionName, TriggerAction, Referencing, Cause}
+use Rattle.std.specs.Prelude.{◌≡◌, ℕ, false, List, [], ◌∷◌, map, codes, Option, Some, None, pos}
+use Rattle.iv_resolution.specs.Words.{Side, RangeName, Expression, Condition, Statement, ColumnType, ColumnRule, TableRule, TableElement, Literal, References, ConstraintTime, ActionTime, TriggerEvent, TransitionName, TriggerAction, Referencing}
 use Rattle.iv_resolution.specs.Words.value
 use Rattle.iv_resolution.specs.Words.kind
 use Rattle.iv_resolution.specs.Words.comparison.{Equal, Greater}

@@ -6,12 +6,11 @@ ghost use Rattle.iv_catalogue.specs.declared.plan.TransactionPlan.TheVariants.{S
 ghost use Rattle.iv_resolution.specs.Bound.{bound_constraints, bound_delete, bound_insert, bound_select, bound_trigger, bound_update, constraint_id, trigger_id};
 ghost use Rattle.iv_resolution.specs.Tables.{table_names};
 
-use crate::outside::table_names;
 use iv_catalogue::{
     Catalogue, ConstraintId, ConstraintSet, Plan, SchemaPlan, TransactionPlan, TriggerId,
 };
 use iv_resolve_changes::{bound_delete, bound_insert, bound_select, bound_update};
-use iv_resolve_scope::Ranges;
+use iv_resolve_scope::{Ranges, table_names};
 use iv_resolve_triggers::bound_trigger;
 use iv_syntax::{
     ConstraintList, ConstraintMode, Delete, Insert, Name, Select, TriggerDefinition, Update,

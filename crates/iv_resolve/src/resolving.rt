@@ -3,18 +3,17 @@ ghost use Rattle.std.specs.Prelude.{◌≡◌, IfOk, None};
 ghost use Rattle.iv_resolution.specs.Bound.{bound};
 ghost use Rattle.iv_resolution.specs.Resolution.{Resolves, least};
 
-use crate::duplicate::is_duplicate;
 use crate::faulty::is_faulty;
 use crate::limits::is_beyond_limits;
 use crate::misshaped::is_misshaped;
-use crate::outside::table_names;
 use crate::planning::{
     plan_of_constraints, plan_of_delete, plan_of_insert, plan_of_select, plan_of_trigger,
     plan_of_update, trigger_id,
 };
-use crate::unknown::is_unknown;
 use iv_catalogue::{Catalogue, Cause, Plan, Refusal, SchemaPlan, TransactionPlan};
 use iv_resolve_changes::table_id;
+use iv_resolve_name_faults::{duplicate_name, unknown_name};
+use iv_resolve_scope::table_names;
 use iv_resolve_table_plans::{bound_alteration, bound_table};
 use iv_syntax::Statement;
 use std::alloc::{AllocError, Global};
@@ -24,10 +23,10 @@ use std::alloc::{AllocError, Global};
 fn least(alloc: Global, statement: &Statement, catalogue: &Catalogue) -> Option<Cause>
     ensures { result ≡ least catalogue.now statement.now }
 {
-    if is_unknown(alloc, statement, catalogue) {
+    if unknown_name(alloc, catalogue, statement).is_some() {
         return Some(Cause::Unknown);
     }
-    if is_duplicate(alloc, statement, catalogue) {
+    if duplicate_name(alloc, catalogue, statement).is_some() {
         return Some(Cause::Duplicate);
     }
     if is_faulty(alloc, statement, catalogue) {

@@ -1,17 +1,17 @@
--- Names that come again, looked for in place: a list up to a place, and from it on.
-use Rattle.std.proofs.Common.{◌≡◌, refl, ap, sym, ◌∙◌, ℕ, ◌+◌, ◌-◌, ◌<◌, ◌≤◌, ◌||◌, false, List, [], ◌∷◌, ◌++◌, Some, if◌then◌else◌, map, length, take, drop, get_or, zero, suc, arith, append-nil}
+-- The constraints of a CREATE TABLE one after another, and names that come again, looked for in place.
+use Rattle.std.proofs.Common.{◌≡◌, refl, ap, sym, ◌∙◌, ℕ, ◌+◌, ◌-◌, ◌<◌, ◌≤◌, ◌||◌, Bool, true, false, List, [], ◌∷◌, ◌++◌, Option, Some, None, is_some, option_map, if◌then◌else◌, length, map, take, drop, get_or, zero, suc, arith}
 use Rattle.std.proofs.Math.Seq.{take-suc}
-use Rattle.std.proofs.lemmas.List.{map-append}
-use Rattle.std.proofs.lemmas.List.Elements.{filter_map-append}
-use Rattle.std.specs.List.{enumerate_from}
+use Rattle.std.specs.Option.{option_or}
 use Rattle.std.specs.Str.{bytes_eq}
-use Rattle.iv_syntax.specs.declared.table.ColumnDefinition.{ColumnDefinition}
-use Rattle.iv_syntax.specs.declared.table.TableElement.{TableElement}
-use Rattle.iv_syntax.specs.declared.table.TableElement.TheVariants as element
+use Rattle.iv_catalogue.specs.Catalogues.{Schema}
 use Rattle.iv_catalogue.specs.Names.{is_among}
-use Rattle.iv_resolution.specs.Constraints.{WrittenConstraint, column_definition, constraint_name, constraint_names, written_columns}
-use Rattle.iv_resolve_scope.proofs.Places.{next_of}
-use Rattle.iv_resolve_name_faults.specs.Items.{first_again}
+use Rattle.iv_resolution.specs.Constraints.{WrittenConstraint, constraint_name}
+use Rattle.iv_resolution.specs.Items.{Fault, twice_fault, told_if, first_again}
+use Rattle.iv_resolution.specs.NameFaults.{constraint_in_use, duplicate_in_constraints, duplicate_in_rule, item_of_constraint}
+use Rattle.iv_resolution.proofs.Told.{none_parts, untold}
+use Rattle.iv_resolve_name_faults.specs.Places.{constraint_names, duplicate_where}
+use Rattle.iv_resolve_name_faults.specs.Seen.{fault_seen}
+use Rattle.iv_resolve_name_faults.specs.declared.item.NameFault.{NameFault}
 
 -- a name that isn't among those before it
 pub again_passed : {A : Type 0} (name : A → List ℕ) (before : List (List ℕ)) (x : A) (xs : List A) → is_among before (name x) ≡ false
@@ -23,33 +23,6 @@ pub taken_next : {A : Type 0} (xs : List A) (i : ℕ) (x : A) → i < length xs 
 taken_next xs i x h g =
     let one : i + 1 ≡ suc i = omega arith in
     ap (λ k. take k xs) one ∙ take-suc xs i x h ∙ ap (λ y. take i xs ++ y ∷ []) (sym g)
-
--- ---- columns of a CREATE TABLE
-
-abbrev pub column_names : List TableElement → List (List ℕ)
-column_names elements = map (λ c. c.name) (written_columns elements)
-
-joined : (xs ys : List TableElement) → column_names (xs ++ ys) ≡ column_names xs ++ column_names ys
-joined xs ys = ap (map (λ (c : ColumnDefinition). c.name)) (filter_map-append column_definition xs ys) ∙ map-append (λ (c : ColumnDefinition). c.name) (written_columns xs) (written_columns ys)
-
-pub column_passed : (elements : List TableElement) (i : ℕ) (e : TableElement) (c : ColumnDefinition) → i < length elements → e ≡ get_or elements i e → e ≡ element.Column c
-    → is_among (column_names (take i elements)) c.name ≡ false
-    → first_again (λ n. n) (column_names (take i elements)) (column_names (drop i elements))
-    ≡ first_again (λ n. n) (column_names (take (i + 1) elements)) (column_names (drop (i + 1) elements))
-column_passed elements i e c h g is new =
-    ap (λ l. first_again (λ n. n) (column_names (take i elements)) (column_names l)) (next_of elements i e h g ∙ ap (λ x. x ∷ drop (i + 1) elements) is)
-    ∙ again_passed (λ n. n) (column_names (take i elements)) c.name (column_names (drop (i + 1) elements)) new
-    ∙ ap (λ l. first_again (λ n. n) l (column_names (drop (i + 1) elements)))
-    (sym (ap column_names (taken_next elements i e h g ∙ ap (λ x. take i elements ++ x ∷ []) is) ∙ joined (take i elements) (element.Column c ∷ [])))
-
-pub constraint_passed : (elements : List TableElement) (i : ℕ) (e : TableElement) → i < length elements → e ≡ get_or elements i e → column_names (e ∷ []) ≡ []
-    → first_again (λ n. n) (column_names (take i elements)) (column_names (drop i elements))
-    ≡ first_again (λ n. n) (column_names (take (i + 1) elements)) (column_names (drop (i + 1) elements))
-constraint_passed elements i e h g none =
-    ap (λ l. first_again (λ n. n) (column_names (take i elements)) l)
-    (ap column_names (next_of elements i e h g) ∙ joined (e ∷ []) (drop (i + 1) elements) ∙ ap (λ l. l ++ column_names (drop (i + 1) elements)) none)
-    ∙ ap (λ l. first_again (λ n. n) l (column_names (drop (i + 1) elements)))
-    (sym (ap column_names (taken_next elements i e h g) ∙ joined (take i elements) (e ∷ []) ∙ ap (λ l. column_names (take i elements) ++ l) none ∙ append-nil (column_names (take i elements))))
 
 -- ---- constraints of a CREATE TABLE
 
@@ -90,24 +63,66 @@ one_more table place (x ∷ xs) k =
     ap (λ l. constraint_name table place x ∷ l)
     (one_more table (place + 1) xs k ∙ ap (λ n. constraint_names table (place + 1) xs ++ constraint_name table n k ∷ []) same)
 
-abbrev named : List ℕ → ℕ × WrittenConstraint → List ℕ
-named table p = constraint_name table p.0 p.1
+-- a constraint of which nothing is told isn't among those before it
+not_again : (again : Bool) (schema : Schema) (table : List ℕ) (place : ℕ) (k : WrittenConstraint) → duplicate_where again schema table place k ≡ None → again ≡ false
+not_again again schema table place k h =
+    untold again (twice_fault (item_of_constraint table place k))
+    (none_parts (told_if again (twice_fault (item_of_constraint table place k))) (duplicate_in_rule k.rule)
+    (none_parts (constraint_in_use schema table place k) (option_or (told_if again (twice_fault (item_of_constraint table place k))) (duplicate_in_rule k.rule)) h).1).0
 
-pub constraint_differs : (table : List ℕ) (all left rest : List WrittenConstraint) (k : WrittenConstraint) (place : ℕ) → 1 ≤ place → left ≡ drop (place - 1) all → k ∷ rest ≡ left
-    → is_among (constraint_names table 1 (take (place - 1) all)) (constraint_name table place k) ≡ false
-    → first_again (λ (p : ℕ × WrittenConstraint). constraint_name table p.0 p.1) (constraint_names table 1 (take (place - 1) all)) (enumerate_from place left)
-    ≡ first_again (λ (p : ℕ × WrittenConstraint). constraint_name table p.0 p.1) (constraint_names table 1 (take (place + 1 - 1) all)) (enumerate_from (place + 1) rest)
-constraint_differs table all left rest k place h l e new =
+-- the search ends at a constraint of which something is told
+pub constraint_told : (schema : Schema) (table : List ℕ) (place : ℕ) (before : List (List ℕ)) (left rest : List WrittenConstraint) (k : WrittenConstraint) (again : Bool)
+    → again ≡ is_among before (constraint_name table place k) → k ∷ rest ≡ left → is_some (duplicate_where again schema table place k) ≡ true
+    → duplicate_where again schema table place k ≡ duplicate_in_constraints schema table place before left
+constraint_told schema table place before left rest k again a e h =
+    sym (first_there (duplicate_where again schema table place k) (duplicate_in_constraints schema table (place + 1) (before ++ constraint_name table place k ∷ []) rest) h)
+    ∙ ap (λ b. option_or (duplicate_where b schema table place k) (duplicate_in_constraints schema table (place + 1) (before ++ constraint_name table place k ∷ []) rest)) a
+    ∙ ap (duplicate_in_constraints schema table place before) e
+  where
+    first_there : (o p : Option Fault) → is_some o ≡ true → option_or o p ≡ o
+    first_there None p g = cc
+    first_there (Some x) p g = refl
+
+-- and goes on after one of which nothing is told
+pub constraint_passed : (schema : Schema) (table : List ℕ) (place : ℕ) (before after : List (List ℕ)) (left rest : List WrittenConstraint) (k : WrittenConstraint) (again : Bool)
+    → again ≡ is_among before (constraint_name table place k) → after ≡ (if again then before else before ++ constraint_name table place k ∷ []) → k ∷ rest ≡ left
+    → duplicate_where again schema table place k ≡ None
+    → duplicate_in_constraints schema table place before left ≡ duplicate_in_constraints schema table (place + 1) after rest
+constraint_passed schema table place before after left rest k again a n e h =
+    ap (duplicate_in_constraints schema table place before) (sym e)
+    ∙ ap (λ b. option_or (duplicate_where b schema table place k) (duplicate_in_constraints schema table (place + 1) (before ++ constraint_name table place k ∷ []) rest)) (sym a)
+    ∙ ap (λ o. option_or o (duplicate_in_constraints schema table (place + 1) (before ++ constraint_name table place k ∷ []) rest)) h
+    ∙ ap (λ names. duplicate_in_constraints schema table (place + 1) names rest)
+    (sym (n ∙ ap (λ b. if b then before else before ++ constraint_name table place k ∷ []) (not_again again schema table place k h)))
+
+-- where no fault is told, none is seen
+pub none_seen : (o : Option NameFault) → is_some o ≡ false → option_map fault_seen o ≡ None
+none_seen None h = refl
+none_seen (Some f) h = cc
+
+-- the same in place
+pub constraint_passed_at : (schema : Schema) (table : List ℕ) (all left rest : List WrittenConstraint) (k : WrittenConstraint) (place : ℕ) (again : Bool) → 1 ≤ place
+    → left ≡ drop (place - 1) all → k ∷ rest ≡ left → again ≡ is_among (constraint_names table 1 (take (place - 1) all)) (constraint_name table place k)
+    → duplicate_where again schema table place k ≡ None
+    → duplicate_in_constraints schema table place (constraint_names table 1 (take (place - 1) all)) left
+    ≡ duplicate_in_constraints schema table (place + 1) (constraint_names table 1 (take (place + 1 - 1) all)) rest
+constraint_passed_at schema table all left rest k place again h l e a none =
     let next : place + 1 - 1 ≡ suc (place - 1) = omega (arith, h) in
     let size = length_at all (place - 1) k rest (e ∙ l) in
     let here : 1 + length (take (place - 1) all) ≡ place = ap (λ n. 1 + n) size ∙ omega (arith, h) in
-    ap (λ x. first_again (named table) (constraint_names table 1 (take (place - 1) all)) (enumerate_from place x)) (sym e)
-    ∙ again_passed (named table) (constraint_names table 1 (take (place - 1) all)) (place, k) (enumerate_from (place + 1) rest) new
-    ∙ ap (λ b. first_again (named table) b (enumerate_from (place + 1) rest))
-    (sym (ap (λ n. constraint_names table 1 (take n all)) next ∙ ap (constraint_names table 1) (taken_at all (place - 1) k rest (e ∙ l)) ∙ one_more table 1 (take (place - 1) all) k
-    ∙ ap (λ n. constraint_names table 1 (take (place - 1) all) ++ constraint_name table n k ∷ []) here))
+    constraint_passed schema table place (constraint_names table 1 (take (place - 1) all)) (constraint_names table 1 (take (place + 1 - 1) all)) left rest k again a
+    (ap (λ n. constraint_names table 1 (take n all)) next ∙ ap (constraint_names table 1) (taken_at all (place - 1) k rest (e ∙ l)) ∙ one_more table 1 (take (place - 1) all) k
+    ∙ ap (λ n. constraint_names table 1 (take (place - 1) all) ++ constraint_name table n k ∷ []) here
+    ∙ ap (λ b. if b then constraint_names table 1 (take (place - 1) all) else constraint_names table 1 (take (place - 1) all) ++ constraint_name table place k ∷ [])
+    (sym (not_again again schema table place k none)))
+    e none
 
 pub rest_next : (all left rest : List WrittenConstraint) (k : WrittenConstraint) (place : ℕ) → 1 ≤ place → left ≡ drop (place - 1) all → k ∷ rest ≡ left → rest ≡ drop (place + 1 - 1) all
 rest_next all left rest k place h l e =
     let next : suc (place - 1) ≡ place + 1 - 1 = omega (arith, h) in
     rest_at all (place - 1) k rest (e ∙ l) ∙ ap (λ n. drop n all) next
+
+-- names as they are
+pub themselves : (names : List (List ℕ)) → map (λ n. n) names ≡ names
+themselves [] = refl
+themselves (n ∷ names) = ap (λ l. n ∷ l) (themselves names)

@@ -1,6 +1,5 @@
 -- Of each refusal for Unknown or Duplicate a name of that kind is told.
-use Rattle.std.proofs.Common.{◌≡◌, refl, ap, ◌∙◌, sym, ℕ, Bool, true, false, List, [], ◌∷◌, map, cond, Option, Some, None, option_map, Result, Ok, Err, slice_get}
-use Rattle.std.specs.List.{enumerate_from}
+use Rattle.std.proofs.Common.{◌≡◌, refl, ap, ◌∙◌, sym, ℕ, ◌+◌, ◌++◌, Bool, true, false, List, [], ◌∷◌, map, cond, Option, Some, None, option_map, Result, Ok, Err, slice_get}
 use Rattle.std.specs.Option.{option_or}
 use Rattle.iv_syntax.specs.declared.table.TableElement.{TableElement}
 use Rattle.iv_syntax.specs.declared.statement.Insert.{Insert}
@@ -14,17 +13,17 @@ use Rattle.iv_catalogue.specs.declared.cause.Cause.TheVariants.{Unknown, Duplica
 use Rattle.iv_catalogue.specs.declared.cause.Refusal.{Refusal}
 use Rattle.iv_catalogue.specs.declared.plan.Plan.{Plan}
 use Rattle.iv_catalogue.specs.Catalogues.{Schema, has_constraint, has_table, has_trigger}
+use Rattle.iv_catalogue.specs.Names.{is_among}
 use Rattle.iv_catalogue.specs.Refusals.{refusal_answer}
 use Rattle.iv_resolution.specs.Constraints.{WrittenRule, not_null, unique, primary_key, check, foreign_key, WrittenConstraint, written_columns, written_constraints, table_constraint, constraint_name, Altered}
 use Rattle.iv_resolution.specs.Scopes.{table_place}
 use Rattle.iv_resolution.specs.Tables.{altered_at}
 use Rattle.iv_resolution.specs.Bound.{bound}
 use Rattle.iv_resolution.specs.Resolution.{is_unknown, is_duplicate, is_faulty, is_misshaped, is_beyond_limits, refused_or_planned}
-use Rattle.iv_resolve_name_faults.specs.Items.{Item, Fault, table_item, column_item, trigger_item, transition_item, unknown_fault, in_use_fault, twice_fault, told_if, first_of, first_again}
-use Rattle.iv_resolve_name_faults.specs.NameFaults.{unknown_name, told_of_altered, column_twice, column_twice_listed, duplicate_in_insert, duplicate_in_action, duplicate_in_rule, item_of_constraint, constraint_in_use, some_constraint_in_use, constraint_twice, duplicate_in_table, addition_in_use, duplicate_name}
+use Rattle.iv_resolution.specs.Items.{Item, Fault, table_item, column_item, trigger_item, transition_item, unknown_fault, in_use_fault, twice_fault, told_if, first_of, first_again}
+use Rattle.iv_resolution.specs.NameFaults.{unknown_name, told_of_altered, column_twice, column_twice_listed, duplicate_in_insert, duplicate_in_action, duplicate_in_rule, item_of_constraint, duplicate_in_constraint, duplicate_in_constraints, before_column_again, duplicate_in_table, addition_in_use, duplicate_name}
 use Rattle.iv_resolve_name_faults.specs.Laws.{is_duplicate_fault, RefusalsAreTold}
-use Rattle.iv_resolve_name_faults.proofs.Told.{some_of}
-use Rattle.iv_resolve_name_faults.proofs.NamesTold.{unknown_told, duplicate_told}
+use Rattle.iv_resolution.proofs.Told.{some_of}
 
 -- ---- what is told as a duplicate is in use or comes twice
 
@@ -44,6 +43,10 @@ kind_first f h (x ∷ xs) = kind_or (f x) (first_of f xs) (h x) (kind_first f h 
 kind_in_use : (b : Bool) (item : Item) → of_kind (told_if b (in_use_fault item)) ≡ true
 kind_in_use true item = refl
 kind_in_use false item = refl
+
+kind_again : (b : Bool) (item : Item) → of_kind (told_if b (twice_fault item)) ≡ true
+kind_again true item = refl
+kind_again false item = refl
 
 kind_twice : {A : Type 0} (item : A → Item) (o : Option A) → of_kind (option_map (λ x. twice_fault (item x)) o) ≡ true
 kind_twice item None = refl
@@ -74,23 +77,22 @@ rule_kind (primary_key columns) = column_kind columns
 rule_kind (check c) = refl
 rule_kind (foreign_key columns r) = kind_or (column_twice columns) (column_twice_listed r.columns) (column_kind columns) (listed_kind r.columns)
 
-some_kind : (schema : Schema) (table : List ℕ) (place : ℕ) (constraints : List WrittenConstraint) → of_kind (some_constraint_in_use schema table place constraints) ≡ true
-some_kind schema table place constraints =
-    kind_first (λ (p : ℕ × WrittenConstraint). constraint_in_use schema table p.0 p.1)
-    (λ p. kind_in_use (has_constraint schema (constraint_name table p.0 p.1)) (item_of_constraint table p.0 p.1)) (enumerate_from place constraints)
+constraint_kind : (schema : Schema) (table : List ℕ) (place : ℕ) (before : List (List ℕ)) (k : WrittenConstraint) → of_kind (duplicate_in_constraint schema table place before k) ≡ true
+constraint_kind schema table place before k =
+    kind_or _ _ (kind_in_use (has_constraint schema (constraint_name table place k)) (item_of_constraint table place k))
+    (kind_or _ _ (kind_again (is_among before (constraint_name table place k)) (item_of_constraint table place k)) (rule_kind k.rule))
 
-again_kind : (table : List ℕ) (constraints : List WrittenConstraint) → of_kind (constraint_twice table constraints) ≡ true
-again_kind table constraints =
-    kind_twice (λ (p : ℕ × WrittenConstraint). item_of_constraint table p.0 p.1)
-    (first_again (λ (p : ℕ × WrittenConstraint). constraint_name table p.0 p.1) [] (enumerate_from 1 constraints))
+constraints_kind : (schema : Schema) (table : List ℕ) (place : ℕ) (before : List (List ℕ)) (ks : List WrittenConstraint) → of_kind (duplicate_in_constraints schema table place before ks) ≡ true
+constraints_kind schema table place before [] = refl
+constraints_kind schema table place before (k ∷ ks) =
+    kind_or (duplicate_in_constraint schema table place before k) (duplicate_in_constraints schema table (place + 1) (before ++ constraint_name table place k ∷ []) ks)
+    (constraint_kind schema table place before k) (constraints_kind schema table (place + 1) (before ++ constraint_name table place k ∷ []) ks)
 
 table_kind : (schema : Schema) (name : List ℕ) (elements : List TableElement) → of_kind (duplicate_in_table schema name elements) ≡ true
 table_kind schema name elements =
     kind_or _ _ (kind_in_use (has_table schema name) (table_item name))
-    (kind_or _ _ (column_kind (map (λ c. c.name) (written_columns elements)))
-    (kind_or _ _ (some_kind schema name 1 (written_constraints elements))
-    (kind_or _ _ (again_kind name (written_constraints elements))
-    (kind_first (λ (k : WrittenConstraint). duplicate_in_rule k.rule) (λ k. rule_kind k.rule) (written_constraints elements)))))
+    (kind_or _ _ (constraints_kind schema name 1 [] (written_constraints (before_column_again [] elements)))
+    (column_kind (map (λ c. c.name) (written_columns elements))))
 
 altered_kind : (schema : Schema) (name : List ℕ) (tells : Altered → Option Fault) → ((own : Altered) → of_kind (tells own) ≡ true) → of_kind (told_of_altered schema name tells) ≡ true
 altered_kind schema name tells h = by (table_place schema.tables name)
@@ -161,11 +163,9 @@ deserves_duplicate false false false false false p h = ap for_duplicate h
 pub refusals_told : RefusalsAreTold
 refusals_told = record {
   unknown = λ schema s h.
-      let item = some_of (unknown_name schema s) (unknown_told schema s
-      ∙ deserves_unknown (is_unknown schema s) (is_duplicate schema s) (is_faulty schema s) (is_misshaped schema s) (is_beyond_limits schema s) (bound schema s) h) in
+      let item = some_of (unknown_name schema s) (deserves_unknown (is_unknown schema s) (is_duplicate schema s) (is_faulty schema s) (is_misshaped schema s) (is_beyond_limits schema s) (bound schema s) h) in
       (item.0, ap (option_map unknown_fault) item.1);
   duplicate = λ schema s h.
-      let fault = some_of (duplicate_name schema s) (duplicate_told schema s
-      ∙ deserves_duplicate (is_unknown schema s) (is_duplicate schema s) (is_faulty schema s) (is_misshaped schema s) (is_beyond_limits schema s) (bound schema s) h) in
+      let fault = some_of (duplicate_name schema s) (deserves_duplicate (is_unknown schema s) (is_duplicate schema s) (is_faulty schema s) (is_misshaped schema s) (is_beyond_limits schema s) (bound schema s) h) in
       (fault.0, fault.1, sym (ap of_kind fault.1) ∙ duplicate_kind schema s);
 }

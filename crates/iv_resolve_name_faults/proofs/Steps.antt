@@ -10,7 +10,7 @@ use Rattle.iv_syntax.specs.declared.tree.Condition.{Condition}
 use Rattle.iv_syntax.specs.declared.tree.Condition.TheVariants as condition
 use Rattle.iv_syntax.proofs.TreeShapes.{group_is, signed_is, product_is, sum_is, enclosed_is, negated_is, both_is, either_is, exists_where_is}
 use Rattle.iv_resolution.specs.Scopes.{NamedRange, Names, range_of}
-use Rattle.iv_resolve_name_faults.specs.NameFaults.{unknown_in_condition, unknown_in_expression, unknown_in_from}
+use Rattle.iv_resolution.specs.NameFaults.{unknown_in_condition, unknown_in_expression, unknown_in_from}
 
 pub in_group : (ranges : List NamedRange) (e a : Expression) → e ≡ expression.Group a → unknown_in_expression ranges e ≡ unknown_in_expression ranges a
 in_group ranges e a h = rw (h, group_is) refl

@@ -1,18 +1,12 @@
--- A name is told exactly where resolution finds the cause, and so of every refusal for Unknown or Duplicate.
-use Rattle.std.specs.Prelude.{◌≡◌, Bool, true, false, Some, is_some}
+-- A name is told of each refusal for Unknown or Duplicate.
+use Rattle.std.specs.Prelude.{◌≡◌, Bool, true, false, Some}
 use Rattle.iv_syntax.specs.declared.statement.Statement.{Statement}
 use Rattle.iv_catalogue.specs.declared.cause.Cause.TheVariants.{Unknown, Duplicate}
 use Rattle.iv_catalogue.specs.Catalogues.{Schema}
 use Rattle.iv_catalogue.specs.Refusals.{refusal_answer}
-use Rattle.iv_resolution.specs.Resolution.{is_unknown, is_duplicate, resolution}
-use Rattle.iv_resolve_name_faults.specs.Items.{Item, Fault, unknown_fault, in_use_fault, twice_fault}
-use Rattle.iv_resolve_name_faults.specs.NameFaults.{unknown_name, duplicate_name, name_fault}
-
-abbrev pub UnknownNamesAreTold : Type 0
-UnknownNamesAreTold = (schema : Schema) (s : Statement) → is_some (unknown_name schema s) ≡ is_unknown schema s
-
-abbrev pub DuplicateNamesAreTold : Type 0
-DuplicateNamesAreTold = (schema : Schema) (s : Statement) → is_some (duplicate_name schema s) ≡ is_duplicate schema s
+use Rattle.iv_resolution.specs.Resolution.{resolution}
+use Rattle.iv_resolution.specs.Items.{Item, Fault, unknown_fault, in_use_fault, twice_fault}
+use Rattle.iv_resolution.specs.NameFaults.{name_fault}
 
 -- the name is in use, or comes twice
 abbrev pub is_duplicate_fault : Fault → Bool

@@ -1,5 +1,3 @@
-pub mod Items
-pub mod NameFaults
 pub mod Seen
+pub mod Places
 pub mod Laws
-pub mod WorkedFaults

@@ -1,6 +1,6 @@
 -- What the names of the code are in definitions.
 use Rattle.std.specs.Option.{option_copied}
-use Rattle.iv_resolve_name_faults.specs.Items as spec
+use Rattle.iv_resolution.specs.Items as spec
 use Rattle.iv_resolve_name_faults.specs.declared.item.NamedItem.{NamedItem}
 use Rattle.iv_resolve_name_faults.specs.declared.item.NamedItem.TheVariants.{Table, Column, RowVariable, Trigger, Constraint, GeneratedConstraint, Transition}
 use Rattle.iv_resolve_name_faults.specs.declared.item.NameFault.{NameFault}

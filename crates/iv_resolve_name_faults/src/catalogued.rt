@@ -1,12 +1,10 @@
 //! What the catalogue has of a name.
 ghost use Rattle.std.specs.Prelude.{◌≡◌};
-ghost use Rattle.std.specs.List.{list_any};
-ghost use Rattle.std.specs.Str.{bytes_eq};
 ghost use Rattle.iv_catalogue.specs.Catalogues.{has_constraint, has_table, has_trigger};
 ghost use Rattle.iv_resolution.specs.Changes.{is_table};
 ghost use Rattle.iv_resolve_scope.specs.Seen.{names_seen};
 
-use iv_catalogue::{Catalogue, Trigger};
+use iv_catalogue::Catalogue;
 use iv_resolve_scope::{Names, table_place};
 
 /// Whether a statement may change a table of that name.
@@ -17,7 +15,7 @@ pub fn is_table(names: &Names<'_>, name: &str) -> bool
 }
 
 /// Whether a table has the name.
-#[tactic(auto, using(crate::proofs::Found::found))]
+#[tactic(auto, using(iv_resolution::proofs::Found::found))]
 pub fn has_table(catalogue: &Catalogue, name: &str) -> bool
     ensures { result ≡ has_table catalogue.now name.now }
 {
@@ -25,22 +23,17 @@ pub fn has_table(catalogue: &Catalogue, name: &str) -> bool
 }
 
 /// Whether a constraint has the name.
-#[tactic(auto, using(crate::proofs::Found::found))]
+#[tactic(auto, using(iv_resolution::proofs::Found::found))]
 pub fn has_constraint(catalogue: &Catalogue, name: &str) -> bool
     ensures { result ≡ has_constraint catalogue.now name.now }
 {
     catalogue.constraint_named(name).is_some()
 }
 
-fn is_trigger(triggers: &[Trigger], name: &str) -> bool
-    ensures { result ≡ list_any (λ t. bytes_eq name.now t.name) triggers.now }
-{
-    triggers.iter().any(|trigger| name == trigger.name.as_str())
-}
-
 /// Whether a trigger has the name.
+#[tactic(auto, using(crate::proofs::TriggerFound::trigger_found))]
 pub fn has_trigger(catalogue: &Catalogue, name: &str) -> bool
     ensures { result ≡ has_trigger catalogue.now name.now }
 {
-    is_trigger(catalogue.triggers(), name)
+    catalogue.trigger_named(name).is_some()
 }

@@ -4,8 +4,8 @@ ghost use Rattle.std.specs.Prelude.{◌≡◌, ◌≤◌, None, length, not, opt
 ghost use Rattle.iv_syntax.specs.declared.statement.SelectList.TheVariants.{Star};
 ghost use Rattle.iv_resolution.specs.Scopes.{has_column};
 ghost use Rattle.iv_resolve_scope.specs.Seen.{columns_seen, names_seen, ranges_seen};
-ghost use Rattle.iv_resolve_name_faults.specs.Items.{column_item, first_of, told_if};
-ghost use Rattle.iv_resolve_name_faults.specs.NameFaults.{unknown_in_assignment, unknown_in_delete, unknown_in_expression, unknown_in_insert, unknown_in_listed, unknown_in_query, unknown_in_select, unknown_in_select_list, unknown_in_source, unknown_in_target, unknown_in_update, unknown_in_value};
+ghost use Rattle.iv_resolution.specs.Items.{column_item, first_of, told_if};
+ghost use Rattle.iv_resolution.specs.NameFaults.{unknown_in_assignment, unknown_in_delete, unknown_in_expression, unknown_in_insert, unknown_in_listed, unknown_in_query, unknown_in_select, unknown_in_select_list, unknown_in_source, unknown_in_target, unknown_in_update, unknown_in_value};
 ghost use Rattle.iv_resolve_name_faults.specs.Seen.{item_seen};
 
 use crate::catalogued::is_table;

@@ -1,21 +1,26 @@
-//! The names of a CREATE TABLE's constraints: the first that is in use, and the first that comes again. Where memory for a name or for
-//! the set of names is refused, they are compared in place: so no call wants memory.
+//! The constraints of a CREATE TABLE, in the order of the text: the first whose name is in use or comes again, or that has a column twice
+//! in a list. Where memory for a name or for the set of names is refused, names are compared in place: so no call wants memory.
 ghost use Rattle.std.specs.Prelude.{◌≡◌, ◌+◌, ◌-◌, ◌≤◌, ◌<◌, ◌++◌, ◌∷◌, [], Some, None, IfOk, if◌then◌else◌, length, option_map, take, unwrap_or};
-ghost use Rattle.std.specs.List.{enumerate_from, list_any};
+ghost use Rattle.std.specs.List.{list_any};
 ghost use Rattle.std.specs.Str.{bytes_eq};
 ghost use Rattle.iv_catalogue.specs.Catalogues.{has_constraint};
 ghost use Rattle.iv_catalogue.specs.Names.{generated_name, is_among};
-ghost use Rattle.iv_resolution.specs.Constraints.{constraint_name, constraint_names, written_constraints};
-ghost use Rattle.iv_resolve_name_faults.specs.Items.{constraint_item, first_again, generated_item, in_use_fault, told_if};
-ghost use Rattle.iv_resolve_name_faults.specs.NameFaults.{constraint_twice, item_of_constraint, some_constraint_in_use};
+ghost use Rattle.iv_resolution.specs.Constraints.{written_constraints};
+ghost use Rattle.iv_resolution.specs.Items.{constraint_item, generated_item, in_use_fault, told_if, twice_fault};
+ghost use Rattle.iv_resolution.specs.NameFaults.{duplicate_in_constraints};
+ghost use Rattle.iv_resolve_table_constraints.specs.Seen.{constraint_seen};
+ghost use Rattle.iv_resolve_name_faults.specs.Places.{constraint_names, duplicate_where};
 ghost use Rattle.iv_resolve_name_faults.specs.Seen.{fault_seen, item_seen};
 
 use crate::again::is_again;
 use crate::catalogued::has_constraint;
-use crate::item::{NameFault, NamedItem};
+use crate::item::{NameFault, NamedItem, first_fault};
+use crate::lists::duplicate_in_rule;
 use iv_catalogue::{Catalogue, Constraint};
 use iv_resolve_scope::NameSet;
-use iv_resolve_table_constraints::{Left, are_same, count_constraints, generated, is_named};
+use iv_resolve_table_constraints::{
+    Left, WrittenConstraint, are_same, count_constraints, generated, is_named,
+};
 use iv_syntax::{Name, TableElement};
 use std::alloc::{AllocError, Global};
 
@@ -89,31 +94,44 @@ pub fn constraint_in_use<'t>(
     }
 }
 
-/// The first new constraint of a CREATE TABLE whose name is in use.
-pub fn some_constraint_in_use<'t>(
+// ---- names that come again
+
+fn constraint_again<'t>(
+    again: bool,
+    table: &'t str,
+    place: u128,
+    given: &'t Option<Name>,
+) -> Option<NameFault<'t>>
+    ensures { option_map fault_seen result ≡ told_if again
+        (twice_fault (elim given.entry.now [
+          | Some name ↦ constraint_item name
+          | None ↦ generated_item table.entry.now place
+        ])) }
+{
+    if again {
+        Some(NameFault::Twice(item_of_constraint(table, place, given)))
+    } else {
+        None
+    }
+}
+
+// What is wrong with the constraint at this place, where it is known whether one before it has its name.
+fn duplicate_in_constraint<'t>(
     alloc: Global,
     catalogue: &Catalogue,
     table: &'t str,
-    elements: &'t [TableElement],
+    place: u128,
+    constraint: &WrittenConstraint<'t>,
+    again: bool,
 ) -> Option<NameFault<'t>>
-    ensures { option_map fault_seen result ≡ some_constraint_in_use catalogue.now
-        table.entry.now 1 (written_constraints elements.entry.now) }
+    ensures { option_map fault_seen result ≡ duplicate_where again catalogue.now
+        table.entry.now place (constraint_seen constraint.now) }
 {
-    let count = count_constraints(elements);
-    let mut left = Left::Outside(elements);
-    let mut place = 1u128;
-    while let Some((constraint, rest)) = left.first() {
-        let fault = constraint_in_use(alloc, catalogue, table, place, constraint.name);
-        if fault.is_some() {
-            return fault;
-        }
-        left = rest;
-        place += 1;
-    }
-    None
+    let used = constraint_in_use(alloc, catalogue, table, place, constraint.name);
+    let repeated = constraint_again(again, table, place, constraint.name);
+    let listed = duplicate_in_rule(alloc, &constraint.rule);
+    first_fault(used, first_fault(repeated, listed))
 }
-
-// ---- names that come again
 
 fn constraint_is_again(
     alloc: Global,
@@ -137,23 +155,25 @@ fn constraint_is_again(
     }
 }
 
-fn again_after<'t>(
+fn duplicate_after<'t>(
     alloc: Global,
-    set: &mut NameSet,
+    catalogue: &Catalogue,
+    names: &mut NameSet,
     table: &'t str,
     elements: &'t [TableElement],
-) -> Result<Option<NamedItem<'t>>, AllocError>
-    ensures { IfOk result (λ found. option_map item_seen found
-        ≡ option_map (λ p. item_of_constraint table.entry.now p.0 p.1)
-        (first_again (λ p. constraint_name table.entry.now p.0 p.1) set.old
-        (enumerate_from 1 (written_constraints elements.entry.now)))) }
+) -> Result<Option<NameFault<'t>>, AllocError>
+    ensures { IfOk result (λ found. option_map fault_seen found
+        ≡ duplicate_in_constraints catalogue.now table.entry.now 1 names.old
+        (written_constraints elements.entry.now)) }
 {
     let count = count_constraints(elements);
     let mut left = Left::Outside(elements);
     let mut place = 1u128;
     while let Some((constraint, rest)) = left.first() {
-        if constraint_is_again(alloc, set, table, place, constraint.name)? {
-            return Ok(Some(item_of_constraint(table, place, constraint.name)));
+        let again = constraint_is_again(alloc, names, table, place, constraint.name)?;
+        let fault = duplicate_in_constraint(alloc, catalogue, table, place, &constraint, again);
+        if fault.is_some() {
+            return Ok(fault);
         }
         left = rest;
         place += 1;
@@ -161,18 +181,18 @@ fn again_after<'t>(
     Ok(None)
 }
 
-fn again_by_set<'t>(
+fn duplicate_by_set<'t>(
     alloc: Global,
+    catalogue: &Catalogue,
     table: &'t str,
     elements: &'t [TableElement],
-) -> Result<Option<NamedItem<'t>>, AllocError>
-    ensures { IfOk result (λ found. option_map item_seen found
-        ≡ option_map (λ p. item_of_constraint table.entry.now p.0 p.1)
-        (first_again (λ p. constraint_name table.entry.now p.0 p.1) []
-        (enumerate_from 1 (written_constraints elements.entry.now)))) }
+) -> Result<Option<NameFault<'t>>, AllocError>
+    ensures { IfOk result (λ found. option_map fault_seen found
+        ≡ duplicate_in_constraints catalogue.now table.entry.now 1 []
+        (written_constraints elements.entry.now)) }
 {
-    let mut set = NameSet::new(alloc);
-    again_after(alloc, &mut set, table, elements)
+    let mut names = NameSet::new(alloc);
+    duplicate_after(alloc, catalogue, &mut names, table, elements)
 }
 
 // Whether one of the constraints before the one at this place has its name.
@@ -200,18 +220,23 @@ fn comes_before(table: &str, elements: &[TableElement], place: u128, given: &Opt
     false
 }
 
-fn again_in_place<'t>(table: &'t str, elements: &'t [TableElement]) -> Option<NamedItem<'t>>
-    ensures { option_map item_seen result
-        ≡ option_map (λ p. item_of_constraint table.entry.now p.0 p.1)
-        (first_again (λ p. constraint_name table.entry.now p.0 p.1) []
-        (enumerate_from 1 (written_constraints elements.entry.now))) }
+fn duplicate_in_place<'t>(
+    alloc: Global,
+    catalogue: &Catalogue,
+    table: &'t str,
+    elements: &'t [TableElement],
+) -> Option<NameFault<'t>>
+    ensures { option_map fault_seen result ≡ duplicate_in_constraints catalogue.now
+        table.entry.now 1 [] (written_constraints elements.entry.now) }
 {
     let count = count_constraints(elements);
     let mut left = Left::Outside(elements);
     let mut place = 1u128;
     while let Some((constraint, rest)) = left.first() {
-        if comes_before(table, elements, place, constraint.name) {
-            return Some(item_of_constraint(table, place, constraint.name));
+        let again = comes_before(table, elements, place, constraint.name);
+        let fault = duplicate_in_constraint(alloc, catalogue, table, place, &constraint, again);
+        if fault.is_some() {
+            return fault;
         }
         left = rest;
         place += 1;
@@ -219,33 +244,18 @@ fn again_in_place<'t>(table: &'t str, elements: &'t [TableElement]) -> Option<Na
     None
 }
 
-fn item_again<'t>(
+/// The first of these constraints of a CREATE TABLE whose name is in use or comes again, or that has a column twice in a list.
+pub fn duplicate_in_constraints<'t>(
     alloc: Global,
-    table: &'t str,
-    elements: &'t [TableElement],
-) -> Option<NamedItem<'t>>
-    ensures { option_map item_seen result
-        ≡ option_map (λ p. item_of_constraint table.entry.now p.0 p.1)
-        (first_again (λ p. constraint_name table.entry.now p.0 p.1) []
-        (enumerate_from 1 (written_constraints elements.entry.now))) }
-{
-    match again_by_set(alloc, table, elements) {
-        Ok(found) => found,
-        Err(_) => again_in_place(table, elements),
-    }
-}
-
-/// The first new constraint of a CREATE TABLE whose name comes again.
-pub fn constraint_twice<'t>(
-    alloc: Global,
+    catalogue: &Catalogue,
     table: &'t str,
     elements: &'t [TableElement],
 ) -> Option<NameFault<'t>>
-    ensures { option_map fault_seen result
-        ≡ constraint_twice table.entry.now (written_constraints elements.entry.now) }
+    ensures { option_map fault_seen result ≡ duplicate_in_constraints catalogue.now
+        table.entry.now 1 [] (written_constraints elements.entry.now) }
 {
-    match item_again(alloc, table, elements) {
-        Some(item) => Some(NameFault::Twice(item)),
-        None => None,
+    match duplicate_by_set(alloc, catalogue, table, elements) {
+        Ok(found) => found,
+        Err(_) => duplicate_in_place(alloc, catalogue, table, elements),
     }
 }

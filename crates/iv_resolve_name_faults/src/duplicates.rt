@@ -1,47 +1,29 @@
 //! The first new name of a statement that is in use or comes twice, or the first column that comes twice in a list. No call wants memory.
-ghost use Rattle.std.specs.Prelude.{◌≡◌, ◌+◌, map, option_map};
+ghost use Rattle.std.specs.Prelude.{◌≡◌, ◌+◌, None, map, option_map};
+ghost use Rattle.std.specs.Option.{option_copied};
 ghost use Rattle.iv_catalogue.specs.Catalogues.{has_table, has_trigger};
-ghost use Rattle.iv_resolution.specs.Constraints.{table_constraint, written_columns, written_constraints};
+ghost use Rattle.iv_resolution.specs.Constraints.{table_constraint};
 ghost use Rattle.iv_resolution.specs.Tables.{altered_at};
-ghost use Rattle.iv_resolve_table_constraints.specs.Seen.{rule_seen};
-ghost use Rattle.iv_resolve_name_faults.specs.Items.{first_of, in_use_fault, table_item, told_if, trigger_item};
-ghost use Rattle.iv_resolve_name_faults.specs.NameFaults.{addition_in_use, column_twice, column_twice_listed, duplicate_in_action, duplicate_in_alteration, duplicate_in_insert, duplicate_in_rule, duplicate_in_table, duplicate_in_trigger, duplicate_in_update, told_of_altered, transition_twice};
+ghost use Rattle.iv_resolution.specs.Items.{column_item, first_of, in_use_fault, table_item, told_if, trigger_item, twice_fault};
+ghost use Rattle.iv_resolution.specs.NameFaults.{addition_in_use, column_twice, column_twice_listed, duplicate_in_action, duplicate_in_alteration, duplicate_in_insert, duplicate_in_rule, duplicate_in_table, duplicate_in_trigger, duplicate_in_update, told_of_altered, transition_twice};
 ghost use Rattle.iv_resolve_name_faults.specs.Seen.{fault_seen};
 
-use crate::again::{column_again, name_again};
+use crate::again::name_again;
 use crate::catalogued::{has_table, has_trigger};
-use crate::constraints_again::{constraint_in_use, constraint_twice, some_constraint_in_use};
+use crate::columns_again::column_again;
+use crate::constraints_again::{constraint_in_use, duplicate_in_constraints};
 use crate::item::{NameFault, NamedItem, first_fault};
+use crate::lists::{column_twice, column_twice_listed, duplicate_in_rule};
 use iv_catalogue::{Catalogue, Table};
 use iv_resolve_scope::table_place;
-use iv_resolve_table_constraints::{Left, WrittenRule, count_stored, table_constraint};
+use iv_resolve_table_constraints::{count_stored, table_constraint};
 use iv_syntax::{
     Assignment, Insert, Name, Referencing, TableConstraint, TableElement, TriggerAction,
     TriggerDefinition, Update,
 };
-use sqlite_items::Items;
 use std::alloc::Global;
 
-// ---- columns that come twice in a list
-
-#[tactic(auto, using(iv_resolve_scope::proofs::Sets::themselves))]
-fn column_twice<'t>(alloc: Global, names: &'t [Name]) -> Option<NameFault<'t>>
-    ensures { option_map fault_seen result ≡ column_twice names.entry.now }
-{
-    match name_again(alloc, names) {
-        Some(name) => Some(NameFault::Twice(NamedItem::Column(None, name))),
-        None => None,
-    }
-}
-
-fn column_twice_listed<'t>(alloc: Global, names: &'t Option<Items<Name>>) -> Option<NameFault<'t>>
-    ensures { option_map fault_seen result ≡ column_twice_listed names.entry.now }
-{
-    match names {
-        Some(listed) => column_twice(alloc, listed.as_slice()),
-        None => None,
-    }
-}
+// ---- INSERT and UPDATE
 
 /// The first column that comes twice in the list of an INSERT.
 pub fn duplicate_in_insert<'t>(alloc: Global, insert: &'t Insert) -> Option<NameFault<'t>>
@@ -139,45 +121,6 @@ pub fn duplicate_in_trigger<'t>(
 
 // ---- CREATE TABLE and ALTER TABLE
 
-fn duplicate_in_rule<'t>(alloc: Global, rule: &WrittenRule<'t>) -> Option<NameFault<'t>>
-    ensures { option_map fault_seen result ≡ duplicate_in_rule (rule_seen rule.now) }
-{
-    match rule {
-        WrittenRule::NotNull(_) => None,
-        WrittenRule::Unique(_, columns) => column_twice(alloc, columns),
-        WrittenRule::PrimaryKey(columns) => column_twice(alloc, columns),
-        WrittenRule::Check(_) => None,
-        WrittenRule::ForeignKey(columns, references) => {
-            let listed = column_twice_listed(alloc, &references.columns);
-            first_fault(column_twice(alloc, columns), listed)
-        }
-    }
-}
-
-fn duplicate_in_rules<'t>(alloc: Global, elements: &'t [TableElement]) -> Option<NameFault<'t>>
-    ensures { option_map fault_seen result ≡ first_of (λ k. duplicate_in_rule k.rule)
-        (written_constraints elements.entry.now) }
-{
-    let mut left = Left::Outside(elements);
-    while let Some((constraint, rest)) = left.first() {
-        if let Some(fault) = duplicate_in_rule(alloc, &constraint.rule) {
-            return Some(fault);
-        }
-        left = rest;
-    }
-    None
-}
-
-fn defined_twice<'t>(alloc: Global, elements: &'t [TableElement]) -> Option<NameFault<'t>>
-    ensures { option_map fault_seen result
-        ≡ column_twice (map (λ c. c.name) (written_columns elements.entry.now)) }
-{
-    match column_again(alloc, elements) {
-        Some(name) => Some(NameFault::Twice(NamedItem::Column(None, name))),
-        None => None,
-    }
-}
-
 fn table_in_use<'t>(catalogue: &Catalogue, name: &'t str) -> Option<NameFault<'t>>
     ensures { option_map fault_seen result ≡ told_if (has_table catalogue.now name.entry.now)
         (in_use_fault (table_item name.entry.now)) }
@@ -189,7 +132,17 @@ fn table_in_use<'t>(catalogue: &Catalogue, name: &'t str) -> Option<NameFault<'t
     }
 }
 
-/// The first name of a CREATE TABLE that is in use or comes twice.
+fn column_fault<'t>(column: Option<&'t str>) -> Option<NameFault<'t>>
+    ensures { option_map fault_seen result
+        ≡ option_map (λ n. twice_fault (column_item None n)) (option_copied column.entry) }
+{
+    match column {
+        Some(name) => Some(NameFault::Twice(NamedItem::Column(None, name))),
+        None => None,
+    }
+}
+
+/// The first name in the text of a CREATE TABLE that is in use or comes twice.
 pub fn duplicate_in_table<'t>(
     alloc: Global,
     name: &'t str,
@@ -199,11 +152,9 @@ pub fn duplicate_in_table<'t>(
     ensures { option_map fault_seen result
         ≡ duplicate_in_table catalogue.now name.entry.now elements.entry.now }
 {
-    let rules = duplicate_in_rules(alloc, elements);
-    let after_use = first_fault(constraint_twice(alloc, name, elements), rules);
-    let used = some_constraint_in_use(alloc, catalogue, name, elements);
-    let after_columns = first_fault(used, after_use);
-    let after_name = first_fault(defined_twice(alloc, elements), after_columns);
+    let again = column_again(alloc, elements);
+    let before = duplicate_in_constraints(alloc, catalogue, name, again.before);
+    let after_name = first_fault(before, column_fault(again.name));
     first_fault(table_in_use(catalogue, name), after_name)
 }
 

@@ -1,6 +1,6 @@
 //! The name that a refusal for Unknown or Duplicate is about.
 ghost use Rattle.std.specs.Prelude.{◌≡◌, option_map};
-ghost use Rattle.iv_resolve_name_faults.specs.NameFaults.{duplicate_name, name_fault};
+ghost use Rattle.iv_resolution.specs.NameFaults.{duplicate_name, name_fault};
 ghost use Rattle.iv_resolve_name_faults.specs.Seen.{fault_seen};
 
 use crate::duplicates::{

@@ -1,14 +1,16 @@
-//! Which name a refusal for Unknown or Duplicate is about.
+//! The names at fault: the first that names nothing, and the first that is in use or comes twice.
 #![tactic(auto)]
 
 mod again;
 mod catalogued;
 mod changes;
+mod columns_again;
 mod constraints_again;
 mod duplicates;
 mod faults;
 mod item;
 mod laws;
+mod lists;
 mod tables;
 mod terms;
 mod triggers;
@@ -16,7 +18,5 @@ mod unknown;
 
 pub use faults::{duplicate_name, name_fault};
 pub use item::{NameFault, NamedItem};
-pub use laws::{
-    duplicate_names_are_told, refusals_are_told, unknown_names_are_told, worked_faults,
-};
+pub use laws::refusals_are_told;
 pub use unknown::unknown_name;

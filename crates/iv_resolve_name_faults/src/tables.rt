@@ -2,19 +2,19 @@
 //! each to the columns of its table, or near to the names where the columns are held in an index.
 ghost use Rattle.std.specs.Prelude.{◌≡◌, None, [], not, option_map};
 ghost use Rattle.iv_resolution.specs.Constraints.{foreign_key, table_constraint, written_constraints};
-ghost use Rattle.iv_resolution.specs.Resolution.{is_there};
 ghost use Rattle.iv_resolution.specs.Scopes.{has_column};
 ghost use Rattle.iv_resolution.specs.Tables.{altered_at, check_ranges, table_names};
 ghost use Rattle.iv_resolve_scope.specs.Seen.{columns_seen, ranges_seen};
 ghost use Rattle.iv_resolve_table_constraints.specs.Seen.{names_of_own, own_seen, reference_seen, rule_seen};
-ghost use Rattle.iv_resolve_name_faults.specs.Items.{column_item, first_of, table_item, told_if};
-ghost use Rattle.iv_resolve_name_faults.specs.NameFaults.{told_of_altered, unknown_in_alteration, unknown_in_condition, unknown_in_reference, unknown_in_rule, unknown_in_table};
+ghost use Rattle.iv_resolution.specs.Items.{column_item, first_of, told_if};
+ghost use Rattle.iv_resolution.specs.NameFaults.{told_of_altered, unknown_in_alteration, unknown_in_condition, unknown_in_reference, unknown_in_rule, unknown_in_table};
 ghost use Rattle.iv_resolve_name_faults.specs.Seen.{item_seen};
 
+use crate::changes::unknown_in_target;
 use crate::item::{NamedItem, first_item};
 use crate::terms::{unknown_in_columns, unknown_in_condition};
 use iv_catalogue::{Catalogue, Table};
-use iv_resolve_scope::{ColumnIndex, Columns, Ranges, table_place};
+use iv_resolve_scope::{ColumnIndex, Columns, Ranges, table_names, table_place};
 use iv_resolve_table_constraints::{
     Left, Own, WrittenRule, own_columns, own_names, own_range, referenced, table_constraint,
 };
@@ -188,16 +188,6 @@ fn unknown_of_altered<'t>(
     }
 }
 
-fn unknown_altered<'t>(catalogue: &Catalogue, name: &'t str) -> Option<NamedItem<'t>>
-    ensures { option_map item_seen result ≡ told_if
-        (not (is_there catalogue.now name.entry.now)) (table_item name.entry.now) }
-{
-    match table_place(catalogue.tables(), name) {
-        Some(_) => None,
-        None => Some(NamedItem::Table(name)),
-    }
-}
-
 /// The table of an ALTER TABLE where it isn't there, or the first name of its constraint that names nothing.
 pub fn unknown_in_alteration<'t>(
     catalogue: &Catalogue,
@@ -207,6 +197,6 @@ pub fn unknown_in_alteration<'t>(
     ensures { option_map item_seen result
         ≡ unknown_in_alteration catalogue.now name.entry.now constraint.entry.now }
 {
-    let table = unknown_altered(catalogue, name);
+    let table = unknown_in_target(&table_names(catalogue), name);
     first_item(table, unknown_of_altered(catalogue, name, constraint))
 }

@@ -3,8 +3,8 @@
 ghost use Rattle.std.specs.Prelude.{◌≡◌, ◌≤◌, length, option_map};
 ghost use Rattle.iv_resolution.specs.Terms.{unknown_column};
 ghost use Rattle.iv_resolve_scope.specs.Seen.{columns_seen, names_seen, ranges_seen};
-ghost use Rattle.iv_resolve_name_faults.specs.Items.{column_item, told_if};
-ghost use Rattle.iv_resolve_name_faults.specs.NameFaults.{unknown_in_columns, unknown_in_condition, unknown_in_expression, unknown_in_filter, unknown_in_from};
+ghost use Rattle.iv_resolution.specs.Items.{column_item, told_if};
+ghost use Rattle.iv_resolution.specs.NameFaults.{unknown_in_columns, unknown_in_condition, unknown_in_expression, unknown_in_filter, unknown_in_from};
 ghost use Rattle.iv_resolve_name_faults.specs.Seen.{item_seen};
 
 use crate::item::{NamedItem, first_item};

@@ -3,8 +3,8 @@ ghost use Rattle.std.specs.Prelude.{◌≡◌, ◌≤◌, Some, is_none, length,
 ghost use Rattle.iv_resolution.specs.Scopes.{has_column};
 ghost use Rattle.iv_resolution.specs.Triggers.{row_variables, subject_of, variable_named};
 ghost use Rattle.iv_resolve_scope.specs.Seen.{columns_seen, items_seen, names_seen, ranges_seen};
-ghost use Rattle.iv_resolve_name_faults.specs.Items.{column_item, first_of, told_if, variable_item};
-ghost use Rattle.iv_resolve_name_faults.specs.NameFaults.{unknown_in_action, unknown_in_columns, unknown_in_set, unknown_in_trigger};
+ghost use Rattle.iv_resolution.specs.Items.{column_item, first_of, told_if, variable_item};
+ghost use Rattle.iv_resolution.specs.NameFaults.{unknown_in_action, unknown_in_columns, unknown_in_set, unknown_in_trigger};
 ghost use Rattle.iv_resolve_name_faults.specs.Seen.{item_seen};
 
 use crate::changes::{unknown_in_delete, unknown_in_insert, unknown_in_target, unknown_in_update};
@@ -45,7 +45,7 @@ fn unknown_in_variable<'t>(
     }
 }
 
-#[tactic(auto, unfolding(crate::specs::NameFaults::unknown_in_set))]
+#[tactic(auto, unfolding(iv_resolution::specs::NameFaults::unknown_in_set))]
 fn unknown_in_set<'t>(
     names: &Names<'_>,
     variable: &'t str,
@@ -59,7 +59,7 @@ fn unknown_in_set<'t>(
     first_item(unknown, unknown_in_variable(names, variable, column))
 }
 
-#[tactic(auto, unfolding(crate::specs::NameFaults::unknown_in_action))]
+#[tactic(auto, unfolding(iv_resolution::specs::NameFaults::unknown_in_action))]
 fn unknown_in_action<'t, 'a>(
     action: &'t TriggerAction,
     names: &'a Names<'a>,

@@ -1,10 +1,9 @@
 //! The first name of a statement that names nothing.
-ghost use Rattle.std.specs.Prelude.{◌≡◌, ◌≤◌, [], length, not, option_map};
+ghost use Rattle.std.specs.Prelude.{◌≡◌, [], not, option_map};
 ghost use Rattle.iv_catalogue.specs.Catalogues.{has_constraint, has_trigger};
 ghost use Rattle.iv_resolution.specs.Tables.{table_names};
-ghost use Rattle.iv_resolve_scope.specs.Seen.{names_seen};
-ghost use Rattle.iv_resolve_name_faults.specs.Items.{constraint_item, first_of, told_if, trigger_item};
-ghost use Rattle.iv_resolve_name_faults.specs.NameFaults.{unknown_in_constraints, unknown_in_delete, unknown_in_insert, unknown_in_select, unknown_in_update, unknown_name};
+ghost use Rattle.iv_resolution.specs.Items.{constraint_item, first_of, told_if, trigger_item};
+ghost use Rattle.iv_resolution.specs.NameFaults.{unknown_in_constraints, unknown_in_delete, unknown_in_insert, unknown_in_select, unknown_in_update, unknown_name};
 ghost use Rattle.iv_resolve_name_faults.specs.Seen.{item_seen};
 
 use crate::catalogued::{has_constraint, has_trigger};
@@ -12,23 +11,10 @@ use crate::changes::{unknown_in_delete, unknown_in_insert, unknown_in_select, un
 use crate::item::NamedItem;
 use crate::tables::{unknown_in_alteration, unknown_in_table};
 use crate::triggers::unknown_in_trigger;
-use iv_catalogue::{Catalogue, MOST_TABLES};
-use iv_resolve_scope::{Columns, Names, Ranges, ReferencingItems};
+use iv_catalogue::Catalogue;
+use iv_resolve_scope::{Ranges, table_names};
 use iv_syntax::{ConstraintList, Delete, Insert, Name, Select, Statement, Update};
 use std::alloc::Global;
-
-// What a statement outside of every trigger may name: the tables of the catalogue alone.
-fn table_names<'a>(catalogue: &'a Catalogue) -> Names<'a>
-    ensures names { names_seen result ≡ table_names catalogue.entry.now }
-    ensures tables { length result.tables.now ≤ MOST_TABLES }
-{
-    Names {
-        created: None,
-        tables: catalogue.tables(),
-        referencing: ReferencingItems::Listed(&[]),
-        subject: Columns::Stored(&[]),
-    }
-}
 
 fn of_insert<'t>(insert: &'t Insert, catalogue: &Catalogue) -> Option<NamedItem<'t>>
     ensures { option_map item_seen result

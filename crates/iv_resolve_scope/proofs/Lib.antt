@@ -1,7 +1,6 @@
 pub mod Places
 pub mod Variables
 pub mod Steps
-pub mod Sets
 pub mod Firsts
 pub mod Noted
 pub mod FirstItems

@@ -1,5 +1,5 @@
 -- What the definitions say at the trees that code matches.
-use Rattle.std.proofs.Common.{◌≡◌, refl, true, false, not, ◌||◌, List, ◌∷◌}
+use Rattle.std.proofs.Common.{◌≡◌, refl, true, false, ◌||◌, List, ◌∷◌}
 use Rattle.iv_expr.specs.declared.tree.Comparison.{Comparison}
 use Rattle.iv_expr.specs.declared.tree.Cond.TheVariants as cond
 use Rattle.iv_expr.specs.Trees.{times, not_c, and_c, or_c, exists_c}
@@ -10,20 +10,8 @@ use Rattle.iv_syntax.specs.declared.tree.Expression.TheVariants as expression
 use Rattle.iv_syntax.specs.declared.tree.Condition.{Condition}
 use Rattle.iv_syntax.specs.declared.tree.Condition.TheVariants as condition
 use Rattle.iv_syntax.proofs.TreeShapes.{group_is, signed_is, product_is, sum_is, enclosed_is, negated_is, both_is, either_is, exists_where_is}
-use Rattle.iv_resolution.specs.Scopes.{NamedRange, Names, is_source, source_range, range_of}
-use Rattle.iv_resolution.specs.Terms.{unknown_expression, unknown_condition, is_integer, is_text, some_text, clash, misshaped_expression, misshaped_condition, has_exists, bound_sign, bound_sum, bound_expression, bound_condition}
-
-pub unknown_expression_group : (ranges : List NamedRange) (e a : Expression) → e ≡ expression.Group a → unknown_expression ranges e ≡ (unknown_expression ranges a)
-unknown_expression_group ranges e a h = rw (h, group_is) refl
-
-pub unknown_expression_signed : (ranges : List NamedRange) (s : Sign) (e a : Expression) → e ≡ expression.Signed s a → unknown_expression ranges e ≡ (unknown_expression ranges a)
-unknown_expression_signed ranges s e a h = rw (h, signed_is) refl
-
-pub unknown_expression_product : (ranges : List NamedRange) (e a b : Expression) → e ≡ expression.Product a b → unknown_expression ranges e ≡ (unknown_expression ranges a || unknown_expression ranges b)
-unknown_expression_product ranges e a b h = rw (h, product_is) refl
-
-pub unknown_expression_sum : (ranges : List NamedRange) (s : Sign) (e a b : Expression) → e ≡ expression.Sum s a b → unknown_expression ranges e ≡ (unknown_expression ranges a || unknown_expression ranges b)
-unknown_expression_sum ranges s e a b h = rw (h, sum_is) refl
+use Rattle.iv_resolution.specs.Scopes.{NamedRange, Names, source_range, range_of}
+use Rattle.iv_resolution.specs.Terms.{is_integer, is_text, some_text, clash, misshaped_expression, misshaped_condition, has_exists, bound_sign, bound_sum, bound_expression, bound_condition}
 
 pub is_integer_group : (ranges : List NamedRange) (e a : Expression) → e ≡ expression.Group a → is_integer ranges e ≡ (is_integer ranges a)
 is_integer_group ranges e a h = rw (h, group_is) refl
@@ -72,42 +60,6 @@ bound_expression_product ranges e a b h = rw (h, product_is) refl
 
 pub bound_expression_sum : (ranges : List NamedRange) (s : Sign) (e a b : Expression) → e ≡ expression.Sum s a b → bound_expression ranges e ≡ (bound_sum s (bound_expression ranges a) (bound_expression ranges b))
 bound_expression_sum ranges s e a b h = rw (h, sum_is) refl
-
-pub unknown_condition_enclosed : (names : Names) (ranges : List NamedRange) (c : Condition) (a : Condition) → c ≡ condition.Group a → unknown_condition names ranges c ≡ (unknown_condition names ranges a)
-unfolding unknown_condition
-unknown_condition_enclosed names ranges c a h = rw (h, enclosed_is) refl
-
-pub unknown_condition_negated : (names : Names) (ranges : List NamedRange) (c : Condition) (a : Condition) → c ≡ condition.Not a → unknown_condition names ranges c ≡ (unknown_condition names ranges a)
-unfolding unknown_condition
-unknown_condition_negated names ranges c a h = rw (h, negated_is) refl
-
-pub unknown_condition_both : (names : Names) (ranges : List NamedRange) (c : Condition) (a b : Condition) → c ≡ condition.And a b → unknown_condition names ranges c ≡ (unknown_condition names ranges a || unknown_condition names ranges b)
-unfolding unknown_condition
-unknown_condition_both names ranges c a b h = rw (h, both_is) refl
-
-pub unknown_condition_either : (names : Names) (ranges : List NamedRange) (c : Condition) (a b : Condition) → c ≡ condition.Or a b → unknown_condition names ranges c ≡ (unknown_condition names ranges a || unknown_condition names ranges b)
-unfolding unknown_condition
-unknown_condition_either names ranges c a b h = rw (h, either_is) refl
-
-pub unknown_condition_exists_where : (names : Names) (ranges : List NamedRange) (r : RangeName) (c : Condition) (a : Condition) → c ≡ condition.ExistsWhere r a → unknown_condition names ranges c ≡ (not (is_source names r.table) || unknown_condition names (range_of names r ∷ ranges) a)
-unfolding unknown_condition
-unknown_condition_exists_where names ranges r c a h = rw (h, exists_where_is) refl
-
-pub unknown_condition_comparison : (names : Names) (ranges : List NamedRange) (op : Comparison) (c : Condition) (a b : Expression) → c ≡ condition.Compare op a b → unknown_condition names ranges c ≡ (unknown_expression ranges a || unknown_expression ranges b)
-unfolding unknown_condition
-unknown_condition_comparison names ranges op c a b h = rw (h) refl
-
-pub unknown_condition_is_null : (names : Names) (ranges : List NamedRange) (c : Condition) (a : Expression) → c ≡ condition.IsNull a → unknown_condition names ranges c ≡ (unknown_expression ranges a)
-unfolding unknown_condition
-unknown_condition_is_null names ranges c a h = rw (h) refl
-
-pub unknown_condition_is_not_null : (names : Names) (ranges : List NamedRange) (c : Condition) (a : Expression) → c ≡ condition.IsNotNull a → unknown_condition names ranges c ≡ (unknown_expression ranges a)
-unfolding unknown_condition
-unknown_condition_is_not_null names ranges c a h = rw (h) refl
-
-pub unknown_condition_exists : (names : Names) (ranges : List NamedRange) (r : RangeName) (c : Condition) → c ≡ condition.Exists r → unknown_condition names ranges c ≡ (not (is_source names r.table))
-unfolding unknown_condition
-unknown_condition_exists names ranges r c h = rw (h) refl
 
 pub misshaped_condition_enclosed : (names : Names) (ranges : List NamedRange) (c : Condition) (a : Condition) → c ≡ condition.Group a → misshaped_condition names ranges c ≡ (misshaped_condition names ranges a)
 unfolding misshaped_condition
@@ -196,8 +148,6 @@ pub bound_condition_exists : (names : Names) (ranges : List NamedRange) (r : Ran
 unfolding bound_condition
 bound_condition_exists names ranges r c h = rw (h) refl
 
-pub ruleset unknown_expression_steps = (unknown_expression_group, unknown_expression_signed, unknown_expression_product, unknown_expression_sum)
-
 pub ruleset is_integer_steps = (is_integer_group, is_integer_signed, is_integer_product, is_integer_sum)
 
 pub ruleset is_text_steps = (is_text_group, is_text_signed, is_text_product, is_text_sum)
@@ -205,8 +155,6 @@ pub ruleset is_text_steps = (is_text_group, is_text_signed, is_text_product, is_
 pub ruleset misshaped_expression_steps = (misshaped_expression_group, misshaped_expression_signed, misshaped_expression_product, misshaped_expression_sum)
 
 pub ruleset bound_expression_steps = (bound_expression_group, bound_expression_signed, bound_expression_product, bound_expression_sum)
-
-pub ruleset unknown_condition_steps = (unknown_condition_enclosed, unknown_condition_negated, unknown_condition_both, unknown_condition_either, unknown_condition_exists_where, unknown_condition_comparison, unknown_condition_is_null, unknown_condition_is_not_null, unknown_condition_exists)
 
 pub ruleset misshaped_condition_steps = (misshaped_condition_enclosed, misshaped_condition_negated, misshaped_condition_both, misshaped_condition_either, misshaped_condition_exists_where, misshaped_condition_comparison, misshaped_condition_is_null, misshaped_condition_is_not_null, misshaped_condition_exists)
 

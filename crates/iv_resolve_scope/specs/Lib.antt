@@ -1,4 +1,3 @@
 pub mod Seen
-pub mod Sets
 pub mod FirstColumns
 pub mod FirstItems

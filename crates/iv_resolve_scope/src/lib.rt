@@ -9,10 +9,10 @@ mod kinds;
 mod lists;
 mod name_set;
 mod names;
+mod outside;
 mod ranges;
 mod referencing;
 mod referencing_index;
-mod unknown;
 
 pub use binding::{bound_condition, bound_expression, bound_filter, integer_of};
 pub use column_index::{ColumnIndex, FirstColumn};
@@ -21,13 +21,13 @@ pub use kinds::{
     clashes_with, has_exists, is_integer_type, is_text_type, kinds_clash, misshaped_condition,
     misshaped_expression, misshaped_filter,
 };
-pub use lists::{places_of, unknown_names};
-pub use name_set::{NameSet, comes_again, comes_twice, name_comes_twice};
+pub use lists::places_of;
+pub use name_set::NameSet;
 pub use names::{
     Created, Names, Source, inside, is_source, source_columns, source_named, source_range,
     stored_columns, table_place,
 };
+pub use outside::table_names;
 pub use ranges::{Found, Ranges, column_meant};
 pub use referencing::ReferencingItems;
 pub use referencing_index::ReferencingIndex;
-pub use unknown::{unknown_condition, unknown_expression, unknown_filter};

@@ -1,7 +1,6 @@
-//! Lists of names of columns. Each function takes time in proportion to the names times the columns, or near to the names where the
-//! columns are held in an index.
+//! A list of names of columns, in time in proportion to the names times the columns, or near to the names where the columns are held in
+//! an index.
 ghost use Rattle.std.specs.Prelude.{◌≡◌, IfOk};
-ghost use Rattle.iv_resolution.specs.Changes.{unknown_names};
 ghost use Rattle.iv_resolution.specs.Constraints.{places_of};
 ghost use Rattle.iv_resolve_scope.specs.Seen.{columns_seen};
 
@@ -9,13 +8,6 @@ use crate::columns::Columns;
 use iv_syntax::Name;
 use sqlite_items::Items;
 use std::alloc::{AllocError, Global};
-
-/// Whether one of the names names no column.
-pub fn unknown_names(columns: &Columns<'_>, names: &[Name]) -> bool
-    ensures { result ≡ unknown_names (columns_seen columns.now) names.now }
-{
-    names.iter().any(|name| !columns.has(name.as_str()))
-}
 
 /// The places of the columns of these names; 0 for a name that names none.
 pub fn places_of(

@@ -1,3 +1,2 @@
 pub mod Altering
-pub mod Sets
 pub mod ReferencePairs

@@ -1,6 +1,7 @@
 //! CHECKs of CREATE TABLE and ALTER TABLE in which an integer meets a text. Nothing here takes memory.
 ghost use Rattle.std.specs.Prelude.{◌≡◌, []};
-ghost use Rattle.iv_resolution.specs.Constraints.{table_constraint};
+ghost use Rattle.std.specs.List.{list_any};
+ghost use Rattle.iv_resolution.specs.Constraints.{table_constraint, written_constraints};
 ghost use Rattle.iv_resolution.specs.Resolution.{of_altered};
 ghost use Rattle.iv_resolution.specs.Tables.{check_ranges, misshaped_rule, misshaped_table, table_names};
 ghost use Rattle.iv_resolution.specs.Terms.{misshaped_condition};
@@ -8,10 +9,11 @@ ghost use Rattle.iv_resolve_scope.specs.Seen.{ranges_seen};
 ghost use Rattle.iv_resolve_table_constraints.specs.Seen.{names_of_own, own_seen, rule_seen};
 
 use crate::altered::table_at;
-use crate::traversal::{Question, asked_of_constraint, asked_of_table};
 use iv_catalogue::Catalogue;
-use iv_resolve_scope::{Ranges, misshaped_condition};
-use iv_resolve_table_constraints::{Own, WrittenRule, own_names, own_range};
+use iv_resolve_scope::{ColumnIndex, Ranges, misshaped_condition};
+use iv_resolve_table_constraints::{
+    Left, Own, WrittenRule, own_names, own_range, table_constraint,
+};
 use iv_syntax::{Condition, TableConstraint, TableElement};
 use std::alloc::Global;
 
@@ -30,12 +32,12 @@ fn misshaped_check<'a>(
     misshaped_condition(condition, &names, &ranges)
 }
 
-/// Whether an integer meets a text in a constraint of this table.
-pub fn misshaped_rule<'a>(
+// Whether an integer meets a text in a constraint of this table.
+fn misshaped_rule<'a>(
     own: &'a Own<'a>,
     catalogue: &'a Catalogue,
     outside: &'a Ranges<'a>,
-    rule: &'a WrittenRule<'a>,
+    rule: &WrittenRule<'a>,
 ) -> bool
     requires { ranges_seen outside.now ≡ [] }
     ensures { result ≡ misshaped_rule (names_of_own catalogue.now own.now)
@@ -50,7 +52,28 @@ pub fn misshaped_rule<'a>(
     }
 }
 
-/// Whether an integer meets a text in a constraint of a CREATE TABLE.
+fn some_is_misshaped<'a>(
+    own: &'a Own<'a>,
+    catalogue: &'a Catalogue,
+    outside: &'a Ranges<'a>,
+    elements: &'a [TableElement],
+) -> bool
+    requires { ranges_seen outside.now ≡ [] }
+    ensures { result ≡ list_any (λ k. misshaped_rule (names_of_own catalogue.now own.now)
+        (own_seen catalogue.now own.now) k.rule) (written_constraints elements.now) }
+{
+    let mut left = Left::Outside(elements);
+    while let Some((constraint, rest)) = left.first() {
+        if misshaped_rule(own, catalogue, outside, &constraint.rule) {
+            return true;
+        }
+        left = rest;
+    }
+    false
+}
+
+/// Whether an integer meets a text in a constraint of a CREATE TABLE. Columns are found by an index; where memory for it is refused, one
+/// after another.
 pub fn misshaped_table(
     alloc: Global,
     catalogue: &Catalogue,
@@ -59,7 +82,17 @@ pub fn misshaped_table(
 ) -> bool
     ensures { result ≡ misshaped_table catalogue.now name.now elements.now }
 {
-    asked_of_table(alloc, Question::Misshaped, catalogue, name, elements)
+    let outside = Ranges::Nothing;
+    match ColumnIndex::new(alloc, elements) {
+        Ok(index) => {
+            let own = Own::Indexed(name, elements, &index);
+            some_is_misshaped(&own, catalogue, &outside, elements)
+        }
+        Err(_) => {
+            let own = Own::Created(name, elements);
+            some_is_misshaped(&own, catalogue, &outside, elements)
+        }
+    }
 }
 
 /// Whether an integer meets a text in the constraint of an ALTER TABLE; false where its table isn't there.
@@ -69,10 +102,11 @@ pub fn misshaped_addition(catalogue: &Catalogue, name: &str, constraint: &TableC
         (table_constraint constraint.now).rule) }
 {
     let outside = Ranges::Nothing;
+    let written = table_constraint(constraint);
     match table_at(catalogue, name) {
         Some(table) => {
             let own = Own::Stored(table.place, table.table);
-            asked_of_constraint(Question::Misshaped, &own, catalogue, &outside, constraint)
+            misshaped_rule(&own, catalogue, &outside, &written.rule)
         }
         None => false,
     }

@@ -34,9 +34,9 @@ pub fn constraint_name(
     }
 }
 
-/// Whether a name is the one that is generated for this place. It takes no memory.
+// Whether a name is the one that is generated for this place.
 #[tactic(auto, using(iv_catalogue::proofs::WrittenNames::stripped_is), unfolding(iv_catalogue::specs::Names::generated_name))]
-pub fn is_generated(name: &str, table: &str, place: u128) -> bool
+fn is_generated(name: &str, table: &str, place: u128) -> bool
     ensures { result ≡ bytes_eq name.now (generated_name table.now place) }
 {
     let mut buffer = Buffer::new();

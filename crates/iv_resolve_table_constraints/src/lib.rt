@@ -11,7 +11,7 @@ mod own;
 mod written;
 
 pub use characteristics::{initial_mode, is_contradictory, is_deferrable};
-pub use constraint_names::{are_same, constraint_name, generated, is_generated, is_named};
+pub use constraint_names::{are_same, constraint_name, generated, is_named};
 pub use finding::{has_reliable_key, primary_key};
 pub use key_sets::{KeySets, has_set, reliable_sets};
 pub use keys::{KeyColumns, TableKey};

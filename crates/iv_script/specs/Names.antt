@@ -5,8 +5,8 @@ use Rattle.iv_catalogue.specs.Catalogues.{Schema}
 use Rattle.iv_catalogue.specs.Names.{generated_name}
 use Rattle.iv_catalogue.specs.declared.cause.Refusal.{Refusal}
 use Rattle.iv_machine.specs.declared.answer.Answer.{Answer}
-use Rattle.iv_resolve_name_faults.specs.Items.{Item, table_item, column_item, variable_item, trigger_item, constraint_item, generated_item, transition_item, Fault, unknown_fault, in_use_fault, twice_fault}
-use Rattle.iv_resolve_name_faults.specs.NameFaults.{name_fault}
+use Rattle.iv_resolution.specs.Items.{Item, table_item, column_item, variable_item, trigger_item, constraint_item, generated_item, transition_item, Fault, unknown_fault, in_use_fault, twice_fault}
+use Rattle.iv_resolution.specs.NameFaults.{name_fault}
 
 -- a column, with the range or row variable before it where it is written with one
 abbrev pub column_text : Option (List ℕ) → List ℕ → List ℕ

@@ -2,7 +2,7 @@
 use Rattle.std.specs.Prelude.{◌≡◌, ℕ, true, false, List, [], ◌∷◌, ◌++◌, codes, Option, Some, None, replicate}
 use Rattle.iv_script.specs.declared.place.Place.{Place}
 use Rattle.iv_script.specs.Places.{place_at, words_at, place_line}
-use Rattle.iv_resolve_name_faults.specs.Items.{table_item, column_item, variable_item, trigger_item, constraint_item, generated_item, transition_item, unknown_fault, in_use_fault, twice_fault}
+use Rattle.iv_resolution.specs.Items.{table_item, column_item, variable_item, trigger_item, constraint_item, generated_item, transition_item, unknown_fault, in_use_fault, twice_fault}
 use Rattle.iv_script.specs.Names.{fault_line}
 
 abbrev pub place : ℕ → ℕ → Place
@@ -17,6 +17,8 @@ pub record WorkedPlaces : Type 0 where
   pub in_the_second_line : place_line true (codes "COMMIT;\n COMIT;\nCOMMIT;") (Some 9) ≡ codes "  line 2, column 2: COMIT;\n"
   pub after_an_empty_line : place_line true (codes "\n\nCOMIT;") (Some 2) ≡ codes "  line 3, column 1: COMIT;\n"
   pub a_column_is_a_character : place_at accented 5 ≡ place 1 5
+  pub least_second_byte : place_at (195 ∷ 128 ∷ 65 ∷ []) 2 ≡ place 1 2
+  pub greatest_second_byte : place_at (195 ∷ 191 ∷ 65 ∷ []) 2 ≡ place 1 2
   pub words_have_whole_characters : words_at accented 0 ≡ accented
   pub a_tab_is_of_the_words : words_at (65 ∷ 9 ∷ 66 ∷ 13 ∷ 10 ∷ []) 0 ≡ 65 ∷ 9 ∷ 66 ∷ []
   pub no_words : place_line true (0 ∷ []) (Some 0) ≡ codes "  line 1, column 1\n"

@@ -2,9 +2,9 @@
 ghost use Rattle.std.specs.Prelude.{◌≡◌, ◌++◌, option_map};
 ghost use Rattle.std.specs.Option.{option_copied};
 ghost use Rattle.iv_catalogue.specs.Names.{generated_name};
-ghost use Rattle.iv_resolve_name_faults.specs.Items.{generated_item};
+ghost use Rattle.iv_resolution.specs.Items.{generated_item};
 ghost use Rattle.iv_print.specs.Writing.{Writes};
-ghost use Rattle.iv_resolve_name_faults.specs.NameFaults.{name_fault};
+ghost use Rattle.iv_resolution.specs.NameFaults.{name_fault};
 ghost use Rattle.iv_resolve_name_faults.specs.Seen.{fault_seen, item_seen};
 ghost use Rattle.iv_script.specs.Names.{column_text, fault_line, fault_text, item_text, name_line};
 

@@ -1,7 +1,7 @@
 -- The plan of a statement that deserves no cause, and may run now, fits.
 use Rattle.std.proofs.Common.{◌≡◌, ℕ, ◌≤◌, ◌<◌, Bool, true, false, ◌||◌, Option, Some, None, Ok, length, map, slice_get, arith, refl, ap, sym, subst, ◌∙◌, nat_le, nat_lt}
 use Rattle.std.proofs.lemmas.Bool.{or_parts}
-use Rattle.std.specs.List.{list_any}
+use Rattle.std.specs.Option.{option_or}
 use Rattle.std.proofs.lemmas.Bool.Decides.{nat_tests}
 use Rattle.iv_state.specs.Words.{Statement, Table, Plan, SchemaPlan, Trigger}
 use Rattle.iv_state.specs.Words.plan
@@ -12,10 +12,13 @@ use Rattle.iv_catalogue.specs.Catalogues.{Schema, has_trigger}
 use Rattle.iv_catalogue.specs.declared.limits.TheConstants.{MOST_BODY_STATEMENTS, MOST_TRIGGERS, MOST_TRIGGERS_EVER}
 use Rattle.iv_machine.specs.Machine.{State, is_open, occasion_of, transaction_cause, plan_occasion, changes_rows, outside, inside, beginning}
 use Rattle.iv_resolution.specs.Bound.{bound, bound_action, bound_trigger, table_id}
-use Rattle.iv_resolution.specs.Constraints.{WrittenConstraint, comes_twice, table_constraint}
+use Rattle.iv_resolution.specs.Constraints.{WrittenConstraint, table_constraint}
+use Rattle.iv_resolution.specs.Items.{trigger_item, in_use_fault, told_if, first_of}
+use Rattle.iv_resolution.specs.NameFaults.{column_twice, transition_twice, duplicate_in_action}
 use Rattle.iv_resolution.specs.Resolution.{resolution}
+use Rattle.iv_resolution.proofs.Told.{none_parts, untold}
 use Rattle.iv_resolution.specs.Tables.{table_names}
-use Rattle.iv_resolution.specs.Triggers.{duplicate_action, trigger_names, trigger_variables}
+use Rattle.iv_resolution.specs.Triggers.{trigger_names, trigger_variables}
 use Rattle.iv_laws_fitting.specs.ConstraintShapes.{SchemaSuits}
 use Rattle.iv_laws_fitting.proofs.Plans.{Accepted, accepted, alteration, changes_fit}
 use Rattle.iv_laws_fitting.proofs.Pointwise.{mapped_length}
@@ -41,7 +44,8 @@ trigger_is c x t a =
       room = limits.0;
       ever = limits.1;
       short = subst (λ n. n ≤ MOST_BODY_STATEMENTS) (sym (mapped_length (bound_action (trigger_names c x) (trigger_variables c x)) x.body)) limits.2;
-      free = (or_parts (has_trigger c x.name) (comes_twice x.columns || (comes_twice (map (λ i. i.name) x.referencing) || list_any duplicate_action x.body)) a.single).0;
+      free = untold (has_trigger c x.name) (in_use_fault (trigger_item x.name)) (none_parts (told_if (has_trigger c x.name) (in_use_fault (trigger_item x.name)))
+          (option_or (column_twice x.columns) (option_or (transition_twice (map (λ i. i.name) x.referencing)) (first_of duplicate_in_action x.body))) a.single).0;
     })
 
 no_trigger : (c : Schema) (place : ℕ) (k : WrittenConstraint) (t : Trigger) (P : Type 0) (o : Option Table) → alteration c place k o ≡ plan.Schema (schema.CreateTrigger t) → P

@@ -1,6 +1,6 @@
 -- The store of pairs fits their schema.
 use Rattle.std.proofs.Common.{◌≡◌, true, [], ◌∷◌, refl}
-use Rattle.iv_resolution.specs.Constraints.{comes_twice}
+use Rattle.iv_catalogue.specs.Names.{has_repeated}
 use Rattle.iv_laws_fitting.specs.PlanShapes.{table_suits}
 use Rattle.iv_store.specs.Stores.{empty_store, store_with_table}
 use Rattle.iv_laws_rows.specs.Changing.{StoreFits}
@@ -8,7 +8,7 @@ use Rattle.iv_tests_calls.specs.Pairs.{pair_keys, pair_table}
 
 -- no name comes twice
 pair_table_suits : table_suits pair_table ≡ true
-unfolding comes_twice
+unfolding has_repeated
 pair_table_suits = refl
 
 -- both have the table and its constraints

@@ -25,10 +25,7 @@ fn laws_of_the_grammar_are_called(rt: HostRuntime) {
 #[test]
 fn laws_of_names_are_called(rt: HostRuntime) {
     iv_laws_naming::names_are_found();
-    iv_resolve_name_faults::unknown_names_are_told();
-    iv_resolve_name_faults::duplicate_names_are_told();
     iv_resolve_name_faults::refusals_are_told();
-    iv_resolve_name_faults::worked_faults();
 }
 
 #[test]

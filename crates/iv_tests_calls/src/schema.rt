@@ -68,14 +68,14 @@ pub fn row_of(rt: &impl Abort, alloc: Global, cells: &[Cell]) -> Row {
     Row::new(values).expect(rt, "memory")
 }
 
-#[tactic(auto, using(crate::proofs::Sets::found))]
+#[tactic(auto, using(iv_resolution::proofs::Found::found))]
 fn has_table(catalogue: &Catalogue, name: &str) -> bool
     ensures { result ≡ has_table catalogue.now name.now }
 {
     catalogue.table_named(name).is_some()
 }
 
-#[tactic(auto, using(crate::proofs::Sets::found))]
+#[tactic(auto, using(iv_resolution::proofs::Found::found))]
 fn has_constraint(catalogue: &Catalogue, name: &str) -> bool
     ensures { result ≡ has_constraint catalogue.now name.now }
 {

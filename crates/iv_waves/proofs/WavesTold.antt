@@ -1,5 +1,5 @@
 -- What is told of waves, step by step.
-use Rattle.std.proofs.Common.{◌≡◌, refl, ℕ, zero, suc, ◌-◌, ◌<◌, ◌≤◌, Bool, true, false, if◌then◌else◌, List, [], ◌∷◌, ◌++◌, length, Result, Ok, Err, MatchBool, sym, ap, ◌∙◌, arith}
+use Rattle.std.proofs.Common.{◌≡◌, refl, ℕ, ◌-◌, ◌<◌, Bool, true, false, if◌then◌else◌, List, [], ◌∷◌, ◌++◌, length, Result, Ok, Err, MatchBool, sym, ap, ◌∙◌, arith}
 use Rattle.iv_expr.specs.declared.row.Change.{Change}
 use Rattle.iv_expr.specs.Changes.{Wave}
 use Rattle.iv_catalogue.specs.declared.cause.Refusal.{Refusal}
@@ -13,7 +13,7 @@ use Rattle.iv_account.specs.declared.entry.Entry.TheVariants.{Changed}
 use Rattle.iv_account.specs.Accounts.{unless_refused, applied_told, entered_told, following_told, no_waves_told, one_wave_told, waves_told, waves_told_by, waves_told_within, TellsWaves}
 use Rattle.iv_account.specs.Telling.{Account, and_told}
 use Rattle.iv_account.proofs.Telling.{then_on, then_refused, then_tell, told_none, told_twice}
-use Rattle.iv_laws_levels.proofs.Settling.{applied_is, applied_of_one, size_applied}
+use Rattle.iv_laws_levels.proofs.WavesOneByOne.{Joins, Bounded, one_by_one}
 use Rattle.iv_laws_rows.specs.Changing.{UnlessMemory}
 use Rattle.iv_triggers.proofs.Answers.{unless_memory}
 
@@ -59,17 +59,6 @@ entered_and_told w db budget wave out r old mid new e told =
 
 -- ---- all waves, without a bound on their number
 
-some_changes : (changes : List Change) → is_empty changes ≡ false → 0 < length changes
-some_changes [] e = cc
-some_changes (c ∷ changes) e = omega arith
-
--- what is left of the budget after a wave that isn't empty is less
-less_left : (w : Context) (db : Database) (budget : ℕ) (wave : Wave) (one : AppliedWave)
-    → is_empty wave.changes ≡ false → one_wave w db budget wave ≡ Ok one → budget - size one.wave < budget
-less_left w db budget wave one filled e =
-    let applied = applied_is w db budget wave one.wave (applied_of_one w db budget wave one e) in
-    omega (arith, some_changes wave.changes filled, applied.fits, size_applied w db budget wave one.wave applied)
-
 abbrev then_rest : TellsWaves → Database → ℕ → AppliedWave → List Entry
 then_rest others db budget one = others (database_after db one.wave) (budget - size one.wave) one.next
 
@@ -77,44 +66,25 @@ abbrev told_by_emptiness : TellsWaves → Context → Database → ℕ → Wave 
 told_by_emptiness others w db budget wave empty =
     if empty then [] else one_wave_told w db budget wave ++ unless_refused (one_wave w db budget wave) (then_rest others db budget)
 
--- two ways to tell what is left of a smaller budget tell alike
-same_told : (w : Context) (rest other : TellsWaves) (db : Database) (budget : ℕ) (wave : Wave)
-    → ((db' : Database) (budget' : ℕ) (wave' : Wave) → budget' < budget → rest db' budget' wave' ≡ other db' budget' wave')
-    → waves_told_by rest w db budget wave ≡ waves_told_by other w db budget wave
-same_told w rest other db budget wave same = by_empty (is_empty wave.changes) refl
+abbrev none_told : Database → ℕ → List Entry
+none_told db budget = []
+
+abbrev join_told : Context → Joins (List Entry)
+join_told w db budget wave r rest = one_wave_told w db budget wave ++ unless_refused r rest
+
+told_with_a_bound : (w : Context) → Bounded w none_told (join_told w) no_waves_told (λ most. waves_told_within most w)
+told_with_a_bound w = record {
+  of_the_rest = λ db budget wave r f g same. ap (λ l. one_wave_told w db budget wave ++ l) (by_one f g r same);
+  at_zero = λ db budget wave. refl;
+  at_more = λ most db budget wave. refl;
+}
   where
-    by_one : (r : Result AppliedWave Failure) → one_wave w db budget wave ≡ r → is_empty wave.changes ≡ false
-        → unless_refused r (then_rest rest db budget) ≡ unless_refused r (then_rest other db budget)
-    by_one (Err f) e filled = refl
-    by_one (Ok one) e filled = same (database_after db one.wave) (budget - size one.wave) one.next (less_left w db budget wave one filled e)
-
-    by_empty : (empty : Bool) → is_empty wave.changes ≡ empty → told_by_emptiness rest w db budget wave empty ≡ told_by_emptiness other w db budget wave empty
-    by_empty true e = refl
-    by_empty false e = ap (λ l. one_wave_told w db budget wave ++ l) (by_one (one_wave w db budget wave) refl e)
-
-not_below_none : (n : ℕ) → n < 0 → ⊥
-not_below_none n h = omega (arith, h)
-
--- bounds that are at least the budget tell alike
-same_within : (most other : ℕ) (w : Context) (db : Database) (budget : ℕ) (wave : Wave) → budget ≤ most → budget ≤ other
-    → waves_told_within most w db budget wave ≡ waves_told_within other w db budget wave
-same_within zero zero w db budget wave le le' = refl
-same_within zero (suc other) w db budget wave le le' =
-    same_told w no_waves_told (waves_told_within other w) db budget wave
-    (λ db' budget' wave' less. absurd (not_below_none budget' (omega (arith, less, le))))
-same_within (suc most) zero w db budget wave le le' =
-    same_told w (waves_told_within most w) no_waves_told db budget wave
-    (λ db' budget' wave' less. absurd (not_below_none budget' (omega (arith, less, le'))))
-same_within (suc most) (suc other) w db budget wave le le' =
-    same_told w (waves_told_within most w) (waves_told_within other w) db budget wave
-    (λ db' budget' wave' less. same_within most other w db' budget' wave' (omega (arith, less, le)) (omega (arith, less, le')))
+    by_one : (f g : AppliedWave → List Entry) (r : Result AppliedWave Failure) → ((one : AppliedWave) → r ≡ Ok one → f one ≡ g one) → unless_refused r f ≡ unless_refused r g
+    by_one f g (Err e) same = refl
+    by_one f g (Ok one) same = same one refl
 
 told_one_by_one : (budget : ℕ) (w : Context) (db : Database) (wave : Wave) → waves_told_within budget w db budget wave ≡ waves_told_by (waves_told w) w db budget wave
-told_one_by_one zero w db wave =
-    same_told w no_waves_told (waves_told w) db 0 wave (λ db' budget' wave' less. absurd (not_below_none budget' less))
-told_one_by_one (suc budget) w db wave =
-    same_told w (waves_told_within budget w) (waves_told w) db (suc budget) wave
-    (λ db' budget' wave' less. same_within budget budget' w db' budget' wave' (omega (arith, less)) (omega arith))
+told_one_by_one budget w db wave = one_by_one w none_told (join_told w) no_waves_told (λ most. waves_told_within most w) (told_with_a_bound w) budget db wave
 
 filled : (changes : List Change) → 0 < length changes → is_empty changes ≡ false
 filled [] h = absurd (omega (arith, h))

@@ -31,6 +31,7 @@ constraints = record {
   overflow_undoes_statement = refl;
   savepoint_restores_modes = refl;
   release_keeps_no_later = refl;
+  violations_by_constraint = refl;
 }
 
 pub actions : WorkedActions
@@ -48,6 +49,7 @@ actions = record {
   budget_of_four = refl;
   budget_of_five = refl;
   budget_of_five_counts = refl;
+  keys_apart_disagree = refl;
 }
 
 pub triggers : WorkedTriggers
@@ -65,6 +67,8 @@ triggers = record {
   innermost_trigger_is_told = refl;
   before_triggers_in_order = refl;
   later_set_sees_the_earlier = refl;
+  forty_levels_of_64 = refl;
+  after_triggers_in_order = refl;
 }
 
 pub statements : WorkedStatements
@@ -72,6 +76,7 @@ unfolding values_on_literals
 statements = record {
   columns_that_are_listed = refl;
   values_are_stored_in_turn = refl;
+  unknown_finds_no_row = refl;
 }
 
 pub keys : WorkedKeys
@@ -131,6 +136,8 @@ before_triggers = record {
   tables_are_seen_before_the_wave = refl;
   later_waves_see_tables_before_the_wave = refl;
   later_trigger_sees_the_earlier_set = refl;
+  values_before_statement_triggers = refl;
+  each_trigger_over_all_rows = refl;
 }
 
 pub transitions : WorkedTransitions
@@ -196,6 +203,9 @@ columns = record {
   deleted_rows_name_no_columns = refl;
   all_transitions_of_the_table = refl;
   columns_of_later_waves = refl;
+  one_of_two_columns = refl;
+  set_list_is_of_the_first_wave = refl;
+  columns_of_a_second_key = refl;
 }
 
 pub accounts : WorkedAccounts
@@ -221,4 +231,19 @@ accounts = record {
   commit_is_refused = refl;
   set_constraints_is_refused = refl;
   start_tells_nothing = refl;
+  signal_of_the_first_row = refl;
+  signal_of_the_first_trigger = refl;
+  transaction_is_full_before_triggers = refl;
+  value_before_a_statement_trigger = refl;
+  update_of_fires = refl;
+  update_of_sets = refl;
+  key_that_the_row_lets_go = refl;
+  trigger_of_the_child = refl;
+  two_keys_disagree = refl;
+  first_other_row = refl;
+  null_primary_keys = refl;
+  nulls_not_distinct = refl;
+  one_constraint_is_set = refl;
+  set_constraints_of_one_not_deferrable = refl;
+  depth_of_one = refl;
 }

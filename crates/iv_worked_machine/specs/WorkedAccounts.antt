@@ -8,15 +8,16 @@ use Rattle.iv_worked_machine.specs.Words.value.{Null}
 use Rattle.iv_worked_machine.specs.Words.comparison.{Equal, Less, Greater}
 use Rattle.iv_worked_machine.specs.Words.cond.{Always, Compare}
 use Rattle.iv_worked_machine.specs.Words.mode.{Immediate}
-use Rattle.iv_worked_machine.specs.Words.nulls.{Distinct}
+use Rattle.iv_worked_machine.specs.Words.nulls.{Distinct, NotDistinct}
 use Rattle.iv_worked_machine.specs.Words.referential_action.{NoAction, Restrict, Cascade, SetNull}
 use Rattle.iv_worked_machine.specs.Words.time.{Before, After}
 use Rattle.iv_worked_machine.specs.Words.event
 use Rattle.iv_worked_machine.specs.Words.granularity.{Row, Statement}
 use Rattle.iv_worked_machine.specs.Words.rule
 use Rattle.iv_worked_machine.specs.Words.entry.{Changed, Acted, Ran, Began, Ended, Faulted}
-use Rattle.iv_worked_machine.specs.WorkedPlans.{number, numbers, null, column, old, new, where_column, integer_column, not_deferrable, initially_deferred, references_rule, create_table, setting, insert, insert_row, insert_value, update, update_all, delete, delete_all, create_trigger, inserts, sets, signals, set_all, start, commit}
-use Rattle.iv_worked_machine.specs.WorkedAnswers.{int, fault, told, told_within}
+use Rattle.iv_worked_machine.specs.WorkedPlans.{number, numbers, null, column, old, new, where_column, integer_column, not_deferrable, initially_deferred, references_rule, create_table, setting, insert, insert_row, insert_value, update, update_all, delete, delete_all, create_trigger, create_update_of, inserts, sets, signals, set_all, set_these, set_one, start, commit}
+use Rattle.iv_worked_machine.specs.WorkedAnswers.{int, fault, with_change_count, told_from, told, told_within}
+use Rattle.iv_machine.specs.Machine.{empty_state}
 
 -- ---- changes and rows of integers, by table and row number
 
@@ -37,6 +38,13 @@ updated table row before after = updated_to table row before (ints after)
 
 abbrev pub stored : ℕ → ℕ → List ℕ → StoredRow
 stored table row values = record { table = table; number = row; values = ints values }
+
+-- a row of table 0 whose one value is null
+abbrev pub stored_null : ℕ → StoredRow
+stored_null row = record { table = 0; number = row; values = Null ∷ [] }
+
+abbrev pub inserted_null : ℕ → Change
+inserted_null row = record { table = 0; row = row; old = None; new = Some (Null ∷ []) }
 
 -- a foreign key acts so on a row of a table
 abbrev pub acts_on : ℕ → ReferentialAction → ℕ → ℕ → RowAction
@@ -234,3 +242,105 @@ pub record WorkedAccounts : Type 0 where
   -- SET CONSTRAINTS ALL IMMEDIATE
   pub set_constraints_is_refused : told (two_violations_at (set_all Immediate)) ≡ both_violations
   pub start_tells_nothing : told (start ∷ []) ≡ []
+  -- ---- what isn't told
+  -- CREATE TABLE t (a INT); CREATE TRIGGER b BEFORE INSERT ON t FOR EACH ROW SIGNAL 'stop'; INSERT INTO t VALUES
+  -- (4), (6); the first row's SIGNAL ends the statement
+  pub signal_of_the_first_row : told (
+      create_table (integer_column ∷ []) [] ∷ create_trigger 0 0 Before event.Insert Row Always (signals ∷ [])
+      ∷ insert 0 (numbers (4 ∷ []) ∷ numbers (6 ∷ []) ∷ []) ∷ [])
+      ≡ Ran 0 (saw_new (4 ∷ [])) ∷ []
+  -- CREATE TABLE t (a INT); CREATE TRIGGER g BEFORE DELETE ON t SIGNAL 'stop'; CREATE TRIGGER h BEFORE DELETE ON t
+  -- SIGNAL 'stop'; DELETE FROM t;
+  pub signal_of_the_first_trigger : told (
+      create_table (integer_column ∷ []) [] ∷ create_trigger 0 0 Before event.Delete Statement Always (signals ∷ [])
+      ∷ create_trigger 1 0 Before event.Delete Statement Always (signals ∷ []) ∷ delete_all 0 ∷ [])
+      ≡ Ran 0 (saw []) ∷ []
+  -- CREATE TABLE t (a INT); CREATE TRIGGER b BEFORE INSERT ON t REFERENCING NEW AS n FOR EACH ROW SET n.a = 0; and
+  -- then in a transaction of 1,048,576 changes: INSERT INTO t VALUES (4);
+  pub transaction_is_full_before_triggers : told_from (with_change_count 1048576 (
+      create_table (integer_column ∷ []) [] ∷ create_trigger 0 0 Before event.Insert Row Always (sets 0 (number 0) ∷ []) ∷ []))
+      (insert_value 0 (number 4) ∷ [])
+      ≡ []
+  -- CREATE TABLE t (a INT); CREATE TRIGGER g BEFORE INSERT ON t SIGNAL 'stop'; INSERT INTO t VALUES
+  -- (9223372036854775807 + 1); the value is refused before the trigger runs
+  pub value_before_a_statement_trigger : told (
+      create_table (integer_column ∷ []) [] ∷ create_trigger 0 0 Before event.Insert Statement Always (signals ∷ [])
+      ∷ insert_value 0 (plus (number 9223372036854775807) (number 1)) ∷ [])
+      ≡ []
+  -- ---- UPDATE OF
+  -- CREATE TABLE t (a INT, b INT); CREATE TRIGGER r AFTER UPDATE OF a ON t SIGNAL 'stop'; UPDATE t SET a = 1;
+  pub update_of_fires : told (
+      create_table (integer_column ∷ integer_column ∷ []) [] ∷ create_update_of 0 0 After (0 ∷ []) Statement (signals ∷ [])
+      ∷ update_all 0 0 (number 1) ∷ [])
+      ≡ Ran 0 (saw []) ∷ []
+  -- CREATE TABLE t (a INT, b INT); CREATE TRIGGER b BEFORE UPDATE OF a ON t REFERENCING NEW AS n FOR EACH ROW SET n.b
+  -- = 7; INSERT INTO t VALUES (1, 5); UPDATE t SET a = 2;
+  pub update_of_sets : told (
+      create_table (integer_column ∷ integer_column ∷ []) [] ∷ create_update_of 0 0 Before (0 ∷ []) Row (sets 1 (number 7) ∷ [])
+      ∷ insert_row 0 (numbers (1 ∷ 5 ∷ [])) ∷ update_all 0 0 (number 2) ∷ [])
+      ≡ Ran 0 (saw_both (1 ∷ 5 ∷ []) (2 ∷ 5 ∷ [])) ∷ Changed (updated 0 1 (1 ∷ 5 ∷ []) (2 ∷ 7 ∷ []) ∷ []) ∷ []
+  -- ---- foreign keys that act
+  -- CREATE TABLE t (k INT PRIMARY KEY, a INT REFERENCES t ON UPDATE CASCADE, b INT REFERENCES t ON UPDATE CASCADE);
+  -- INSERT INTO t VALUES (1, NULL, NULL), (2, 1, 1); UPDATE t SET k = k + 10, a = NULL; row 2 lets its key go by
+  -- itself, so that only the other foreign key acts
+  pub key_that_the_row_lets_go : told (
+      create_table (integer_column ∷ integer_column ∷ integer_column ∷ [])
+      (not_deferrable 0 (rule.PrimaryKey (0 ∷ [])) ∷ not_deferrable 0 (references_rule 1 0 0 NoAction Cascade)
+      ∷ not_deferrable 0 (references_rule 2 0 0 NoAction Cascade) ∷ [])
+      ∷ insert 0 ((number 1 ∷ null ∷ null ∷ []) ∷ numbers (2 ∷ 1 ∷ 1 ∷ []) ∷ [])
+      ∷ update 0 (setting 0 (plus (column 0) (number 10)) ∷ setting 1 null ∷ []) Always ∷ [])
+      ≡ Changed (
+      record { table = 0; row = 1; old = Some (int 1 ∷ Null ∷ Null ∷ []); new = Some (int 11 ∷ Null ∷ Null ∷ []) }
+      ∷ updated_to 0 2 (2 ∷ 1 ∷ 1 ∷ []) (int 12 ∷ Null ∷ int 1 ∷ []) ∷ [])
+      ∷ Acted (acts_on 2 Cascade 0 2 ∷ [])
+      ∷ Changed (record { table = 0; row = 2; old = Some (int 12 ∷ Null ∷ int 1 ∷ []); new = Some (int 12 ∷ Null ∷ int 11 ∷ []) } ∷ [])
+      ∷ []
+  -- CREATE TABLE p (k INT PRIMARY KEY); CREATE TABLE c (x INT REFERENCES p ON DELETE CASCADE); CREATE TRIGGER r AFTER
+  -- DELETE ON c REFERENCING OLD AS o FOR EACH ROW SIGNAL 'stop'; INSERT INTO p VALUES (1); INSERT INTO c VALUES (1);
+  -- DELETE FROM p;
+  pub trigger_of_the_child : told (
+      create_table (integer_column ∷ []) (not_deferrable 0 (rule.PrimaryKey (0 ∷ [])) ∷ [])
+      ∷ create_table (integer_column ∷ []) (not_deferrable 1 (references_rule 0 0 0 Cascade NoAction) ∷ [])
+      ∷ create_trigger 0 1 After event.Delete Row Always (signals ∷ [])
+      ∷ insert_value 0 (number 1) ∷ insert_value 1 (number 1) ∷ delete_all 0 ∷ [])
+      ≡ Changed (deleted 0 1 (1 ∷ []) ∷ []) ∷ Acted (acts_on 1 Cascade 1 2 ∷ []) ∷ Changed (deleted 1 2 (1 ∷ []) ∷ [])
+      ∷ Ran 0 (saw_old (1 ∷ [])) ∷ []
+  -- CREATE TABLE p (k INT PRIMARY KEY); CREATE TABLE c (x INT REFERENCES p ON UPDATE CASCADE REFERENCES p ON UPDATE SET
+  -- NULL); INSERT INTO p VALUES (1); INSERT INTO c VALUES (1); UPDATE p SET k = 5; the two disagree, so that neither acts
+  pub two_keys_disagree : told (
+      create_table (integer_column ∷ []) (not_deferrable 0 (rule.PrimaryKey (0 ∷ [])) ∷ [])
+      ∷ create_table (integer_column ∷ [])
+      (not_deferrable 1 (references_rule 0 0 0 NoAction Cascade) ∷ not_deferrable 1 (references_rule 0 0 0 NoAction SetNull) ∷ [])
+      ∷ insert_value 0 (number 1) ∷ insert_value 1 (number 1) ∷ update_all 0 0 (number 5) ∷ [])
+      ≡ Changed (updated 0 1 (1 ∷ []) (5 ∷ []) ∷ []) ∷ Faulted (fault 2 2) (stored 1 2 (1 ∷ []) ∷ []) ∷ []
+  -- ---- rows of a violation
+  -- CREATE TABLE t (a INT UNIQUE); INSERT INTO t VALUES (1), (1), (1); the first other row of the key
+  pub first_other_row : told (
+      create_table (integer_column ∷ []) (not_deferrable 0 (rule.Unique Distinct (0 ∷ [])) ∷ [])
+      ∷ insert 0 (numbers (1 ∷ []) ∷ numbers (1 ∷ []) ∷ numbers (1 ∷ []) ∷ []) ∷ [])
+      ≡ Changed (inserted 0 1 (1 ∷ []) ∷ inserted 0 2 (1 ∷ []) ∷ inserted 0 3 (1 ∷ []) ∷ [])
+      ∷ Faulted (fault 0 1) (stored 0 1 (1 ∷ []) ∷ stored 0 2 (1 ∷ []) ∷ []) ∷ []
+  -- CREATE TABLE t (a INT PRIMARY KEY); INSERT INTO t VALUES (NULL), (NULL); a null, and no other row
+  pub null_primary_keys : told (
+      create_table (integer_column ∷ []) (not_deferrable 0 (rule.PrimaryKey (0 ∷ [])) ∷ []) ∷ insert 0 ((null ∷ []) ∷ (null ∷ []) ∷ []) ∷ [])
+      ≡ Changed (inserted_null 1 ∷ inserted_null 2 ∷ []) ∷ Faulted (fault 0 1) (stored_null 1 ∷ []) ∷ []
+  -- CREATE TABLE t (a INT UNIQUE NULLS NOT DISTINCT); INSERT INTO t VALUES (NULL), (NULL);
+  pub nulls_not_distinct : told (
+      create_table (integer_column ∷ []) (not_deferrable 0 (rule.Unique NotDistinct (0 ∷ [])) ∷ []) ∷ insert 0 ((null ∷ []) ∷ (null ∷ []) ∷ []) ∷ [])
+      ≡ Changed (inserted_null 1 ∷ inserted_null 2 ∷ []) ∷ Faulted (fault 0 1) (stored_null 1 ∷ stored_null 2 ∷ []) ∷ []
+  -- ---- SET CONSTRAINTS, and a depth
+  -- of two violated constraints one is set
+  pub one_constraint_is_set : told (two_violations_at (set_one 1 Immediate)) ≡ Faulted (fault 1 2) (stored 0 2 (1 ∷ 9 ∷ []) ∷ []) ∷ []
+  -- CREATE TABLE t (a INT NOT NULL INITIALLY DEFERRED, b INT CHECK (b < 5)); INSERT INTO t VALUES (NULL, 3); SET
+  -- CONSTRAINTS x, y IMMEDIATE; y isn't deferrable
+  pub set_constraints_of_one_not_deferrable : told (
+      create_table (integer_column ∷ integer_column ∷ [])
+      (initially_deferred 0 (rule.NotNull 0) ∷ not_deferrable 0 (rule.Check (where_column Less 1 5)) ∷ [])
+      ∷ insert 0 ((null ∷ number 3 ∷ []) ∷ []) ∷ set_these (0 ∷ 1 ∷ []) Immediate ∷ [])
+      ≡ []
+  -- With a depth of 1: CREATE TABLE t (a INT); CREATE TRIGGER r AFTER INSERT ON t INSERT INTO t VALUES (1); INSERT INTO t
+  -- VALUES (0); the statement of the body begins, and is refused
+  pub depth_of_one : told_from (empty_state (record { depth = 1; changes = 65536 })) (
+      create_table (integer_column ∷ []) [] ∷ create_trigger 0 0 After event.Insert Statement Always (inserts 0 (number 1 ∷ []) ∷ [])
+      ∷ insert_value 0 (number 0) ∷ [])
+      ≡ Changed (inserted 0 1 (0 ∷ []) ∷ []) ∷ Ran 0 (saw (inserted 0 1 (0 ∷ []) ∷ [])) ∷ Began 1 ∷ []

@@ -132,3 +132,15 @@ pub record WorkedActions : Type 0 where
   pub budget_of_five : answers_within 5 three_children ≡ three_children_answers (ok_rows 1)
   pub budget_of_five_counts : works_within 5 three_children
       ≡ work 0 0 ∷ work 0 0 ∷ work 1 0 ∷ work 1 0 ∷ work 1 0 ∷ work 1 0 ∷ work 0 0 ∷ work 4 0 ∷ []
+  -- CREATE TABLE p (a INT UNIQUE, b INT UNIQUE); CREATE TABLE c (x INT REFERENCES p (a) ON UPDATE SET NULL
+  -- CHECK (x = 5) REFERENCES p (b) ON UPDATE CASCADE); INSERT INTO p VALUES (5, 5); INSERT INTO c VALUES
+  -- (5); UPDATE p SET a = 6, b = 7; between the two foreign keys is another constraint
+  pub keys_apart_disagree : answers (
+      create_table (integer_column ∷ integer_column ∷ [])
+      (not_deferrable 0 (rule.Unique Distinct (0 ∷ [])) ∷ not_deferrable 0 (rule.Unique Distinct (1 ∷ [])) ∷ [])
+      ∷ create_table (integer_column ∷ [])
+      (not_deferrable 1 (references_rule 0 0 0 NoAction SetNull) ∷ not_deferrable 1 (rule.Check (where_column Equal 0 5))
+      ∷ not_deferrable 1 (references_rule 0 0 1 NoAction Cascade) ∷ [])
+      ∷ insert 0 ((number 5 ∷ number 5 ∷ []) ∷ []) ∷ insert_value 1 (number 5)
+      ∷ update 0 (setting 0 (number 6) ∷ setting 1 (number 7) ∷ []) Always ∷ [])
+      ≡ ok ∷ ok ∷ ok_rows 1 ∷ ok_rows 1 ∷ refused (cause.ActionConflict (fault 4 2)) ∷ []

@@ -10,7 +10,7 @@ use Rattle.iv_worked_machine.specs.Words.time.{Before}
 use Rattle.iv_worked_machine.specs.Words.event
 use Rattle.iv_worked_machine.specs.Words.granularity.{Row, Statement}
 use Rattle.iv_worked_machine.specs.Words.rule
-use Rattle.iv_worked_machine.specs.Words.cause.{Signal, TextTooLong}
+use Rattle.iv_worked_machine.specs.Words.cause.{NumberOutOfRange, Signal, TextTooLong}
 use Rattle.iv_expr.specs.Trees.{plus, not_c, exists_c}
 use Rattle.iv_worked_machine.specs.WorkedPlans.{number, numbers, text, column, new, where_column, integer_column, varchar, not_deferrable, references_rule, create_table, insert, insert_row, insert_value, update_all, delete_all, create_trigger, sets, signals, select_all}
 use Rattle.iv_worked_machine.specs.WorkedAnswers.{ok, ok_rows, int, rows, rows_of, refused, refused_in, work, idle, answers, works}
@@ -109,3 +109,19 @@ pub record WorkedBeforeTriggers : Type 0 where
       (sets 1 (number 1) ∷ [])
       ∷ insert_row 0 (numbers (4 ∷ 0 ∷ [])) ∷ select_all 0 ∷ [])
       ≡ ok ∷ ok ∷ ok ∷ ok_rows 1 ∷ rows_of ((0 ∷ 0 ∷ []) ∷ []) ∷ []
+  -- Values come first: CREATE TABLE t (a INT); CREATE TRIGGER b BEFORE INSERT ON t SIGNAL 'stop'; INSERT
+  -- INTO t VALUES (9223372036854775807 + 1);
+  pub values_before_statement_triggers : answers (
+      create_table (integer_column ∷ []) []
+      ∷ create_trigger 0 0 Before event.Insert Statement Always (signals ∷ [])
+      ∷ insert_value 0 (plus (number 9223372036854775807) (number 1)) ∷ [])
+      ≡ ok ∷ ok ∷ refused NumberOutOfRange ∷ []
+  -- Each trigger runs on all rows before the next: CREATE TABLE t (a INT); CREATE TRIGGER r BEFORE INSERT
+  -- ON t REFERENCING NEW AS n FOR EACH ROW WHEN (n.a = 2) SIGNAL 'stop'; CREATE TRIGGER s BEFORE INSERT ON
+  -- t REFERENCING NEW AS n FOR EACH ROW WHEN (n.a = 1) SIGNAL 'stop'; INSERT INTO t VALUES (1), (2);
+  pub each_trigger_over_all_rows : answers (
+      create_table (integer_column ∷ []) []
+      ∷ create_trigger 0 0 Before event.Insert Row (Compare Equal (new 0) (number 2)) (signals ∷ [])
+      ∷ create_trigger 1 0 Before event.Insert Row (Compare Equal (new 0) (number 1)) (signals ∷ [])
+      ∷ insert 0 (numbers (1 ∷ []) ∷ numbers (2 ∷ []) ∷ []) ∷ [])
+      ≡ ok ∷ ok ∷ ok ∷ refused_in 0 (Signal 0 1) ∷ []

@@ -126,3 +126,22 @@ pub record WorkedColumns : Type 0 where
       ∷ insert_value 0 (number 1) ∷ insert_value 1 (number 1) ∷ insert_row 3 (numbers (5 ∷ 1 ∷ []))
       ∷ update_all 0 0 (number 2) ∷ select_all 2 ∷ [])
       ≡ ok ∷ ok ∷ ok ∷ ok ∷ ok ∷ ok ∷ ok_rows 1 ∷ ok_rows 1 ∷ ok_rows 1 ∷ ok_rows 1 ∷ rows_of ((2 ∷ []) ∷ []) ∷ []
+  -- one of the two columns is enough: CREATE TRIGGER r AFTER UPDATE OF x, y ON c INSERT INTO log VALUES (1); CREATE TRIGGER s AFTER
+  -- UPDATE OF y, x ON c INSERT INTO log VALUES (1); UPDATE c SET x = 1; SELECT * FROM log;
+  pub one_of_two_columns : answers (parent_and_child (
+      create_update_of 0 1 After (0 ∷ 1 ∷ []) Statement logs ∷ create_update_of 1 1 After (1 ∷ 0 ∷ []) Statement logs
+      ∷ update_all 1 0 (number 1) ∷ select_all 2 ∷ []))
+      ≡ ok ∷ ok ∷ ok ∷ ok ∷ ok ∷ ok_rows 0 ∷ rows_of ((1 ∷ []) ∷ (1 ∷ []) ∷ []) ∷ []
+  -- the first wave has the columns of the SET list: CREATE TABLE t (a INT, b INT); CREATE TRIGGER b BEFORE UPDATE OF a ON t
+  -- REFERENCING NEW AS n FOR EACH ROW SET n.b = 7; INSERT INTO t VALUES (1, 5); UPDATE t SET a = 2; SELECT * FROM t;
+  pub set_list_is_of_the_first_wave : answers (
+      create_table (integer_column ∷ integer_column ∷ []) []
+      ∷ create_update_of 0 0 Before (0 ∷ []) Row (sets 1 (number 7) ∷ [])
+      ∷ insert_row 0 (numbers (1 ∷ 5 ∷ [])) ∷ update_all 0 0 (number 2) ∷ select_all 0 ∷ [])
+      ≡ ok ∷ ok ∷ ok_rows 1 ∷ ok_rows 1 ∷ rows_of ((2 ∷ 7 ∷ []) ∷ []) ∷ []
+  -- the columns of each foreign key that sets values count: CREATE TRIGGER ry AFTER UPDATE OF y ON c INSERT INTO log VALUES (1);
+  -- INSERT INTO p VALUES (1); INSERT INTO c VALUES (1, 1, NULL); UPDATE p SET k = 2; SELECT * FROM log;
+  pub columns_of_a_second_key : answers (three_keys (
+      create_update_of 0 1 After (1 ∷ []) Statement logs
+      ∷ insert_value 0 (number 1) ∷ insert_row 1 (number 1 ∷ number 1 ∷ null ∷ []) ∷ update_all 0 0 (number 2) ∷ select_all 2 ∷ []))
+      ≡ ok ∷ ok ∷ ok ∷ ok ∷ ok_rows 1 ∷ ok_rows 1 ∷ ok_rows 1 ∷ rows_of ((1 ∷ []) ∷ []) ∷ []

@@ -161,3 +161,10 @@ pub record WorkedConstraints : Type 0 where
       ∷ count_all 0 ∷ [])
       ≡ ok ∷ ok ∷ ok ∷ ok_rows 1 ∷ ok ∷ ok_rows 1 ∷ ok ∷ refused UnknownSavepoint ∷ ok
       ∷ rows ((int 2 ∷ []) ∷ []) ∷ []
+  -- CREATE TABLE t (a INT CHECK (a > 0), b INT CHECK (b > 0)); INSERT INTO t VALUES (1, 0), (0, 1); the
+  -- earlier constraint is told, and not the earlier row
+  pub violations_by_constraint : answers (
+      create_table (integer_column ∷ integer_column ∷ [])
+      (not_deferrable 0 (rule.Check (where_column Greater 0 0)) ∷ not_deferrable 0 (rule.Check (where_column Greater 1 0)) ∷ [])
+      ∷ insert 0 ((number 1 ∷ number 0 ∷ []) ∷ (number 0 ∷ number 1 ∷ []) ∷ []) ∷ [])
+      ≡ ok ∷ refused (Violation (fault 0 2)) ∷ []

@@ -1,11 +1,12 @@
--- Worked scripts on INSERT: its columns, its query, and the order in which values are stored.
+-- Worked scripts on INSERT: its columns, its query, and the order in which values are stored; and a condition that is unknown.
 use Rattle.std.specs.Prelude.{◌≡◌, [], ◌∷◌, codes}
 use Rattle.iv_worked_machine.specs.Words.{Expr}
 use Rattle.iv_worked_machine.specs.Words.value.{Null}
+use Rattle.iv_worked_machine.specs.Words.comparison.{Equal}
 use Rattle.iv_worked_machine.specs.Words.range.{Table}
 use Rattle.iv_worked_machine.specs.Words.cause.{NumberOutOfRange, TextTooLong}
 use Rattle.iv_expr.specs.Trees.{plus}
-use Rattle.iv_worked_machine.specs.WorkedPlans.{number, numbers, text, column, integer_column, integer_default, varchar, create_table, insert_row, insert_listed, insert_from, select_all}
+use Rattle.iv_worked_machine.specs.WorkedPlans.{number, numbers, null, text, column, where_column, integer_column, integer_default, varchar, create_table, insert_row, insert_listed, insert_from, delete, select_all}
 use Rattle.iv_worked_machine.specs.WorkedAnswers.{ok, ok_rows, int, rows, refused, answers}
 
 -- 9223372036854775807 + 1
@@ -32,3 +33,7 @@ pub record WorkedStatements : Type 0 where
       ∷ insert_row 0 (too_large ∷ text (codes "long") ∷ [])
       ∷ insert_listed 0 (1 ∷ 0 ∷ []) (text (codes "long") ∷ too_large ∷ []) ∷ [])
       ≡ ok ∷ refused NumberOutOfRange ∷ refused TextTooLong ∷ []
+  -- CREATE TABLE t (a INT); INSERT INTO t VALUES (NULL); DELETE FROM t WHERE a = 1; the condition is unknown
+  pub unknown_finds_no_row : answers (
+      create_table (integer_column ∷ []) [] ∷ insert_row 0 (null ∷ []) ∷ delete 0 (where_column Equal 0 1) ∷ [])
+      ≡ ok ∷ ok_rows 1 ∷ ok_rows 0 ∷ []

@@ -131,3 +131,22 @@ pub record WorkedTriggers : Type 0 where
       ∷ body.Set (setting 1 (times (Variable New 0) (number 2))) ∷ [])
       ∷ insert 0 ((number 1 ∷ number 0 ∷ []) ∷ []) ∷ select_all 0 ∷ [])
       ≡ ok ∷ ok ∷ ok_rows 1 ∷ rows ((int 2 ∷ int 4 ∷ []) ∷ []) ∷ []
+  -- CREATE TABLE t (a INT); CREATE TRIGGER r AFTER INSERT ON t REFERENCING NEW AS n FOR EACH ROW WHEN
+  -- (n.a < 40) INSERT INTO t VALUES (n.a + 1); INSERT INTO t VALUES (0); SELECT COUNT(*) FROM t;
+  pub forty_levels_of_64 : answers_deep 64 (
+      create_table (integer_column ∷ []) []
+      ∷ create_trigger 0 0 After event.Insert Row (Compare Less (Variable New 0) (number 40))
+      (body.Data (insert_statement 0 ((plus (Variable New 0) (number 1) ∷ []) ∷ [])) ∷ [])
+      ∷ insert_value 0 (number 0) ∷ count_all 0 ∷ [])
+      ≡ ok ∷ ok ∷ ok_rows 1 ∷ rows ((int 41 ∷ []) ∷ []) ∷ []
+  -- CREATE TABLE t (a INT); CREATE TABLE log (m INT); CREATE TRIGGER r AFTER INSERT ON t INSERT INTO log
+  -- VALUES (1); CREATE TRIGGER s AFTER INSERT ON t INSERT INTO log VALUES (2); INSERT INTO t VALUES (5);
+  -- SELECT * FROM log;
+  pub after_triggers_in_order : answers (
+      create_table (integer_column ∷ []) [] ∷ create_table (integer_column ∷ []) []
+      ∷ create_trigger 0 0 After event.Insert Statement Always
+      (body.Data (insert_statement 1 ((number 1 ∷ []) ∷ [])) ∷ [])
+      ∷ create_trigger 1 0 After event.Insert Statement Always
+      (body.Data (insert_statement 1 ((number 2 ∷ []) ∷ [])) ∷ [])
+      ∷ insert_value 0 (number 5) ∷ select_all 1 ∷ [])
+      ≡ ok ∷ ok ∷ ok ∷ ok ∷ ok_rows 1 ∷ rows ((int 1 ∷ []) ∷ (int 2 ∷ []) ∷ []) ∷ []

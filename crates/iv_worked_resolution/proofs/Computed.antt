@@ -1,6 +1,7 @@
 -- The worked statements compute.
 use Rattle.std.proofs.Common.{refl}
 use Rattle.std.specs.Fmt.{digits}
+use Rattle.std.specs.Fmt.{digits}
 use Rattle.iv_value.proofs.OnLiterals.{values_on_literals}
 use Rattle.iv_worked_resolution.specs.WorkedUnknown.{WorkedUnknown}
 use Rattle.iv_worked_resolution.specs.WorkedDuplicates.{WorkedDuplicates}
@@ -10,9 +11,11 @@ use Rattle.iv_worked_resolution.specs.WorkedLimits.{WorkedLimits}
 use Rattle.iv_worked_resolution.specs.WorkedOrder.{WorkedOrder}
 use Rattle.iv_worked_resolution.specs.WorkedUpdateOf.{WorkedUpdateOf}
 use Rattle.iv_worked_resolution.specs.WorkedNulls.{WorkedNulls}
+use Rattle.iv_worked_resolution.specs.WorkedNames.{WorkedNames}
+use Rattle.iv_worked_resolution.specs.WorkedMeanings.{WorkedMeanings}
 
 pub unknown : WorkedUnknown
-unfolding Rattle.iv_resolution.specs.Scopes.column_meant Rattle.iv_resolution.specs.Scopes.source_named Rattle.iv_resolution.specs.Scopes.is_source Rattle.iv_resolution.specs.Scopes.source_columns Rattle.iv_resolution.specs.Scopes.source_range Rattle.iv_resolution.specs.Scopes.range_of Rattle.iv_resolution.specs.Terms.unknown_condition Rattle.iv_resolution.specs.Terms.clash Rattle.iv_resolution.specs.Terms.some_text Rattle.iv_resolution.specs.Terms.misshaped_condition Rattle.iv_resolution.specs.Terms.integer_of Rattle.iv_resolution.specs.Terms.bound_condition Rattle.iv_resolution.specs.Constraints.comes_twice Rattle.iv_resolution.specs.Changes.clashes_with Rattle.iv_resolution.specs.Changes.value_clashes Rattle.iv_resolution.specs.Changes.misshaped_value Rattle.iv_resolution.specs.Changes.tuple_clashes Rattle.iv_resolution.specs.Changes.misshaped_tuple Rattle.iv_resolution.specs.Changes.kinds_clash Rattle.iv_resolution.specs.Changes.values_clash Rattle.iv_resolution.specs.Changes.columns_clash Rattle.iv_resolution.specs.Changes.list_clashes Rattle.iv_resolution.specs.Changes.misshaped_source Rattle.iv_resolution.specs.Changes.misshaped_assignment Rattle.iv_resolution.specs.Triggers.subject_of Rattle.iv_resolution.specs.Triggers.trigger_names Rattle.iv_resolution.specs.Triggers.trigger_variables Rattle.iv_resolution.specs.Triggers.variable_named Rattle.iv_resolution.specs.Triggers.unknown_set Rattle.iv_resolution.specs.Triggers.unknown_action Rattle.iv_resolution.specs.Triggers.is_allowed_item Rattle.iv_resolution.specs.Triggers.is_allowed_action Rattle.iv_resolution.specs.Triggers.sets_old Rattle.iv_resolution.specs.Triggers.misshaped_action Rattle.iv_resolution.specs.Bound.table_id Rattle.iv_resolution.specs.Bound.default_at Rattle.iv_resolution.specs.Bound.bound_value Rattle.iv_resolution.specs.Bound.target_place Rattle.iv_resolution.specs.Bound.bound_tuple Rattle.iv_resolution.specs.Bound.bound_list Rattle.iv_resolution.specs.Bound.bound_source Rattle.iv_resolution.specs.Bound.bound_columns Rattle.iv_resolution.specs.Bound.bound_assignment Rattle.iv_catalogue.specs.Names.generated_name digits
+unfolding Rattle.iv_resolution.specs.Scopes.column_meant Rattle.iv_resolution.specs.Scopes.source_named Rattle.iv_resolution.specs.Scopes.is_source Rattle.iv_resolution.specs.Scopes.source_columns Rattle.iv_resolution.specs.Scopes.source_range Rattle.iv_resolution.specs.Scopes.range_of Rattle.iv_resolution.specs.NameFaults.unknown_in_condition Rattle.iv_resolution.specs.Terms.clash Rattle.iv_resolution.specs.Terms.some_text Rattle.iv_resolution.specs.Terms.misshaped_condition Rattle.iv_resolution.specs.Terms.integer_of Rattle.iv_resolution.specs.Terms.bound_condition Rattle.iv_resolution.specs.Changes.clashes_with Rattle.iv_resolution.specs.Changes.value_clashes Rattle.iv_resolution.specs.Changes.misshaped_value Rattle.iv_resolution.specs.Changes.tuple_clashes Rattle.iv_resolution.specs.Changes.misshaped_tuple Rattle.iv_resolution.specs.Changes.kinds_clash Rattle.iv_resolution.specs.Changes.values_clash Rattle.iv_resolution.specs.Changes.columns_clash Rattle.iv_resolution.specs.Changes.list_clashes Rattle.iv_resolution.specs.Changes.misshaped_source Rattle.iv_resolution.specs.Changes.misshaped_assignment Rattle.iv_resolution.specs.Triggers.subject_of Rattle.iv_resolution.specs.Triggers.trigger_names Rattle.iv_resolution.specs.Triggers.trigger_variables Rattle.iv_resolution.specs.Triggers.variable_named Rattle.iv_resolution.specs.NameFaults.unknown_in_set Rattle.iv_resolution.specs.NameFaults.unknown_in_action Rattle.iv_resolution.specs.Triggers.is_allowed_item Rattle.iv_resolution.specs.Triggers.is_allowed_action Rattle.iv_resolution.specs.Triggers.sets_old Rattle.iv_resolution.specs.Triggers.misshaped_action Rattle.iv_resolution.specs.Bound.table_id Rattle.iv_resolution.specs.Bound.default_at Rattle.iv_resolution.specs.Bound.bound_value Rattle.iv_resolution.specs.Bound.target_place Rattle.iv_resolution.specs.Bound.bound_tuple Rattle.iv_resolution.specs.Bound.bound_list Rattle.iv_resolution.specs.Bound.bound_source Rattle.iv_resolution.specs.Bound.bound_columns Rattle.iv_resolution.specs.Bound.bound_assignment Rattle.iv_catalogue.specs.Names.generated_name digits
 unknown = record {
   unique_of_nothing = refl;
   unique_of_a_column = refl;
@@ -175,7 +178,7 @@ unknown = record {
 }
 
 pub duplicates : WorkedDuplicates
-unfolding Rattle.iv_resolution.specs.Scopes.column_meant Rattle.iv_resolution.specs.Scopes.source_named Rattle.iv_resolution.specs.Scopes.is_source Rattle.iv_resolution.specs.Scopes.source_columns Rattle.iv_resolution.specs.Scopes.source_range Rattle.iv_resolution.specs.Scopes.range_of Rattle.iv_resolution.specs.Terms.unknown_condition Rattle.iv_resolution.specs.Terms.clash Rattle.iv_resolution.specs.Terms.some_text Rattle.iv_resolution.specs.Terms.misshaped_condition Rattle.iv_resolution.specs.Terms.integer_of Rattle.iv_resolution.specs.Terms.bound_condition Rattle.iv_resolution.specs.Constraints.comes_twice Rattle.iv_resolution.specs.Changes.clashes_with Rattle.iv_resolution.specs.Changes.value_clashes Rattle.iv_resolution.specs.Changes.misshaped_value Rattle.iv_resolution.specs.Changes.tuple_clashes Rattle.iv_resolution.specs.Changes.misshaped_tuple Rattle.iv_resolution.specs.Changes.kinds_clash Rattle.iv_resolution.specs.Changes.values_clash Rattle.iv_resolution.specs.Changes.columns_clash Rattle.iv_resolution.specs.Changes.list_clashes Rattle.iv_resolution.specs.Changes.misshaped_source Rattle.iv_resolution.specs.Changes.misshaped_assignment Rattle.iv_resolution.specs.Triggers.subject_of Rattle.iv_resolution.specs.Triggers.trigger_names Rattle.iv_resolution.specs.Triggers.trigger_variables Rattle.iv_resolution.specs.Triggers.variable_named Rattle.iv_resolution.specs.Triggers.unknown_set Rattle.iv_resolution.specs.Triggers.unknown_action Rattle.iv_resolution.specs.Triggers.is_allowed_item Rattle.iv_resolution.specs.Triggers.is_allowed_action Rattle.iv_resolution.specs.Triggers.sets_old Rattle.iv_resolution.specs.Triggers.misshaped_action Rattle.iv_resolution.specs.Bound.table_id Rattle.iv_resolution.specs.Bound.default_at Rattle.iv_resolution.specs.Bound.bound_value Rattle.iv_resolution.specs.Bound.target_place Rattle.iv_resolution.specs.Bound.bound_tuple Rattle.iv_resolution.specs.Bound.bound_list Rattle.iv_resolution.specs.Bound.bound_source Rattle.iv_resolution.specs.Bound.bound_columns Rattle.iv_resolution.specs.Bound.bound_assignment Rattle.iv_catalogue.specs.Names.generated_name digits
+unfolding Rattle.iv_resolution.specs.Scopes.column_meant Rattle.iv_resolution.specs.Scopes.source_named Rattle.iv_resolution.specs.Scopes.is_source Rattle.iv_resolution.specs.Scopes.source_columns Rattle.iv_resolution.specs.Scopes.source_range Rattle.iv_resolution.specs.Scopes.range_of Rattle.iv_resolution.specs.NameFaults.unknown_in_condition Rattle.iv_resolution.specs.Terms.clash Rattle.iv_resolution.specs.Terms.some_text Rattle.iv_resolution.specs.Terms.misshaped_condition Rattle.iv_resolution.specs.Terms.integer_of Rattle.iv_resolution.specs.Terms.bound_condition Rattle.iv_resolution.specs.Changes.clashes_with Rattle.iv_resolution.specs.Changes.value_clashes Rattle.iv_resolution.specs.Changes.misshaped_value Rattle.iv_resolution.specs.Changes.tuple_clashes Rattle.iv_resolution.specs.Changes.misshaped_tuple Rattle.iv_resolution.specs.Changes.kinds_clash Rattle.iv_resolution.specs.Changes.values_clash Rattle.iv_resolution.specs.Changes.columns_clash Rattle.iv_resolution.specs.Changes.list_clashes Rattle.iv_resolution.specs.Changes.misshaped_source Rattle.iv_resolution.specs.Changes.misshaped_assignment Rattle.iv_resolution.specs.Triggers.subject_of Rattle.iv_resolution.specs.Triggers.trigger_names Rattle.iv_resolution.specs.Triggers.trigger_variables Rattle.iv_resolution.specs.Triggers.variable_named Rattle.iv_resolution.specs.NameFaults.unknown_in_set Rattle.iv_resolution.specs.NameFaults.unknown_in_action Rattle.iv_resolution.specs.Triggers.is_allowed_item Rattle.iv_resolution.specs.Triggers.is_allowed_action Rattle.iv_resolution.specs.Triggers.sets_old Rattle.iv_resolution.specs.Triggers.misshaped_action Rattle.iv_resolution.specs.Bound.table_id Rattle.iv_resolution.specs.Bound.default_at Rattle.iv_resolution.specs.Bound.bound_value Rattle.iv_resolution.specs.Bound.target_place Rattle.iv_resolution.specs.Bound.bound_tuple Rattle.iv_resolution.specs.Bound.bound_list Rattle.iv_resolution.specs.Bound.bound_source Rattle.iv_resolution.specs.Bound.bound_columns Rattle.iv_resolution.specs.Bound.bound_assignment Rattle.iv_catalogue.specs.Names.generated_name digits
 duplicates = record {
   table_not_in_use = refl;
   table_called_as_a_trigger = refl;
@@ -234,7 +237,7 @@ duplicates = record {
 }
 
 pub faults : WorkedSchemaFaults
-unfolding Rattle.iv_resolution.specs.Scopes.column_meant Rattle.iv_resolution.specs.Scopes.source_named Rattle.iv_resolution.specs.Scopes.is_source Rattle.iv_resolution.specs.Scopes.source_columns Rattle.iv_resolution.specs.Scopes.source_range Rattle.iv_resolution.specs.Scopes.range_of Rattle.iv_resolution.specs.Terms.unknown_condition Rattle.iv_resolution.specs.Terms.clash Rattle.iv_resolution.specs.Terms.some_text Rattle.iv_resolution.specs.Terms.misshaped_condition Rattle.iv_resolution.specs.Terms.integer_of Rattle.iv_resolution.specs.Terms.bound_condition Rattle.iv_resolution.specs.Constraints.comes_twice Rattle.iv_resolution.specs.Changes.clashes_with Rattle.iv_resolution.specs.Changes.value_clashes Rattle.iv_resolution.specs.Changes.misshaped_value Rattle.iv_resolution.specs.Changes.tuple_clashes Rattle.iv_resolution.specs.Changes.misshaped_tuple Rattle.iv_resolution.specs.Changes.kinds_clash Rattle.iv_resolution.specs.Changes.values_clash Rattle.iv_resolution.specs.Changes.columns_clash Rattle.iv_resolution.specs.Changes.list_clashes Rattle.iv_resolution.specs.Changes.misshaped_source Rattle.iv_resolution.specs.Changes.misshaped_assignment Rattle.iv_resolution.specs.Triggers.subject_of Rattle.iv_resolution.specs.Triggers.trigger_names Rattle.iv_resolution.specs.Triggers.trigger_variables Rattle.iv_resolution.specs.Triggers.variable_named Rattle.iv_resolution.specs.Triggers.unknown_set Rattle.iv_resolution.specs.Triggers.unknown_action Rattle.iv_resolution.specs.Triggers.is_allowed_item Rattle.iv_resolution.specs.Triggers.is_allowed_action Rattle.iv_resolution.specs.Triggers.sets_old Rattle.iv_resolution.specs.Triggers.misshaped_action Rattle.iv_resolution.specs.Bound.table_id Rattle.iv_resolution.specs.Bound.default_at Rattle.iv_resolution.specs.Bound.bound_value Rattle.iv_resolution.specs.Bound.target_place Rattle.iv_resolution.specs.Bound.bound_tuple Rattle.iv_resolution.specs.Bound.bound_list Rattle.iv_resolution.specs.Bound.bound_source Rattle.iv_resolution.specs.Bound.bound_columns Rattle.iv_resolution.specs.Bound.bound_assignment Rattle.iv_catalogue.specs.Names.generated_name digits values_on_literals
+unfolding Rattle.iv_resolution.specs.Scopes.column_meant Rattle.iv_resolution.specs.Scopes.source_named Rattle.iv_resolution.specs.Scopes.is_source Rattle.iv_resolution.specs.Scopes.source_columns Rattle.iv_resolution.specs.Scopes.source_range Rattle.iv_resolution.specs.Scopes.range_of Rattle.iv_resolution.specs.NameFaults.unknown_in_condition Rattle.iv_resolution.specs.Terms.clash Rattle.iv_resolution.specs.Terms.some_text Rattle.iv_resolution.specs.Terms.misshaped_condition Rattle.iv_resolution.specs.Terms.integer_of Rattle.iv_resolution.specs.Terms.bound_condition Rattle.iv_resolution.specs.Changes.clashes_with Rattle.iv_resolution.specs.Changes.value_clashes Rattle.iv_resolution.specs.Changes.misshaped_value Rattle.iv_resolution.specs.Changes.tuple_clashes Rattle.iv_resolution.specs.Changes.misshaped_tuple Rattle.iv_resolution.specs.Changes.kinds_clash Rattle.iv_resolution.specs.Changes.values_clash Rattle.iv_resolution.specs.Changes.columns_clash Rattle.iv_resolution.specs.Changes.list_clashes Rattle.iv_resolution.specs.Changes.misshaped_source Rattle.iv_resolution.specs.Changes.misshaped_assignment Rattle.iv_resolution.specs.Triggers.subject_of Rattle.iv_resolution.specs.Triggers.trigger_names Rattle.iv_resolution.specs.Triggers.trigger_variables Rattle.iv_resolution.specs.Triggers.variable_named Rattle.iv_resolution.specs.NameFaults.unknown_in_set Rattle.iv_resolution.specs.NameFaults.unknown_in_action Rattle.iv_resolution.specs.Triggers.is_allowed_item Rattle.iv_resolution.specs.Triggers.is_allowed_action Rattle.iv_resolution.specs.Triggers.sets_old Rattle.iv_resolution.specs.Triggers.misshaped_action Rattle.iv_resolution.specs.Bound.table_id Rattle.iv_resolution.specs.Bound.default_at Rattle.iv_resolution.specs.Bound.bound_value Rattle.iv_resolution.specs.Bound.target_place Rattle.iv_resolution.specs.Bound.bound_tuple Rattle.iv_resolution.specs.Bound.bound_list Rattle.iv_resolution.specs.Bound.bound_source Rattle.iv_resolution.specs.Bound.bound_columns Rattle.iv_resolution.specs.Bound.bound_assignment Rattle.iv_catalogue.specs.Names.generated_name digits values_on_literals
 faults = record {
   one_column = refl;
   number_for_a_text = refl;
@@ -342,7 +345,7 @@ faults = record {
 }
 
 pub shapes : WorkedShapes
-unfolding Rattle.iv_resolution.specs.Scopes.column_meant Rattle.iv_resolution.specs.Scopes.source_named Rattle.iv_resolution.specs.Scopes.is_source Rattle.iv_resolution.specs.Scopes.source_columns Rattle.iv_resolution.specs.Scopes.source_range Rattle.iv_resolution.specs.Scopes.range_of Rattle.iv_resolution.specs.Terms.unknown_condition Rattle.iv_resolution.specs.Terms.clash Rattle.iv_resolution.specs.Terms.some_text Rattle.iv_resolution.specs.Terms.misshaped_condition Rattle.iv_resolution.specs.Terms.integer_of Rattle.iv_resolution.specs.Terms.bound_condition Rattle.iv_resolution.specs.Constraints.comes_twice Rattle.iv_resolution.specs.Changes.clashes_with Rattle.iv_resolution.specs.Changes.value_clashes Rattle.iv_resolution.specs.Changes.misshaped_value Rattle.iv_resolution.specs.Changes.tuple_clashes Rattle.iv_resolution.specs.Changes.misshaped_tuple Rattle.iv_resolution.specs.Changes.kinds_clash Rattle.iv_resolution.specs.Changes.values_clash Rattle.iv_resolution.specs.Changes.columns_clash Rattle.iv_resolution.specs.Changes.list_clashes Rattle.iv_resolution.specs.Changes.misshaped_source Rattle.iv_resolution.specs.Changes.misshaped_assignment Rattle.iv_resolution.specs.Triggers.subject_of Rattle.iv_resolution.specs.Triggers.trigger_names Rattle.iv_resolution.specs.Triggers.trigger_variables Rattle.iv_resolution.specs.Triggers.variable_named Rattle.iv_resolution.specs.Triggers.unknown_set Rattle.iv_resolution.specs.Triggers.unknown_action Rattle.iv_resolution.specs.Triggers.is_allowed_item Rattle.iv_resolution.specs.Triggers.is_allowed_action Rattle.iv_resolution.specs.Triggers.sets_old Rattle.iv_resolution.specs.Triggers.misshaped_action Rattle.iv_resolution.specs.Bound.table_id Rattle.iv_resolution.specs.Bound.default_at Rattle.iv_resolution.specs.Bound.bound_value Rattle.iv_resolution.specs.Bound.target_place Rattle.iv_resolution.specs.Bound.bound_tuple Rattle.iv_resolution.specs.Bound.bound_list Rattle.iv_resolution.specs.Bound.bound_source Rattle.iv_resolution.specs.Bound.bound_columns Rattle.iv_resolution.specs.Bound.bound_assignment Rattle.iv_catalogue.specs.Names.generated_name digits
+unfolding Rattle.iv_resolution.specs.Scopes.column_meant Rattle.iv_resolution.specs.Scopes.source_named Rattle.iv_resolution.specs.Scopes.is_source Rattle.iv_resolution.specs.Scopes.source_columns Rattle.iv_resolution.specs.Scopes.source_range Rattle.iv_resolution.specs.Scopes.range_of Rattle.iv_resolution.specs.NameFaults.unknown_in_condition Rattle.iv_resolution.specs.Terms.clash Rattle.iv_resolution.specs.Terms.some_text Rattle.iv_resolution.specs.Terms.misshaped_condition Rattle.iv_resolution.specs.Terms.integer_of Rattle.iv_resolution.specs.Terms.bound_condition Rattle.iv_resolution.specs.Changes.clashes_with Rattle.iv_resolution.specs.Changes.value_clashes Rattle.iv_resolution.specs.Changes.misshaped_value Rattle.iv_resolution.specs.Changes.tuple_clashes Rattle.iv_resolution.specs.Changes.misshaped_tuple Rattle.iv_resolution.specs.Changes.kinds_clash Rattle.iv_resolution.specs.Changes.values_clash Rattle.iv_resolution.specs.Changes.columns_clash Rattle.iv_resolution.specs.Changes.list_clashes Rattle.iv_resolution.specs.Changes.misshaped_source Rattle.iv_resolution.specs.Changes.misshaped_assignment Rattle.iv_resolution.specs.Triggers.subject_of Rattle.iv_resolution.specs.Triggers.trigger_names Rattle.iv_resolution.specs.Triggers.trigger_variables Rattle.iv_resolution.specs.Triggers.variable_named Rattle.iv_resolution.specs.NameFaults.unknown_in_set Rattle.iv_resolution.specs.NameFaults.unknown_in_action Rattle.iv_resolution.specs.Triggers.is_allowed_item Rattle.iv_resolution.specs.Triggers.is_allowed_action Rattle.iv_resolution.specs.Triggers.sets_old Rattle.iv_resolution.specs.Triggers.misshaped_action Rattle.iv_resolution.specs.Bound.table_id Rattle.iv_resolution.specs.Bound.default_at Rattle.iv_resolution.specs.Bound.bound_value Rattle.iv_resolution.specs.Bound.target_place Rattle.iv_resolution.specs.Bound.bound_tuple Rattle.iv_resolution.specs.Bound.bound_list Rattle.iv_resolution.specs.Bound.bound_source Rattle.iv_resolution.specs.Bound.bound_columns Rattle.iv_resolution.specs.Bound.bound_assignment Rattle.iv_catalogue.specs.Names.generated_name digits
 shapes = record {
   text_compared_in_a_check = refl;
   integer_compared_in_a_check = refl;
@@ -463,7 +466,7 @@ shapes = record {
 }
 
 pub limits : WorkedLimits
-unfolding Rattle.iv_resolution.specs.Scopes.column_meant Rattle.iv_resolution.specs.Scopes.source_named Rattle.iv_resolution.specs.Scopes.is_source Rattle.iv_resolution.specs.Scopes.source_columns Rattle.iv_resolution.specs.Scopes.source_range Rattle.iv_resolution.specs.Scopes.range_of Rattle.iv_resolution.specs.Terms.unknown_condition Rattle.iv_resolution.specs.Terms.clash Rattle.iv_resolution.specs.Terms.some_text Rattle.iv_resolution.specs.Terms.misshaped_condition Rattle.iv_resolution.specs.Terms.integer_of Rattle.iv_resolution.specs.Terms.bound_condition Rattle.iv_resolution.specs.Constraints.comes_twice Rattle.iv_resolution.specs.Changes.clashes_with Rattle.iv_resolution.specs.Changes.value_clashes Rattle.iv_resolution.specs.Changes.misshaped_value Rattle.iv_resolution.specs.Changes.tuple_clashes Rattle.iv_resolution.specs.Changes.misshaped_tuple Rattle.iv_resolution.specs.Changes.kinds_clash Rattle.iv_resolution.specs.Changes.values_clash Rattle.iv_resolution.specs.Changes.columns_clash Rattle.iv_resolution.specs.Changes.list_clashes Rattle.iv_resolution.specs.Changes.misshaped_source Rattle.iv_resolution.specs.Changes.misshaped_assignment Rattle.iv_resolution.specs.Triggers.subject_of Rattle.iv_resolution.specs.Triggers.trigger_names Rattle.iv_resolution.specs.Triggers.trigger_variables Rattle.iv_resolution.specs.Triggers.variable_named Rattle.iv_resolution.specs.Triggers.unknown_set Rattle.iv_resolution.specs.Triggers.unknown_action Rattle.iv_resolution.specs.Triggers.is_allowed_item Rattle.iv_resolution.specs.Triggers.is_allowed_action Rattle.iv_resolution.specs.Triggers.sets_old Rattle.iv_resolution.specs.Triggers.misshaped_action Rattle.iv_resolution.specs.Bound.table_id Rattle.iv_resolution.specs.Bound.default_at Rattle.iv_resolution.specs.Bound.bound_value Rattle.iv_resolution.specs.Bound.target_place Rattle.iv_resolution.specs.Bound.bound_tuple Rattle.iv_resolution.specs.Bound.bound_list Rattle.iv_resolution.specs.Bound.bound_source Rattle.iv_resolution.specs.Bound.bound_columns Rattle.iv_resolution.specs.Bound.bound_assignment Rattle.iv_catalogue.specs.Names.generated_name digits
+unfolding Rattle.iv_resolution.specs.Scopes.column_meant Rattle.iv_resolution.specs.Scopes.source_named Rattle.iv_resolution.specs.Scopes.is_source Rattle.iv_resolution.specs.Scopes.source_columns Rattle.iv_resolution.specs.Scopes.source_range Rattle.iv_resolution.specs.Scopes.range_of Rattle.iv_resolution.specs.NameFaults.unknown_in_condition Rattle.iv_resolution.specs.Terms.clash Rattle.iv_resolution.specs.Terms.some_text Rattle.iv_resolution.specs.Terms.misshaped_condition Rattle.iv_resolution.specs.Terms.integer_of Rattle.iv_resolution.specs.Terms.bound_condition Rattle.iv_resolution.specs.Changes.clashes_with Rattle.iv_resolution.specs.Changes.value_clashes Rattle.iv_resolution.specs.Changes.misshaped_value Rattle.iv_resolution.specs.Changes.tuple_clashes Rattle.iv_resolution.specs.Changes.misshaped_tuple Rattle.iv_resolution.specs.Changes.kinds_clash Rattle.iv_resolution.specs.Changes.values_clash Rattle.iv_resolution.specs.Changes.columns_clash Rattle.iv_resolution.specs.Changes.list_clashes Rattle.iv_resolution.specs.Changes.misshaped_source Rattle.iv_resolution.specs.Changes.misshaped_assignment Rattle.iv_resolution.specs.Triggers.subject_of Rattle.iv_resolution.specs.Triggers.trigger_names Rattle.iv_resolution.specs.Triggers.trigger_variables Rattle.iv_resolution.specs.Triggers.variable_named Rattle.iv_resolution.specs.NameFaults.unknown_in_set Rattle.iv_resolution.specs.NameFaults.unknown_in_action Rattle.iv_resolution.specs.Triggers.is_allowed_item Rattle.iv_resolution.specs.Triggers.is_allowed_action Rattle.iv_resolution.specs.Triggers.sets_old Rattle.iv_resolution.specs.Triggers.misshaped_action Rattle.iv_resolution.specs.Bound.table_id Rattle.iv_resolution.specs.Bound.default_at Rattle.iv_resolution.specs.Bound.bound_value Rattle.iv_resolution.specs.Bound.target_place Rattle.iv_resolution.specs.Bound.bound_tuple Rattle.iv_resolution.specs.Bound.bound_list Rattle.iv_resolution.specs.Bound.bound_source Rattle.iv_resolution.specs.Bound.bound_columns Rattle.iv_resolution.specs.Bound.bound_assignment Rattle.iv_catalogue.specs.Names.generated_name digits
 limits = record {
   table_65 = refl;
   table_64 = refl;
@@ -563,6 +566,12 @@ limits = record {
   condition_of_depth_64 = refl;
   comparison_of_depth_65 = refl;
   comparison_of_depth_64 = refl;
+  product_of_depth_65 = refl;
+  product_of_depth_64 = refl;
+  set_of_depth_65 = refl;
+  set_of_depth_64 = refl;
+  and_of_depth_65 = refl;
+  and_of_depth_64 = refl;
   exists_of_depth_65 = refl;
   exists_of_depth_64 = refl;
   exists_where_of_depth_65 = refl;
@@ -578,7 +587,7 @@ limits = record {
 }
 
 pub order : WorkedOrder
-unfolding Rattle.iv_resolution.specs.Scopes.column_meant Rattle.iv_resolution.specs.Scopes.source_named Rattle.iv_resolution.specs.Scopes.is_source Rattle.iv_resolution.specs.Scopes.source_columns Rattle.iv_resolution.specs.Scopes.source_range Rattle.iv_resolution.specs.Scopes.range_of Rattle.iv_resolution.specs.Terms.unknown_condition Rattle.iv_resolution.specs.Terms.clash Rattle.iv_resolution.specs.Terms.some_text Rattle.iv_resolution.specs.Terms.misshaped_condition Rattle.iv_resolution.specs.Terms.integer_of Rattle.iv_resolution.specs.Terms.bound_condition Rattle.iv_resolution.specs.Constraints.comes_twice Rattle.iv_resolution.specs.Changes.clashes_with Rattle.iv_resolution.specs.Changes.value_clashes Rattle.iv_resolution.specs.Changes.misshaped_value Rattle.iv_resolution.specs.Changes.tuple_clashes Rattle.iv_resolution.specs.Changes.misshaped_tuple Rattle.iv_resolution.specs.Changes.kinds_clash Rattle.iv_resolution.specs.Changes.values_clash Rattle.iv_resolution.specs.Changes.columns_clash Rattle.iv_resolution.specs.Changes.list_clashes Rattle.iv_resolution.specs.Changes.misshaped_source Rattle.iv_resolution.specs.Changes.misshaped_assignment Rattle.iv_resolution.specs.Triggers.subject_of Rattle.iv_resolution.specs.Triggers.trigger_names Rattle.iv_resolution.specs.Triggers.trigger_variables Rattle.iv_resolution.specs.Triggers.variable_named Rattle.iv_resolution.specs.Triggers.unknown_set Rattle.iv_resolution.specs.Triggers.unknown_action Rattle.iv_resolution.specs.Triggers.is_allowed_item Rattle.iv_resolution.specs.Triggers.is_allowed_action Rattle.iv_resolution.specs.Triggers.sets_old Rattle.iv_resolution.specs.Triggers.misshaped_action Rattle.iv_resolution.specs.Bound.table_id Rattle.iv_resolution.specs.Bound.default_at Rattle.iv_resolution.specs.Bound.bound_value Rattle.iv_resolution.specs.Bound.target_place Rattle.iv_resolution.specs.Bound.bound_tuple Rattle.iv_resolution.specs.Bound.bound_list Rattle.iv_resolution.specs.Bound.bound_source Rattle.iv_resolution.specs.Bound.bound_columns Rattle.iv_resolution.specs.Bound.bound_assignment Rattle.iv_catalogue.specs.Names.generated_name digits values_on_literals
+unfolding Rattle.iv_resolution.specs.Scopes.column_meant Rattle.iv_resolution.specs.Scopes.source_named Rattle.iv_resolution.specs.Scopes.is_source Rattle.iv_resolution.specs.Scopes.source_columns Rattle.iv_resolution.specs.Scopes.source_range Rattle.iv_resolution.specs.Scopes.range_of Rattle.iv_resolution.specs.NameFaults.unknown_in_condition Rattle.iv_resolution.specs.Terms.clash Rattle.iv_resolution.specs.Terms.some_text Rattle.iv_resolution.specs.Terms.misshaped_condition Rattle.iv_resolution.specs.Terms.integer_of Rattle.iv_resolution.specs.Terms.bound_condition Rattle.iv_resolution.specs.Changes.clashes_with Rattle.iv_resolution.specs.Changes.value_clashes Rattle.iv_resolution.specs.Changes.misshaped_value Rattle.iv_resolution.specs.Changes.tuple_clashes Rattle.iv_resolution.specs.Changes.misshaped_tuple Rattle.iv_resolution.specs.Changes.kinds_clash Rattle.iv_resolution.specs.Changes.values_clash Rattle.iv_resolution.specs.Changes.columns_clash Rattle.iv_resolution.specs.Changes.list_clashes Rattle.iv_resolution.specs.Changes.misshaped_source Rattle.iv_resolution.specs.Changes.misshaped_assignment Rattle.iv_resolution.specs.Triggers.subject_of Rattle.iv_resolution.specs.Triggers.trigger_names Rattle.iv_resolution.specs.Triggers.trigger_variables Rattle.iv_resolution.specs.Triggers.variable_named Rattle.iv_resolution.specs.NameFaults.unknown_in_set Rattle.iv_resolution.specs.NameFaults.unknown_in_action Rattle.iv_resolution.specs.Triggers.is_allowed_item Rattle.iv_resolution.specs.Triggers.is_allowed_action Rattle.iv_resolution.specs.Triggers.sets_old Rattle.iv_resolution.specs.Triggers.misshaped_action Rattle.iv_resolution.specs.Bound.table_id Rattle.iv_resolution.specs.Bound.default_at Rattle.iv_resolution.specs.Bound.bound_value Rattle.iv_resolution.specs.Bound.target_place Rattle.iv_resolution.specs.Bound.bound_tuple Rattle.iv_resolution.specs.Bound.bound_list Rattle.iv_resolution.specs.Bound.bound_source Rattle.iv_resolution.specs.Bound.bound_columns Rattle.iv_resolution.specs.Bound.bound_assignment Rattle.iv_catalogue.specs.Names.generated_name digits values_on_literals
 order = record {
   table_in_use_that_refers_to_nothing = refl;
   check_of_nothing_with_exists = refl;
@@ -621,7 +630,7 @@ order = record {
 }
 
 pub update_of : WorkedUpdateOf
-unfolding Rattle.iv_resolution.specs.Scopes.column_meant Rattle.iv_resolution.specs.Scopes.source_named Rattle.iv_resolution.specs.Scopes.is_source Rattle.iv_resolution.specs.Scopes.source_columns Rattle.iv_resolution.specs.Scopes.source_range Rattle.iv_resolution.specs.Scopes.range_of Rattle.iv_resolution.specs.Terms.unknown_condition Rattle.iv_resolution.specs.Terms.clash Rattle.iv_resolution.specs.Terms.some_text Rattle.iv_resolution.specs.Terms.misshaped_condition Rattle.iv_resolution.specs.Terms.integer_of Rattle.iv_resolution.specs.Terms.bound_condition Rattle.iv_resolution.specs.Constraints.comes_twice Rattle.iv_resolution.specs.Changes.clashes_with Rattle.iv_resolution.specs.Changes.value_clashes Rattle.iv_resolution.specs.Changes.misshaped_value Rattle.iv_resolution.specs.Changes.tuple_clashes Rattle.iv_resolution.specs.Changes.misshaped_tuple Rattle.iv_resolution.specs.Changes.kinds_clash Rattle.iv_resolution.specs.Changes.values_clash Rattle.iv_resolution.specs.Changes.columns_clash Rattle.iv_resolution.specs.Changes.list_clashes Rattle.iv_resolution.specs.Changes.misshaped_source Rattle.iv_resolution.specs.Changes.misshaped_assignment Rattle.iv_resolution.specs.Triggers.subject_of Rattle.iv_resolution.specs.Triggers.trigger_names Rattle.iv_resolution.specs.Triggers.trigger_variables Rattle.iv_resolution.specs.Triggers.variable_named Rattle.iv_resolution.specs.Triggers.unknown_set Rattle.iv_resolution.specs.Triggers.unknown_action Rattle.iv_resolution.specs.Triggers.is_allowed_item Rattle.iv_resolution.specs.Triggers.is_allowed_action Rattle.iv_resolution.specs.Triggers.sets_old Rattle.iv_resolution.specs.Triggers.misshaped_action Rattle.iv_resolution.specs.Bound.table_id Rattle.iv_resolution.specs.Bound.default_at Rattle.iv_resolution.specs.Bound.bound_value Rattle.iv_resolution.specs.Bound.target_place Rattle.iv_resolution.specs.Bound.bound_tuple Rattle.iv_resolution.specs.Bound.bound_list Rattle.iv_resolution.specs.Bound.bound_source Rattle.iv_resolution.specs.Bound.bound_columns Rattle.iv_resolution.specs.Bound.bound_assignment Rattle.iv_catalogue.specs.Names.generated_name digits values_on_literals
+unfolding Rattle.iv_resolution.specs.Scopes.column_meant Rattle.iv_resolution.specs.Scopes.source_named Rattle.iv_resolution.specs.Scopes.is_source Rattle.iv_resolution.specs.Scopes.source_columns Rattle.iv_resolution.specs.Scopes.source_range Rattle.iv_resolution.specs.Scopes.range_of Rattle.iv_resolution.specs.NameFaults.unknown_in_condition Rattle.iv_resolution.specs.Terms.clash Rattle.iv_resolution.specs.Terms.some_text Rattle.iv_resolution.specs.Terms.misshaped_condition Rattle.iv_resolution.specs.Terms.integer_of Rattle.iv_resolution.specs.Terms.bound_condition Rattle.iv_resolution.specs.Changes.clashes_with Rattle.iv_resolution.specs.Changes.value_clashes Rattle.iv_resolution.specs.Changes.misshaped_value Rattle.iv_resolution.specs.Changes.tuple_clashes Rattle.iv_resolution.specs.Changes.misshaped_tuple Rattle.iv_resolution.specs.Changes.kinds_clash Rattle.iv_resolution.specs.Changes.values_clash Rattle.iv_resolution.specs.Changes.columns_clash Rattle.iv_resolution.specs.Changes.list_clashes Rattle.iv_resolution.specs.Changes.misshaped_source Rattle.iv_resolution.specs.Changes.misshaped_assignment Rattle.iv_resolution.specs.Triggers.subject_of Rattle.iv_resolution.specs.Triggers.trigger_names Rattle.iv_resolution.specs.Triggers.trigger_variables Rattle.iv_resolution.specs.Triggers.variable_named Rattle.iv_resolution.specs.NameFaults.unknown_in_set Rattle.iv_resolution.specs.NameFaults.unknown_in_action Rattle.iv_resolution.specs.Triggers.is_allowed_item Rattle.iv_resolution.specs.Triggers.is_allowed_action Rattle.iv_resolution.specs.Triggers.sets_old Rattle.iv_resolution.specs.Triggers.misshaped_action Rattle.iv_resolution.specs.Bound.table_id Rattle.iv_resolution.specs.Bound.default_at Rattle.iv_resolution.specs.Bound.bound_value Rattle.iv_resolution.specs.Bound.target_place Rattle.iv_resolution.specs.Bound.bound_tuple Rattle.iv_resolution.specs.Bound.bound_list Rattle.iv_resolution.specs.Bound.bound_source Rattle.iv_resolution.specs.Bound.bound_columns Rattle.iv_resolution.specs.Bound.bound_assignment Rattle.iv_catalogue.specs.Names.generated_name digits values_on_literals
 update_of = record {
   column_of_the_table = refl;
   all_columns_of_the_table = refl;
@@ -645,7 +654,7 @@ update_of = record {
 }
 
 pub nulls : WorkedNulls
-unfolding Rattle.iv_resolution.specs.Scopes.column_meant Rattle.iv_resolution.specs.Scopes.source_named Rattle.iv_resolution.specs.Scopes.is_source Rattle.iv_resolution.specs.Scopes.source_columns Rattle.iv_resolution.specs.Scopes.source_range Rattle.iv_resolution.specs.Scopes.range_of Rattle.iv_resolution.specs.Terms.unknown_condition Rattle.iv_resolution.specs.Terms.clash Rattle.iv_resolution.specs.Terms.some_text Rattle.iv_resolution.specs.Terms.misshaped_condition Rattle.iv_resolution.specs.Terms.integer_of Rattle.iv_resolution.specs.Terms.bound_condition Rattle.iv_resolution.specs.Constraints.comes_twice Rattle.iv_resolution.specs.Changes.clashes_with Rattle.iv_resolution.specs.Changes.value_clashes Rattle.iv_resolution.specs.Changes.misshaped_value Rattle.iv_resolution.specs.Changes.tuple_clashes Rattle.iv_resolution.specs.Changes.misshaped_tuple Rattle.iv_resolution.specs.Changes.kinds_clash Rattle.iv_resolution.specs.Changes.values_clash Rattle.iv_resolution.specs.Changes.columns_clash Rattle.iv_resolution.specs.Changes.list_clashes Rattle.iv_resolution.specs.Changes.misshaped_source Rattle.iv_resolution.specs.Changes.misshaped_assignment Rattle.iv_resolution.specs.Triggers.subject_of Rattle.iv_resolution.specs.Triggers.trigger_names Rattle.iv_resolution.specs.Triggers.trigger_variables Rattle.iv_resolution.specs.Triggers.variable_named Rattle.iv_resolution.specs.Triggers.unknown_set Rattle.iv_resolution.specs.Triggers.unknown_action Rattle.iv_resolution.specs.Triggers.is_allowed_item Rattle.iv_resolution.specs.Triggers.is_allowed_action Rattle.iv_resolution.specs.Triggers.sets_old Rattle.iv_resolution.specs.Triggers.misshaped_action Rattle.iv_resolution.specs.Bound.table_id Rattle.iv_resolution.specs.Bound.default_at Rattle.iv_resolution.specs.Bound.bound_value Rattle.iv_resolution.specs.Bound.target_place Rattle.iv_resolution.specs.Bound.bound_tuple Rattle.iv_resolution.specs.Bound.bound_list Rattle.iv_resolution.specs.Bound.bound_source Rattle.iv_resolution.specs.Bound.bound_columns Rattle.iv_resolution.specs.Bound.bound_assignment Rattle.iv_catalogue.specs.Names.generated_name digits values_on_literals
+unfolding Rattle.iv_resolution.specs.Scopes.column_meant Rattle.iv_resolution.specs.Scopes.source_named Rattle.iv_resolution.specs.Scopes.is_source Rattle.iv_resolution.specs.Scopes.source_columns Rattle.iv_resolution.specs.Scopes.source_range Rattle.iv_resolution.specs.Scopes.range_of Rattle.iv_resolution.specs.NameFaults.unknown_in_condition Rattle.iv_resolution.specs.Terms.clash Rattle.iv_resolution.specs.Terms.some_text Rattle.iv_resolution.specs.Terms.misshaped_condition Rattle.iv_resolution.specs.Terms.integer_of Rattle.iv_resolution.specs.Terms.bound_condition Rattle.iv_resolution.specs.Changes.clashes_with Rattle.iv_resolution.specs.Changes.value_clashes Rattle.iv_resolution.specs.Changes.misshaped_value Rattle.iv_resolution.specs.Changes.tuple_clashes Rattle.iv_resolution.specs.Changes.misshaped_tuple Rattle.iv_resolution.specs.Changes.kinds_clash Rattle.iv_resolution.specs.Changes.values_clash Rattle.iv_resolution.specs.Changes.columns_clash Rattle.iv_resolution.specs.Changes.list_clashes Rattle.iv_resolution.specs.Changes.misshaped_source Rattle.iv_resolution.specs.Changes.misshaped_assignment Rattle.iv_resolution.specs.Triggers.subject_of Rattle.iv_resolution.specs.Triggers.trigger_names Rattle.iv_resolution.specs.Triggers.trigger_variables Rattle.iv_resolution.specs.Triggers.variable_named Rattle.iv_resolution.specs.NameFaults.unknown_in_set Rattle.iv_resolution.specs.NameFaults.unknown_in_action Rattle.iv_resolution.specs.Triggers.is_allowed_item Rattle.iv_resolution.specs.Triggers.is_allowed_action Rattle.iv_resolution.specs.Triggers.sets_old Rattle.iv_resolution.specs.Triggers.misshaped_action Rattle.iv_resolution.specs.Bound.table_id Rattle.iv_resolution.specs.Bound.default_at Rattle.iv_resolution.specs.Bound.bound_value Rattle.iv_resolution.specs.Bound.target_place Rattle.iv_resolution.specs.Bound.bound_tuple Rattle.iv_resolution.specs.Bound.bound_list Rattle.iv_resolution.specs.Bound.bound_source Rattle.iv_resolution.specs.Bound.bound_columns Rattle.iv_resolution.specs.Bound.bound_assignment Rattle.iv_catalogue.specs.Names.generated_name digits values_on_literals
 nulls = record {
   in_a_column = refl;
   of_two_columns = refl;
@@ -666,4 +675,73 @@ nulls = record {
   added_is_no_primary_key = refl;
   plan_of_an_addition = refl;
   plan_of_both = refl;
+}
+
+pub names : WorkedNames
+unfolding Rattle.iv_resolution.specs.Scopes.column_meant Rattle.iv_resolution.specs.Scopes.source_named Rattle.iv_resolution.specs.Scopes.is_source Rattle.iv_resolution.specs.Scopes.source_columns Rattle.iv_resolution.specs.Scopes.range_of Rattle.iv_resolution.specs.Triggers.subject_of Rattle.iv_resolution.specs.Triggers.trigger_names Rattle.iv_resolution.specs.Triggers.trigger_variables Rattle.iv_resolution.specs.Triggers.variable_named Rattle.iv_resolution.specs.NameFaults.unknown_in_condition Rattle.iv_resolution.specs.NameFaults.unknown_in_set Rattle.iv_resolution.specs.NameFaults.unknown_in_action Rattle.iv_catalogue.specs.Names.generated_name digits
+names = record {
+  target = refl;
+  column_of_the_list = refl;
+  value_of_no_range = refl;
+  from_before_the_list = refl;
+  list_before_the_condition = refl;
+  with_its_qualifier = refl;
+  left_operand_first = refl;
+  inside_an_exists = refl;
+  column_that_is_set = refl;
+  column_of_a_key = refl;
+  referenced_table = refl;
+  referenced_column = refl;
+  altered_table = refl;
+  column_of_an_added_key = refl;
+  column_of_update_of = refl;
+  row_variable = refl;
+  column_of_a_row_variable = refl;
+  second_statement_of_a_body = refl;
+  dropped_trigger = refl;
+  constraint_that_is_set = refl;
+  table_before_its_columns = refl;
+  column_that_comes_again_first = refl;
+  constraint_in_use_before_a_column_again = refl;
+  column_again_before_its_constraint = refl;
+  key_before_a_column_again = refl;
+  key_before_a_constraint_in_use = refl;
+  name_before_its_key = refl;
+  constraint_twice_before_one_in_use = refl;
+  generated_in_use = refl;
+  constraint_twice = refl;
+  generated_again = refl;
+  column_of_a_key_twice = refl;
+  added_constraint_in_use = refl;
+  added_name_in_use = refl;
+  column_of_an_added_key_twice = refl;
+  trigger_in_use = refl;
+  column_of_update_of_twice = refl;
+  transition_twice = refl;
+  column_in_a_body_twice = refl;
+  column_of_the_list_twice = refl;
+  column_set_twice = refl;
+  of_another_cause = refl;
+  left_factor_first = refl;
+  left_side_first = refl;
+  from_before_its_condition = refl;
+  list_before_the_values = refl;
+  set_before_the_condition = refl;
+  first_of_the_list = refl;
+  condition_before_the_body = refl;
+  table_before_update_of = refl;
+  columns_before_the_reference = refl;
+  constraint_again_before_a_key = refl;
+  first_list_before_the_second = refl;
+}
+
+pub meanings : WorkedMeanings
+unfolding Rattle.iv_resolution.specs.Scopes.column_meant Rattle.iv_resolution.specs.Scopes.source_named Rattle.iv_resolution.specs.Scopes.is_source Rattle.iv_resolution.specs.Scopes.source_columns Rattle.iv_resolution.specs.Scopes.source_range Rattle.iv_resolution.specs.Scopes.range_of Rattle.iv_resolution.specs.NameFaults.unknown_in_condition Rattle.iv_resolution.specs.Terms.clash Rattle.iv_resolution.specs.Terms.some_text Rattle.iv_resolution.specs.Terms.misshaped_condition Rattle.iv_resolution.specs.Terms.integer_of Rattle.iv_resolution.specs.Terms.bound_condition Rattle.iv_resolution.specs.Changes.clashes_with Rattle.iv_resolution.specs.Changes.value_clashes Rattle.iv_resolution.specs.Changes.misshaped_value Rattle.iv_resolution.specs.Changes.tuple_clashes Rattle.iv_resolution.specs.Changes.misshaped_tuple Rattle.iv_resolution.specs.Changes.kinds_clash Rattle.iv_resolution.specs.Changes.values_clash Rattle.iv_resolution.specs.Changes.columns_clash Rattle.iv_resolution.specs.Changes.list_clashes Rattle.iv_resolution.specs.Changes.misshaped_source Rattle.iv_resolution.specs.Changes.misshaped_assignment Rattle.iv_resolution.specs.Triggers.subject_of Rattle.iv_resolution.specs.Triggers.trigger_names Rattle.iv_resolution.specs.Triggers.trigger_variables Rattle.iv_resolution.specs.Triggers.variable_named Rattle.iv_resolution.specs.NameFaults.unknown_in_set Rattle.iv_resolution.specs.NameFaults.unknown_in_action Rattle.iv_resolution.specs.Triggers.is_allowed_item Rattle.iv_resolution.specs.Triggers.is_allowed_action Rattle.iv_resolution.specs.Triggers.sets_old Rattle.iv_resolution.specs.Triggers.misshaped_action Rattle.iv_resolution.specs.Bound.table_id Rattle.iv_resolution.specs.Bound.default_at Rattle.iv_resolution.specs.Bound.bound_value Rattle.iv_resolution.specs.Bound.target_place Rattle.iv_resolution.specs.Bound.bound_tuple Rattle.iv_resolution.specs.Bound.bound_list Rattle.iv_resolution.specs.Bound.bound_source Rattle.iv_resolution.specs.Bound.bound_columns Rattle.iv_resolution.specs.Bound.bound_assignment Rattle.iv_catalogue.specs.Names.generated_name digits values_on_literals
+meanings = record {
+  match_full_and_two_actions = refl;
+  match_simple_and_no_action = refl;
+  default_of_a_column = refl;
+  deferrable_begins_immediate = refl;
+  default_in_values = refl;
+  number_minus_column = refl;
 }

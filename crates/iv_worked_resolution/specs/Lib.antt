@@ -8,3 +8,5 @@ pub mod WorkedLimits
 pub mod WorkedOrder
 pub mod WorkedUpdateOf
 pub mod WorkedNulls
+pub mod WorkedNames
+pub mod WorkedMeanings

@@ -257,6 +257,18 @@ pub record WorkedLimits : Type 0 where
   pub comparison_of_depth_65 : least schema (delete_where t (condition.Compare Equal one (grouped_by 63 one))) ≡ Some Limit
   -- DELETE FROM t WHERE 1 = .. 1 in 62 pairs of parentheses ..;
   pub comparison_of_depth_64 : least schema (delete_where t (condition.Compare Equal one (grouped_by 62 one))) ≡ None
+  -- INSERT INTO p VALUES (1 * .. 1 in 63 pairs of parentheses ..);
+  pub product_of_depth_65 : least schema (insert_into p None (product one (grouped_by 63 one) ∷ [])) ≡ Some Limit
+  -- INSERT INTO p VALUES (1 * .. 1 in 62 pairs of parentheses ..);
+  pub product_of_depth_64 : least schema (insert_into p None (product one (grouped_by 62 one) ∷ [])) ≡ None
+  -- UPDATE t SET a = .. 1 in 64 pairs of parentheses ..;
+  pub set_of_depth_65 : least schema (statement.Update (record { table = t; assignments = record { column = a; value = given.Value (grouped_by 64 one) } ∷ []; filter = None })) ≡ Some Limit
+  -- UPDATE t SET a = .. 1 in 63 pairs of parentheses ..;
+  pub set_of_depth_64 : least schema (statement.Update (record { table = t; assignments = record { column = a; value = given.Value (grouped_by 63 one) } ∷ []; filter = None })) ≡ None
+  -- DELETE FROM t WHERE 1 = 1 AND .. 1 = 1 in 62 pairs of parentheses ..;
+  pub and_of_depth_65 : least schema (delete_where t (both (condition.Compare Equal one one) (enclosed_by 62 (condition.Compare Equal one one)))) ≡ Some Limit
+  -- DELETE FROM t WHERE 1 = 1 AND .. 1 = 1 in 61 pairs of parentheses ..;
+  pub and_of_depth_64 : least schema (delete_where t (both (condition.Compare Equal one one) (enclosed_by 61 (condition.Compare Equal one one)))) ≡ None
   -- DELETE FROM t WHERE .. EXISTS (SELECT * FROM p) in 64 pairs of parentheses ..;
   pub exists_of_depth_65 : least schema (delete_where t (enclosed_by 64 (condition.Exists (from p)))) ≡ Some Limit
   -- DELETE FROM t WHERE .. EXISTS (SELECT * FROM p) in 63 pairs of parentheses ..;

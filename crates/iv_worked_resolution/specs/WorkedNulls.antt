@@ -1,5 +1,5 @@
 -- UNIQUE NULLS NOT DISTINCT: for all that a statement is refused for, it is a UNIQUE.
-use Rattle.std.specs.Prelude.{◌≡◌, true, false, [], ◌∷◌, ◌++◌, codes, Some, None}
+use Rattle.std.specs.Prelude.{◌≡◌, true, false, [], ◌∷◌, ◌++◌, Some, None}
 use Rattle.iv_worked_resolution.specs.Words.type
 use Rattle.iv_worked_resolution.specs.Words.value
 use Rattle.iv_worked_resolution.specs.Words.kind

@@ -7,8 +7,10 @@ ghost use Rattle.iv_worked_resolution.specs.WorkedLimits.{WorkedLimits};
 ghost use Rattle.iv_worked_resolution.specs.WorkedOrder.{WorkedOrder};
 ghost use Rattle.iv_worked_resolution.specs.WorkedUpdateOf.{WorkedUpdateOf};
 ghost use Rattle.iv_worked_resolution.specs.WorkedNulls.{WorkedNulls};
+ghost use Rattle.iv_worked_resolution.specs.WorkedNames.{WorkedNames};
+ghost use Rattle.iv_worked_resolution.specs.WorkedMeanings.{WorkedMeanings};
 
-/// Each worked statement deserves the cause that is said of it, or none.
+/// Each worked statement deserves the cause that is said of it, or none; of an Unknown or a Duplicate the name is told that is said.
 pub fn worked_statements()
     ensures unknown { WorkedUnknown }
     ensures duplicates { WorkedDuplicates }
@@ -18,4 +20,6 @@ pub fn worked_statements()
     ensures order { WorkedOrder }
     ensures columns { WorkedUpdateOf }
     ensures nulls { WorkedNulls }
+    ensures names { WorkedNames }
+    ensures meanings { WorkedMeanings }
 {}

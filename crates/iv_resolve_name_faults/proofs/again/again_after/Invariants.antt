@@ -1,5 +1,5 @@
 use Rattle.std.proofs.Common.{◌≡◌, drop, map}
-use Rattle.iv_resolve_name_faults.specs.Items.{first_again}
+use Rattle.iv_resolution.specs.Items.{first_again}
 use Rattle.iv_resolve_name_faults.proofs.again.again_after.Given as goal
 
 abbrev pub invariant-loop-item : goal.invariant-loop-item

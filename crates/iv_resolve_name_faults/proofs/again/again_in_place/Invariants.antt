@@ -1,5 +1,5 @@
 use Rattle.std.proofs.Common.{◌≡◌, [], drop, map, take}
-use Rattle.iv_resolve_name_faults.specs.Items.{first_again}
+use Rattle.iv_resolution.specs.Items.{first_again}
 use Rattle.iv_resolve_name_faults.proofs.again.again_in_place.Given as goal
 
 abbrev pub invariant-loop-place : goal.invariant-loop-place

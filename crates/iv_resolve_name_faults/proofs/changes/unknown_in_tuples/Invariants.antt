@@ -1,7 +1,7 @@
 use Rattle.std.proofs.Common.{◌≡◌, drop}
 use Rattle.iv_resolve_scope.specs.Seen.{ranges_seen}
-use Rattle.iv_resolve_name_faults.specs.Items.{first_of}
-use Rattle.iv_resolve_name_faults.specs.NameFaults.{unknown_in_value}
+use Rattle.iv_resolution.specs.Items.{first_of}
+use Rattle.iv_resolution.specs.NameFaults.{unknown_in_value}
 use Rattle.iv_resolve_name_faults.proofs.changes.unknown_in_tuples.Given as goal
 
 abbrev pub invariant-loop-tuple : goal.invariant-loop-tuple

@@ -1,6 +1,6 @@
 use Rattle.std.proofs.Common.{ℕ, List, ◌∙◌, ◌+◌, ap}
 use Rattle.iv_resolution.specs.Constraints.{table_constraint}
-use Rattle.iv_resolve_name_faults.specs.NameFaults.{constraint_in_use}
+use Rattle.iv_resolution.specs.NameFaults.{constraint_in_use}
 use Rattle.iv_resolve_name_faults.proofs.duplicates.addition_in_use.Goals as goal
 
 pub returns : goal.returns

@@ -1,6 +1,6 @@
 use Rattle.std.proofs.Common.{◌≡◌, drop}
-use Rattle.iv_resolve_name_faults.specs.Items.{first_of}
-use Rattle.iv_resolve_name_faults.specs.NameFaults.{duplicate_in_action}
+use Rattle.iv_resolution.specs.Items.{first_of}
+use Rattle.iv_resolution.specs.NameFaults.{duplicate_in_action}
 use Rattle.iv_resolve_name_faults.proofs.duplicates.duplicate_in_body.Given as goal
 
 abbrev pub invariant-loop-action : goal.invariant-loop-action

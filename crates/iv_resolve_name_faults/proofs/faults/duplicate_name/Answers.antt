@@ -1,5 +1,5 @@
 use Rattle.std.proofs.Common.{ℕ, List, ◌∙◌, ap, sym}
-use Rattle.iv_resolve_name_faults.specs.NameFaults.{duplicate_in_alteration, duplicate_name}
+use Rattle.iv_resolution.specs.NameFaults.{duplicate_in_alteration, duplicate_name}
 use Rattle.iv_resolve_name_faults.proofs.faults.duplicate_name.Goals as goal
 
 pub returns-in-AlterTable : goal.returns-in-AlterTable

@@ -1,7 +1,7 @@
 use Rattle.std.proofs.Common.{◌≡◌, drop}
 use Rattle.std.proofs.Common.{not}
 use Rattle.iv_catalogue.specs.Catalogues.{has_constraint}
-use Rattle.iv_resolve_name_faults.specs.Items.{constraint_item, first_of, told_if}
+use Rattle.iv_resolution.specs.Items.{constraint_item, first_of, told_if}
 use Rattle.iv_resolve_name_faults.proofs.unknown.first_no_constraint.Given as goal
 
 abbrev pub invariant-loop-name : goal.invariant-loop-name

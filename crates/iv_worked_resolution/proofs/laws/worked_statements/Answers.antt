@@ -1,4 +1,4 @@
-use Rattle.iv_worked_resolution.proofs.Computed.{unknown, duplicates, faults, shapes, limits, order, update_of, nulls}
+use Rattle.iv_worked_resolution.proofs.Computed.{unknown, duplicates, faults, shapes, limits, order, update_of, nulls, names, meanings}
 use Rattle.iv_worked_resolution.proofs.laws.worked_statements.Goals as goal
 
 pub returns-clause-unknown : goal.returns-clause-unknown
@@ -24,3 +24,9 @@ returns-clause-columns c = update_of
 
 pub returns-clause-nulls : goal.returns-clause-nulls
 returns-clause-nulls c = nulls
+
+pub returns-clause-names : goal.returns-clause-names
+returns-clause-names c = names
+
+pub returns-clause-meanings : goal.returns-clause-meanings
+returns-clause-meanings c = meanings

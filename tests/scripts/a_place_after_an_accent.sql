@@ -1,0 +1,2 @@
+CREATE TABLE t (a VARCHAR(3));
+SELECT * FROM t WHERE a = 'À'; COMIT;
