@@ -41,6 +41,7 @@ insert_suits names ranges shape a (insert.Rows table listed s) i u w = by (targe
   where
     parts : (unknown_in_target names table ≡ None) × (option_or (unknown_in_listed (target_columns names table) listed) (unknown_in_source names ranges s) ≡ None)
     parts = none_parts (unknown_in_target names table) (option_or (unknown_in_listed (target_columns names table) listed) (unknown_in_source names ranges s)) u
+
     known : (unknown_in_listed (target_columns names table) listed ≡ None) × (unknown_in_source names ranges s ≡ None)
     known = none_parts (unknown_in_listed (target_columns names table) listed) (unknown_in_source names ranges s) parts.1
 

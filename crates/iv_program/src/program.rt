@@ -20,7 +20,10 @@ fn refuse_words<W: Sink, E: Sink>(error: WordsError, writer: &mut W, faults: &mu
 {
     match error {
         WordsError::NoMemory => status(faults, Err(RunFault::NoMemory)),
-        WordsError::Help(text) | WordsError::Version(text) => match write_all(writer, text.as_bytes()) {
+        WordsError::Help(text) | WordsError::Version(text) => match write_all(
+            writer,
+            text.as_bytes(),
+        ) {
             Ok(()) => 0,
             Err(_) => status(faults, Err(RunFault::Write)),
         },
