@@ -13,20 +13,24 @@ use std::fs::{File, Files};
 use std::io;
 use std::io::Input;
 
-// Writes the help or the version to `writer`, and why words are refused to `faults`. A line that can't be written there changes no
-// status.
+// Writes a text that was asked for.
+fn tell<W: Sink, E: Sink>(text: &str, writer: &mut W, faults: &mut E) -> u8
+    ensures { result ≤ 2 }
+{
+    match write_all(writer, text.as_bytes()) {
+        Ok(()) => 0,
+        Err(_) => status(faults, Err(RunFault::Write)),
+    }
+}
+
+// Writes the help or the version to `writer`, and why words are refused to `faults`. A line that can't be written there
+// changes no status.
 fn refuse_words<W: Sink, E: Sink>(error: WordsError, writer: &mut W, faults: &mut E) -> u8
     ensures { result ≤ 2 }
 {
     match error {
         WordsError::NoMemory => status(faults, Err(RunFault::NoMemory)),
-        WordsError::Help(text) | WordsError::Version(text) => match write_all(
-            writer,
-            text.as_bytes(),
-        ) {
-            Ok(()) => 0,
-            Err(_) => status(faults, Err(RunFault::Write)),
-        },
+        WordsError::Help(text) | WordsError::Version(text) => tell(&text, writer, faults),
         WordsError::Refused(text) => {
             let _ = write_all(faults, text.as_bytes());
             2
