@@ -9,15 +9,19 @@
            sqlkeep_close(&session);
        }
 
-   Every function answers a status, one of enum sqlkeep_status. Where it isn't SQLKEEP_OK, nothing was changed and no
-   result was written, unless the comment of the function says otherwise. A statement that the database refuses is no
-   failed call: the call answers SQLKEEP_OK, and the outcome says why the statement was refused.
+   Every function answers a status, one of enum sqlkeep_status. If it isn't SQLKEEP_OK, nothing was changed and no
+   result was written. If it is, the function did what its comment says, and left all else as it was. The comment of a
+   function names each status that it may answer besides SQLKEEP_OK, and says when. SQLKEEP_CLOSED always means that the
+   handle is empty, and SQLKEEP_NO_MEMORY that memory was refused; a function whose comment doesn't name this one takes no
+   memory, or can do without it, as its comment says. A statement that the database refuses is no failed call: the call
+   answers SQLKEEP_OK, and the outcome says why the statement was refused.
 
    The library is proved for callers that keep these rules. Nothing checks that a C program keeps them.
 
    - No pointer is null, also where a length or a size is 0, but for one to a handle: that is answered by
      SQLKEEP_NO_HANDLE, by this header, so in C and C++ alone. A pointer to a handle or to a result leads to an object of
-     its type; `text` and `name` lead to `length` bytes that can be read, `buffer` to `size` bytes that can be written. A length or
+     its type that holds a valid value, also where the function only writes it: a `bool` is true or false before the
+     call. (All bytes are a valid value of the other types of this header.) `text` and `name` lead to `length` bytes that can be read, `buffer` to `size` bytes that can be written. A length or
      a size is less than 2 to the power of 63.
    - A handle is SQLKEEP_EMPTY, or what the functions of this library left in it. It may be moved to another place in
      memory, but it isn't copied and used twice, and its members are neither read nor written.
@@ -154,14 +158,15 @@ uint32_t sqlkeep_close(sqlkeep *handle);
 /* From now on an account of each statement is asked for, or isn't: 0 is no, all else is yes. An account says what happened
    in a statement, line by line: rows that changed, foreign keys that acted, triggers that ran, and the rows that a refusal is
    about (docs/language/accounts.md). sqlkeep_run and sqlkeep_lines write it. Where memory for it is refused, the statement is
-   refused with cause 22; a COMMIT is as without one then, and has no account. SQLKEEP_CLOSED. */
+   refused with cause 22; a COMMIT is as without one then, and its account is empty. SQLKEEP_CLOSED. */
 uint32_t sqlkeep_explain(sqlkeep *handle, uint32_t asked);
 
 /* Runs a whole script as the program does: in a new database of its own, with the limits of this session, and with
    accounts where they are asked for. The transcript is kept in the handle for sqlkeep_transcript, in place of the last
    one. The database of the session is neither read nor changed. A statement for which there is no memory is refused with
    cause 22.
-   SQLKEEP_CLOSED, SQLKEEP_NOT_UTF8, SQLKEEP_TOO_LONG, SQLKEEP_NO_MEMORY: the last transcript stays. */
+   SQLKEEP_CLOSED, SQLKEEP_NOT_UTF8, SQLKEEP_TOO_LONG, SQLKEEP_NO_MEMORY: the last transcript stays. Where memory was
+   refused for a statement alone, the status is SQLKEEP_OK, and `summary` counts it. */
 uint32_t sqlkeep_run(sqlkeep *handle, const uint8_t *text, size_t length, sqlkeep_summary *summary);
 
 /* Copies bytes of the transcript to the buffer, from byte `from` on: as many as there are and as fit. Their number is
@@ -171,9 +176,11 @@ uint32_t sqlkeep_transcript(sqlkeep *handle, size_t from, uint8_t *buffer, size_
 /* ---- statements, one after the other in the session
 
    A text is read into statements first, and then each of them is executed by its place, as often as is wanted. The
-   statements stay until the next text is read, and the outcome of a statement until the next statement or COMMIT. */
+   statements stay until the next text is read. The outcome of a statement stays until the next statement, COMMIT or
+   ROLLBACK TO SAVEPOINT. */
 
-/* Reads the statements of a text and keeps them, in place of those before. Nothing is executed.
+/* Reads the statements of a text and keeps them, in place of those before. Nothing is executed, and the last outcome stays;
+   sqlkeep_lines then no longer tells the name that it is about, since its statement is gone.
    SQLKEEP_CLOSED, SQLKEEP_NOT_UTF8, SQLKEEP_NO_MEMORY. */
 uint32_t sqlkeep_read(sqlkeep *handle, const uint8_t *text, size_t length, sqlkeep_script *script);
 
@@ -222,7 +229,8 @@ uint32_t sqlkeep_signal(sqlkeep *handle, size_t from, uint8_t *buffer, size_t si
 
 /* ---- transactions */
 
-/* COMMIT, with the outcome of the statement. It takes no memory. SQLKEEP_CLOSED. */
+/* COMMIT, with the outcome of the statement. It takes no memory, except for the account of one that is refused, where
+   accounts are asked for: if memory is refused for that, the outcome is the same and the account is empty. SQLKEEP_CLOSED. */
 uint32_t sqlkeep_commit(sqlkeep *handle, sqlkeep_outcome *outcome);
 
 /* ROLLBACK. It takes no memory. SQLKEEP_CLOSED. */

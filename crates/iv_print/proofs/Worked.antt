@@ -18,6 +18,7 @@ accounts = record {
   key_is_protected = refl;
   actions_differ = refl;
   key_of_two_columns = refl;
+  key_with_a_null = refl;
   same_primary_key = refl;
   null_in_a_primary_key = refl;
   same_key = refl;

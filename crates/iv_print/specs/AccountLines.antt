@@ -1,8 +1,8 @@
 -- The lines of an account, after those of the outcome.
-use Rattle.std.specs.Prelude.{ℕ, zero, suc, ◌-◌, List, [], ◌∷◌, ◌++◌, codes, decimal, slice_get, Option, Some, None, Result, Ok, Err}
+use Rattle.std.specs.Prelude.{ℕ, zero, suc, ◌-◌, if◌then◌else◌, List, [], ◌∷◌, ◌++◌, codes, decimal, slice_get, Option, Some, None, Result, Ok, Err}
 use Rattle.std.specs.List.{flat_map}
 use Rattle.iv_value.specs.declared.value.Value.{Value}
-use Rattle.iv_key.specs.Keys.{key_of}
+use Rattle.iv_key.specs.Keys.{key_of, none_null}
 use Rattle.iv_expr.specs.declared.row.StoredRow.{StoredRow}
 use Rattle.iv_expr.specs.declared.row.Change.{Change}
 use Rattle.iv_syntax.specs.declared.table.ReferentialAction.{ReferentialAction}
@@ -139,8 +139,10 @@ abbrev pub referenced_text : Schema → List Value → ForeignKey → List ℕ
 referenced_text s values k =
     codes " refers to " ++ (table_name (slice_get s.tables k.referenced) ++ listed_text (key_of k.columns values))
 
+-- The row refers to a key that doesn't do. Where its own key has a null, which only MATCH FULL refuses, it refers to none.
 abbrev pub reference_text : Schema → Result Answer Refusal → List Value → ForeignKey → List ℕ
-reference_text s outcome values k = referenced_text s values k ++ reference_words_of outcome
+reference_text s outcome values k =
+    if none_null (key_of k.columns values) then referenced_text s values k ++ reference_words_of outcome else codes " has some nulls in its key"
 
 -- the row whose key another has
 abbrev pub equal_text : StoredRow → List ℕ

@@ -162,6 +162,8 @@ pub record WorkedAccounts : Type 0 where
       ≡ codes "  C_PARENT: C row 2 (7, NULL) refers to P (7), and another foreign key sets a column otherwise\n"
   pub key_of_two_columns : violation_text 5 (stored 1 2 (int 7 ∷ int 8 ∷ []) ∷ [])
       ≡ codes "  C_BOTH: C row 2 (7, 8) refers to P (8, 7), which isn't there\n"
+  -- MATCH FULL refuses such a row whatever keys are there
+  pub key_with_a_null : violation_text 5 (stored 1 2 (int 7 ∷ Null ∷ []) ∷ []) ≡ codes "  C_BOTH: C row 2 (7, NULL) has some nulls in its key\n"
   pub same_primary_key : violation_text 0 (stored 0 2 (int 1 ∷ []) ∷ stored 0 1 (int 1 ∷ []) ∷ [])
       ≡ codes "  P_KEY: P row 2 (1) has the key of row 1 (1)\n"
   pub null_in_a_primary_key : violation_text 0 (stored 0 2 (Null ∷ []) ∷ []) ≡ codes "  P_KEY: P row 2 (NULL) has a null in its key\n"

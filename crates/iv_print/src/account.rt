@@ -1,5 +1,5 @@
 //! The text of an account.
-ghost use Rattle.std.specs.Prelude.{◌≡◌, ◌<◌, ◌-◌, ◌^◌, slice_get};
+ghost use Rattle.std.specs.Prelude.{◌≡◌, ◌<◌, ◌-◌, ◌^◌, ◌++◌, slice_get};
 ghost use Rattle.std.specs.List.{flat_map};
 ghost use Rattle.std.specs.Option.{option_copied};
 ghost use Rattle.iv_value.specs.References.{value_of};
@@ -17,7 +17,7 @@ use iv_catalogue::{
     Catalogue, Cause, Column, Constraint, ConstraintId, ForeignKey, Refusal, Rule, Table, TriggerId,
 };
 use iv_expr::{Change, Row, StoredRow, TableId};
-use iv_key::value_at;
+use iv_key::{Key, value_at};
 use iv_machine::Answer;
 use iv_syntax::ReferentialAction;
 use iv_value::{Value, ValueRef};
@@ -350,6 +350,22 @@ fn write_referenced<W: Sink>(
     write_listed_columns(sink, key.columns.as_slice(), values)
 }
 
+// The key to which a row refers, and why it doesn't do.
+fn write_refers<W: Sink>(
+    sink: &mut W,
+    catalogue: &Catalogue,
+    outcome: &Result<Answer, Refusal>,
+    values: &[Value],
+    key: &ForeignKey,
+) -> Result<(), DeviceFault>
+    ensures { Writes (W.state sink.old) (W.state sink.new) result
+        (referenced_text catalogue.now values.now key.now ++ reference_words_of outcome.now) }
+{
+    write_referenced(sink, catalogue, values, key)?;
+    write_all(sink, reference_words(outcome).as_bytes())
+}
+
+// Why a row has no key to refer to: the key isn't there or doesn't do, or the row has some nulls in its own.
 fn write_reference<W: Sink>(
     sink: &mut W,
     catalogue: &Catalogue,
@@ -360,8 +376,11 @@ fn write_reference<W: Sink>(
     ensures { Writes (W.state sink.old) (W.state sink.new) result
         (reference_text catalogue.now outcome.now values.now key.now) }
 {
-    write_referenced(sink, catalogue, values, key)?;
-    write_all(sink, reference_words(outcome).as_bytes())
+    if Key::new(key.columns.as_slice(), values).none_null() {
+        write_refers(sink, catalogue, outcome, values, key)
+    } else {
+        write_all(sink, b" has some nulls in its key")
+    }
 }
 
 // The row whose key another has.

@@ -10,5 +10,5 @@ mod write;
 pub use account::write_account;
 pub use buffered::Buffered;
 pub use device::{DeviceFault, Sink, Source, Std};
-pub use outcome::write_outcome;
+pub use outcome::{cause_words, write_outcome};
 pub use write::{write_all, write_number};

@@ -163,8 +163,8 @@ fn write_fault<W: Sink>(
     write_row_number(sink, fault.row)
 }
 
-// The number and the name of a cause.
-fn cause_words(cause: &Cause) -> &'static str
+/// The number and the name of a cause, as a transcript has them.
+pub fn cause_words(cause: &Cause) -> &'static str
     ensures { result.now ≡ cause_words cause.now }
 {
     match cause {

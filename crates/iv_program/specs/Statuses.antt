@@ -20,9 +20,9 @@ status_of summary = if (summary.refused == 0) && is_none summary.fault then 0 el
 
 -- The transcript of these bytes under these limits was appended, with accounts where they are asked for, for some choice of statements
 -- that were refused memory, and the status says whether all was accepted.
-pub record WroteTranscript (bytes : List ℕ) (limits : Bounds) (asked : Bool) (status : ℕ) (before after : SinkState) : Type 0 where
+pub record WroteTranscript (sure_back : Bool) (bytes : List ℕ) (limits : Bounds) (asked : Bool) (status : ℕ) (before after : SinkState) : Type 0 where
   pub summary : Summary
-  pub ran : RanScript bytes limits asked summary before after
+  pub ran : RanScript sure_back bytes limits asked summary before after
   pub status_is : status ≡ status_of summary
 
 -- What is known where a run did not end because of this fault: of the bytes of its script, of the

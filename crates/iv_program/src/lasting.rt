@@ -30,6 +30,8 @@ impl<X: Executor + Drop> Executor for Lasting<X> {
 
     ghost told = { λ l. X.told l };
 
+    ghost sure_store = { X.sure_store };
+
     fn new(alloc: Global, limits: Limits) -> Result<Self, AllocError> {
         let database = X::new(alloc, limits)?;
         Ok(Lasting {

@@ -58,7 +58,7 @@ pub fn run_script<X: Executor + Drop, R: Source, W: Sink, E: Sink>(
 ) -> u8
     // What was written is the transcript, and the status is 0 where all was accepted and else 1.
     ensures transcript { result < 2 → IfSome (R.remaining reader.old) (λ bytes.
-        WroteTranscript bytes limits explain result (W.state writer.old) (W.state writer.new)) }
+        WroteTranscript X.sure_store bytes limits explain result (W.state writer.old) (W.state writer.new)) }
     ensures fits { result < 2 → IfSome (R.remaining reader.old) (λ bytes. Fits LONGEST bytes) }
     ensures bound { result ≤ 2 }
     // A run that did not reach its end wrote nothing, unless a write failed.

@@ -1,5 +1,6 @@
 -- One statement after another.
-use Rattle.std.proofs.Common.{◌≡◌, inl, inr, ℕ, ◌+◌, ◌≤◌, Bool, true, false, if◌then◌else◌, List, [], ◌∷◌, ◌++◌, Option, None, Result, Ok, Err, ◌∙◌, sym, ap, subst, refl, append_assoc, append-nil, length, length-append, arith}
+use Rattle.std.proofs.Common.{◌≡◌, inl, inr, ℕ, ◌+◌, ◌≤◌, Bool, true, false, ◌&&◌, ◌||◌, if◌then◌else◌, List, [], ◌∷◌, ◌++◌, Option, None, Result, Ok, Err, ◌∙◌, sym, ap, subst, refl, append_assoc, append-nil, length, length-append, arith}
+use Rattle.std.proofs.lemmas.Bool.{false≢true}
 use Rattle.std.specs.Io.KnownBytes.{Appends}
 use Rattle.std.proofs.KnownBytes.{Appends-trans, Appends-nil}
 use Rattle.iv_syntax.specs.declared.statement.Statement.{Statement}
@@ -13,7 +14,8 @@ use Rattle.iv_machine.specs.declared.answer.Answer.{Answer}
 use Rattle.iv_catalogue.specs.Refusals.{is_memory}
 use Rattle.iv_machine.specs.Machine.{State, Outcome, IsMemoryRefusal, MemoryRefused, changes_rows, may_tell}
 use Rattle.iv_resolution.specs.Resolution.{resolution}
-use Rattle.iv_step.specs.Step.{step, takes_no_memory, Executes}
+use Rattle.iv_step.specs.Step.{Executes, step, takes_no_memory}
+use Rattle.iv_step.specs.Sure.{is_rollback_to, never_refused}
 use Rattle.iv_step.specs.Telling.{Tells, commits, statement_told}
 use Rattle.iv_print.specs.AccountLines.{account_text}
 use Rattle.iv_print.specs.Lines.{line}
@@ -28,9 +30,9 @@ use Rattle.iv_script.specs.Running.{RanOne, RanAll}
 -- ---- one statement
 
 -- the answer, the state and the account are those of the machine, with the memory that this says
-pub record Did (asked : Bool) (old new : State) (st : Statement) (r : Result Answer Refusal) (account : Account) : Type 0 where
+pub record Did (sure_back asked : Bool) (old new : State) (st : Statement) (r : Result Answer Refusal) (account : Account) : Type 0 where
   pub memory : Memory
-  pub due : IsDue memory old st
+  pub due : IsDue sure_back memory old st
   pub counted : (if is_memory r then 1 else 0) ≡ memory_refusals (memory ∷ [])
   pub answer_is : r ≡ (outcome memory old st).answer
   pub state_is : new ≡ (outcome memory old st).state
@@ -52,11 +54,11 @@ none_told : (asked : Bool) (old : State) (st : Statement) → no_account asked �
 none_told true old st = refl
 none_told false old st = refl
 
-did_plain : (asked : Bool) (old new : State) (st : Statement) (r : Result Answer Refusal) (account : Account) → is_memory r ≡ false
+did_plain : (sure_back asked : Bool) (old new : State) (st : Statement) (r : Result Answer Refusal) (account : Account) → is_memory r ≡ false
     → (r ≡ (step old st).answer) × (new ≡ (step old st).state) → MayTell (commits (resolution old.schema st)) (no_account asked) account (statement_told old st)
-    → Did asked old new st r account
-did_plain asked old new st r account m e told = by (commits (resolution old.schema st)) refl told where
-  as_told : account ≡ told_alone asked (statement_told old st) → Did asked old new st r account
+    → Did sure_back asked old new st r account
+did_plain sure_back asked old new st r account m e told = by (commits (resolution old.schema st)) refl told where
+  as_told : account ≡ told_alone asked (statement_told old st) → Did sure_back asked old new st r account
   as_told told = record {
     memory = granted;
     due = tt;
@@ -66,7 +68,7 @@ did_plain asked old new st r account m e told = by (commits (resolution old.sche
     told_is = told ∙ alone asked old st;
   }
 
-  by : (b : Bool) → commits (resolution old.schema st) ≡ b → MayTell b (no_account asked) account (statement_told old st) → Did asked old new st r account
+  by : (b : Bool) → commits (resolution old.schema st) ≡ b → MayTell b (no_account asked) account (statement_told old st) → Did sure_back asked old new st r account
   by false c told = as_told told
   by true c (inl told) = as_told told
   by true c (inr none) = record {
@@ -97,61 +99,67 @@ is_due : (b : Bool) → (b ≡ true → true ≡ false) → b ≡ false
 is_due true sure = sure refl
 is_due false sure = refl
 
-did_denied : (asked : Bool) (old new : State) (st : Statement) (t : Option ℕ) (account : Account) → MemoryRefused old st (Err (record { cause = cause.OutOfMemory; trigger = t })) new
-    → (takes_no_memory old st ≡ true → true ≡ false) → account ≡ no_account asked → Did asked old new st (Err (record { cause = cause.OutOfMemory; trigger = t })) account
-did_denied asked old new st t account e sure none = record {
+did_denied : (sure_back asked : Bool) (old new : State) (st : Statement) (t : Option ℕ) (account : Account) → MemoryRefused old st (Err (record { cause = cause.OutOfMemory; trigger = t })) new
+    → (never_refused sure_back old st ≡ true → true ≡ false) → account ≡ no_account asked → Did sure_back asked old new st (Err (record { cause = cause.OutOfMemory; trigger = t })) account
+did_denied sure_back asked old new st t account e sure none = record {
   memory = denied t;
-  due = is_due (takes_no_memory old st) sure;
+  due = is_due (never_refused sure_back old st) sure;
   counted = refl;
   answer_is = denied_is (changes_rows st) old.schema t e.1;
   state_is = e.0;
   told_is = none ∙ none_denied asked old st t;
 }
 
-did_refused : (asked : Bool) (old new : State) (st : Statement) (c : Cause) (t : Option ℕ) (account : Account) → Executes old st (Err (record { cause = c; trigger = t })) new
-    → (takes_no_memory old st ≡ true → is_memory {A = Answer} (Err (record { cause = c; trigger = t })) ≡ false)
-    → Tells asked old st (Err (record { cause = c; trigger = t })) account → Did asked old new st (Err (record { cause = c; trigger = t })) account
-did_refused asked old new st cause.OutOfMemory t account e sure told = did_denied asked old new st t account e sure told
-did_refused asked old new st cause.Unknown t account e sure told = did_plain asked old new st (Err (record { cause = cause.Unknown; trigger = t })) account refl e told
-did_refused asked old new st cause.Duplicate t account e sure told = did_plain asked old new st (Err (record { cause = cause.Duplicate; trigger = t })) account refl e told
-did_refused asked old new st cause.SchemaFault t account e sure told = did_plain asked old new st (Err (record { cause = cause.SchemaFault; trigger = t })) account refl e told
-did_refused asked old new st cause.InTransaction t account e sure told = did_plain asked old new st (Err (record { cause = cause.InTransaction; trigger = t })) account refl e told
-did_refused asked old new st cause.NoTransaction t account e sure told = did_plain asked old new st (Err (record { cause = cause.NoTransaction; trigger = t })) account refl e told
-did_refused asked old new st cause.ActiveTransaction t account e sure told = did_plain asked old new st (Err (record { cause = cause.ActiveTransaction; trigger = t })) account refl e told
-did_refused asked old new st cause.UnknownSavepoint t account e sure told = did_plain asked old new st (Err (record { cause = cause.UnknownSavepoint; trigger = t })) account refl e told
-did_refused asked old new st (cause.NotDeferrable k) t account e sure told = did_plain asked old new st (Err (record { cause = cause.NotDeferrable k; trigger = t })) account refl e told
-did_refused asked old new st cause.WrongShape t account e sure told = did_plain asked old new st (Err (record { cause = cause.WrongShape; trigger = t })) account refl e told
-did_refused asked old new st cause.NumberOutOfRange t account e sure told = did_plain asked old new st (Err (record { cause = cause.NumberOutOfRange; trigger = t })) account refl e told
-did_refused asked old new st cause.TextTooLong t account e sure told = did_plain asked old new st (Err (record { cause = cause.TextTooLong; trigger = t })) account refl e told
-did_refused asked old new st (cause.Restrict f) t account e sure told = did_plain asked old new st (Err (record { cause = cause.Restrict f; trigger = t })) account refl e told
-did_refused asked old new st (cause.Violation f) t account e sure told = did_plain asked old new st (Err (record { cause = cause.Violation f; trigger = t })) account refl e told
-did_refused asked old new st (cause.ActionConflict f) t account e sure told = did_plain asked old new st (Err (record { cause = cause.ActionConflict f; trigger = t })) account refl e told
-did_refused asked old new st (cause.Signal k p) t account e sure told = did_plain asked old new st (Err (record { cause = cause.Signal k p; trigger = t })) account refl e told
-did_refused asked old new st (cause.DepthLimit k) t account e sure told = did_plain asked old new st (Err (record { cause = cause.DepthLimit k; trigger = t })) account refl e told
-did_refused asked old new st cause.TooManyChanges t account e sure told = did_plain asked old new st (Err (record { cause = cause.TooManyChanges; trigger = t })) account refl e told
-did_refused asked old new st cause.TransactionTooLarge t account e sure told = did_plain asked old new st (Err (record { cause = cause.TransactionTooLarge; trigger = t })) account refl e told
-did_refused asked old new st (cause.CommitRefused f) t account e sure told = did_plain asked old new st (Err (record { cause = cause.CommitRefused f; trigger = t })) account refl e told
-did_refused asked old new st (cause.AddRefused n) t account e sure told = did_plain asked old new st (Err (record { cause = cause.AddRefused n; trigger = t })) account refl e told
-did_refused asked old new st cause.Limit t account e sure told = did_plain asked old new st (Err (record { cause = cause.Limit; trigger = t })) account refl e told
+did_refused : (sure_back asked : Bool) (old new : State) (st : Statement) (c : Cause) (t : Option ℕ) (account : Account) → Executes old st (Err (record { cause = c; trigger = t })) new
+    → (never_refused sure_back old st ≡ true → is_memory {A = Answer} (Err (record { cause = c; trigger = t })) ≡ false)
+    → Tells asked old st (Err (record { cause = c; trigger = t })) account → Did sure_back asked old new st (Err (record { cause = c; trigger = t })) account
+did_refused sure_back asked old new st cause.OutOfMemory t account e sure told = did_denied sure_back asked old new st t account e sure told
+did_refused sure_back asked old new st cause.Unknown t account e sure told = did_plain sure_back asked old new st (Err (record { cause = cause.Unknown; trigger = t })) account refl e told
+did_refused sure_back asked old new st cause.Duplicate t account e sure told = did_plain sure_back asked old new st (Err (record { cause = cause.Duplicate; trigger = t })) account refl e told
+did_refused sure_back asked old new st cause.SchemaFault t account e sure told = did_plain sure_back asked old new st (Err (record { cause = cause.SchemaFault; trigger = t })) account refl e told
+did_refused sure_back asked old new st cause.InTransaction t account e sure told = did_plain sure_back asked old new st (Err (record { cause = cause.InTransaction; trigger = t })) account refl e told
+did_refused sure_back asked old new st cause.NoTransaction t account e sure told = did_plain sure_back asked old new st (Err (record { cause = cause.NoTransaction; trigger = t })) account refl e told
+did_refused sure_back asked old new st cause.ActiveTransaction t account e sure told = did_plain sure_back asked old new st (Err (record { cause = cause.ActiveTransaction; trigger = t })) account refl e told
+did_refused sure_back asked old new st cause.UnknownSavepoint t account e sure told = did_plain sure_back asked old new st (Err (record { cause = cause.UnknownSavepoint; trigger = t })) account refl e told
+did_refused sure_back asked old new st (cause.NotDeferrable k) t account e sure told = did_plain sure_back asked old new st (Err (record { cause = cause.NotDeferrable k; trigger = t })) account refl e told
+did_refused sure_back asked old new st cause.WrongShape t account e sure told = did_plain sure_back asked old new st (Err (record { cause = cause.WrongShape; trigger = t })) account refl e told
+did_refused sure_back asked old new st cause.NumberOutOfRange t account e sure told = did_plain sure_back asked old new st (Err (record { cause = cause.NumberOutOfRange; trigger = t })) account refl e told
+did_refused sure_back asked old new st cause.TextTooLong t account e sure told = did_plain sure_back asked old new st (Err (record { cause = cause.TextTooLong; trigger = t })) account refl e told
+did_refused sure_back asked old new st (cause.Restrict f) t account e sure told = did_plain sure_back asked old new st (Err (record { cause = cause.Restrict f; trigger = t })) account refl e told
+did_refused sure_back asked old new st (cause.Violation f) t account e sure told = did_plain sure_back asked old new st (Err (record { cause = cause.Violation f; trigger = t })) account refl e told
+did_refused sure_back asked old new st (cause.ActionConflict f) t account e sure told = did_plain sure_back asked old new st (Err (record { cause = cause.ActionConflict f; trigger = t })) account refl e told
+did_refused sure_back asked old new st (cause.Signal k p) t account e sure told = did_plain sure_back asked old new st (Err (record { cause = cause.Signal k p; trigger = t })) account refl e told
+did_refused sure_back asked old new st (cause.DepthLimit k) t account e sure told = did_plain sure_back asked old new st (Err (record { cause = cause.DepthLimit k; trigger = t })) account refl e told
+did_refused sure_back asked old new st cause.TooManyChanges t account e sure told = did_plain sure_back asked old new st (Err (record { cause = cause.TooManyChanges; trigger = t })) account refl e told
+did_refused sure_back asked old new st cause.TransactionTooLarge t account e sure told = did_plain sure_back asked old new st (Err (record { cause = cause.TransactionTooLarge; trigger = t })) account refl e told
+did_refused sure_back asked old new st (cause.CommitRefused f) t account e sure told = did_plain sure_back asked old new st (Err (record { cause = cause.CommitRefused f; trigger = t })) account refl e told
+did_refused sure_back asked old new st (cause.AddRefused n) t account e sure told = did_plain sure_back asked old new st (Err (record { cause = cause.AddRefused n; trigger = t })) account refl e told
+did_refused sure_back asked old new st cause.Limit t account e sure told = did_plain sure_back asked old new st (Err (record { cause = cause.Limit; trigger = t })) account refl e told
 
-pub did : (asked : Bool) (old new : State) (st : Statement) (r : Result Answer Refusal) (account : Account) → Executes old st r new
-    → (takes_no_memory old st ≡ true → is_memory r ≡ false) → Tells asked old st r account → Did asked old new st r account
-did asked old new st (Ok a) account e sure told = did_plain asked old new st (Ok a) account refl e told
-did asked old new st (Err r) account e sure told = did_refused asked old new st r.cause r.trigger account e sure told
+pub did : (sure_back asked : Bool) (old new : State) (st : Statement) (r : Result Answer Refusal) (account : Account) → Executes old st r new
+    → (never_refused sure_back old st ≡ true → is_memory r ≡ false) → Tells asked old st r account → Did sure_back asked old new st r account
+did sure_back asked old new st (Ok a) account e sure told = did_plain sure_back asked old new st (Ok a) account refl e told
+did sure_back asked old new st (Err r) account e sure told = did_refused sure_back asked old new st r.cause r.trigger account e sure told
 
--- whether an account is asked for stays
-pub still_asked : (asked : Bool) (old new : State) (st : Statement) (r : Result Answer Refusal) (account : Account) → Executes old st r new
-    → (takes_no_memory old st ≡ true → is_memory r ≡ false) → Tells asked old st r account → account.asked ≡ asked
-still_asked asked old new st r account e sure told = ap (λ x. x.asked) (did asked old new st r account e sure told).told_is
+-- what takes no memory by one of two reasons isn't refused it
+one_of : (p q r : Bool) (m : Bool) → (p ≡ true → m ≡ false) → (q ≡ true → r ≡ true → m ≡ false) → p || (q && r) ≡ true → m ≡ false
+one_of true q r m f g e = f refl
+one_of false true true m f g e = g refl refl
+one_of false true false m f g e = absurd (false≢true e)
+one_of false false r m f g e = absurd (false≢true e)
+
+pub sure_of : (sure_back : Bool) (old : State) (st : Statement) (r : Result Answer Refusal) → (takes_no_memory old st ≡ true → is_memory r ≡ false)
+    → (sure_back ≡ true → is_rollback_to st ≡ true → is_memory r ≡ false) → never_refused sure_back old st ≡ true → is_memory r ≡ false
+sure_of sure_back old st r f g = one_of (takes_no_memory old st) sure_back (is_rollback_to st) (is_memory r) f g
 
 -- a statement's lines were written, and its outcome was counted
-pub ran_one : (asked : Bool) (n : ℕ) (old new : State) (st : Statement) (r : Result Answer Refusal) (account : Account) (tally tally_then : Tally) (before after : SinkState)
-    → Executes old st r new → (takes_no_memory old st ≡ true → is_memory r ≡ false) → Tells asked old st r account
+pub ran_one : (sure_back asked : Bool) (n : ℕ) (old new : State) (st : Statement) (r : Result Answer Refusal) (account : Account) (tally tally_then : Tally) (before after : SinkState)
+    → Executes old st r new → (never_refused sure_back old st ≡ true → is_memory r ≡ false) → Tells asked old st r account
     → Writes before after (Ok tt) (line n r new.schema ++ (account_text new.schema r account.entries ++ name_line asked new.schema st r))
     → tally_then.accepted ≡ tally.accepted + accepted_of r → tally_then.refused ≡ tally.refused + refused_of r → tally_then.memory_refused ≡ tally.memory_refused + (if is_memory r then 1 else 0)
-    → RanOne asked n old new st tally tally_then before after
-ran_one asked n old new st r account tally tally_then before after e sure told w a f s =
-    let d : Did asked old new st r account = did asked old new st r account e sure told in
+    → RanOne sure_back asked n old new st tally tally_then before after
+ran_one sure_back asked n old new st r account tally tally_then before after e sure told w a f s =
+    let d : Did sure_back asked old new st r account = did sure_back asked old new st r account e sure told in
     record {
       memory = d.memory;
       due = d.due;
@@ -195,18 +203,18 @@ counted_more (granted ∷ ms) m = counted_more ms m
 counted_more (untold ∷ ms) m = counted_more ms m
 
 -- these ran, and the rest is left
-pub record Onward (asked : Bool) (old now : State) (all rest : List Statement) (n : ℕ) (tally : Tally) (before after : SinkState) : Type 0 where
+pub record Onward (sure_back asked : Bool) (old now : State) (all rest : List Statement) (n : ℕ) (tally : Tally) (before after : SinkState) : Type 0 where
   pub memory : List Memory
   pub written : List ℕ
   pub each : length memory ≡ n
-  pub due : (more : List Memory) → AreDue now rest more → AreDue old all (memory ++ more)
+  pub due : (more : List Memory) → AreDue sure_back now rest more → AreDue sure_back old all (memory ++ more)
   pub memory_refusals_are : memory_refusals memory ≡ tally.memory_refused
   pub appended : Appends before.contents after.contents written
   pub onward : (more : List Memory) → run_from asked old 0 all (memory ++ more) ≡ following written tally.accepted tally.refused (run_from asked now n rest more)
   pub works : FailsNever before after
 
-pub onward_start : (asked : Bool) (s : State) (all : List Statement) (tally : Tally) (a : SinkState) → tally.accepted ≡ 0 → tally.refused ≡ 0 → tally.memory_refused ≡ 0 → Onward asked s s all all 0 tally a a
-onward_start asked s all tally a p q z = record {
+pub onward_start : (sure_back asked : Bool) (s : State) (all : List Statement) (tally : Tally) (a : SinkState) → tally.accepted ≡ 0 → tally.refused ≡ 0 → tally.memory_refused ≡ 0 → Onward sure_back asked s s all all 0 tally a a
+onward_start sure_back asked s all tally a p q z = record {
   memory = [];
   written = [];
   each = refl;
@@ -217,9 +225,9 @@ onward_start asked s all tally a p q z = record {
   works = (refl, refl);
 }
 
-pub onward_more : (asked : Bool) (old now new : State) (all left rest : List Statement) (st : Statement) (n : ℕ) (t u : Tally) (a before after : SinkState)
-    → Onward asked old now all left n t a before → left ≡ st ∷ rest → RanOne asked (n + 1) now new st t u before after → Onward asked old new all rest (n + 1) u a after
-onward_more asked old now new all left rest st n t u a before after w e r =
+pub onward_more : (sure_back asked : Bool) (old now new : State) (all left rest : List Statement) (st : Statement) (n : ℕ) (t u : Tally) (a before after : SinkState)
+    → Onward sure_back asked old now all left n t a before → left ≡ st ∷ rest → RanOne sure_back asked (n + 1) now new st t u before after → Onward sure_back asked old new all rest (n + 1) u a after
+onward_more sure_back asked old now new all left rest st n t u a before after w e r =
     let o : Outcome = outcome r.memory now st in
     let told : List Entry = told_with asked r.memory now st in
     record {
@@ -227,8 +235,8 @@ onward_more asked old now new all left rest st n t u a before after w e r =
       written = w.written ++ lines asked (n + 1) st o told;
       each = omega (arith, length-append w.memory (r.memory ∷ []), w.each);
       due = λ more left.
-          subst (AreDue old all) (sym (append_assoc w.memory (r.memory ∷ []) more))
-          (w.due (r.memory ∷ more) (subst (λ l. AreDue now l (r.memory ∷ more)) (sym e) (r.due, subst (λ s. AreDue s rest more) r.state_is left)));
+          subst (AreDue sure_back old all) (sym (append_assoc w.memory (r.memory ∷ []) more))
+          (w.due (r.memory ∷ more) (subst (λ l. AreDue sure_back now l (r.memory ∷ more)) (sym e) (r.due, subst (λ s. AreDue sure_back s rest more) r.state_is left)));
       memory_refusals_are = counted_more w.memory r.memory ∙ ap (λ z. z + memory_refusals (r.memory ∷ [])) w.memory_refusals_are ∙ sym r.memory_refusals_are;
       appended = Appends-trans a.contents before.contents after.contents w.written (lines asked (n + 1) st o told) w.appended r.appended;
       onward = λ more.
@@ -242,14 +250,14 @@ onward_more asked old now new all left rest st n t u a before after w e r =
       works = never_then a before after w.works r.works;
     }
 
-pub onward_end : (asked : Bool) (old now : State) (all rest : List Statement) (n : ℕ) (t : Tally) (a b : SinkState) → Onward asked old now all rest n t a b → rest ≡ [] → n ≡ length all → RanAll asked old now all t a b
-onward_end asked old now all rest n t a b w e q =
+pub onward_end : (sure_back asked : Bool) (old now : State) (all rest : List Statement) (n : ℕ) (t : Tally) (a b : SinkState) → Onward sure_back asked old now all rest n t a b → rest ≡ [] → n ≡ length all → RanAll sure_back asked old now all t a b
+onward_end sure_back asked old now all rest n t a b w e q =
     let done : run_from asked old 0 all w.memory ≡ following w.written t.accepted t.refused (record { text = []; state = now; accepted = 0; refused = 0 }) =
     ap (run_from asked old 0 all) (sym (append-nil w.memory)) ∙ w.onward [] ∙ ap (λ l. following w.written t.accepted t.refused (run_from asked now n l [])) e in
     record {
       memory = w.memory;
       each = w.each ∙ q;
-      due = subst (AreDue old all) (append-nil w.memory) (w.due [] (subst (λ l. AreDue now l []) (sym e) tt));
+      due = subst (AreDue sure_back old all) (append-nil w.memory) (w.due [] (subst (λ l. AreDue sure_back now l []) (sym e) tt));
       memory_refusals_are = w.memory_refusals_are;
       accepted_is = ap (λ r. r.accepted) done ∙ none_more t.accepted;
       refused_is = ap (λ r. r.refused) done ∙ none_more t.refused;
@@ -272,9 +280,9 @@ one_memory_refusal granted = omega arith
 one_memory_refusal untold = omega arith
 
 -- a statement is counted once
-pub few_more : (asked : Bool) (n k : ℕ) (now new : State) (st : Statement) (t u : Tally) (before after : SinkState) → RanOne asked n now new st t u before after
+pub few_more : (sure_back asked : Bool) (n k : ℕ) (now new : State) (st : Statement) (t u : Tally) (before after : SinkState) → RanOne sure_back asked n now new st t u before after
     → t.accepted ≤ k → t.refused ≤ k → t.memory_refused ≤ k → (u.accepted ≤ k + 1) × (u.refused ≤ k + 1) × (u.memory_refused ≤ k + 1)
-few_more asked n k now new st t u before after r a f s = (
+few_more sure_back asked n k now new st t u before after r a f s = (
   omega (arith, r.accepted_is, one_accepted (outcome r.memory now st).answer, a),
   omega (arith, r.refused_is, one_refused (outcome r.memory now st).answer, f),
   omega (arith, r.memory_refusals_are, one_memory_refusal r.memory, s),

@@ -17,11 +17,11 @@ use Rattle.iv_script.specs.Transcript.{Memory, granted, denied, untold, Ran, fol
 use Rattle.iv_script.specs.Places.{place_line}
 use Rattle.iv_script.specs.Running.{RanAll, RanParsed}
 
-pub ran_parsed : (asked : Bool) (old new : State) (text : List ℕ) (sts : List Statement) (fault : Option ℕ) (tally : Tally) (b0 b1 b2 b3 b4 : SinkState)
-    → RanAll asked old new sts tally b0 b1 → Writes b1 b2 (Ok tt) (fault_line (length sts) fault) → Writes b2 b3 (Ok tt) (place_line asked text fault)
+pub ran_parsed : (sure_back asked : Bool) (old new : State) (text : List ℕ) (sts : List Statement) (fault : Option ℕ) (tally : Tally) (b0 b1 b2 b3 b4 : SinkState)
+    → RanAll sure_back asked old new sts tally b0 b1 → Writes b1 b2 (Ok tt) (fault_line (length sts) fault) → Writes b2 b3 (Ok tt) (place_line asked text fault)
     → Writes b3 b4 (Ok tt) (end_line (is_some new.start))
-    → RanParsed asked old text sts fault tally b0 b4
-ran_parsed asked old new text sts fault tally b0 b1 b2 b3 b4 r p l q = record {
+    → RanParsed sure_back asked old text sts fault tally b0 b4
+ran_parsed sure_back asked old new text sts fault tally b0 b1 b2 b3 b4 r p l q = record {
   memory = r.memory;
   each = r.each;
   due = r.due;
@@ -39,10 +39,10 @@ ran_parsed asked old new text sts fault tally b0 b1 b2 b3 b4 r p l q = record {
 abbrev pub summary_of : Tally → Option SyntaxFault → Summary
 summary_of tally fault = record { accepted = tally.accepted; refused = tally.refused; memory_refused = tally.memory_refused; fault = fault }
 
-pub ran_script : (bytes : List ℕ) (limits : Bounds) (asked : Bool) (sts : List Statement) (fault : Option SyntaxFault) (tally : Tally) (a b : SinkState)
-    → IsScript bytes sts (option_map (λ f. f.at) fault) → RanParsed asked (empty_state limits) bytes sts (option_map (λ f. f.at) fault) tally a b
-    → RanScript bytes limits asked (summary_of tally fault) a b
-ran_script bytes limits asked sts fault tally a b s r = record {
+pub ran_script : (sure_back : Bool) (bytes : List ℕ) (limits : Bounds) (asked : Bool) (sts : List Statement) (fault : Option SyntaxFault) (tally : Tally) (a b : SinkState)
+    → IsScript bytes sts (option_map (λ f. f.at) fault) → RanParsed sure_back asked (empty_state limits) bytes sts (option_map (λ f. f.at) fault) tally a b
+    → RanScript sure_back bytes limits asked (summary_of tally fault) a b
+ran_script sure_back bytes limits asked sts fault tally a b s r = record {
   statements = sts;
   memory = r.memory;
   is_script = s;
@@ -64,9 +64,9 @@ run_with_memory s n (st ∷ sts) (granted ∷ ms) h =
 run_with_memory s n (st ∷ sts) (untold ∷ ms) h =
     ap (following (lines false (n + 1) st (outcome untold s st) []) (accepted_of (step s st).answer) (refused_of (step s st).answer)) (run_with_memory (step s st).state (n + 1) sts ms h)
 
-pub ran_with_memory : (bytes : List ℕ) (limits : Bounds) (summary : Summary) (a b : SinkState)
-    → RanScript bytes limits false summary a b → summary.memory_refused ≡ 0 → RanWithMemory bytes limits (fault_place summary) a b
-ran_with_memory bytes limits summary a b r z = record {
+pub ran_with_memory : (sure_back : Bool) (bytes : List ℕ) (limits : Bounds) (summary : Summary) (a b : SinkState)
+    → RanScript sure_back bytes limits false summary a b → summary.memory_refused ≡ 0 → RanWithMemory bytes limits (fault_place summary) a b
+ran_with_memory sure_back bytes limits summary a b r z = record {
   statements = r.statements;
   is_script = r.is_script;
   appended = subst (λ (q : Ran). Appends a.contents b.contents (q.text ++ closing_lines false bytes (length r.statements) (fault_place summary) q.state))

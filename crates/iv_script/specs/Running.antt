@@ -8,10 +8,10 @@ use Rattle.iv_script.specs.declared.statements.Tally.{Tally}
 use Rattle.iv_script.specs.Transcript.{Memory, IsDue, AreDue, outcome, lines, accepted_of, refused_of, run_from, told_with, memory_refusals, closing_lines}
 
 -- one statement ran, with or without memory: its lines were written, and this is the state after it
-pub record RanOne (asked : Bool) (n : ℕ) (old new : State) (st : Statement) (tally tally_then : Tally)
+pub record RanOne (sure_back asked : Bool) (n : ℕ) (old new : State) (st : Statement) (tally tally_then : Tally)
     (before after : SinkState) : Type 0 where
   pub memory : Memory
-  pub due : IsDue memory old st
+  pub due : IsDue sure_back memory old st
   pub state_is : new ≡ (outcome memory old st).state
   pub accepted_is : tally_then.accepted
       ≡ tally.accepted + accepted_of (outcome memory old st).answer
@@ -21,11 +21,11 @@ pub record RanOne (asked : Bool) (n : ℕ) (old new : State) (st : Statement) (t
   pub works : FailsNever before after
 
 -- all statements ran; for each it is chosen whether it was refused memory
-pub record RanAll (asked : Bool) (old new : State) (sts : List Statement) (tally : Tally)
+pub record RanAll (sure_back asked : Bool) (old new : State) (sts : List Statement) (tally : Tally)
     (before after : SinkState) : Type 0 where
   pub memory : List Memory
   pub each : length memory ≡ length sts
-  pub due : AreDue old sts memory
+  pub due : AreDue sure_back old sts memory
   pub memory_refusals_are : memory_refusals memory ≡ tally.memory_refused
   pub accepted_is : (run_from asked old 0 sts memory).accepted ≡ tally.accepted
   pub refused_is : (run_from asked old 0 sts memory).refused ≡ tally.refused
@@ -34,11 +34,11 @@ pub record RanAll (asked : Bool) (old new : State) (sts : List Statement) (tally
   pub works : FailsNever before after
 
 -- the statements ran, and the lines of the script's end were written
-pub record RanParsed (asked : Bool) (old : State) (text : List ℕ) (sts : List Statement) (fault : Option ℕ) (tally : Tally)
+pub record RanParsed (sure_back asked : Bool) (old : State) (text : List ℕ) (sts : List Statement) (fault : Option ℕ) (tally : Tally)
     (before after : SinkState) : Type 0 where
   pub memory : List Memory
   pub each : length memory ≡ length sts
-  pub due : AreDue old sts memory
+  pub due : AreDue sure_back old sts memory
   pub memory_refusals_are : memory_refusals memory ≡ tally.memory_refused
   pub accepted_is : (run_from asked old 0 sts memory).accepted ≡ tally.accepted
   pub refused_is : (run_from asked old 0 sts memory).refused ≡ tally.refused

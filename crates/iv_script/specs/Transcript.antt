@@ -10,7 +10,8 @@ use Rattle.iv_machine.specs.Bounds.{Bounds}
 use Rattle.iv_machine.specs.Machine.{State, Outcome, no_work, changes_rows, may_tell, empty_state}
 use Rattle.iv_resolution.specs.Resolution.{resolution}
 use Rattle.iv_account.specs.declared.entry.Entry.{Entry}
-use Rattle.iv_step.specs.Step.{step, takes_no_memory}
+use Rattle.iv_step.specs.Step.{step}
+use Rattle.iv_step.specs.Sure.{never_refused}
 use Rattle.iv_step.specs.Telling.{commits, statement_told}
 use Rattle.iv_print.specs.AccountLines.{account_text}
 use Rattle.iv_print.specs.Lines.{line}
@@ -66,11 +67,11 @@ outcome (denied trigger) s st = memory_refused_outcome s st trigger
 outcome untold s st = step s st
 
 -- Memory is refused only to a statement that takes some: not to COMMIT or ROLLBACK, nor to one that is refused for the transaction
--- that is open or isn't. It is refused to the account of a COMMIT alone.
-abbrev pub IsDue : Memory → State → Statement → Type 0
-IsDue granted s st = Unit {0}
-IsDue (denied trigger) s st = takes_no_memory s st ≡ false
-IsDue untold s st = commits (resolution s.schema st) ≡ true
+-- that is open or isn't, nor to ROLLBACK TO SAVEPOINT, where that is sure to take none. It is refused to the account of a COMMIT alone.
+abbrev pub IsDue : Bool → Memory → State → Statement → Type 0
+IsDue sure_back granted s st = Unit {0}
+IsDue sure_back (denied trigger) s st = never_refused sure_back s st ≡ false
+IsDue sure_back untold s st = commits (resolution s.schema st) ≡ true
 
 -- what is told of a statement, where an account is asked for
 abbrev pub told_with : Bool → Memory → State → Statement → List Entry
@@ -101,9 +102,10 @@ run_from asked s n (st ∷ sts) memory =
     (run_from asked o.state (n + 1) sts (later_memory memory))
 
 -- so for each of the statements that run from this state
-abbrev pub AreDue : State → List Statement → List Memory → Type 0
-AreDue s [] memory = Unit {0}
-AreDue s (st ∷ sts) memory = IsDue (first_memory memory) s st × AreDue (outcome (first_memory memory) s st).state sts (later_memory memory)
+abbrev pub AreDue : Bool → State → List Statement → List Memory → Type 0
+AreDue sure_back s [] memory = Unit {0}
+AreDue sure_back s (st ∷ sts) memory =
+    IsDue sure_back (first_memory memory) s st × AreDue sure_back (outcome (first_memory memory) s st).state sts (later_memory memory)
 
 -- the line of a fault after so many statements
 abbrev pub fault_line : ℕ → Option ℕ → List ℕ
@@ -140,13 +142,13 @@ fault_place summary = option_map (λ f. f.at) summary.fault
 -- The transcript of these bytes was appended, and the summary says how many statements were
 -- accepted and refused, and the fault. For each statement that takes memory it is chosen whether it
 -- is refused it, and as many are as the summary says.
-pub record RanScript (bytes : List ℕ) (limits : Bounds) (asked : Bool) (summary : Summary)
+pub record RanScript (sure_back : Bool) (bytes : List ℕ) (limits : Bounds) (asked : Bool) (summary : Summary)
     (before after : SinkState) : Type 0 where
   pub statements : List Statement
   pub memory : List Memory
   pub is_script : IsScript bytes statements (fault_place summary)
   pub each : length memory ≡ length statements
-  pub due : AreDue (empty_state limits) statements memory
+  pub due : AreDue sure_back (empty_state limits) statements memory
   pub memory_refusals_are : memory_refusals memory ≡ summary.memory_refused
   pub accepted_is : (run_from asked (empty_state limits) 0 statements memory).accepted ≡ summary.accepted
   pub refused_is : (run_from asked (empty_state limits) 0 statements memory).refused ≡ summary.refused

@@ -66,7 +66,7 @@ fn run_parsed<S: Executor, W: Sink>(
     requires few { length statements.now < 2 ^ 63 }
     requires asked { explained.asked ≡ (S.told session.old).asked }
     ensures { MatchResult result
-        (λ t. RanParsed explained.asked (S.state session.old) text.now statements.now (option_map (λ f. f.at) fault) t
+        (λ t. RanParsed S.sure_store explained.asked (S.state session.old) text.now statements.now (option_map (λ f. f.at) fault) t
         (W.state writer.old) (W.state writer.new))
         (λ _. FailsOnce (W.state writer.old) (W.state writer.new)) }
 {
@@ -89,7 +89,7 @@ fn run_buffered<S: Executor, W: Sink>(
     requires few { length statements.now < 2 ^ 63 }
     requires asked { explained.asked ≡ (S.told session.old).asked }
     ensures { MatchResult result
-        (λ t. RanParsed explained.asked (S.state session.old) text.now statements.now (option_map (λ f. f.at) fault) t
+        (λ t. RanParsed S.sure_store explained.asked (S.state session.old) text.now statements.now (option_map (λ f. f.at) fault) t
         (W.state writer.old) (W.state writer.new))
         (λ _. FailsOnce (W.state writer.old) (W.state writer.new)) }
 {
@@ -109,7 +109,7 @@ fn run_text<S: Executor + Drop, W: Sink>(
 ) -> Result<Summary, RunFault>
     requires { length text.now ≤ LONGEST }
     ensures transcript { IfOk result (λ s.
-        RanScript text.now limits explain s (W.state writer.old) (W.state writer.new)) }
+        RanScript S.sure_store text.now limits explain s (W.state writer.old) (W.state writer.new)) }
     ensures with_memory { IfOk result (λ s. explain ≡ false → s.memory_refused ≡ 0
         → RanWithMemory text.now limits (fault_place s) (W.state writer.old) (W.state writer.new)) }
     ensures kinds { IfErr result (λ e.
@@ -158,7 +158,7 @@ fn run_bytes<S: Executor + Drop, W: Sink>(
 ) -> Result<Summary, RunFault>
     requires { length bytes.now ≤ LONGEST }
     ensures transcript { IfOk result (λ s.
-        RanScript bytes.now limits explain s (W.state writer.old) (W.state writer.new)) }
+        RanScript S.sure_store bytes.now limits explain s (W.state writer.old) (W.state writer.new)) }
     ensures with_memory { IfOk result (λ s. explain ≡ false → s.memory_refused ≡ 0
         → RanWithMemory bytes.now limits (fault_place s) (W.state writer.old) (W.state writer.new)) }
     ensures utf8 { OnOk result (IsUtf8 bytes.now) }
@@ -197,7 +197,7 @@ pub fn run<S: Executor + Drop, R: Source, W: Sink>(
 ) -> Result<Summary, RunFault>
     // What was written is the transcript, for some choice of the `memory_refused` statements.
     ensures transcript { IfOk result (λ s. IfSome (R.remaining reader.old) (λ bytes.
-        RanScript bytes limits explain s (W.state writer.old) (W.state writer.new))) }
+        RanScript S.sure_store bytes limits explain s (W.state writer.old) (W.state writer.new))) }
     // Where no account is asked for and `memory_refused` is 0, it is the transcript of the machine.
     ensures with_memory { IfOk result (λ s. explain ≡ false → s.memory_refused ≡ 0 → IfSome (R.remaining reader.old) (λ bytes.
         RanWithMemory bytes limits (fault_place s) (W.state writer.old) (W.state writer.new))) }

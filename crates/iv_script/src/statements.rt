@@ -80,7 +80,7 @@ fn run_one<S: Executor, W: Sink>(
     requires refused { tally.refused < 2 ^ 63 }
     requires memory_refused { tally.memory_refused < 2 ^ 63 }
     ensures ran { MatchResult result
-        (λ t. RanOne explained.asked number
+        (λ t. RanOne S.sure_store explained.asked number
         (S.state session.old) (S.state session.new) statement.now tally t
         (W.state writer.old) (W.state writer.new))
         (λ _. FailsOnce (W.state writer.old) (W.state writer.new)) }
@@ -103,7 +103,7 @@ pub fn run_statements<S: Executor, W: Sink>(
 ) -> Result<Tally, DeviceFault>
     requires { explained.asked ≡ (S.told session.old).asked }
     ensures { MatchResult result
-        (λ t. RanAll explained.asked (S.state session.old) (S.state session.new) statements.now t
+        (λ t. RanAll S.sure_store explained.asked (S.state session.old) (S.state session.new) statements.now t
         (W.state writer.old) (W.state writer.new))
         (λ _. FailsOnce (W.state writer.old) (W.state writer.new)) }
 {

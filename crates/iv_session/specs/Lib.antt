@@ -1,4 +1,4 @@
 pub mod Words
-pub mod Sure
-pub mod RunningAll
 pub mod FewLookups
+pub mod Executed
+pub mod RunningAll

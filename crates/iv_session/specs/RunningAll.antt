@@ -4,6 +4,8 @@ use Rattle.iv_session.specs.Words.{Statement, Refusal, Answer}
 use Rattle.iv_catalogue.specs.Refusals.{is_memory}
 use Rattle.iv_machine.specs.Machine.{State}
 use Rattle.iv_step.specs.Step.{run}
+use Rattle.iv_state.specs.Kept.{Seen}
+use Rattle.iv_session.specs.Executed.{Executed}
 
 -- the statements that were not refused memory, by their outcomes
 abbrev pub supplied_statements : List Statement → List (Result Answer Refusal) → List Statement
@@ -20,3 +22,10 @@ pub record IsRunOf (old : State) (statements : List Statement) (outcomes : List 
   pub each : length outcomes ≡ length statements
   pub answers : filter has_memory outcomes ≡ (run old (supplied_statements statements outcomes)).0
   pub state : new ≡ (run old (supplied_statements statements outcomes)).1
+
+-- The statements were executed with these outcomes, each on what the one before it left.
+abbrev pub AllExecuted : Bool → Seen → List Statement → List (Result Answer Refusal) → Seen → Type 0
+AllExecuted sure_back old [] [] new = new ≡ old
+AllExecuted sure_back old (st ∷ sts) (r ∷ outcomes) new = (next : Seen) × Executed sure_back old st r next × AllExecuted sure_back next sts outcomes new
+AllExecuted sure_back old [] (r ∷ outcomes) new = ⊥
+AllExecuted sure_back old (st ∷ sts) [] new = ⊥

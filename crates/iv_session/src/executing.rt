@@ -5,11 +5,11 @@ ghost use Rattle.iv_machine.specs.Machine.{is_open, occasion_of, resolution_outc
 ghost use Rattle.iv_resolution.specs.Resolution.{resolution};
 ghost use Rattle.iv_account.specs.Telling.{MayTell};
 ghost use Rattle.iv_step.specs.Step.{Executes, step, takes_no_memory};
+ghost use Rattle.iv_step.specs.Sure.{is_rollback_to};
 ghost use Rattle.iv_step.specs.Telling.{Tells, commits, resolution_told, statement_told};
 ghost use Rattle.iv_state.specs.Performing.{Runs};
-ghost use Rattle.iv_session.specs.RunningAll.{IsRunOf};
+ghost use Rattle.iv_session.specs.RunningAll.{AllExecuted, IsRunOf};
 ghost use Rattle.iv_session.specs.FewLookups.{FewLookups, defines_schema};
-ghost use Rattle.iv_session.specs.Sure.{is_rollback_to};
 ghost use Rattle.iv_laws_rows.specs.Changing.{UnlessMemory};
 ghost use Rattle.iv_state.specs.Looking.{LooksUpFew};
 
@@ -133,11 +133,15 @@ impl<K: Keeper + Drop> Session<K> {
         answer
     }
 
-    /// Runs the statements one after another. The list of outcomes is reserved first: where memory for it is
-    /// refused, nothing ran.
+    /// Executes the statements one after another, each as `execute` does. The list of outcomes is reserved first: where
+    /// memory for it is refused, nothing ran. The work and the account are then those of the last statement.
     pub fn run_all(&mut self, statements: &[Statement]) -> Result<Vec<Outcome>, AllocError>
         ensures outcomes { IfOk result (λ outcomes.
             IsRunOf self.old.state statements.now outcomes.items self.new.state) }
+        // each by the clauses of `execute`
+        ensures each { IfOk result (λ outcomes.
+            AllExecuted K.sure self.old statements.now outcomes.items self.new) }
+        ensures asked { self.new.account.asked ≡ self.old.account.asked }
         ensures none { OnErr result (self.new ≡ self.old) }
     {
         let mut outcomes = Vec::with_capacity(self.state.allocator(), statements.len())?;

@@ -14,6 +14,8 @@ impl<K: Keeper + Drop> Executor for Session<K> {
 
     ghost told = { λ s. s.account };
 
+    ghost sure_store = { K.sure };
+
     fn new(alloc: Global, limits: Limits) -> Result<Self, AllocError> {
         Session::<K>::new(alloc, limits)
     }

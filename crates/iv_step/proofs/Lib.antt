@@ -2,3 +2,4 @@ pub mod Occasions
 pub mod Reached
 pub mod Refused
 pub mod WorkedScripts
+pub mod Asked

@@ -1,4 +1,5 @@
 pub mod Step
+pub mod Sure
 pub mod Laws
 pub mod Refusals
 pub mod Worked

@@ -1,9 +1,10 @@
 //! What executes statements as `step` says.
-ghost use Rattle.std.specs.Prelude.{◌≡◌, true, false, IfOk, is_some};
+ghost use Rattle.std.specs.Prelude.{◌≡◌, Bool, true, false, IfOk, is_some};
 ghost use Rattle.iv_catalogue.specs.Refusals.{is_memory};
 ghost use Rattle.iv_machine.specs.Machine.{State, empty_state};
 ghost use Rattle.iv_account.specs.Telling.{Account, no_account};
 ghost use Rattle.iv_step.specs.Step.{Executes, takes_no_memory};
+ghost use Rattle.iv_step.specs.Sure.{is_rollback_to};
 ghost use Rattle.iv_step.specs.Telling.{Tells};
 
 use iv_account::Entry;
@@ -32,6 +33,9 @@ pub trait Executor {
 
     /// What is told of the last statement, where it is asked for.
     ghost told: { Self → Account };
+
+    /// Whether ROLLBACK TO SAVEPOINT takes no memory.
+    ghost sure_store: { Bool };
 
     /// A database of no table, with these limits. No account is asked for.
     fn new(alloc: Global, limits: Limits) -> Result<Self, AllocError>
@@ -62,6 +66,8 @@ pub trait Executor {
     fn execute(&mut self, statement: &Statement) -> Outcome
         ensures step { Executes (state self.old) statement.now result (state self.new) }
         ensures sure { takes_no_memory (state self.old) statement.now ≡ true
+            → is_memory result ≡ false }
+        ensures sure_store { sure_store ≡ true → is_rollback_to statement.now ≡ true
             → is_memory result ≡ false }
         ensures told { Tells (told self.old).asked (state self.old) statement.now result
             (told self.new) };

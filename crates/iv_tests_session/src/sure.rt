@@ -1,7 +1,7 @@
 //! The way back to a savepoint, which is never refused for memory on the store that has a journal.
 ghost use Rattle.std.specs.Prelude.{◌≡◌, true, false};
 ghost use Rattle.iv_catalogue.specs.Refusals.{is_memory};
-ghost use Rattle.iv_session.specs.Sure.{is_rollback_to};
+ghost use Rattle.iv_step.specs.Sure.{is_rollback_to};
 
 use crate::shown::{compare, show_with};
 use iv_index_store::IndexStore;

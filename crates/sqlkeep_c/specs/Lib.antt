@@ -6,5 +6,6 @@ pub mod Rows
 pub mod Scripts
 pub mod Sessions
 pub mod Statements
+pub mod Statuses
 pub mod Texts
 pub mod Transactions

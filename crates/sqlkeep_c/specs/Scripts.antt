@@ -1,5 +1,5 @@
 -- What the run of a script gives to C.
-use Rattle.std.specs.Prelude.{◌≡◌, ℕ, Bool, List, [], Option, Some, None}
+use Rattle.std.specs.Prelude.{◌≡◌, ℕ, Bool, true, List, [], Option, Some, None}
 use Rattle.iv_machine.specs.Bounds.{Bounds}
 use Rattle.iv_print.specs.Sinks.{SinkState, sink_state}
 use Rattle.iv_parse.specs.declared.parser.SyntaxFault.{SyntaxFault}
@@ -14,7 +14,7 @@ written bytes = sink_state (Some bytes) 0
 -- the bytes are the transcript of the script, with accounts where they are asked for, for some choice of the statements that were refused
 -- memory
 abbrev pub IsTranscript : List ℕ → Bounds → Bool → Summary → List ℕ → Type 0
-IsTranscript script limits asked summary bytes = RanScript script limits asked summary (written []) (written bytes)
+IsTranscript script limits asked summary bytes = RanScript true script limits asked summary (written []) (written bytes)
 
 -- the same without accounts, and no statement was refused memory
 abbrev pub IsWithMemory : List ℕ → Bounds → Summary → List ℕ → Type 0

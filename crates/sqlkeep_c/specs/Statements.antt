@@ -1,19 +1,12 @@
 -- What statements that were read from a text answer to C.
-use Rattle.std.specs.Prelude.{◌≡◌, ℕ, true, false, List, length, Option, Some, None, Result, Ok, Err, MatchBool, option_map}
+use Rattle.std.specs.Prelude.{◌≡◌, ℕ, List, length, Option, Some, None, Result, Ok, Err, option_map}
 use Rattle.iv_catalogue.specs.declared.cause.Cause.{Cause}
 use Rattle.iv_catalogue.specs.declared.cause.Cause.TheVariants as cause
 use Rattle.iv_catalogue.specs.declared.cause.Refusal.{Refusal}
-use Rattle.iv_catalogue.specs.Refusals.{is_memory}
-use Rattle.iv_laws_rows.specs.Changing.{UnlessMemory}
 use Rattle.iv_machine.specs.declared.answer.Answer.{Answer}
 use Rattle.iv_machine.specs.declared.answer.Answer.TheVariants.{Done, Changed, Rows}
 use Rattle.iv_parse.specs.Script.{IsScript}
 use Rattle.iv_parse.specs.declared.parser.SyntaxFault.{SyntaxFault}
-use Rattle.iv_session.specs.FewLookups.{FewLookups, defines_schema}
-use Rattle.iv_session.specs.Sure.{is_rollback_to}
-use Rattle.iv_state.specs.Kept.{Seen}
-use Rattle.iv_step.specs.Step.{Executes, step, takes_no_memory}
-use Rattle.iv_step.specs.Telling.{Tells}
 use Rattle.iv_syntax.specs.declared.statement.Statement.{Statement}
 use Rattle.sqlkeep_c.specs.declared.outcomes.ShownOutcome.{ShownOutcome}
 use Rattle.sqlkeep_c.specs.declared.statements.ReadScript.{ReadScript}
@@ -29,15 +22,6 @@ pub record IsRead (text : List ℕ) (statements : List Statement) (shown : ReadS
   pub script : IsScript text statements (option_map (λ f. f.at) fault)
   pub count : shown.statements ≡ length statements
   pub place : place_shown fault shown.has_fault shown.fault_at
-
--- A session executed a statement, as the clauses of `Session::execute` say it.
-pub record Executed (old : Seen) (st : Statement) (r : Result Answer Refusal) (new : Seen) : Type 0 where
-  pub step_is : Executes old.state st r new.state
-  pub sure : takes_no_memory old.state st ≡ true → is_memory r ≡ false
-  pub sure_store : is_rollback_to st ≡ true → is_memory r ≡ false
-  pub work : MatchBool (is_memory r) (Unit {0}) (new.work ≡ (step old.state st).work)
-  pub bounded : defines_schema st ≡ false → UnlessMemory r (FewLookups old.state new)
-  pub told : Tells old.account.asked old.state st r new.account
 
 -- the number of a cause
 abbrev pub number_of : Cause → ℕ

@@ -1,5 +1,5 @@
 -- What the calls for transactions do to a session, as the clauses of `Session` say it.
-use Rattle.std.specs.Prelude.{◌≡◌, ◌≢◌, ℕ, [], List, true, false, Result, OnOk, OnErr}
+use Rattle.std.specs.Prelude.{◌≡◌, ◌≢◌, ◌-◌, ℕ, [], List, true, false, Result, OnOk, OnErr}
 use Rattle.iv_catalogue.specs.declared.cause.Refusal.{Refusal}
 use Rattle.iv_catalogue.specs.Refusals.{is_memory}
 use Rattle.iv_machine.specs.declared.answer.Answer.{Answer}
@@ -17,6 +17,7 @@ pub record Committed (old : Seen) (r : Result Answer Refusal) (new : Seen) : Typ
   pub answer : r ≡ (commit_outcome old.state).answer
   pub state : new.state ≡ (commit_outcome old.state).state
   pub work : new.work ≡ (commit_outcome old.state).work
+  pub lookups : new.lookups ≡ new.looked_up - old.looked_up
   pub bounded : FewLookups old.state new
   pub accepted : OnOk r (scan old.state.database.rows old.state.schema.constraints (is_chosen old.state.modes All) ≡ [])
   pub refused : OnErr r (scan old.state.database.rows old.state.schema.constraints (is_chosen old.state.modes All) ≢ [])
@@ -26,6 +27,7 @@ pub record Committed (old : Seen) (r : Result Answer Refusal) (new : Seen) : Typ
 pub record RolledBackTo (name : List ℕ) (old : Seen) (r : Result Answer Refusal) (new : Seen) : Type 0 where
   pub performs : Performs old.state
       (outcome_unless old.state (transaction_cause (is_open old.state) inside) (rollback_to_outcome old.state (savepoint_named name old.state.savepoints))) r new
+  pub lookups : new.lookups ≡ new.looked_up - old.looked_up
   pub bounded : FewLookups old.state new
   pub sure : is_memory r ≡ false
   pub account : new.account ≡ no_account old.account.asked

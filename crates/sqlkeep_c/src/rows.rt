@@ -1,6 +1,7 @@
 //! The rows that a query gave.
-ghost use Rattle.std.specs.Prelude.{◌≡◌, length, None, IfSome, option_copied};
+ghost use Rattle.std.specs.Prelude.{◌≡◌, ◌≢◌, length, IfSome, option_copied};
 ghost use Rattle.sqlkeep_c.specs.Copying.{Copies};
+ghost use Rattle.sqlkeep_c.specs.Statuses.{found, status_by};
 ghost use Rattle.sqlkeep_c.specs.Rows.{row_at, rows_of, text_of, value_at, value_shown};
 
 use crate::copying::copied;
@@ -80,9 +81,10 @@ pub extern "C" fn sqlkeep_columns(
     count: &mut usize,
 ) -> u32
     ensures count { IfSome handle.old.kept.behind (λ old. IfSome (row_at old.outcome row) (λ values.
-        (result ≡ OK) × (count.new ≡ length values))) }
+        count.new ≡ length values)) }
     ensures kept { handle.new.kept.behind ≡ handle.old.kept.behind }
-    ensures closed { handle.old.kept.behind ≡ None → result ≡ CLOSED }
+    ensures others { result ≢ OK → count.new ≡ count.old }
+    ensures status { result ≡ status_by (λ old. found (row_at old.outcome row)) handle.old.kept.behind }
 {
     let Some(opened) = take(handle, alloc) else {
         return CLOSED;
@@ -108,9 +110,11 @@ pub extern "C" fn sqlkeep_value(
     value: &mut ShownValue,
 ) -> u32
     ensures value { IfSome handle.old.kept.behind (λ old. IfSome (value_at old.outcome row column) (λ it.
-        (result ≡ OK) × (value.new ≡ value_shown it))) }
+        value.new ≡ value_shown it)) }
     ensures kept { handle.new.kept.behind ≡ handle.old.kept.behind }
-    ensures closed { handle.old.kept.behind ≡ None → result ≡ CLOSED }
+    ensures others { result ≢ OK → value.new ≡ value.old }
+    ensures status { result
+        ≡ status_by (λ old. found (value_at old.outcome row column)) handle.old.kept.behind }
 {
     let Some(opened) = take(handle, alloc) else {
         return CLOSED;
@@ -138,14 +142,17 @@ pub extern "C" fn sqlkeep_value_text(
     count: &mut usize,
 ) -> u32
     ensures bytes { IfSome handle.old.kept.behind (λ old. IfSome (value_at old.outcome row column) (λ it.
-        (result ≡ OK) × Copies from (text_of it) buffer.old buffer.new count.new)) }
+        Copies from (text_of it) buffer.old buffer.new count.new)) }
     ensures kept { handle.new.kept.behind ≡ handle.old.kept.behind }
-    ensures closed { handle.old.kept.behind ≡ None → result ≡ CLOSED }
+    ensures others { result ≢ OK → (buffer.new ≡ buffer.old) × (count.new ≡ count.old) }
+    ensures status { result
+        ≡ status_by (λ old. found (value_at old.outcome row column)) handle.old.kept.behind }
 {
     let Some(opened) = take(handle, alloc) else {
         return CLOSED;
     };
-    let status = match value_at(&opened.outcome, row, column) {
+    let found = value_at(&opened.outcome, row, column);
+    let status = match found {
         Some(it) => {
             *count = copied(text_of(it), from, buffer);
             OK

@@ -1,11 +1,12 @@
 //! Whole scripts, and their transcripts.
-ghost use Rattle.std.specs.Prelude.{◌≡◌, ◌≢◌, ◌<◌, ◌≤◌, false, length, None, IfOk, IfSome, IsErrOf, OnErr, OnOk};
+ghost use Rattle.std.specs.Prelude.{◌≡◌, ◌≢◌, ◌<◌, ◌≤◌, false, length, IfOk, IfSome, IsErrOf, OnErr, OnOk};
 ghost use Rattle.std.specs.Str.{IsUtf8};
 ghost use Rattle.iv_script.specs.Lengths.{Fits};
 ghost use Rattle.iv_script.specs.declared.summary.Summary.{Summary as Counts};
 ghost use Rattle.sqlkeep_c.specs.Calls.{Called};
 ghost use Rattle.sqlkeep_c.specs.Copying.{Copies};
 ghost use Rattle.sqlkeep_c.specs.Scripts.{IsTranscript, IsWithMemory, Shows};
+ghost use Rattle.sqlkeep_c.specs.Statuses.{IsStatusOfScript, status_if_open};
 
 use crate::copying::copied;
 use crate::handle::{Handle, put, take};
@@ -42,7 +43,8 @@ fn transcript(
 fn status_of(fault: &RunFault) -> u32
     ensures too_long { result ≡ TOO_LONG → fault.now ≡ RunFault.TooLong }
     ensures not_utf8 { result ≡ NOT_UTF8 → fault.now ≡ RunFault.NotUtf8 }
-    ensures others { (result ≢ OK) × (result ≢ CLOSED) }
+    ensures others { result ≢ TOO_LONG → result ≢ NOT_UTF8 → result ≡ NO_MEMORY }
+    ensures not_ok { result ≢ OK }
 {
     match fault {
         RunFault::TooLong => TOO_LONG,
@@ -57,8 +59,7 @@ fn run_kept(alloc: Global, opened: &mut Opened, text: &[u8]) -> Result<Summary, 
         opened.old.session.account.asked s opened.new.transcript.items) }
     ensures with_memory { IfOk result (λ s. opened.old.session.account.asked ≡ false → s.memory_refused ≡ 0
         → IsWithMemory text.now opened.old.limits s opened.new.transcript.items) }
-    ensures session { opened.new.session ≡ opened.old.session }
-    ensures limits { opened.new.limits ≡ opened.old.limits }
+    ensures rest { opened.new ≡ record opened.old { transcript = opened.new.transcript } }
     ensures others { OnErr result (opened.new ≡ opened.old) }
     ensures fits { OnOk result (Fits LONGEST text.now) }
     ensures too_long { IsErrOf result RunFault.TooLong → LONGEST < length text.now }
@@ -85,14 +86,11 @@ pub extern "C" fn sqlkeep_run(
         → (counts : Counts) × Shows counts summary.new
         × IsTranscript text.now old.limits old.session.account.asked counts new.transcript.items
         × (old.session.account.asked ≡ false → counts.memory_refused ≡ 0 → IsWithMemory text.now old.limits counts new.transcript.items)) }
-    ensures session { Called handle.old.kept.behind handle.new.kept.behind (λ old new.
-        (new.session ≡ old.session) × (new.limits ≡ old.limits)) }
+    ensures rest { Called handle.old.kept.behind handle.new.kept.behind (λ old new.
+        new ≡ record old { transcript = new.transcript }) }
     ensures others { result ≢ OK → (handle.new.kept.behind ≡ handle.old.kept.behind)
         × (summary.new ≡ summary.old) }
-    ensures closed { handle.old.kept.behind ≡ None → result ≡ CLOSED }
-    ensures fits { result ≡ OK → Fits LONGEST text.now }
-    ensures too_long { result ≡ TOO_LONG → LONGEST < length text.now }
-    ensures not_utf8 { result ≡ NOT_UTF8 → (length text.now ≤ LONGEST) × ¬ (IsUtf8 text.now) }
+    ensures status { IsStatusOfScript LONGEST handle.old.kept.behind text.now result }
 {
     let Some(mut opened) = take(handle, alloc) else {
         return CLOSED;
@@ -117,10 +115,11 @@ pub extern "C" fn sqlkeep_transcript(
     buffer: &mut [u8],
     count: &mut usize,
 ) -> u32
+    ensures bytes { IfSome handle.old.kept.behind (λ old.
+        Copies from old.transcript.items buffer.old buffer.new count.new) }
     ensures kept { handle.new.kept.behind ≡ handle.old.kept.behind }
-    ensures closed { handle.old.kept.behind ≡ None → result ≡ CLOSED }
-    ensures bytes { IfSome handle.old.kept.behind (λ old. (result ≡ OK)
-        × Copies from old.transcript.items buffer.old buffer.new count.new) }
+    ensures others { result ≢ OK → (buffer.new ≡ buffer.old) × (count.new ≡ count.old) }
+    ensures status { result ≡ status_if_open handle.old.kept.behind }
 {
     let Some(opened) = take(handle, alloc) else {
         return CLOSED;

@@ -1,9 +1,10 @@
 //! A session is opened and closed.
-ghost use Rattle.std.specs.Prelude.{◌≡◌, ◌≢◌, ◌==◌, not, None, Some, false, true, is_some, IfOk, IfSome};
+ghost use Rattle.std.specs.Prelude.{◌≡◌, ◌≢◌, ◌==◌, not, None, Some, false, is_some, IfOk, IfSome};
 ghost use Rattle.iv_account.specs.Telling.{no_account};
 ghost use Rattle.iv_state.specs.Kept.{with_account};
 ghost use Rattle.sqlkeep_c.specs.Calls.{Called};
 ghost use Rattle.sqlkeep_c.specs.Sessions.{IsNew};
+ghost use Rattle.sqlkeep_c.specs.Statuses.{IsStatusOfOpening, status_if_open};
 
 use crate::handle::{Handle, put, take};
 use crate::opened::{Database, Opened};
@@ -37,7 +38,7 @@ pub extern "C" fn sqlkeep_open(alloc: Global, handle: &mut Handle, depth: u8, ch
         IsNew (record { depth = depth; changes = changes }) new) }
     ensures open { is_some handle.new.kept.behind ≡ false → result ≢ OK }
     ensures others { result ≢ OK → handle.new.kept.behind ≡ handle.old.kept.behind }
-    ensures was_open { is_some handle.old.kept.behind ≡ true → result ≡ OPEN }
+    ensures status { IsStatusOfOpening handle.old.kept.behind depth changes result }
 {
     if handle.is_open() {
         return OPEN;
@@ -58,8 +59,7 @@ pub extern "C" fn sqlkeep_open(alloc: Global, handle: &mut Handle, depth: u8, ch
 #[unsafe(no_mangle)]
 pub extern "C" fn sqlkeep_close(alloc: Global, handle: &mut Handle) -> u32
     ensures closed { handle.new.kept.behind ≡ None }
-    ensures was_empty { handle.old.kept.behind ≡ None → result ≡ CLOSED }
-    ensures was_open { is_some handle.old.kept.behind ≡ true → result ≡ OK }
+    ensures status { result ≡ status_if_open handle.old.kept.behind }
 {
     match take(handle, alloc) {
         Some(opened) => {
@@ -73,13 +73,9 @@ pub extern "C" fn sqlkeep_close(alloc: Global, handle: &mut Handle) -> u32
 /// From now on an account of each statement is asked for, or isn't: 0 is no, all else is yes. It takes no memory.
 #[unsafe(no_mangle)]
 pub extern "C" fn sqlkeep_explain(alloc: Global, handle: &mut Handle, asked: u32) -> u32
-    ensures asked { Called handle.old.kept.behind handle.new.kept.behind (λ old new. new.session
-        ≡ with_account old.session (no_account (not (asked == 0)))) }
-    ensures kept { Called handle.old.kept.behind handle.new.kept.behind (λ old new.
-        (new.outcome ≡ old.outcome) × (new.statements ≡ old.statements) × (new.limits ≡ old.limits)
-        × (new.transcript ≡ old.transcript)) }
-    ensures closed { handle.old.kept.behind ≡ None → result ≡ CLOSED }
-    ensures was_open { is_some handle.old.kept.behind ≡ true → result ≡ OK }
+    ensures asked { Called handle.old.kept.behind handle.new.kept.behind (λ old new.
+        new ≡ record old { session = with_account old.session (no_account (not (asked == 0))) }) }
+    ensures status { result ≡ status_if_open handle.old.kept.behind }
 {
     let Some(mut opened) = take(handle, alloc) else {
         return CLOSED;

@@ -1,11 +1,13 @@
 //! Statements, one after the other in the session.
-ghost use Rattle.std.specs.Prelude.{◌≡◌, ◌≢◌, ◌<◌, ◌++◌, length, None, Some, false, is_some, true, IfErr, IfOk, IfSome, OnOk, option_copied, option_map, slice_get};
+ghost use Rattle.std.specs.Prelude.{◌≡◌, ◌≢◌, None, Some, false, is_some, true, IfErr, IfOk, IfSome, OnOk, option_copied, option_map, slice_get};
 ghost use Rattle.std.specs.Str.{IsUtf8};
 ghost use Rattle.iv_parse.specs.Script.{IsScript};
 ghost use Rattle.iv_print.specs.Writing.{Writes};
 ghost use Rattle.sqlkeep_c.specs.Calls.{Called};
 ghost use Rattle.sqlkeep_c.specs.OutcomeLines.{name_line_of, outcome_lines};
-ghost use Rattle.sqlkeep_c.specs.Statements.{Executed, IsRead, outcome_shown, place_shown};
+ghost use Rattle.iv_session.specs.Executed.{Executed};
+ghost use Rattle.sqlkeep_c.specs.Statements.{IsRead, outcome_shown, place_shown};
+ghost use Rattle.sqlkeep_c.specs.Statuses.{IsStatus, IsStatusOfText, found, status_by};
 
 use crate::handle::{Handle, put, take};
 use crate::opened::{Database, Opened};
@@ -53,7 +55,7 @@ fn parsed(alloc: Global, text: &[u8]) -> Result<Parsed, u32>
     ensures script { IfOk result (λ p. IsScript text.now p.statements (option_map (λ f. f.at) p.fault)) }
     ensures utf8 { OnOk result (IsUtf8 text.now) }
     ensures not_utf8 { IfErr result (λ e. e ≡ NOT_UTF8 → ¬ (IsUtf8 text.now)) }
-    ensures kinds { IfErr result (λ e. (e ≢ OK) × (e ≢ CLOSED)) }
+    ensures kinds { IfErr result (λ e. (e ≢ OK) × (e ≢ NOT_UTF8 → (e ≡ NO_MEMORY) × IsUtf8 text.now)) }
 {
     let Ok(text) = from_utf8(text) else {
         return Err(NOT_UTF8);
@@ -74,12 +76,11 @@ pub extern "C" fn sqlkeep_read(
 ) -> u32
     ensures script { Called handle.old.kept.behind handle.new.kept.behind (λ old new.
         result ≡ OK → IsRead text.now new.statements script.new) }
-    ensures session { Called handle.old.kept.behind handle.new.kept.behind (λ old new.
-        (new.session ≡ old.session) × (new.limits ≡ old.limits)) }
-    ensures others { result ≢ OK → handle.new.kept.behind ≡ handle.old.kept.behind }
-    ensures closed { handle.old.kept.behind ≡ None → result ≡ CLOSED }
-    ensures utf8 { result ≡ OK → IsUtf8 text.now }
-    ensures not_utf8 { result ≡ NOT_UTF8 → ¬ (IsUtf8 text.now) }
+    ensures rest { Called handle.old.kept.behind handle.new.kept.behind (λ old new.
+        result ≡ OK → new ≡ record old { statements = new.statements; executed = None }) }
+    ensures others { result ≢ OK → (handle.new.kept.behind ≡ handle.old.kept.behind)
+        × (script.new ≡ script.old) }
+    ensures status { IsStatusOfText handle.old.kept.behind text.now result }
 {
     let Some(mut opened) = take(handle, alloc) else {
         return CLOSED;
@@ -108,7 +109,7 @@ fn statement_at(statements: &[Statement], at: usize) -> Option<&Statement>
 // Executes the statement at this place of a list.
 fn execute_at(session: &mut Database, statements: &[Statement], at: usize) -> Option<Outcome>
     ensures executed { IfSome result (λ r. IfSome (slice_get statements.now at) (λ st.
-        Executed session.old st r session.new)) }
+        Executed true session.old st r session.new)) }
     ensures found { is_some result ≡ is_some (slice_get statements.now at) }
     ensures none { result ≡ None → session.new ≡ session.old }
 {
@@ -121,12 +122,14 @@ fn execute_at(session: &mut Database, statements: &[Statement], at: usize) -> Op
 // Executes the statement at this place of those that were read, and keeps its outcome.
 fn execute_kept(opened: &mut Opened, at: usize) -> bool
     ensures executed { result ≡ true → IfSome (slice_get opened.old.statements at) (λ st.
-        Executed opened.old.session st opened.new.outcome opened.new.session) }
-    ensures place { result ≡ true → opened.new.executed ≡ Some at }
+        Executed true opened.old.session st opened.new.outcome opened.new.session) }
+    ensures rest { result ≡ true → opened.new ≡ record opened.old {
+      session = opened.new.session;
+      outcome = opened.new.outcome;
+      executed = Some at;
+    } }
     ensures found { result ≡ is_some (slice_get opened.old.statements at) }
     ensures none { result ≡ false → opened.new ≡ opened.old }
-    ensures statements { opened.new.statements ≡ opened.old.statements }
-    ensures limits { opened.new.limits ≡ opened.old.limits }
 {
     match execute_at(&mut opened.session, opened.statements.as_slice(), at) {
         Some(outcome) => {
@@ -148,16 +151,15 @@ pub extern "C" fn sqlkeep_execute(
 ) -> u32
     ensures executed { Called handle.old.kept.behind handle.new.kept.behind (λ old new.
         result ≡ OK → IfSome (slice_get old.statements at) (λ st.
-        Executed old.session st new.outcome new.session)) }
+        Executed true old.session st new.outcome new.session)) }
     ensures shown { Called handle.old.kept.behind handle.new.kept.behind (λ old new.
         result ≡ OK → outcome.new ≡ outcome_shown new.outcome) }
-    ensures place { Called handle.old.kept.behind handle.new.kept.behind (λ old new.
-        result ≡ OK → new.executed ≡ Some at) }
-    ensures statements { Called handle.old.kept.behind handle.new.kept.behind (λ old new.
-        (new.statements ≡ old.statements) × (new.limits ≡ old.limits)) }
-    ensures closed { handle.old.kept.behind ≡ None → result ≡ CLOSED }
-    ensures nothing { result ≡ NOTHING → handle.new.kept.behind ≡ handle.old.kept.behind }
-    ensures found { IfSome handle.old.kept.behind (λ old. at < length old.statements → result ≡ OK) }
+    ensures rest { Called handle.old.kept.behind handle.new.kept.behind (λ old new. result ≡ OK
+        → new ≡ record old { session = new.session; outcome = new.outcome; executed = Some at }) }
+    ensures others { result ≢ OK → (handle.new.kept.behind ≡ handle.old.kept.behind)
+        × (outcome.new ≡ outcome.old) }
+    ensures status { result
+        ≡ status_by (λ old. found (slice_get old.statements at)) handle.old.kept.behind }
 {
     let Some(mut opened) = take(handle, alloc) else {
         return CLOSED;
@@ -215,10 +217,10 @@ fn lines(alloc: Global, number: u64, opened: &Opened) -> Result<Vec<u8>, DeviceF
 pub extern "C" fn sqlkeep_lines(alloc: Global, handle: &mut Handle, number: u64) -> u32
     ensures lines { Called handle.old.kept.behind handle.new.kept.behind (λ old new.
         result ≡ OK → new.transcript.items ≡ outcome_lines number old) }
-    ensures session { Called handle.old.kept.behind handle.new.kept.behind (λ old new.
-        (new.session ≡ old.session) × (new.outcome ≡ old.outcome) × (new.statements ≡ old.statements)) }
-    ensures closed { handle.old.kept.behind ≡ None → result ≡ CLOSED }
+    ensures rest { Called handle.old.kept.behind handle.new.kept.behind (λ old new.
+        new ≡ record old { transcript = new.transcript }) }
     ensures others { result ≢ OK → handle.new.kept.behind ≡ handle.old.kept.behind }
+    ensures status { IsStatus handle.old.kept.behind result }
 {
     let Some(mut opened) = take(handle, alloc) else {
         return CLOSED;

@@ -1,44 +1,18 @@
 //! The texts of the last refusal: its cause, and the names that it speaks of.
-ghost use Rattle.std.specs.Prelude.{◌≡◌, None, Err, IfErr, IfSome};
+ghost use Rattle.std.specs.Prelude.{◌≡◌, ◌≢◌, IfErr, IfSome, option_copied};
 ghost use Rattle.iv_catalogue.specs.Catalogues.{trigger_numbered};
 ghost use Rattle.iv_print.specs.Lines.{body_statement, cause_words, signal_text};
 ghost use Rattle.sqlkeep_c.specs.Copying.{Copies};
-ghost use Rattle.sqlkeep_c.specs.Texts.{constraint_named, constraint_of, or_inside, signal_of, trigger_named, trigger_of};
+ghost use Rattle.sqlkeep_c.specs.Statuses.{found_refusal, status_by};
+ghost use Rattle.sqlkeep_c.specs.Texts.{constraint_named, constraint_of, if_refused, or_inside, refusal_constraint, refusal_signal, refusal_trigger, signal_of, trigger_named, trigger_of};
 
-use crate::copying::copied;
+use crate::copying::{copied, copied_if_there};
 use crate::handle::{Handle, put, take};
+use crate::opened::Opened;
 use crate::status::{CLOSED, NOTHING, OK};
 use iv_catalogue::{BodyStatement, Catalogue, Cause, ConstraintId, TriggerId};
+use iv_print::cause_words;
 use std::alloc::Global;
-
-fn cause_words(cause: &Cause) -> &'static str
-    ensures { result.now ≡ cause_words cause.now }
-{
-    match cause {
-        Cause::Unknown => "1 Unknown",
-        Cause::Duplicate => "2 Duplicate",
-        Cause::SchemaFault => "3 SchemaFault",
-        Cause::InTransaction => "4 InTransaction",
-        Cause::NoTransaction => "5 NoTransaction",
-        Cause::ActiveTransaction => "6 ActiveTransaction",
-        Cause::UnknownSavepoint => "7 UnknownSavepoint",
-        Cause::NotDeferrable(_) => "8 NotDeferrable",
-        Cause::WrongShape => "9 WrongShape",
-        Cause::NumberOutOfRange => "10 NumberOutOfRange",
-        Cause::TextTooLong => "11 TextTooLong",
-        Cause::Restrict(_) => "12 Restrict",
-        Cause::Violation(_) => "13 Violation",
-        Cause::ActionConflict(_) => "14 ActionConflict",
-        Cause::Signal(_, _) => "15 Signal",
-        Cause::DepthLimit(_) => "16 DepthLimit",
-        Cause::TooManyChanges => "17 TooManyChanges",
-        Cause::TransactionTooLarge => "18 TransactionTooLarge",
-        Cause::CommitRefused(_) => "19 CommitRefused",
-        Cause::AddRefused(_) => "20 AddRefused",
-        Cause::Limit => "21 Limit",
-        Cause::OutOfMemory => "22 OutOfMemory",
-    }
-}
 
 fn constraint_of(cause: &Cause) -> Option<ConstraintId>
     ensures { result ≡ constraint_of cause.now }
@@ -114,6 +88,45 @@ fn signal_of<'a>(catalogue: &'a Catalogue, cause: &Cause) -> &'a [u8]
     }
 }
 
+// The name of the constraint that the last refusal speaks of.
+fn last_constraint(opened: &Opened) -> Option<&[u8]>
+    ensures { option_copied result
+        ≡ if_refused (refusal_constraint opened.now.session.state.schema) opened.now.outcome }
+{
+    match &opened.outcome {
+        Ok(_) => None,
+        Err(refusal) => Some(constraint_named(
+            opened.session.catalogue(),
+            constraint_of(&refusal.cause),
+        )),
+    }
+}
+
+// The name of the trigger that the last refusal speaks of, or else of the innermost that was running.
+fn last_trigger(opened: &Opened) -> Option<&[u8]>
+    ensures { option_copied result
+        ≡ if_refused (refusal_trigger opened.now.session.state.schema) opened.now.outcome }
+{
+    match &opened.outcome {
+        Ok(_) => None,
+        Err(refusal) => Some(trigger_named(
+            opened.session.catalogue(),
+            trigger_of(&refusal.cause, refusal.trigger),
+        )),
+    }
+}
+
+// The text of the SIGNAL that the last refusal comes from.
+fn last_signal(opened: &Opened) -> Option<&[u8]>
+    ensures { option_copied result
+        ≡ if_refused (refusal_signal opened.now.session.state.schema) opened.now.outcome }
+{
+    match &opened.outcome {
+        Ok(_) => None,
+        Err(refusal) => Some(signal_of(opened.session.catalogue(), &refusal.cause)),
+    }
+}
+
 /// Copies the number and the name of the cause of the last refusal, as a transcript has them.
 #[unsafe(no_mangle)]
 pub extern "C" fn sqlkeep_cause(
@@ -124,9 +137,11 @@ pub extern "C" fn sqlkeep_cause(
     count: &mut usize,
 ) -> u32
     ensures bytes { IfSome handle.old.kept.behind (λ old. IfErr old.outcome (λ r.
-        (result ≡ OK) × Copies from (cause_words r.cause) buffer.old buffer.new count.new)) }
+        Copies from (cause_words r.cause) buffer.old buffer.new count.new)) }
     ensures kept { handle.new.kept.behind ≡ handle.old.kept.behind }
-    ensures closed { handle.old.kept.behind ≡ None → result ≡ CLOSED }
+    ensures others { result ≢ OK → (buffer.new ≡ buffer.old) × (count.new ≡ count.old) }
+    ensures status { result
+        ≡ status_by (λ old. found_refusal old.outcome) handle.old.kept.behind }
 {
     let Some(opened) = take(handle, alloc) else {
         return CLOSED;
@@ -151,22 +166,17 @@ pub extern "C" fn sqlkeep_constraint(
     buffer: &mut [u8],
     count: &mut usize,
 ) -> u32
-    ensures bytes { IfSome handle.old.kept.behind (λ old. IfErr old.outcome (λ r. (result ≡ OK) × Copies from
-        (constraint_named old.session.state.schema (constraint_of r.cause)) buffer.old buffer.new count.new)) }
+    ensures bytes { IfSome handle.old.kept.behind (λ old. IfErr old.outcome (λ r. Copies from
+        (refusal_constraint old.session.state.schema r) buffer.old buffer.new count.new)) }
     ensures kept { handle.new.kept.behind ≡ handle.old.kept.behind }
-    ensures closed { handle.old.kept.behind ≡ None → result ≡ CLOSED }
+    ensures others { result ≢ OK → (buffer.new ≡ buffer.old) × (count.new ≡ count.old) }
+    ensures status { result
+        ≡ status_by (λ old. found_refusal old.outcome) handle.old.kept.behind }
 {
     let Some(opened) = take(handle, alloc) else {
         return CLOSED;
     };
-    let status = match &opened.outcome {
-        Ok(_) => NOTHING,
-        Err(refusal) => {
-            let name = constraint_named(opened.session.catalogue(), constraint_of(&refusal.cause));
-            *count = copied(name, from, buffer);
-            OK
-        }
-    };
+    let status = copied_if_there(last_constraint(&opened), from, buffer, count);
     put(handle, opened);
     status
 }
@@ -180,26 +190,17 @@ pub extern "C" fn sqlkeep_trigger(
     buffer: &mut [u8],
     count: &mut usize,
 ) -> u32
-    ensures bytes { IfSome handle.old.kept.behind (λ old. IfErr old.outcome (λ r. (result ≡ OK) × Copies from
-        (trigger_named old.session.state.schema (or_inside (trigger_of r.cause) r.trigger)) buffer.old buffer.new count.new)) }
+    ensures bytes { IfSome handle.old.kept.behind (λ old. IfErr old.outcome (λ r. Copies from
+        (refusal_trigger old.session.state.schema r) buffer.old buffer.new count.new)) }
     ensures kept { handle.new.kept.behind ≡ handle.old.kept.behind }
-    ensures closed { handle.old.kept.behind ≡ None → result ≡ CLOSED }
+    ensures others { result ≢ OK → (buffer.new ≡ buffer.old) × (count.new ≡ count.old) }
+    ensures status { result
+        ≡ status_by (λ old. found_refusal old.outcome) handle.old.kept.behind }
 {
     let Some(opened) = take(handle, alloc) else {
         return CLOSED;
     };
-    let status = match &opened.outcome {
-        Ok(_) => NOTHING,
-        Err(refusal) => {
-            let trigger = trigger_of(&refusal.cause, refusal.trigger);
-            *count = copied(
-                trigger_named(opened.session.catalogue(), trigger),
-                from,
-                buffer,
-            );
-            OK
-        }
-    };
+    let status = copied_if_there(last_trigger(&opened), from, buffer, count);
     put(handle, opened);
     status
 }
@@ -213,25 +214,17 @@ pub extern "C" fn sqlkeep_signal(
     buffer: &mut [u8],
     count: &mut usize,
 ) -> u32
-    ensures bytes { IfSome handle.old.kept.behind (λ old. IfErr old.outcome (λ r. (result ≡ OK) × Copies from
-        (signal_of old.session.state.schema r.cause) buffer.old buffer.new count.new)) }
+    ensures bytes { IfSome handle.old.kept.behind (λ old. IfErr old.outcome (λ r. Copies from
+        (refusal_signal old.session.state.schema r) buffer.old buffer.new count.new)) }
     ensures kept { handle.new.kept.behind ≡ handle.old.kept.behind }
-    ensures closed { handle.old.kept.behind ≡ None → result ≡ CLOSED }
+    ensures others { result ≢ OK → (buffer.new ≡ buffer.old) × (count.new ≡ count.old) }
+    ensures status { result
+        ≡ status_by (λ old. found_refusal old.outcome) handle.old.kept.behind }
 {
     let Some(opened) = take(handle, alloc) else {
         return CLOSED;
     };
-    let status = match &opened.outcome {
-        Ok(_) => NOTHING,
-        Err(refusal) => {
-            *count = copied(
-                signal_of(opened.session.catalogue(), &refusal.cause),
-                from,
-                buffer,
-            );
-            OK
-        }
-    };
+    let status = copied_if_there(last_signal(&opened), from, buffer, count);
     put(handle, opened);
     status
 }

@@ -1,12 +1,12 @@
 //! Transactions, by calls.
-ghost use Rattle.std.specs.Prelude.{◌≡◌, [], false, is_some, IfSome};
-ghost use Rattle.std.specs.Str.{IsUtf8};
+ghost use Rattle.std.specs.Prelude.{◌≡◌, ◌≢◌, ◌-◌, [], None, false, is_some, IfSome};
 ghost use Rattle.iv_machine.specs.declared.database.Which.TheVariants.{All};
 ghost use Rattle.iv_machine.specs.Databases.{is_chosen, scan};
 ghost use Rattle.iv_machine.specs.Machine.{rollback_outcome};
 ghost use Rattle.sqlkeep_c.specs.Calls.{Called};
 ghost use Rattle.sqlkeep_c.specs.Transactions.{Committed, RolledBackTo};
 ghost use Rattle.sqlkeep_c.specs.Statements.{outcome_shown};
+ghost use Rattle.sqlkeep_c.specs.Statuses.{IsStatusOfName, status_if_open};
 ghost use Rattle.iv_account.specs.Telling.{no_account};
 ghost use Rattle.iv_session.specs.FewLookups.{FewLookups};
 
@@ -40,13 +40,19 @@ fn commit(session: &mut Database) -> Outcome
 
 // COMMIT, of which the outcome is kept.
 fn commit_kept(opened: &mut Opened)
-    ensures { Committed opened.old.session opened.new.outcome opened.new.session }
+    ensures committed { Committed opened.old.session opened.new.outcome opened.new.session }
+    ensures rest { opened.new ≡ record opened.old {
+      session = opened.new.session;
+      outcome = opened.new.outcome;
+      executed = None;
+    } }
 {
     opened.outcome = commit(&mut opened.session);
     opened.executed = None;
 }
 
-/// COMMIT: ends the transaction, and keeps the outcome. It takes no memory, but for an account that is asked for.
+/// COMMIT: ends the transaction, and keeps the outcome. It takes no memory, but for an account that is asked for; where
+/// memory is refused to that, the account is empty.
 #[unsafe(no_mangle)]
 pub extern "C" fn sqlkeep_commit(
     alloc: Global,
@@ -57,7 +63,10 @@ pub extern "C" fn sqlkeep_commit(
         Committed old.session new.outcome new.session) }
     ensures shown { Called handle.old.kept.behind handle.new.kept.behind (λ old new.
         outcome.new ≡ outcome_shown new.outcome) }
-    ensures closed { is_some handle.old.kept.behind ≡ false → result ≡ CLOSED }
+    ensures rest { Called handle.old.kept.behind handle.new.kept.behind (λ old new.
+        new ≡ record old { session = new.session; outcome = new.outcome; executed = None }) }
+    ensures others { result ≢ OK → outcome.new ≡ outcome.old }
+    ensures status { result ≡ status_if_open handle.old.kept.behind }
 {
     let Some(mut opened) = take(handle, alloc) else {
         return CLOSED;
@@ -77,9 +86,13 @@ pub extern "C" fn sqlkeep_rollback(alloc: Global, handle: &mut Handle) -> u32
         new.session.work ≡ (rollback_outcome old.session.state).work) }
     ensures bounded { Called handle.old.kept.behind handle.new.kept.behind (λ old new.
         FewLookups old.session.state new.session) }
+    ensures lookups { Called handle.old.kept.behind handle.new.kept.behind (λ old new.
+        new.session.lookups ≡ new.session.looked_up - old.session.looked_up) }
     ensures account { Called handle.old.kept.behind handle.new.kept.behind (λ old new.
         new.session.account ≡ no_account old.session.account.asked) }
-    ensures closed { is_some handle.old.kept.behind ≡ false → result ≡ CLOSED }
+    ensures rest { Called handle.old.kept.behind handle.new.kept.behind (λ old new.
+        new ≡ record old { session = new.session }) }
+    ensures status { result ≡ status_if_open handle.old.kept.behind }
 {
     let Some(mut opened) = take(handle, alloc) else {
         return CLOSED;
@@ -101,10 +114,11 @@ pub extern "C" fn sqlkeep_rollback_to(
         → RolledBackTo name.now old.session new.outcome new.session) }
     ensures shown { Called handle.old.kept.behind handle.new.kept.behind (λ old new. result ≡ OK
         → outcome.new ≡ outcome_shown new.outcome) }
-    ensures closed { is_some handle.old.kept.behind ≡ false → result ≡ CLOSED }
-    ensures utf8 { result ≡ OK → IsUtf8 name.now }
-    ensures not_utf8 { result ≡ NOT_UTF8
-        → ¬ (IsUtf8 name.now) × (handle.new.kept.behind ≡ handle.old.kept.behind) }
+    ensures rest { Called handle.old.kept.behind handle.new.kept.behind (λ old new. result ≡ OK
+        → new ≡ record old { session = new.session; outcome = new.outcome; executed = None }) }
+    ensures others { result ≢ OK → (handle.new.kept.behind ≡ handle.old.kept.behind)
+        × (outcome.new ≡ outcome.old) }
+    ensures status { IsStatusOfName handle.old.kept.behind name.now result }
 {
     let Some(mut opened) = take(handle, alloc) else {
         return CLOSED;
@@ -134,7 +148,8 @@ pub extern "C" fn sqlkeep_in_transaction(
         → scan old.session.state.database.rows old.session.state.schema.constraints
         (is_chosen old.session.state.modes All) ≡ []) }
     ensures kept { handle.new.kept.behind ≡ handle.old.kept.behind }
-    ensures closed { is_some handle.old.kept.behind ≡ false → result ≡ CLOSED }
+    ensures others { result ≢ OK → is_open.new ≡ is_open.old }
+    ensures status { result ≡ status_if_open handle.old.kept.behind }
 {
     let Some(opened) = take(handle, alloc) else {
         return CLOSED;
@@ -152,7 +167,8 @@ pub extern "C" fn sqlkeep_work(alloc: Global, handle: &mut Handle, work: &mut Sh
     ensures lookups { IfSome handle.old.kept.behind (λ old.
         work.new.lookups ≡ old.session.lookups) }
     ensures kept { handle.new.kept.behind ≡ handle.old.kept.behind }
-    ensures closed { is_some handle.old.kept.behind ≡ false → result ≡ CLOSED }
+    ensures others { result ≢ OK → work.new ≡ work.old }
+    ensures status { result ≡ status_if_open handle.old.kept.behind }
 {
     let Some(opened) = take(handle, alloc) else {
         return CLOSED;

@@ -4,6 +4,7 @@ ghost use Rattle.iv_machine.specs.declared.database.Which.TheVariants.{Deferred}
 ghost use Rattle.iv_machine.specs.Databases.{is_chosen, scan};
 ghost use Rattle.sqlkeep_c.specs.Calls.{Called};
 ghost use Rattle.sqlkeep_c.specs.Copying.{Copies};
+ghost use Rattle.sqlkeep_c.specs.Statuses.{IsStatus, found, status_by};
 ghost use Rattle.sqlkeep_c.specs.Texts.{constraint_named};
 
 use crate::copying::copied;
@@ -18,8 +19,7 @@ fn kept(opened: &mut Opened) -> Result<usize, AllocError>
         scan opened.old.session.state.database.rows opened.old.session.state.schema.constraints
         (is_chosen opened.old.session.state.modes Deferred)) }
     ensures count { IfOk result (λ n. n ≡ length opened.new.pending.items) }
-    ensures session { opened.new.session ≡ opened.old.session }
-    ensures limits { opened.new.limits ≡ opened.old.limits }
+    ensures rest { opened.new ≡ record opened.old { pending = opened.new.pending } }
     ensures others { OnErr result (opened.new ≡ opened.old) }
 {
     opened.pending = opened.session.pending()?;
@@ -34,10 +34,11 @@ pub extern "C" fn sqlkeep_pending(alloc: Global, handle: &mut Handle, count: &mu
         (is_chosen old.session.state.modes Deferred)) }
     ensures count { Called handle.old.kept.behind handle.new.kept.behind (λ old new. result ≡ OK
         → count.new ≡ length new.pending.items) }
-    ensures session { Called handle.old.kept.behind handle.new.kept.behind (λ old new.
-        (new.session ≡ old.session) × (new.limits ≡ old.limits)) }
-    ensures others { result ≢ OK → handle.new.kept.behind ≡ handle.old.kept.behind }
-    ensures closed { handle.old.kept.behind ≡ None → result ≡ CLOSED }
+    ensures rest { Called handle.old.kept.behind handle.new.kept.behind (λ old new.
+        new ≡ record old { pending = new.pending }) }
+    ensures others { result ≢ OK → (handle.new.kept.behind ≡ handle.old.kept.behind)
+        × (count.new ≡ count.old) }
+    ensures status { IsStatus handle.old.kept.behind result }
 {
     let Some(mut opened) = take(handle, alloc) else {
         return CLOSED;
@@ -64,11 +65,14 @@ pub extern "C" fn sqlkeep_violation(
     count: &mut usize,
 ) -> u32
     ensures row { IfSome handle.old.kept.behind (λ old. IfSome (slice_get old.pending.items at) (λ fault.
-        (result ≡ OK) × (row.new ≡ fault.row))) }
+        row.new ≡ fault.row)) }
     ensures constraint { IfSome handle.old.kept.behind (λ old. IfSome (slice_get old.pending.items at) (λ fault.
         Copies 0 (constraint_named old.session.state.schema (Some fault.constraint)) buffer.old buffer.new count.new)) }
     ensures kept { handle.new.kept.behind ≡ handle.old.kept.behind }
-    ensures closed { handle.old.kept.behind ≡ None → result ≡ CLOSED }
+    ensures others { result ≢ OK → (row.new ≡ row.old) × (buffer.new ≡ buffer.old)
+        × (count.new ≡ count.old) }
+    ensures status { result
+        ≡ status_by (λ old. found (slice_get old.pending.items at)) handle.old.kept.behind }
 {
     let Some(opened) = take(handle, alloc) else {
         return CLOSED;

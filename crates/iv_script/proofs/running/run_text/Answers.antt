@@ -11,11 +11,11 @@ returns-in-Ok-clause-with_memory g c = λ plain none.
     let fault = c.in_ok-parsed.parsed.fault in
     let place = option_map (λ f. f.at) fault in
     let tally = c.in-Ok.tally in
-    let plainly : RanParsed false (g.S.Executor.state c.explain.new.self) c.args.text.now c.as_slice.result.now place tally before after
-    = subst (λ (b : Bool). RanParsed b (g.S.Executor.state c.explain.new.self) c.args.text.now c.as_slice.result.now place tally before after) plain c.in-Ok.ensures in
-    let from_empty : RanParsed false (empty_state c.args.limits) c.args.text.now c.as_slice.result.now place tally before after
-    = subst (λ s. RanParsed false s c.args.text.now c.as_slice.result.now place tally before after) (c.explain.ensures.state ∙ c.in_ok-session.ensures.state) plainly in
-    let of_script : RanParsed false (empty_state c.args.limits) c.args.text.now c.in_ok-parsed.parsed.statements place tally before after
-    = subst (λ l. RanParsed false (empty_state c.args.limits) c.args.text.now l place tally before after) c.as_slice.ensures from_empty in
-    ran_with_memory c.args.text.now c.args.limits (summary_of tally fault) before after
-    (ran_script c.args.text.now c.args.limits false c.in_ok-parsed.parsed.statements fault tally before after c.in_ok-parsed.ensures of_script) none
+    let plainly : RanParsed g.S.Executor.sure_store false (g.S.Executor.state c.explain.new.self) c.args.text.now c.as_slice.result.now place tally before after
+    = subst (λ (b : Bool). RanParsed g.S.Executor.sure_store b (g.S.Executor.state c.explain.new.self) c.args.text.now c.as_slice.result.now place tally before after) plain c.in-Ok.ensures in
+    let from_empty : RanParsed g.S.Executor.sure_store false (empty_state c.args.limits) c.args.text.now c.as_slice.result.now place tally before after
+    = subst (λ s. RanParsed g.S.Executor.sure_store false s c.args.text.now c.as_slice.result.now place tally before after) (c.explain.ensures.state ∙ c.in_ok-session.ensures.state) plainly in
+    let of_script : RanParsed g.S.Executor.sure_store false (empty_state c.args.limits) c.args.text.now c.in_ok-parsed.parsed.statements place tally before after
+    = subst (λ l. RanParsed g.S.Executor.sure_store false (empty_state c.args.limits) c.args.text.now l place tally before after) c.as_slice.ensures from_empty in
+    ran_with_memory g.S.Executor.sure_store c.args.text.now c.args.limits (summary_of tally fault) before after
+    (ran_script g.S.Executor.sure_store c.args.text.now c.args.limits false c.in_ok-parsed.parsed.statements fault tally before after c.in_ok-parsed.ensures of_script) none

@@ -9,7 +9,7 @@ invariant-loop-statement g l = record {
   refused_few : l.tally.refused ≤ l.number;
   memory_refusals_few : l.tally.memory_refused ≤ l.number;
   asked : l.explained.asked ≡ (g.S.Executor.told l.session).asked;
-  onward : Onward l.explained.asked (g.S.Executor.state l.initial.session) (g.S.Executor.state l.session) l.statements l.rest l.number l.tally (g.W.Sink.state l.initial.writer) (g.W.Sink.state l.writer);
+  onward : Onward g.S.Executor.sure_store l.explained.asked (g.S.Executor.state l.initial.session) (g.S.Executor.state l.session) l.statements l.rest l.number l.tally (g.W.Sink.state l.initial.writer) (g.W.Sink.state l.writer);
 }
 
 abbrev pub decreases-loop-statement : goal.decreases-loop-statement

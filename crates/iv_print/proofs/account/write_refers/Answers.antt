@@ -2,7 +2,7 @@ use Rattle.std.proofs.Common.{◌∙◌, subst}
 use Rattle.iv_print.specs.Writing.{Writes}
 use Rattle.iv_print.specs.AccountLines.{referenced_text, reference_words_of}
 use Rattle.iv_print.proofs.WriteLemmas.{writes_then}
-use Rattle.iv_print.proofs.account.write_reference.Goals as goal
+use Rattle.iv_print.proofs.account.write_refers.Goals as goal
 
 pub returns : goal.returns
 returns g c =
