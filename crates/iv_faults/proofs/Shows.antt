@@ -24,7 +24,7 @@ use Rattle.iv_laws_kept.proofs.Moves.{changes_are_followed, changes_are_taken_ba
 use Rattle.iv_laws_kept.proofs.KeptIsScan.{kept_is_the_scan}
 use Rattle.iv_following.specs.Sides.{IsPresent, side_key}
 use Rattle.iv_following.specs.Steps.{IsReady}
-use Rattle.iv_following.specs.Turns.{AllStay}
+use Rattle.iv_following.specs.Turns.{AllGiven, AllStay}
 use Rattle.iv_following.specs.Following.{Followed}
 use Rattle.iv_faults.specs.Watching.{HasRoomBack, IsShownBy, ShownRowsArePresent, Watching}
 use Rattle.iv_following.proofs.Rooms.{stay_marked, stay_rows}
@@ -60,8 +60,17 @@ pub shown_still : (constraints : List Constraint) (most : ℕ) (start now : Cont
     → AllStay constraints most start now marks later → IsShownBy rows (watching constraints marks) start → IsShownBy rows (watching constraints later) now
 shown_still constraints most start now marks later rows all s shows = record {
   in_order = shows.in_order;
-  shows = λ id c key at. stay_rows constraints most start now marks later id c key s at ∙ shows.shows id c key at;
-  marked = stay_marked constraints most start now marks later all s shows.marked;
+  shows = λ id c key at. stay_rows constraints start now marks later id c key s.stay at ∙ shows.shows id c key at;
+  marked = stay_marked constraints start now marks later all s.stay shows.marked;
+}
+
+-- after groups without rows were given back
+pub shown_given : (constraints : List Constraint) (start now : Contents) (marks later : Marks) (rows : List StoredRow) → AllNamed constraints
+    → AllGiven start now marks later → IsShownBy rows (watching constraints marks) start → IsShownBy rows (watching constraints later) now
+shown_given constraints start now marks later rows all s shows = record {
+  in_order = shows.in_order;
+  shows = λ id c key at. stay_rows constraints start now marks later id c key (λ k c at. s.stay k c) at ∙ shows.shows id c key at;
+  marked = stay_marked constraints start now marks later all (λ k c at. s.stay k c) shows.marked;
 }
 
 -- what the taking back of a change asks of each constraint

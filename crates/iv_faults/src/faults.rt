@@ -12,7 +12,7 @@ ghost use Rattle.iv_laws_kept.specs.Marks.{AreMarked};
 ghost use Rattle.iv_laws_kept.specs.Moves.{Holds, taken_back};
 ghost use Rattle.iv_following.specs.Following.{Followed};
 ghost use Rattle.iv_following.specs.Sides.{IsPresent};
-ghost use Rattle.iv_following.specs.Turns.{AllStay};
+ghost use Rattle.iv_following.specs.Turns.{AllGiven, AllStay};
 ghost use Rattle.iv_faults.specs.Watch.{foreign_keys_of, keys_of};
 ghost use Rattle.iv_faults.specs.Watching.{AreWatched, HasRoomBack, IsShownBy, IsTakenUp, NoneViolates};
 
@@ -21,7 +21,7 @@ use crate::table_constraints::TableConstraints;
 use crate::watching::take_up;
 use iv_catalogue::{Constraint, Fault};
 use iv_expr::{Change, Rows, TableId};
-use iv_following::{Reference, Sides, follow, make_room_and_follow};
+use iv_following::{Reference, Sides, follow, give_back, make_room_and_follow};
 use iv_index::Groups;
 use iv_machine::Which;
 use iv_marks::ViolatingGroups;
@@ -132,6 +132,28 @@ fn moved_back(
         references,
         &Sides::back(change),
     );
+}
+
+// Gives groups without rows back.
+fn given_back(
+    groups: &mut Groups,
+    marks: &mut ViolatingGroups,
+    tables: &[TableConstraints],
+    constraints: &[Constraint],
+    references: &[Option<Reference>],
+)
+    requires taken_up { IsTakenUp constraints.now references.now tables.now marks.old }
+    requires watched { AreWatched (record { constraints = constraints.now; marks = marks.old }) groups.old }
+    ensures given { AllGiven groups.old groups.new marks.old marks.new }
+    ensures taken_up { IsTakenUp constraints.now references.now tables.now marks.new }
+    ensures watched { AreWatched (record { constraints = constraints.now; marks = marks.new }) groups.new }
+    ensures shown { (rows : List StoredRow)
+        → IsShownBy rows (record { constraints = constraints.now; marks = marks.old }) groups.old
+        → IsShownBy rows (record { constraints = constraints.now; marks = marks.new }) groups.new }
+{
+    let _ = tables;
+    let _ = references;
+    give_back(groups, marks, constraints.len());
 }
 
 impl Faults {
@@ -283,6 +305,26 @@ impl Faults {
             change,
         );
         keys_once(groups);
+    }
+
+    /// Gives groups without rows back, and the room of others, as many steps as are due since the last call (`take_due` of
+    /// `iv_index`). What is kept shows the same rows as before. It can't be refused memory, and makes no look-up. Afterwards
+    /// a key may hold fewer rows without memory.
+    pub fn give_back(&mut self, groups: &mut Groups)
+        requires watched { AreWatched self.old groups.old }
+        ensures shown { (rows : List StoredRow) → IsShownBy rows self.old groups.old → IsShownBy rows self.new groups.new }
+        ensures constraints { self.new.constraints ≡ self.old.constraints }
+        ensures watched { AreWatched self.new groups.new }
+        ensures count { length groups.new.groups ≡ length groups.old.groups }
+        ensures looked_up { groups.new.looked_up ≡ groups.old.looked_up }
+    {
+        given_back(
+            groups,
+            &mut self.marks,
+            self.tables.as_slice(),
+            self.constraints.as_slice(),
+            self.references.as_slice(),
+        );
     }
 
     /// The first violation of the constraints that are meant, by creation, then by row. Where nothing is violated it

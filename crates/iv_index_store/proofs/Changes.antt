@@ -77,6 +77,16 @@ kept_stays h w later start now k shown watched same grow = record {
       (sizes_stay (rows_before_all (drop n h.journal) h.rows) w.constraints start.groups now.groups grow (k.sizes place m n at from to));
 }
 
+-- No mark stands any more, and groups without rows are given back: no key has to hold more rows than it has.
+pub kept_given_back : (h new : History) (w later : Watching) (start now : Contents) → IsKept h w start → new ≡ record h { journal = []; marks = [] }
+    → ((rows : List StoredRow) → IsShownBy rows w start → IsShownBy rows later now) → AreWatched later now → later.constraints ≡ w.constraints → IsKept new later now
+kept_given_back h new w later start now k is shown watched same = subst (λ (x : History). IsKept x later now) (sym is) (record {
+  shown = shown h.rows k.shown;
+  watched = watched;
+  named = subst (λ cs. AllNamed cs) (sym same) k.named;
+  sizes = λ place m n at from to. absurd cc;
+})
+
 -- A change is made.
 pub kept_after : (h new : History) (c : Change) (w later : Watching) (start now : Contents) → IsKept h w start → new ≡ history_after h c → rows_before c new.rows ≡ h.rows
     → IsShownBy new.rows later now → AreWatched later now → later.constraints ≡ w.constraints → SizesGrow start now → IsKept new later now

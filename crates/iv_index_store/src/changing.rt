@@ -1,9 +1,9 @@
 //! Changes of rows that the groups and the violations follow, and the way back.
-ghost use Rattle.std.specs.Prelude.{◌≡◌, ◌+◌, ◌-◌, ◌*◌, ◌<◌, ◌≤◌, length, take, true, false, IfSome, OnOk, OnErr};
+ghost use Rattle.std.specs.Prelude.{◌≡◌, [], ◌+◌, ◌-◌, ◌*◌, ◌<◌, ◌≤◌, length, take, true, false, IfSome, OnOk, OnErr};
 ghost use Rattle.iv_machine.specs.Bounds.{last_row_number, most_changes_in_a_transaction};
 ghost use Rattle.iv_machine.specs.Databases.{row_at};
 ghost use Rattle.iv_machine.specs.Waves.{values_at};
-ghost use Rattle.iv_rows.specs.Histories.{after_change, at_mark, history_after, marked_databases, marked_of, noted_at, stepped_back};
+ghost use Rattle.iv_rows.specs.Histories.{after_change, at_mark, history_after, marked_databases, marked_of, noted_at, settled, stepped_back};
 ghost use Rattle.iv_index_store.specs.Kept.{IsKept};
 
 use iv_expr::Change;
@@ -87,4 +87,18 @@ pub fn go_back(versions: &mut Versions, groups: &mut Groups, faults: &mut Faults
 {
     while step_back(versions, groups, faults, place) {}
     versions.undo_to(place);
+}
+
+/// Drops all marks, and then gives groups without rows back, since no change is undone any more. It can't be refused memory,
+/// and makes no look-up.
+pub fn settle(versions: &mut Versions, groups: &mut Groups, faults: &mut Faults)
+    requires { IsKept versions.old faults.old groups.old }
+    ensures versions { versions.new ≡ record versions.old { journal = []; marks = [] } }
+    ensures marked { marked_of versions.new ≡ settled (marked_of versions.old) }
+    ensures kept { IsKept versions.new faults.new groups.new }
+    ensures constraints { faults.new.constraints ≡ faults.old.constraints }
+    ensures looked_up { groups.new.looked_up ≡ groups.old.looked_up }
+{
+    versions.settle();
+    faults.give_back(groups);
 }

@@ -2,7 +2,7 @@
 ghost use Rattle.std.specs.Prelude.{◌≡◌, length};
 
 use crate::adding;
-use crate::changing::{go_back, make};
+use crate::changing::{go_back, make, settle};
 use crate::kinds::{ColumnKinds, known_kinds, note};
 use crate::referencing::children;
 use crate::searching::holders;
@@ -230,6 +230,6 @@ impl Keeper for IndexStore {
     }
 
     fn settle(&mut self) {
-        self.versions.settle();
+        settle(&mut self.versions, &mut self.groups, &mut self.faults);
     }
 }
