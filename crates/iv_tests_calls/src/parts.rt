@@ -5,6 +5,7 @@ mod constraints;
 mod fault_steps;
 mod foreign_key;
 mod gaps;
+mod giving;
 mod group_steps;
 mod hundred;
 mod journal;

@@ -67,3 +67,10 @@ pub fn clear(rt: &impl Abort, groups: &mut Groups, constraint: usize) {
     is_known(rt, groups, constraint);
     groups.clear(constraint);
 }
+
+/// Gives back what can be of the group at a place that there is, and tells whether it had no row.
+pub fn give_back(rt: &impl Abort, groups: &mut Groups, constraint: usize, place: usize) -> bool {
+    is_known(rt, groups, constraint);
+    assert_that(rt, place < groups.count_groups(constraint), "no such group");
+    groups.give_back(constraint, place)
+}

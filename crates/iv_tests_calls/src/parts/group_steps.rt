@@ -1,6 +1,6 @@
 //! What is done to groups, as data, and what they tell, as text. What a step tells ends with a bar.
 use super::shown::show_count;
-use super::{checked, gaps, hundred};
+use super::{checked, gaps, giving, hundred};
 use crate::asked::assert_that;
 use crate::schema::{Cell, row_of};
 use crate::shown::{show, show_numbers};
@@ -24,6 +24,8 @@ pub const TWO: Columns = &[1];
 pub const THREE: Columns = &[2];
 /// The key of the least integer.
 pub const LEAST: Columns = &[3];
+/// The key of the integer that has the hash of the key of one null.
+pub const MET: Columns = &[9];
 /// The keys of one null and of two.
 pub const NULL: Columns = &[4];
 
@@ -38,7 +40,7 @@ pub const A_BC: Columns = &[7, 8];
 pub const BC_A: Columns = &[8, 7];
 
 // The values of all keys.
-const GIVEN: [Cell; 9] = [
+const GIVEN: [Cell; 10] = [
     Cell::Int(1),
     Cell::Int(2),
     Cell::Int(3),
@@ -48,6 +50,7 @@ const GIVEN: [Cell; 9] = [
     Cell::Word("c"),
     Cell::Word("a"),
     Cell::Word("bc"),
+    Cell::Int(7_541_581_120_933_061_747),
 ];
 
 /// A thing that is done to the groups of all constraints, or told of them.
@@ -61,6 +64,12 @@ pub enum Step {
     LookedUp,
     /// All groups of a constraint go.
     Clear(usize),
+    /// What is due is given back.
+    Settle,
+    /// How many steps are due, which are then due no more.
+    Due,
+    /// A group without rows goes, or the room of one with rows: whether there were none.
+    GiveBack(usize, usize),
     /// How many groups a constraint has.
     Groups(usize),
     /// The rows of a constraint's group at a place.
@@ -169,6 +178,12 @@ fn take(
         Step::Constraints => show_count(rt, groups.constraints() as u64, shown),
         Step::LookedUp => show_count(rt, groups.looked_up(), shown),
         Step::Clear(constraint) => checked::clear(rt, groups, constraint),
+        Step::Settle => giving::settle(groups),
+        Step::Due => show_count(rt, groups.take_due(), shown),
+        Step::GiveBack(constraint, place) => {
+            let dead = checked::give_back(rt, groups, constraint, place);
+            show_count(rt, u64::from(dead), shown)
+        }
         Step::Groups(constraint) => show_count(rt, groups.count_groups(constraint) as u64, shown),
         Step::RowsAt(constraint, place) => {
             show_rows_at(rt, alloc, groups, constraint, place, shown)

@@ -1,7 +1,7 @@
 //! The rows of keys of one column and of two, of texts and of nulls.
 use super::group_steps::Act::{Add, Holders, Place, Remove, Room, Rows};
 use super::group_steps::Step::{Cover, LookedUp, Under};
-use super::group_steps::{A_BC, AB_C, BC_A, C_AB, LEAST, NULL, ONE, Step, TWO_NULLS, shows};
+use super::group_steps::{A_BC, AB_C, BC_A, C_AB, LEAST, MET, NULL, ONE, Step, TWO_NULLS, shows};
 
 const ONE_KEY: [Step; 8] = [
     Cover(1),
@@ -36,19 +36,22 @@ fn keys_of_texts_are_apart(rt: HostRuntime) {
     shows(&rt, rt.alloc(), &TEXTS, "1 | 2 | 3 | | ");
 }
 
-// Null and the least integer have one hash, so that one is found behind the other.
-const NULLS: [Step; 8] = [
+// Null has the hash of one byte by SipHash, and an integer is its own hash: this one is found behind null.
+const NULLS: [Step; 11] = [
     Cover(1),
     Under(0, NULL, Add(8)),
-    Under(0, LEAST, Add(9)),
+    Under(0, MET, Add(9)),
+    Under(0, LEAST, Add(7)),
     Under(0, NULL, Rows),
+    Under(0, MET, Rows),
     Under(0, LEAST, Rows),
     Under(0, TWO_NULLS, Rows),
     Under(0, NULL, Place),
+    Under(0, MET, Place),
     Under(0, LEAST, Place),
 ];
 
 #[test]
 fn null_is_a_key_of_its_own(rt: HostRuntime) {
-    shows(&rt, rt.alloc(), &NULLS, "8 | 9 | | 0 | 1 | ");
+    shows(&rt, rt.alloc(), &NULLS, "8 | 9 | 7 | | 0 | 1 | 2 | ");
 }
