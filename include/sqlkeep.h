@@ -229,11 +229,12 @@ uint32_t sqlkeep_signal(sqlkeep *handle, size_t from, uint8_t *buffer, size_t si
 
 /* ---- transactions */
 
-/* COMMIT, with the outcome of the statement. It takes no memory, except for the account of one that is refused, where
-   accounts are asked for: if memory is refused for that, the outcome is the same and the account is empty. SQLKEEP_CLOSED. */
+/* COMMIT, with the outcome of the statement. It can't be refused memory: it may ask for smaller blocks than it gives back, and
+   keeps the larger ones where they are refused. The account of one that is refused, where accounts are asked for, is empty if
+   memory is refused for it; the outcome is the same. SQLKEEP_CLOSED. */
 uint32_t sqlkeep_commit(sqlkeep *handle, sqlkeep_outcome *outcome);
 
-/* ROLLBACK. It takes no memory. SQLKEEP_CLOSED. */
+/* ROLLBACK. It can't be refused memory, as COMMIT can't. SQLKEEP_CLOSED. */
 uint32_t sqlkeep_rollback(sqlkeep *handle);
 
 /* ROLLBACK TO SAVEPOINT, with the outcome of the statement; the name as it is folded, in upper case. It takes no memory.

@@ -140,7 +140,7 @@ impl<K: Keeper + Drop> Session<K> {
     }
 
     /// Ends the transaction, and brings back the database from its start. Outside a transaction it does
-    /// nothing. It takes no memory.
+    /// nothing. It can't be refused memory.
     pub fn rollback(&mut self)
         ensures state { self.new.state ≡ (rollback_outcome self.old.state).state }
         ensures work { self.new.work ≡ (rollback_outcome self.old.state).work }
@@ -154,8 +154,8 @@ impl<K: Keeper + Drop> Session<K> {
     }
 
     /// Ends the transaction: the database stays where no constraint is violated, and is otherwise the one
-    /// at the transaction's start. Outside a transaction it does nothing. It takes no memory, but for an account that is
-    /// asked for: where memory is refused to it, it is empty.
+    /// at the transaction's start. Outside a transaction it does nothing. It can't be refused memory: an account that is
+    /// asked for is empty if memory is refused for it.
     pub fn commit(&mut self) -> Result<(), Fault>
         ensures answer { commit_answer result ≡ (commit_outcome self.old.state).answer }
         ensures state { self.new.state ≡ (commit_outcome self.old.state).state }

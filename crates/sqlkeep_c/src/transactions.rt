@@ -51,8 +51,8 @@ fn commit_kept(opened: &mut Opened)
     opened.executed = None;
 }
 
-/// COMMIT: ends the transaction, and keeps the outcome. It takes no memory, but for an account that is asked for; where
-/// memory is refused to that, the account is empty.
+/// COMMIT: ends the transaction, and keeps the outcome. It can't be refused memory: an account that is asked for is empty
+/// if memory is refused for it.
 #[unsafe(no_mangle)]
 pub extern "C" fn sqlkeep_commit(
     alloc: Global,
@@ -77,7 +77,7 @@ pub extern "C" fn sqlkeep_commit(
     OK
 }
 
-/// ROLLBACK: ends the transaction. It takes no memory.
+/// ROLLBACK: ends the transaction. It can't be refused memory.
 #[unsafe(no_mangle)]
 pub extern "C" fn sqlkeep_rollback(alloc: Global, handle: &mut Handle) -> u32
     ensures state { Called handle.old.kept.behind handle.new.kept.behind (λ old new.
