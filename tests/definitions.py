@@ -206,6 +206,9 @@ def prepared(stack, targets, over_gate=False, until=None):
         if not checked(crates, target, over_gate, until)[0]:
             if is_late(until):
                 return None
+            if over_gate:
+                print('the worked scripts of %s could not be proved over these libraries, so no change was tried' % target, flush=True)
+                return None
             raise SystemExit('the worked scripts of %s are not proved as they are' % target)
     return crates
 
