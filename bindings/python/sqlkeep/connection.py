@@ -1,0 +1,215 @@
+"""Connections of the DB-API."""
+from contextlib import contextmanager
+from typing import Any, Iterable, Iterator, List, Optional, Sequence, Tuple, Union
+
+from . import errors
+from .cursor import Cursor, values_of
+from .plans import Plan, plan_of
+from .session import CHANGED, DONE, REFUSED, TOLD, Pending, Session, answer_error
+from .text import is_name
+from .values import Value
+
+__all__ = ["Connection", "LEGACY_TRANSACTION_CONTROL", "connect"]
+
+#: The default of `autocommit`, as in `sqlite3`: a transaction begins with the first INSERT, UPDATE or DELETE.
+LEGACY_TRANSACTION_CONTROL = -1
+
+# What `executemany` may put on a list without running code of the caller between two statements.
+PLAIN = (list, tuple)
+
+
+class Connection:
+    """A connection: a database in memory of its own, used by the thread that opened it.
+
+    As a context manager it commits where its block ends, and rolls back where the block raises; it stays open.
+    """
+
+    Warning = errors.Warning
+    Error = errors.Error
+    InterfaceError = errors.InterfaceError
+    DatabaseError = errors.DatabaseError
+    DataError = errors.DataError
+    OperationalError = errors.OperationalError
+    IntegrityError = errors.IntegrityError
+    InternalError = errors.InternalError
+    ProgrammingError = errors.ProgrammingError
+    NotSupportedError = errors.NotSupportedError
+
+    def __init__(self, session: Session, autocommit: Union[bool, int]) -> None:
+        #: The same database by the native interface.
+        self.session = session
+        self._engine = session._engine  # pylint: disable=protected-access
+        self._autocommit: Union[bool, int] = LEGACY_TRANSACTION_CONTROL
+        self.autocommit = autocommit
+
+    def __enter__(self) -> "Connection":
+        return self
+
+    def __exit__(self, kind: Optional[type], *_: object) -> None:
+        if kind is None:
+            self.commit()
+        elif self._engine.is_open():
+            self.rollback()
+
+    @property
+    def autocommit(self) -> Union[bool, int]:
+        """How transactions end, as in `sqlite3` of Python 3.12. LEGACY_TRANSACTION_CONTROL, the default, and False: by `commit` or
+        `rollback`. True: each statement is committed at once, unless START TRANSACTION has begun a transaction."""
+        return self._autocommit
+
+    @autocommit.setter
+    def autocommit(self, mode: Union[bool, int]) -> None:
+        if mode not in (True, False, LEGACY_TRANSACTION_CONTROL):
+            raise errors.ProgrammingError("autocommit is True, False or LEGACY_TRANSACTION_CONTROL")
+        if mode == 1 and self.in_transaction:
+            self.commit()
+        self._autocommit = mode if mode == LEGACY_TRANSACTION_CONTROL else bool(mode)
+
+    @property
+    def in_transaction(self) -> bool:
+        """Whether a transaction is open."""
+        return self._engine.in_transaction()
+
+    def check(self) -> None:
+        """Raises ProgrammingError where the connection is closed, or is of another thread."""
+        self._engine.check()
+
+    def cursor(self) -> Cursor:
+        """A new cursor."""
+        self._engine.check()
+        return Cursor(self)
+
+    def close(self) -> None:
+        """Closes the connection. Its database is gone with it, as it is in memory alone. Nothing happens where it is closed."""
+        self._engine.close()
+
+    def execute(self, operation: str, parameters: Sequence[Value] = ()) -> Cursor:
+        """Executes one statement with a new cursor, and gives that."""
+        return Cursor(self).execute(operation, parameters)
+
+    def executemany(self, operation: str, parameters: Iterable[Sequence[Value]]) -> Cursor:
+        """Executes a statement once for each set of values, with a new cursor, and gives that."""
+        return Cursor(self).executemany(operation, parameters)
+
+    def executescript(self, script: str) -> Cursor:
+        """Executes the statements of a text one after the other. A transaction that is open is committed first, unless
+        `autocommit` is False. Where something of the text is no statement, nothing is executed. Where a statement is refused, those before it
+        stay, those after it aren't executed, and the error's `statement` says which it was."""
+        self._engine.check()
+        parts = self.session.parts(script)
+        if self._autocommit == LEGACY_TRANSACTION_CONTROL and self.in_transaction:
+            self.commit()
+        for number, part in enumerate(parts, 1):
+            answer = self._answer_in_mode(part, None, plan_of(part))
+            if answer[0] == REFUSED:
+                raise answer_error(answer, part, 0, number)
+        return Cursor(self)
+
+    def commit(self) -> None:
+        """Ends the transaction. IntegrityError where a constraint is violated: the transaction is then rolled back. Nothing
+        happens where none is open, or where `autocommit` is True."""
+        self._engine.check()
+        if self._autocommit is not True:
+            self._commit()
+
+    def rollback(self) -> None:
+        """Takes the transaction back. Nothing happens where none is open, or where `autocommit` is True."""
+        self._engine.check()
+        if self._autocommit is not True:
+            self._engine.rollback()
+
+    @contextmanager
+    def savepoint(self, name: str) -> Iterator[None]:
+        """A savepoint for a block: released where the block ends, and gone back to where it raises."""
+        if not is_name(name):
+            raise errors.ProgrammingError(f"a savepoint can't be called {name!r}")
+        self.execute(f"SAVEPOINT {name}")
+        try:
+            yield
+        except BaseException:
+            if self._engine.is_open() and self.in_transaction:
+                self._engine.execute(f"ROLLBACK TO SAVEPOINT {name}", None, False)
+                self._engine.execute(f"RELEASE SAVEPOINT {name}", None, False)
+            raise
+        self.execute(f"RELEASE SAVEPOINT {name}")
+
+    def pending(self) -> List[Pending]:
+        """What COMMIT would find: the violations of deferred constraints, each as a constraint's name and a row."""
+        return self.session.pending()
+
+    # ---- for cursors
+
+    def answer(self, text: str, values: Optional[Tuple[Value, ...]]) -> Tuple[Any, ...]:
+        """What the engine answers to one statement, by the rules of transactions."""
+        plan = plan_of(text)
+        if plan.wants_transaction and self._autocommit is not True and not self._engine.in_transaction():
+            return self._answer_in_new(text, values)
+        return self._answer_in_mode(text, values, plan)
+
+    def answer_many(self, text: str, parameters: Iterable[Sequence[Value]]) -> int:
+        """Executes the text once for each set of values: how many rows were changed."""
+        if self._autocommit is not True and isinstance(parameters, PLAIN) and all(isinstance(each, PLAIN) for each in parameters):
+            return self._answer_list(text, list(parameters), 0)
+        changed = 0
+        for number, each in enumerate(parameters):
+            was_open = self._engine.in_transaction()
+            changed += self._answer_list(text, [values_of(each)], number)
+            if self._autocommit is True and not was_open:
+                self._commit(number + 1)
+        return changed
+
+    def _answer_list(self, text: str, values: List[Any], before: int) -> int:
+        try:
+            done, changed, answer = self._engine.execute_many(text, values)
+        except errors.Error as error:
+            error._told["statement"] = before + self._engine.progress() + 1
+            raise
+        if answer is not None:
+            raise answer_error(answer, text, len(values[done]), before + done + 1)
+        return changed
+
+    def _answer_in_mode(self, text: str, values: Optional[Tuple[Value, ...]], plan: Plan) -> Tuple[Any, ...]:
+        was_open = self._autocommit is not True or self._engine.in_transaction()
+        answer = self._engine.execute(text, values, plan.is_commit)
+        if answer[0] == DONE and plan.is_schema:
+            self.session.catalogue.note(text)
+        if answer[0] == CHANGED and not was_open:
+            self._commit()
+        return answer
+
+    def _answer_in_new(self, text: str, values: Optional[Tuple[Value, ...]]) -> Tuple[Any, ...]:
+        """Begins a transaction for a SAVEPOINT or a SET CONSTRAINTS. Where that isn't accepted, none was begun."""
+        self._engine.execute("START TRANSACTION", None, False)
+        answer: Tuple[Any, ...] = ()
+        try:
+            answer = self._engine.execute(text, values, False)
+        finally:
+            if answer[:1] != (DONE,):
+                self._engine.rollback()
+        return answer
+
+    def _commit(self, statement: Optional[int] = None) -> None:
+        answer = self._engine.commit()
+        if answer[0] == REFUSED:
+            raise answer_error(answer, "COMMIT", 0, statement)
+
+
+def connect(
+    database: str = ":memory:",
+    *,
+    autocommit: Union[bool, int] = LEGACY_TRANSACTION_CONTROL,
+    depth: int = 16,
+    changes: int = 65_536,
+    accounts: bool = True,
+) -> Connection:
+    """Opens a connection to a new database without tables.
+
+    `database` may be ":memory:" alone. `depth` is how deep triggers may nest, 1 to 64, and `changes` how many row changes a statement
+    may make, 1 to 65,536. With `accounts=False` a statement that is refused isn't executed once more for its account: the errors
+    then have the constraint and the row, and no more.
+    """
+    if database not in (":memory:", ""):
+        raise errors.NotSupportedError("a database is in memory alone; leave the name out, or say ':memory:'")
+    session = Session(depth, changes)
+    session._engine.tell(TOLD if accounts else 0)  # pylint: disable=protected-access
+    return Connection(session, autocommit)
