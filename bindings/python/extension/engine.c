@@ -16,6 +16,30 @@ typedef struct left {
 
 static left *all_left;
 
+error_classes errors;
+
+int bytes_push(bytes *to, const void *from, size_t length) {
+    size_t room = to->room < 256 ? 256 : to->room;
+    while (room - to->length < length) {
+        room *= 2;
+    }
+    uint8_t *at = room == to->room ? to->at : realloc(to->at, room);
+    if (at == NULL) {
+        failed(SQLKEEP_NO_MEMORY);
+        return -1;
+    }
+    to->at = at;
+    to->room = room;
+    memcpy(to->at + to->length, from, length);
+    to->length += length;
+    return 0;
+}
+
+void bytes_free(bytes *of) {
+    free(of->at);
+    memset(of, 0, sizeof *of);
+}
+
 /* Closes the sessions that other threads left to this one. */
 static void close_left(unsigned long thread) {
     left **at = &all_left;
@@ -48,7 +72,7 @@ static void end_session(engine *self) {
     memset(&self->handle, 0, sizeof self->handle);
 }
 
-PyObject *engine_failed(uint32_t status) {
+PyObject *failed(uint32_t status) {
     switch (status) {
     case SQLKEEP_CLOSED:
         PyErr_SetString(errors.programming, "the connection is closed");
@@ -76,7 +100,7 @@ PyObject *engine_failed(uint32_t status) {
 
 int engine_ready(engine *self) {
     if (!self->handle.is_open) {
-        engine_failed(SQLKEEP_CLOSED);
+        failed(SQLKEEP_CLOSED);
         return -1;
     }
     if (self->thread != PyThread_get_thread_ident()) {
@@ -93,7 +117,7 @@ static PyObject *nothing(void) {
 }
 
 static PyObject *done_or_failed(uint32_t status) {
-    return status == SQLKEEP_OK ? nothing() : engine_failed(status);
+    return status == SQLKEEP_OK ? nothing() : failed(status);
 }
 
 /* ---- the object */
@@ -115,7 +139,7 @@ static PyObject *engine_new(PyTypeObject *type, PyObject *arguments, PyObject *k
     uint32_t status = fits ? sqlkeep_open(&self->handle, (uint8_t)depth, (uint32_t)changes) : (uint32_t)SQLKEEP_LIMITS;
     if (status != SQLKEEP_OK) {
         Py_DECREF(self);
-        return engine_failed(status);
+        return failed(status);
     }
     return (PyObject *)self;
 }
@@ -125,7 +149,7 @@ static void engine_dealloc(PyObject *object) {
     PyTypeObject *type = Py_TYPE(object);
     freefunc release = (freefunc)PyType_GetSlot(type, Py_tp_free);
     end_session(self);
-    filled_free(&self->text);
+    bytes_free(&self->text);
     Py_CLEAR(self->held);
     release(object);
     Py_DECREF(type);
@@ -163,7 +187,7 @@ static PyObject *transcript_of(engine *self) {
         uint32_t status = sqlkeep_transcript(&self->handle, whole.length, piece, sizeof piece, &copied);
         if (status != SQLKEEP_OK || bytes_push(&whole, piece, copied) != 0) {
             free(whole.at);
-            return status != SQLKEEP_OK ? engine_failed(status) : NULL;
+            return status != SQLKEEP_OK ? failed(status) : NULL;
         }
     }
     PyObject *text = PyBytes_FromStringAndSize((const char *)whole.at, (Py_ssize_t)whole.length);
@@ -173,7 +197,7 @@ static PyObject *transcript_of(engine *self) {
 
 PyObject *engine_lines(engine *self, uint64_t number) {
     uint32_t status = sqlkeep_lines(&self->handle, number);
-    return status == SQLKEEP_OK ? transcript_of(self) : engine_failed(status);
+    return status == SQLKEEP_OK ? transcript_of(self) : failed(status);
 }
 
 static PyObject *engine_told_lines(engine *self, PyObject *arguments) {
@@ -196,7 +220,7 @@ static PyObject *engine_run(engine *self, PyObject *arguments) {
     Py_BEGIN_ALLOW_THREADS
     status = sqlkeep_run(&self->handle, (const uint8_t *)text, (size_t)length, &summary);
     Py_END_ALLOW_THREADS
-    PyObject *lines = status == SQLKEEP_OK ? transcript_of(self) : engine_failed(status);
+    PyObject *lines = status == SQLKEEP_OK ? transcript_of(self) : failed(status);
     PyObject *fault = lines == NULL ? NULL : summary.has_fault ? PyLong_FromUnsignedLongLong(summary.fault_at) : nothing();
     if (fault == NULL) {
         Py_XDECREF(lines);
@@ -219,7 +243,7 @@ static PyObject *engine_read(engine *self, PyObject *arguments) {
     Py_CLEAR(self->held);
     uint32_t status = sqlkeep_read(&self->handle, (const uint8_t *)text, (size_t)length, &script);
     if (status != SQLKEEP_OK) {
-        return engine_failed(status);
+        return failed(status);
     }
     PyObject *fault = script.has_fault ? PyLong_FromUnsignedLongLong(script.fault_at) : nothing();
     return fault == NULL ? NULL : Py_BuildValue("KN", (unsigned long long)script.statements, fault);
@@ -241,7 +265,7 @@ static PyObject *engine_execute_at(engine *self, PyObject *arguments) {
     Py_BEGIN_ALLOW_THREADS
     status = sqlkeep_execute(&self->handle, (size_t)place, &outcome);
     Py_END_ALLOW_THREADS
-    PyObject *answer = status == SQLKEEP_OK ? engine_answer(self, (size_t)place, &outcome, is_told) : engine_failed(status);
+    PyObject *answer = status == SQLKEEP_OK ? engine_answer(self, (size_t)place, &outcome, is_told) : failed(status);
     sqlkeep_explain(&self->handle, self->explains);
     return answer;
 }
@@ -258,7 +282,7 @@ static PyObject *engine_commit(engine *self, PyObject *unused) {
     self->has_work = false;
     sqlkeep_explain(&self->handle, 1);
     uint32_t status = sqlkeep_commit(&self->handle, &outcome);
-    PyObject *answer = status == SQLKEEP_OK ? engine_answer(self, 0, &outcome, true) : engine_failed(status);
+    PyObject *answer = status == SQLKEEP_OK ? engine_answer(self, 0, &outcome, true) : failed(status);
     sqlkeep_explain(&self->handle, self->explains);
     return answer;
 }
@@ -278,7 +302,7 @@ static PyObject *engine_rollback_to(engine *self, PyObject *arguments) {
     }
     self->has_work = false;
     uint32_t status = sqlkeep_rollback_to(&self->handle, (const uint8_t *)name, (size_t)length, &outcome);
-    return status == SQLKEEP_OK ? engine_answer(self, 0, &outcome, true) : engine_failed(status);
+    return status == SQLKEEP_OK ? engine_answer(self, 0, &outcome, true) : failed(status);
 }
 
 static PyObject *engine_in_transaction(engine *self, PyObject *unused) {
@@ -288,7 +312,7 @@ static PyObject *engine_in_transaction(engine *self, PyObject *unused) {
         return NULL;
     }
     uint32_t status = sqlkeep_in_transaction(&self->handle, &is_open);
-    return status == SQLKEEP_OK ? PyBool_FromLong(is_open) : engine_failed(status);
+    return status == SQLKEEP_OK ? PyBool_FromLong(is_open) : failed(status);
 }
 
 static PyObject *engine_work(engine *self, PyObject *unused) {
@@ -299,7 +323,7 @@ static PyObject *engine_work(engine *self, PyObject *unused) {
     }
     uint32_t status = self->has_work ? (uint32_t)SQLKEEP_OK : sqlkeep_work(&self->handle, &work);
     if (status != SQLKEEP_OK) {
-        return engine_failed(status);
+        return failed(status);
     }
     return Py_BuildValue("KKK", (unsigned long long)work.changes, (unsigned long long)work.undone, (unsigned long long)work.lookups);
 }
@@ -312,7 +336,7 @@ static PyObject *violation_at(engine *self, size_t place) {
     size_t copied = 0;
     uint32_t status = sqlkeep_violation(&self->handle, place, &row, (uint8_t *)name, sizeof name, &copied);
     if (status != SQLKEEP_OK) {
-        return engine_failed(status);
+        return failed(status);
     }
     return Py_BuildValue("s#K", name, (Py_ssize_t)copied, (unsigned long long)row);
 }
@@ -324,7 +348,7 @@ static PyObject *engine_pending(engine *self, PyObject *unused) {
         return NULL;
     }
     uint32_t status = sqlkeep_pending(&self->handle, &count);
-    PyObject *list = status == SQLKEEP_OK ? PyList_New((Py_ssize_t)count) : engine_failed(status);
+    PyObject *list = status == SQLKEEP_OK ? PyList_New((Py_ssize_t)count) : failed(status);
     for (size_t place = 0; list != NULL && place < count; place++) {
         PyObject *violation = violation_at(self, place);
         if (violation == NULL || PyList_SetItem(list, (Py_ssize_t)place, violation) != 0) {
@@ -339,6 +363,11 @@ static PyObject *engine_pending(engine *self, PyObject *unused) {
 static PyObject *engine_progress(engine *self, PyObject *unused) {
     (void)unused;
     return PyLong_FromSsize_t(self->progress);
+}
+
+static PyObject *engine_catalogue(engine *self, PyObject *unused) {
+    (void)unused;
+    return engine_ready(self) != 0 ? NULL : catalogue_of(&self->handle);
 }
 
 static PyObject *engine_explain(engine *self, PyObject *arguments) {
@@ -378,6 +407,7 @@ static PyMethodDef methods[] = {
     {"in_transaction", (PyCFunction)engine_in_transaction, METH_NOARGS, NULL},
     {"work", (PyCFunction)engine_work, METH_NOARGS, NULL},
     {"pending", (PyCFunction)engine_pending, METH_NOARGS, NULL},
+    {"catalogue", (PyCFunction)engine_catalogue, METH_NOARGS, NULL},
     {"progress", (PyCFunction)engine_progress, METH_NOARGS, NULL},
     {"explain", (PyCFunction)engine_explain, METH_VARARGS, NULL},
     {"tell", (PyCFunction)engine_tell, METH_VARARGS, NULL},

@@ -2,11 +2,9 @@
 #ifndef SQLKEEP_ENGINE_H
 #define SQLKEEP_ENGINE_H
 
-#include "filling.h"
-#include "sqlkeep.h"
-#include <stdbool.h>
+#include "shared.h"
 
-/* What `execute` answers: those of enum sqlkeep_kind, and where nothing was executed why. */
+/* What `execute` answers: one of enum sqlkeep_kind, and where nothing was executed why. */
 enum answer { ANSWER_FAULT = 4, ANSWER_COUNT = 5, ANSWER_MANY = 6, ANSWER_EMPTY = 7 };
 
 typedef struct engine {
@@ -23,8 +21,8 @@ typedef struct engine {
     sqlkeep_done work;
     /* How many statements the last `execute_many` went through. */
     Py_ssize_t progress;
-    /* The filled text, kept for the next one. */
-    filled text;
+    /* A text that is to be read, kept for the next one. */
+    bytes text;
     /* The text whose statement the library holds, where it was read without values. */
     PyObject *held;
 } engine;
@@ -32,13 +30,10 @@ typedef struct engine {
 /* 0 where the call may go on; -1 with an exception where the session is closed, or of another thread. */
 int engine_ready(engine *self);
 
-/* An exception for a status that isn't SQLKEEP_OK; NULL. */
-PyObject *engine_failed(uint32_t status);
-
 /* The lines of the last outcome as bytes, with this number. NULL with an exception where memory is refused. */
 PyObject *engine_lines(engine *self, uint64_t number);
 
-/* The answer to an outcome: (kind, count or rows), or (kind, cause, row, lines). */
+/* The answer to an outcome: (kind, count), (kind, rows, names) or (kind, cause, row, lines). */
 PyObject *engine_answer(engine *self, size_t place, const sqlkeep_outcome *outcome, bool is_told);
 
 /* Methods of statements. */

@@ -1,4 +1,4 @@
-/* Statements: a text is filled, read and executed, and its outcome is told.
+/* Statements: a text is read with its values and executed, and its outcome is told.
 
    A statement that is refused for a row is executed once more with its account asked for, since an account costs time that
    those that are accepted needn't pay. That is sound: a refusal leaves everything as it was, row numbers too, but for a COMMIT,
@@ -6,21 +6,19 @@
    back, and 22, where memory was refused, are never executed again: COMMIT is executed with its account asked for at once. */
 #include "engine.h"
 
-#include "rows.h"
 #include <string.h>
 
 /* Unknown and Duplicate: their names are told without a second run. */
-#define NAMES ((1UL << 1) | (1UL << 2))
-/* CommitRefused and OutOfMemory. */
-#define NEVER_AGAIN ((1UL << 19) | (1UL << 22))
+#define NAMES ((1UL << SQLKEEP_CAUSE_UNKNOWN) | (1UL << SQLKEEP_CAUSE_DUPLICATE))
+#define NEVER_AGAIN ((1UL << SQLKEEP_CAUSE_COMMIT_REFUSED) | (1UL << SQLKEEP_CAUSE_OUT_OF_MEMORY))
 
 /* How many statements are read at once for `executemany`, and how long their text may get. */
-enum { MOST_AT_ONCE = 128, LONGEST_AT_ONCE = 65536 };
+enum { MOST_AT_ONCE = 64, LONGEST_AT_ONCE = 65536 };
 
-/* What stands behind a text: nothing, or a semicolon in a line of its own. */
-typedef enum ending { AS_IT_IS, WITH_SEMICOLON } ending;
+/* What stands behind a text: a line feed, which ends a comment, with or without a semicolon. */
+typedef enum ending { AS_IT_IS = 1, WITH_SEMICOLON = 2 } ending;
 
-static const char semicolon[] = "\n;";
+static const char end_of_text[] = "\n;";
 
 static uint32_t run_at(engine *self, size_t place, sqlkeep_outcome *outcome) {
     uint32_t status;
@@ -59,157 +57,182 @@ static PyObject *refusal(engine *self, size_t place, const sqlkeep_outcome *outc
     return lines == NULL ? NULL : Py_BuildValue("IIKN", outcome->kind, outcome->cause, (unsigned long long)outcome->row, lines);
 }
 
-PyObject *engine_answer(engine *self, size_t place, const sqlkeep_outcome *outcome, bool is_told) {
-    if (outcome->kind == SQLKEEP_REFUSED) {
-        return refusal(self, place, outcome, is_told);
-    }
-    if (outcome->kind != SQLKEEP_ROWS) {
-        return Py_BuildValue("IK", outcome->kind, (unsigned long long)outcome->count);
-    }
+static PyObject *query(engine *self, const sqlkeep_outcome *outcome) {
     PyObject *rows = rows_of(&self->handle, (size_t)outcome->count);
-    return rows == NULL ? NULL : Py_BuildValue("IN", outcome->kind, rows);
+    PyObject *names = rows == NULL ? NULL : query_columns(&self->handle);
+    if (names == NULL) {
+        Py_XDECREF(rows);
+        return NULL;
+    }
+    return Py_BuildValue("INN", outcome->kind, rows, names);
 }
 
+PyObject *engine_answer(engine *self, size_t place, const sqlkeep_outcome *outcome, bool is_told) {
+    switch (outcome->kind) {
+    case SQLKEEP_REFUSED:
+        return refusal(self, place, outcome, is_told);
+    case SQLKEEP_ROWS:
+        return query(self, outcome);
+    default:
+        return Py_BuildValue("IK", outcome->kind, (unsigned long long)outcome->count);
+    }
+}
+
+/* ---- reading */
+
+/* A text, with the values for its question marks or NULL. */
+typedef struct template {
+    const char *text;
+    size_t length;
+    PyObject *values;
+} template;
+
 /* Whether the last character that isn't white space is a semicolon. */
-static bool ends_statement(const uint8_t *text, size_t length) {
-    while (length > 0 && strchr(" \t\r\n", text[length - 1]) != NULL && text[length - 1] != 0) {
+static bool ends_statement(const char *text, size_t length) {
+    while (length > 0 && (text[length - 1] == ' ' || text[length - 1] == '\t' || text[length - 1] == '\r' || text[length - 1] == '\n')) {
         length--;
     }
     return length > 0 && text[length - 1] == ';';
 }
 
-/* Reads the text that stands in the buffer, with this ending. -1 with an exception. */
-static int read_with(engine *self, ending with, sqlkeep_script *script) {
-    size_t length = self->text.text.length;
-    if (with == WITH_SEMICOLON && bytes_push(&self->text.text, semicolon, sizeof semicolon - 1) != 0) {
-        return -1;
+/* Why a text couldn't be read with its values. */
+static PyObject *not_read(uint32_t status) {
+    if (status == SQLKEEP_WRONG_COUNT) {
+        return Py_BuildValue("IK", ANSWER_COUNT, 0ULL);
     }
+    if (status == SQLKEEP_NO_TEMPLATE) {
+        return Py_BuildValue("IK", ANSWER_FAULT, 0ULL);
+    }
+    return failed(status);
+}
+
+/* Reads the buffer with the values that are bound. */
+static uint32_t read_buffer(engine *self, size_t length, sqlkeep_script *script) {
     Py_CLEAR(self->held);
-    uint32_t status = sqlkeep_read(&self->handle, self->text.text.at, self->text.text.length, script);
-    self->text.text.length = length;
+    uint32_t status = sqlkeep_read_bound(&self->handle, self->text.at, length, script);
     if (status != SQLKEEP_OK) {
-        engine_failed(status);
-        return -1;
+        sqlkeep_unbind(&self->handle);
     }
-    return 0;
+    return status;
+}
+
+/* Reads a text with its values and this ending. NULL where it was read, or with an exception, and otherwise why it wasn't. */
+static PyObject *read_with(engine *self, const template *given, ending with, sqlkeep_script *script) {
+    self->text.length = 0;
+    if (bytes_push(&self->text, given->text, given->length) != 0 || bytes_push(&self->text, end_of_text, (size_t)with) != 0) {
+        return NULL;
+    }
+    if (given->values != NULL && bind_values(&self->handle, given->values) != 0) {
+        return NULL;
+    }
+    uint32_t status = read_buffer(self, self->text.length, script);
+    return status == SQLKEEP_OK ? NULL : not_read(status);
 }
 
 static bool is_one(const sqlkeep_script *script) {
     return script->statements == 1 && script->has_fault == 0;
 }
 
-/* Why the text isn't one statement. */
-static PyObject *not_one(engine *self, const sqlkeep_script *script) {
-    if (script->has_fault != 0) {
-        size_t place = place_in_template(&self->text, (size_t)script->fault_at);
-        return Py_BuildValue("IK", ANSWER_FAULT, (unsigned long long)place);
-    }
-    return Py_BuildValue("IK", script->statements == 0 ? ANSWER_EMPTY : ANSWER_MANY, (unsigned long long)script->statements);
+/* Why the text isn't one statement: with the number of its whole statements. */
+static PyObject *not_one(const sqlkeep_script *script) {
+    enum answer why = script->has_fault != 0 ? ANSWER_FAULT : script->statements == 0 ? ANSWER_EMPTY : ANSWER_MANY;
+    return Py_BuildValue("IK", why, (unsigned long long)script->statements);
 }
 
-/* Reads one statement of the text in the buffer, which may lack its semicolon, and says which ending it was read with. NULL
-   where there is one, or with an exception, and otherwise why it isn't one. */
-static PyObject *read_one(engine *self, ending *with) {
+/* Reads one statement of a text, which may lack its semicolon, and says which ending it was read with. NULL where there is one,
+   or with an exception, and otherwise why it isn't one. */
+static PyObject *read_one(engine *self, const template *given, ending *with) {
     sqlkeep_script first = {0, 0, 0}, second = {0, 0, 0};
-    size_t length = self->text.text.length;
-    *with = ends_statement(self->text.text.at, length) ? AS_IT_IS : WITH_SEMICOLON;
-    if (read_with(self, *with, &first) != 0 || is_one(&first)) {
-        return NULL;
+    *with = ends_statement(given->text, given->length) ? AS_IT_IS : WITH_SEMICOLON;
+    PyObject *why = read_with(self, given, *with, &first);
+    if (why != NULL || PyErr_Occurred() || is_one(&first)) {
+        return why;
     }
     if (first.has_fault == 0) {
-        return not_one(self, &first);
+        return not_one(&first);
     }
     *with = *with == AS_IT_IS ? WITH_SEMICOLON : AS_IT_IS;
-    if (read_with(self, *with, &second) != 0 || is_one(&second)) {
-        return NULL;
+    why = read_with(self, given, *with, &second);
+    if (why != NULL || PyErr_Occurred() || is_one(&second)) {
+        return why;
     }
     /* A semicolon that was put behind a text is no fault of its own. */
-    bool is_ours = *with == AS_IT_IS && first.fault_at >= length;
-    return not_one(self, is_ours ? &second : &first);
+    return not_one(second.has_fault == 0 ? &second : &first);
 }
 
-/* Fills the buffer with the template. NULL where it is filled, or with an exception, and otherwise how many holes there are. */
-static PyObject *fill_one(engine *self, const char *template, Py_ssize_t length, PyObject *values) {
-    self->text.text.length = 0;
-    enum fill_result result = fill(&self->text, template, (size_t)length, values);
-    if (result == FILL_WRONG_COUNT) {
-        size_t holes = self->text.count;
-        self->text.count = 0;
-        return Py_BuildValue("IK", ANSWER_COUNT, (unsigned long long)holes);
-    }
-    return NULL;
-}
+/* ---- one statement */
 
 /* Executes the statement that was read, with its account at once if `is_told`. */
-static PyObject *execute_read(engine *self, size_t place, bool is_told) {
+static PyObject *execute_read(engine *self, bool is_told) {
     sqlkeep_outcome outcome = {SQLKEEP_DONE, 0, 0, 0};
     self->has_work = false;
     if (is_told) {
         sqlkeep_explain(&self->handle, 1);
     }
-    uint32_t status = run_at(self, place, &outcome);
-    PyObject *answer = status == SQLKEEP_OK ? engine_answer(self, place, &outcome, is_told) : engine_failed(status);
+    uint32_t status = run_at(self, 0, &outcome);
+    PyObject *answer = status == SQLKEEP_OK ? engine_answer(self, 0, &outcome, is_told) : failed(status);
     if (is_told) {
         sqlkeep_explain(&self->handle, self->explains);
     }
     return answer;
 }
 
-/* Fills, reads and executes one statement. */
-static PyObject *execute_text(engine *self, const char *template, Py_ssize_t length, PyObject *values, bool is_told, ending *with) {
-    PyObject *why = fill_one(self, template, length, values);
-    if (why == NULL && !PyErr_Occurred()) {
-        why = read_one(self, with);
-    }
-    if (why != NULL || PyErr_Occurred()) {
-        return why;
-    }
-    return execute_read(self, 0, is_told);
+/* Reads and executes one statement. */
+static PyObject *execute_template(engine *self, const template *given, bool is_told, ending *with) {
+    PyObject *why = read_one(self, given, with);
+    return why != NULL || PyErr_Occurred() ? why : execute_read(self, is_told);
 }
 
 /* The bytes of a text: a new reference to them, and where they are. */
-static PyObject *encoded(PyObject *text, char **at, Py_ssize_t *length) {
+static PyObject *encoded(PyObject *text, template *given) {
+    char *at;
+    Py_ssize_t length;
     PyObject *held = PyUnicode_AsUTF8String(text);
     if (held == NULL) {
         PyErr_Clear();
         PyErr_SetString(errors.programming, "the text has a surrogate, which UTF-8 can't hold");
         return NULL;
     }
-    if (PyBytes_AsStringAndSize(held, at, length) != 0) {
-        Py_CLEAR(held);
+    if (PyBytes_AsStringAndSize(held, &at, &length) != 0) {
+        Py_DECREF(held);
+        return NULL;
     }
+    given->text = at;
+    given->length = (size_t)length;
     return held;
 }
 
-/* execute(text, values, is_told): values is a tuple or None. */
+/* Keeps a text whose statement was read without values, so that it needn't be read again. */
+static void hold(engine *self, PyObject *text, PyObject *answer) {
+    unsigned long kind = PyLong_AsUnsignedLong(PyTuple_GetItem(answer, 0));
+    if (kind <= SQLKEEP_REFUSED) {
+        Py_INCREF(text);
+        self->held = text;
+    }
+}
+
+/* execute(text, values, is_told): values is a tuple. */
 PyObject *engine_execute(engine *self, PyObject *arguments) {
     PyObject *text, *values;
     int is_told;
-    char *at;
-    Py_ssize_t length;
     ending with;
-    if (!PyArg_ParseTuple(arguments, "UOp:execute", &text, &values, &is_told) || engine_ready(self) != 0) {
+    template given = {NULL, 0, NULL};
+    if (!PyArg_ParseTuple(arguments, "UO!p:execute", &text, &PyTuple_Type, &values, &is_told) || engine_ready(self) != 0) {
         return NULL;
     }
-    if (values == Py_None && self->held == text) {
-        return execute_read(self, 0, is_told);
+    bool is_plain = PyTuple_Size(values) == 0;
+    if (is_plain && self->held == text) {
+        return execute_read(self, is_told);
     }
-    if (values != Py_None && !PyTuple_Check(values)) {
-        PyErr_SetString(PyExc_TypeError, "values is a tuple or None");
+    PyObject *bytes_of_text = encoded(text, &given);
+    if (bytes_of_text == NULL) {
         return NULL;
     }
-    PyObject *held = encoded(text, &at, &length);
-    if (held == NULL) {
-        return NULL;
-    }
-    PyObject *answer = execute_text(self, at, length, values == Py_None ? NULL : values, is_told, &with);
-    Py_DECREF(held);
-    if (answer != NULL && values == Py_None && PyTuple_Size(answer) > 1 && self->held == NULL) {
-        unsigned long kind = PyLong_AsUnsignedLong(PyTuple_GetItem(answer, 0));
-        if (kind <= SQLKEEP_REFUSED) {
-            Py_INCREF(text);
-            self->held = text;
-        }
+    given.values = values;
+    PyObject *answer = execute_template(self, &given, is_told, &with);
+    Py_DECREF(bytes_of_text);
+    if (answer != NULL && is_plain) {
+        hold(self, text, answer);
     }
     return answer;
 }
@@ -218,13 +241,14 @@ PyObject *engine_execute(engine *self, PyObject *arguments) {
 
 /* What `executemany` goes through. */
 typedef struct many {
-    const char *template;
-    size_t length;
+    template given;
     ending with;
     /* A list whose items are tuples or lists. */
     PyObject *list;
     Py_ssize_t at, size;
     unsigned long long changed;
+    /* How many copies of the template are in the buffer, each with its ending. */
+    size_t copies;
 } many;
 
 /* Item `at` of the list as a tuple; a new reference. */
@@ -240,22 +264,37 @@ static PyObject *values_at(const many *work, Py_ssize_t at) {
     if (PyList_Check(item)) {
         return PyList_AsTuple(item);
     }
-    PyErr_Format(errors.programming, "the parameters at place %zd are no tuple and no list", at);
+    PyErr_SetString(errors.programming, "a set of parameters is a tuple or a list");
     return NULL;
 }
 
-/* Fills as many templates as are read at once, one behind the other; how many, or 0 where one can't be filled: it is then
-   executed alone, which says why. */
-static size_t fill_many(engine *self, const many *work) {
+static size_t length_of_copy(const many *work) {
+    return work->given.length + (size_t)work->with;
+}
+
+/* Puts as many copies of the template into the buffer as are read at once. */
+static int copy_template(engine *self, many *work) {
+    size_t most = LONGEST_AT_ONCE / length_of_copy(work);
+    self->text.length = 0;
+    for (work->copies = 0; work->copies < MOST_AT_ONCE && work->copies < most; work->copies++) {
+        if (bytes_push(&self->text, work->given.text, work->given.length) != 0 || bytes_push(&self->text, end_of_text, (size_t)work->with) != 0) {
+            return -1;
+        }
+    }
+    return 0;
+}
+
+/* Binds the values of as many statements as there are copies; how many, or 0 where some can't be bound: they are then executed
+   one by one, and the one says why. */
+static size_t bind_many(engine *self, const many *work, Py_ssize_t wanted) {
     size_t count = 0;
-    enum fill_result result = FILL_DONE;
-    self->text.text.length = 0;
-    while (count < MOST_AT_ONCE && work->at + (Py_ssize_t)count < work->size && self->text.text.length < LONGEST_AT_ONCE) {
+    while (count < work->copies && work->at + (Py_ssize_t)count < work->size) {
         PyObject *values = values_at(work, work->at + (Py_ssize_t)count);
-        result = values == NULL ? FILL_FAILED : fill(&self->text, work->template, work->length, values);
+        bool is_bound = values != NULL && PyTuple_Size(values) == wanted && bind_values(&self->handle, values) == 0;
         Py_XDECREF(values);
-        if (result != FILL_DONE || bytes_push(&self->text.text, semicolon, work->with == WITH_SEMICOLON ? sizeof semicolon - 1 : 1) != 0) {
+        if (!is_bound) {
             PyErr_Clear();
+            sqlkeep_unbind(&self->handle);
             return 0;
         }
         count++;
@@ -275,17 +314,17 @@ static size_t execute_read_many(engine *self, size_t count, sqlkeep_outcome *las
     return place;
 }
 
-/* Executes some statements at once. NULL where they were accepted or with an exception, otherwise the answer of the last; `was_read`
-   says whether they could be read at once. */
-static PyObject *execute_some(engine *self, many *work, bool *was_read) {
+/* Executes some statements at once. NULL where they were accepted, otherwise the answer of the last; `was_read` says whether they
+   could be read at once. */
+static PyObject *execute_some(engine *self, many *work, Py_ssize_t wanted, bool *was_read) {
     sqlkeep_script script = {0, 0, 0};
     sqlkeep_outcome last = {SQLKEEP_DONE, 0, 0, 0};
-    size_t count = fill_many(self, work);
-    *was_read = false;
-    if (count < 2 || read_with(self, AS_IT_IS, &script) != 0 || script.statements != count || script.has_fault != 0) {
+    size_t count = bind_many(self, work, wanted);
+    *was_read = count > 0 && read_buffer(self, count * length_of_copy(work), &script) == SQLKEEP_OK && script.statements == count && script.has_fault == 0;
+    if (!*was_read) {
+        sqlkeep_unbind(&self->handle);
         return NULL;
     }
-    *was_read = true;
     self->has_work = false;
     size_t done = execute_read_many(self, count, &last, &work->changed);
     work->at += (Py_ssize_t)done;
@@ -298,8 +337,10 @@ static PyObject *execute_next(engine *self, many *work) {
     if (values == NULL) {
         return NULL;
     }
-    PyObject *answer = execute_text(self, work->template, (Py_ssize_t)work->length, values, false, &work->with);
+    work->given.values = values;
+    PyObject *answer = execute_template(self, &work->given, false, &work->with);
     Py_DECREF(values);
+    work->copies = 0;
     if (answer != NULL && PyLong_AsUnsignedLong(PyTuple_GetItem(answer, 0)) == SQLKEEP_CHANGED) {
         work->changed += PyLong_AsUnsignedLongLong(PyTuple_GetItem(answer, 1));
         work->at++;
@@ -308,18 +349,31 @@ static PyObject *execute_next(engine *self, many *work) {
     return answer;
 }
 
+/* Executes the next statements: several at once where that can be, otherwise one. */
+static PyObject *execute_step(engine *self, many *work) {
+    bool was_read = false;
+    bool is_alone = work->at == 0 || self->explains || work->size - work->at == 1;
+    if (!is_alone && work->copies == 0 && copy_template(self, work) != 0) {
+        return NULL;
+    }
+    if (!is_alone) {
+        PyObject *first = values_at(work, 0);
+        Py_ssize_t wanted = first == NULL ? -1 : PyTuple_Size(first);
+        Py_XDECREF(first);
+        PyObject *answer = execute_some(self, work, wanted, &was_read);
+        if (was_read || answer != NULL) {
+            return answer;
+        }
+        PyErr_Clear();
+    }
+    return execute_next(self, work);
+}
+
 /* Goes through the list: NULL where all were accepted or with an exception, otherwise the answer of the one that wasn't. */
 static PyObject *execute_list(engine *self, many *work) {
     PyObject *answer = NULL;
-    bool was_read = false;
     while (work->at < work->size && answer == NULL && !PyErr_Occurred() && PyErr_CheckSignals() == 0) {
-        if (work->at > 0 && !self->explains) {
-            answer = execute_some(self, work, &was_read);
-        }
-        if (!was_read && !PyErr_Occurred() && answer == NULL) {
-            answer = execute_next(self, work);
-        }
-        was_read = false;
+        answer = execute_step(self, work);
     }
     return answer;
 }
@@ -327,25 +381,17 @@ static PyObject *execute_list(engine *self, many *work) {
 /* execute_many(text, list): (how many were accepted, how many rows they changed, None or the answer of the next). */
 PyObject *engine_execute_many(engine *self, PyObject *arguments) {
     PyObject *text;
-    Py_ssize_t length;
-    char *at;
-    many work = {NULL, 0, AS_IT_IS, NULL, 0, 0, 0};
-    if (!PyArg_ParseTuple(arguments, "UO:execute_many", &text, &work.list) || engine_ready(self) != 0) {
+    many work = {{NULL, 0, NULL}, AS_IT_IS, NULL, 0, 0, 0, 0};
+    if (!PyArg_ParseTuple(arguments, "UO!:execute_many", &text, &PyList_Type, &work.list) || engine_ready(self) != 0) {
         return NULL;
     }
-    if (!PyList_Check(work.list)) {
-        PyErr_SetString(PyExc_TypeError, "the second argument is a list");
+    PyObject *bytes_of_text = encoded(text, &work.given);
+    if (bytes_of_text == NULL) {
         return NULL;
     }
-    PyObject *held = encoded(text, &at, &length);
-    if (held == NULL) {
-        return NULL;
-    }
-    work.template = at;
-    work.length = (size_t)length;
     work.size = PyList_Size(work.list);
     PyObject *answer = execute_list(self, &work);
-    Py_DECREF(held);
+    Py_DECREF(bytes_of_text);
     self->progress = work.at;
     if (answer == NULL && PyErr_Occurred()) {
         return NULL;

@@ -1,20 +1,27 @@
 """Connections of the DB-API."""
-from contextlib import contextmanager
-from typing import Any, Iterable, Iterator, List, Optional, Sequence, Tuple, Union
+from __future__ import annotations
 
 from . import errors
+from ._engine import Engine
+from .answers import CHANGED, DONE, REFUSED, error_of
+from .causes import TOLD
 from .cursor import Cursor, values_of
-from .plans import Plan, plan_of
-from .session import CHANGED, DONE, REFUSED, TOLD, Pending, Session, answer_error
-from .text import is_name
-from .values import Value
+from .plans import COMMIT, WANTS_TRANSACTION, plan_of
+
+TYPE_CHECKING = False
+if TYPE_CHECKING:
+    from types import TracebackType
+    from typing import Any, Iterable, Literal, Sequence
+
+    from .session import Pending, Session
+    from .values import Value
 
 __all__ = ["Connection", "LEGACY_TRANSACTION_CONTROL", "connect"]
 
 #: The default of `autocommit`, as in `sqlite3`: a transaction begins with the first INSERT, UPDATE or DELETE.
 LEGACY_TRANSACTION_CONTROL = -1
 
-# What `executemany` may put on a list without running code of the caller between two statements.
+# What `executemany` may take at once: no code of the caller runs between two statements.
 PLAIN = (list, tuple)
 
 
@@ -35,30 +42,39 @@ class Connection:
     ProgrammingError = errors.ProgrammingError
     NotSupportedError = errors.NotSupportedError
 
-    def __init__(self, session: Session, autocommit: Union[bool, int]) -> None:
-        #: The same database by the native interface.
-        self.session = session
-        self._engine = session._engine  # pylint: disable=protected-access
-        self._autocommit: Union[bool, int] = LEGACY_TRANSACTION_CONTROL
+    def __init__(self, engine: Engine, autocommit: bool | int = LEGACY_TRANSACTION_CONTROL) -> None:
+        self._engine = engine
+        self._session: Session | None = None
+        self._autocommit: bool | int = LEGACY_TRANSACTION_CONTROL
         self.autocommit = autocommit
 
-    def __enter__(self) -> "Connection":
+    def __enter__(self) -> Connection:
         return self
 
-    def __exit__(self, kind: Optional[type], *_: object) -> None:
+    def __exit__(self, kind: type[BaseException] | None, error: BaseException | None, trace: TracebackType | None) -> Literal[False]:
         if kind is None:
             self.commit()
         elif self._engine.is_open():
             self.rollback()
+        return False
 
     @property
-    def autocommit(self) -> Union[bool, int]:
+    def session(self) -> Session:
+        """The same database by the native interface."""
+        if self._session is None:
+            from .session import Session  # pylint: disable=import-outside-toplevel
+
+            self._session = Session(engine=self._engine)
+        return self._session
+
+    @property
+    def autocommit(self) -> bool | int:
         """How transactions end, as in `sqlite3` of Python 3.12. LEGACY_TRANSACTION_CONTROL, the default, and False: by `commit` or
         `rollback`. True: each statement is committed at once, unless START TRANSACTION has begun a transaction."""
         return self._autocommit
 
     @autocommit.setter
-    def autocommit(self, mode: Union[bool, int]) -> None:
+    def autocommit(self, mode: bool | int) -> None:
         if mode not in (True, False, LEGACY_TRANSACTION_CONTROL):
             raise errors.ProgrammingError("autocommit is True, False or LEGACY_TRANSACTION_CONTROL")
         if mode == 1 and self.in_transaction:
@@ -69,10 +85,6 @@ class Connection:
     def in_transaction(self) -> bool:
         """Whether a transaction is open."""
         return self._engine.in_transaction()
-
-    def check(self) -> None:
-        """Raises ProgrammingError where the connection is closed, or is of another thread."""
-        self._engine.check()
 
     def cursor(self) -> Cursor:
         """A new cursor."""
@@ -92,17 +104,17 @@ class Connection:
         return Cursor(self).executemany(operation, parameters)
 
     def executescript(self, script: str) -> Cursor:
-        """Executes the statements of a text one after the other. A transaction that is open is committed first, unless
-        `autocommit` is False. Where something of the text is no statement, nothing is executed. Where a statement is refused, those before it
-        stay, those after it aren't executed, and the error's `statement` says which it was."""
+        """Executes the statements of a text one after the other. By default a transaction that is open is committed first. Where
+        something of the text is no statement, nothing is executed. Where a statement is refused, those before it stay, those
+        after it aren't executed, and the error's `statement` says which it was."""
         self._engine.check()
         parts = self.session.parts(script)
         if self._autocommit == LEGACY_TRANSACTION_CONTROL and self.in_transaction:
             self.commit()
         for number, part in enumerate(parts, 1):
-            answer = self._answer_in_mode(part, None, plan_of(part))
+            answer = self._answer_in_mode(part, (), plan_of(part))
             if answer[0] == REFUSED:
-                raise answer_error(answer, part, 0, number)
+                raise error_of(answer, part, 0, number)
         return Cursor(self)
 
     def commit(self) -> None:
@@ -118,31 +130,24 @@ class Connection:
         if self._autocommit is not True:
             self._engine.rollback()
 
-    @contextmanager
-    def savepoint(self, name: str) -> Iterator[None]:
-        """A savepoint for a block: released where the block ends, and gone back to where it raises."""
+    def savepoint(self, name: str) -> Savepoint:
+        """A savepoint for a block: `with connection.savepoint("name"):`. It is released where the block ends, and gone back to
+        where the block raises."""
+        from .text import is_name  # pylint: disable=import-outside-toplevel
+
         if not is_name(name):
             raise errors.ProgrammingError(f"a savepoint can't be called {name!r}")
-        self.execute(f"SAVEPOINT {name}")
-        try:
-            yield
-        except BaseException:
-            if self._engine.is_open() and self.in_transaction:
-                self._engine.execute(f"ROLLBACK TO SAVEPOINT {name}", None, False)
-                self._engine.execute(f"RELEASE SAVEPOINT {name}", None, False)
-            raise
-        self.execute(f"RELEASE SAVEPOINT {name}")
+        return Savepoint(self, name)
 
-    def pending(self) -> List[Pending]:
+    def pending(self) -> list[Pending]:
         """What COMMIT would find: the violations of deferred constraints, each as a constraint's name and a row."""
         return self.session.pending()
 
     # ---- for cursors
 
-    def answer(self, text: str, values: Optional[Tuple[Value, ...]]) -> Tuple[Any, ...]:
+    def answer(self, text: str, values: tuple[Value, ...], plan: int) -> tuple[Any, ...]:
         """What the engine answers to one statement, by the rules of transactions."""
-        plan = plan_of(text)
-        if plan.wants_transaction and self._autocommit is not True and not self._engine.in_transaction():
+        if plan == WANTS_TRANSACTION and self._autocommit is not True and not self._engine.in_transaction():
             return self._answer_in_new(text, values)
         return self._answer_in_mode(text, values, plan)
 
@@ -158,46 +163,66 @@ class Connection:
                 self._commit(number + 1)
         return changed
 
-    def _answer_list(self, text: str, values: List[Any], before: int) -> int:
+    def _answer_list(self, text: str, values: list[Any], before: int) -> int:
         try:
             done, changed, answer = self._engine.execute_many(text, values)
         except errors.Error as error:
-            error._told["statement"] = before + self._engine.progress() + 1
+            if self._engine.is_open():
+                error.statement = before + self._engine.progress() + 1
             raise
         if answer is not None:
-            raise answer_error(answer, text, len(values[done]), before + done + 1)
+            raise error_of(answer, text, len(values[done]), before + done + 1)
         return changed
 
-    def _answer_in_mode(self, text: str, values: Optional[Tuple[Value, ...]], plan: Plan) -> Tuple[Any, ...]:
+    def _answer_in_mode(self, text: str, values: tuple[Value, ...], plan: int) -> tuple[Any, ...]:
         was_open = self._autocommit is not True or self._engine.in_transaction()
-        answer = self._engine.execute(text, values, plan.is_commit)
-        if answer[0] == DONE and plan.is_schema:
-            self.session.catalogue.note(text)
+        answer = self._engine.execute(text, values, plan == COMMIT)
         if answer[0] == CHANGED and not was_open:
             self._commit()
         return answer
 
-    def _answer_in_new(self, text: str, values: Optional[Tuple[Value, ...]]) -> Tuple[Any, ...]:
+    def _answer_in_new(self, text: str, values: tuple[Value, ...]) -> tuple[Any, ...]:
         """Begins a transaction for a SAVEPOINT or a SET CONSTRAINTS. Where that isn't accepted, none was begun."""
-        self._engine.execute("START TRANSACTION", None, False)
-        answer: Tuple[Any, ...] = ()
+        self._engine.execute("START TRANSACTION", (), False)
+        answer: tuple[Any, ...] = (REFUSED,)
         try:
             answer = self._engine.execute(text, values, False)
         finally:
-            if answer[:1] != (DONE,):
+            if answer[0] != DONE:
                 self._engine.rollback()
         return answer
 
-    def _commit(self, statement: Optional[int] = None) -> None:
+    def _commit(self, statement: int | None = None) -> None:
         answer = self._engine.commit()
         if answer[0] == REFUSED:
-            raise answer_error(answer, "COMMIT", 0, statement)
+            raise error_of(answer, "COMMIT", 0, statement)
+
+
+class Savepoint:
+    """A savepoint for a block, as `Connection.savepoint` gives it."""
+
+    def __init__(self, connection: Connection, name: str) -> None:
+        self.connection = connection
+        self.name = name
+
+    def __enter__(self) -> Savepoint:
+        self.connection.execute(f"SAVEPOINT {self.name}")
+        return self
+
+    def __exit__(self, kind: type[BaseException] | None, error: BaseException | None, trace: TracebackType | None) -> Literal[False]:
+        engine = self.connection._engine
+        if kind is None:
+            self.connection.execute(f"RELEASE SAVEPOINT {self.name}")
+        elif engine.is_open() and engine.in_transaction():
+            engine.execute(f"ROLLBACK TO SAVEPOINT {self.name}", (), False)
+            engine.execute(f"RELEASE SAVEPOINT {self.name}", (), False)
+        return False
 
 
 def connect(
     database: str = ":memory:",
     *,
-    autocommit: Union[bool, int] = LEGACY_TRANSACTION_CONTROL,
+    autocommit: bool | int = LEGACY_TRANSACTION_CONTROL,
     depth: int = 16,
     changes: int = 65_536,
     accounts: bool = True,
@@ -210,6 +235,6 @@ def connect(
     """
     if database not in (":memory:", ""):
         raise errors.NotSupportedError("a database is in memory alone; leave the name out, or say ':memory:'")
-    session = Session(depth, changes)
-    session._engine.tell(TOLD if accounts else 0)  # pylint: disable=protected-access
-    return Connection(session, autocommit)
+    engine = Engine(depth, changes)
+    engine.tell(TOLD if accounts else 0)
+    return Connection(engine, autocommit)

@@ -1,13 +1,18 @@
 """The exceptions of the package, as PEP 249 has them.
 
 A refused statement is one of them, by the table of `causes`: IntegrityError, ProgrammingError, DataError or OperationalError. It
-says why in `str()`, and has the parts of it as attributes.
+says why in `str()`, and has the parts of it as attributes. They are read of the engine's lines when they are asked for.
 """
-from typing import Any, Dict, List, Optional, Tuple, Type
+from __future__ import annotations
 
-from .account import Account, Violation
 from .causes import CAUSES
-from .transcript import Refusal, parse_refusal
+
+TYPE_CHECKING = False
+if TYPE_CHECKING:
+    from typing import Any
+
+    from .account import Account, Violation
+    from .transcript import Refusal
 
 __all__ = [
     "Warning", "Error", "InterfaceError", "DatabaseError", "DataError", "OperationalError", "IntegrityError", "InternalError",
@@ -20,100 +25,88 @@ class Warning(Exception):  # pylint: disable=redefined-builtin
 
 
 class Error(Exception):
-    """The base of all errors of the package. What an error isn't about is None, or empty for `violations`."""
+    """The base of all errors of the package. What an error isn't about is None, and `violations` is empty."""
 
-    def __init__(self, *words: object) -> None:
-        super().__init__(*words)
-        self._told: Dict[str, Any] = {}
-        self._lines = ""
-        self._parsed: Optional[Tuple[Refusal, Account]] = None
+    #: The number of the cause of a refusal, 1 to 22.
+    cause: int | None = None
+    #: Which statement of a script, or which set of parameters of `executemany`, counted from 1.
+    statement: int | None = None
+    #: The line and the column of a fault of the text, from 1.
+    line: int | None = None
+    column: int | None = None
+    _row = 0
+    _lines = b""
+    _parsed: tuple[Refusal, Account] | None = None
 
     def __str__(self) -> str:
         place = f"statement {self.statement}: " if self.statement is not None else ""
         return place + (super().__str__() if self.cause is None else reason_of(self))
 
     def __reduce__(self) -> Any:
-        return rebuilt, (type(self), self.args, self._told, self._lines)
+        kept = {key: value for key, value in self.__dict__.items() if key != "_parsed"}
+        return rebuilt, (type(self), self.args, kept)
 
     @property
-    def cause(self) -> Optional[int]:
-        """The number of the cause of a refusal, 1 to 22."""
-        return self._told.get("cause")
-
-    @property
-    def cause_name(self) -> Optional[str]:
+    def cause_name(self) -> str | None:
         """The name of the cause, as `Violation`."""
-        return None if self.cause is None else CAUSES[self.cause].name
+        return None if self.cause is None else CAUSES[self.cause][0]
 
     @property
-    def constraint(self) -> Optional[str]:
+    def constraint(self) -> str | None:
         """The name of the constraint that refused the statement."""
         return self.refusal.constraint if self.refusal is not None else None
 
     @property
-    def row(self) -> Optional[int]:
+    def row(self) -> int | None:
         """The number of the row that the refusal speaks of."""
-        return self._told.get("row") or None
+        return self._row or None
 
     @property
-    def table(self) -> Optional[str]:
+    def table(self) -> str | None:
         """The table of that row."""
         return self.violations[0].table if self.violations else None
 
     @property
-    def trigger(self) -> Optional[str]:
+    def trigger(self) -> str | None:
         """The trigger that the cause speaks of, or else the innermost one that was running."""
         return (self.refusal.trigger or self.refusal.inside) if self.refusal is not None else None
 
     @property
-    def signal(self) -> Optional[str]:
+    def signal(self) -> str | None:
         """The text of a trigger's SIGNAL."""
         return self.refusal.signal if self.refusal is not None else None
 
     @property
-    def name(self) -> Optional[str]:
+    def name(self) -> str | None:
         """The name that a refusal for Unknown or Duplicate is about."""
         fault = self.account.name if self.account is not None else None
         return fault.name if fault is not None else None
 
     @property
-    def violations(self) -> List[Violation]:
+    def violations(self) -> list[Violation]:
         """The constraints and rows that the refusal is about: one of a statement, all that are pending of a COMMIT."""
         return self.account.violations if self.account is not None else []
 
     @property
-    def account(self) -> Optional[Account]:
+    def account(self) -> Account | None:
         """What happened in the refused statement, up to the refusal."""
         return self._parse()[1] if self._lines else None
 
     @property
-    def refusal(self) -> Optional[Refusal]:
+    def refusal(self) -> Refusal | None:
         """The parts of the line that the engine writes of the refusal."""
         return self._parse()[0] if self._lines else None
 
     @property
     def lines(self) -> str:
         """The lines of the refusal and of its account, as the program writes them; empty where nothing was refused."""
-        return self._lines
+        return self._lines.decode()
 
-    @property
-    def statement(self) -> Optional[int]:
-        """Which statement of a script, or which set of parameters of `executemany`, counted from 1."""
-        return self._told.get("statement")
-
-    @property
-    def line(self) -> Optional[int]:
-        """The line of a fault of the text, from 1."""
-        return self._told.get("line")
-
-    @property
-    def column(self) -> Optional[int]:
-        """The column of a fault of the text, from 1."""
-        return self._told.get("column")
-
-    def _parse(self) -> Tuple[Refusal, Account]:
+    def _parse(self) -> tuple[Refusal, Account]:
         if self._parsed is None:
-            self._parsed = parse_refusal(self._lines)
+            from .transcript import parse_refusal  # pylint: disable=import-outside-toplevel
+
+            self._parsed = parse_refusal(self.lines)
         return self._parsed
 
 
@@ -149,31 +142,31 @@ class NotSupportedError(DatabaseError):
     """The database has no such thing."""
 
 
-CLASSES: Dict[str, Type[DatabaseError]] = {each.__name__: each for each in (DataError, OperationalError, IntegrityError, ProgrammingError)}
+CLASSES: dict[str, type[DatabaseError]] = {each.__name__: each for each in (DataError, OperationalError, IntegrityError, ProgrammingError)}
+BY_CAUSE: dict[int, type[DatabaseError]] = {number: CLASSES[cause[1]] for number, cause in CAUSES.items()}
 
 
-def rebuilt(kind: Type[Error], words: Tuple[object, ...], told: Dict[str, Any], lines: str) -> Error:
+def rebuilt(kind: type[Error], words: tuple[object, ...], kept: dict[str, Any]) -> Error:
     """The error that was pickled."""
     error = kind(*words)
-    error._told, error._lines = told, lines
+    error.__dict__.update(kept)
     return error
 
 
-def refused(cause: int, row: int, lines: bytes, statement: Optional[int] = None) -> DatabaseError:
-    """The error of a refusal."""
+def refused(answer: tuple[Any, ...], statement: int | None = None) -> DatabaseError:
+    """The error of an answer of the engine: (3, cause, row, lines)."""
+    _, cause, row, lines = answer
     error = BY_CAUSE[cause]()
-    error._told = {"cause": cause, "row": row} if statement is None else {"cause": cause, "row": row, "statement": statement}
-    error._lines = lines.decode()
+    error.cause, error._row, error._lines = cause, row, lines
+    if statement is not None:
+        error.statement = statement
     return error
 
 
-BY_CAUSE: Dict[int, Type[DatabaseError]] = {number: CLASSES[cause.error] for number, cause in CAUSES.items()}
-
-
-def faulted(message: str, line: int, column: int, statement: Optional[int] = None) -> ProgrammingError:
+def faulted(message: str, line: int, column: int, statement: int | None = None) -> ProgrammingError:
     """The error of a text that is no statement."""
     error = ProgrammingError(f"no statement at line {line}, column {column}{message}")
-    error._told = {"line": line, "column": column, "statement": statement}
+    error.line, error.column, error.statement = line, column, statement
     return error
 
 
@@ -182,17 +175,13 @@ def faulted(message: str, line: int, column: int, statement: Optional[int] = Non
 
 def reason_of(error: Error) -> str:
     """The whole reason of a refusal."""
-    refusal, cause = error.refusal, CAUSES[error.cause or 22]
+    name, _, sentence = CAUSES[error.cause or 22]
+    refusal = error.refusal
     if refusal is None:
-        return f"{cause.name}: {cause.sentence}"
+        return f"{name}: {sentence}"
     inside = f", in trigger {refusal.inside}" if refusal.inside is not None else ""
-    return f"{cause.name}{about(refusal)}: {matter_of(error, refusal, cause.sentence)}{inside}"
-
-
-def about(refusal: Refusal) -> str:
-    """What refused it: a constraint or a trigger."""
-    name = refusal.constraint or refusal.trigger
-    return f" of {name}" if name is not None else ""
+    of = refusal.constraint or refusal.trigger
+    return f"{name}{f' of {of}' if of is not None else ''}: {matter_of(error, refusal, sentence)}{inside}"
 
 
 def matter_of(error: Error, refusal: Refusal, sentence: str) -> str:

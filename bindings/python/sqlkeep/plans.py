@@ -1,58 +1,39 @@
-"""What a statement is, by its first words."""
-import re
-from typing import Dict, List, NamedTuple
+"""What a statement asks of the caller, by its first words."""
+from __future__ import annotations
 
-from .text import Token, tokens
+__all__ = ["COMMIT", "DATA", "PLAIN", "WANTS_TRANSACTION", "plan_of", "plans"]
 
-__all__ = ["Plan", "plan_of", "select_list"]
-
-FIRST = re.compile(r"(?:[ \t\r\n]|--[^\n]*(?:\n|$))*([A-Za-z_]*)(?:(?:[ \t\r\n]|--[^\n]*(?:\n|$))+([A-Za-z_]*))?")
+# COMMIT is executed with its account asked for; SAVEPOINT and SET CONSTRAINTS want a transaction to be open; INSERT, UPDATE and
+# DELETE are data statements.
+PLAIN, DATA, COMMIT, WANTS_TRANSACTION = range(4)
+FIRST = {"INSERT": DATA, "UPDATE": DATA, "DELETE": DATA, "COMMIT": COMMIT, "SAVEPOINT": WANTS_TRANSACTION, "SET": WANTS_TRANSACTION}
+BLANKS = " \t\r\n"
 # As many plans are kept; then all are dropped.
-MOST_KEPT = 512
+MOST_KEPT = 1024
+
+plans: dict[str, int] = {}
 
 
-class Plan(NamedTuple):
-    """The first word of a statement, and what it asks of the caller."""
-
-    kind: str
-    # It inserts, updates or deletes rows.
-    is_data: bool
-    # It is COMMIT, which is executed with its account.
-    is_commit: bool
-    # It makes or drops a table, a constraint or a trigger.
-    is_schema: bool
-    # It wants a transaction to be open.
-    wants_transaction: bool
+def behind_comments(text: str) -> str:
+    """The text from its first word on."""
+    text = text.lstrip(BLANKS)
+    while text.startswith("--"):
+        text = text.partition("\n")[2].lstrip(BLANKS)
+    return text
 
 
-kept: Dict[str, Plan] = {}
+def first_word(text: str) -> str:
+    """The first word of a text, in upper case."""
+    rest = behind_comments(text)[:32].replace(";", " ").replace("-", " ").replace("(", " ").split(None, 1)
+    return rest[0].upper() if rest else ""
 
 
-def plan_of(text: str) -> Plan:
-    """The plan of a statement."""
-    plan = kept.get(text)
+def plan_of(text: str) -> int:
+    """The plan of a statement, kept for the next time."""
+    plan = plans.get(text)
     if plan is None:
-        found = FIRST.match(text)
-        first, second = (found[1].upper(), (found[2] or "").upper()) if found is not None else ("", "")
-        wants = first == "SAVEPOINT" or (first == "SET" and second == "CONSTRAINTS")
-        plan = Plan(first, first in ("INSERT", "UPDATE", "DELETE"), first == "COMMIT", first in ("CREATE", "ALTER", "DROP"), wants)
-        if len(kept) >= MOST_KEPT:
-            kept.clear()
-        kept[text] = plan
+        plan = FIRST.get(first_word(text), PLAIN)
+        if len(plans) >= MOST_KEPT:
+            plans.clear()
+        plans[text] = plan
     return plan
-
-
-def select_list(text: str) -> List[List[Token]]:
-    """The expressions of a SELECT and, as the last item, its table's name."""
-    items: List[List[Token]] = [[]]
-    depth = 0
-    found = iter(tokens(text)[1:])
-    for token in found:
-        depth += (token.word == "(") - (token.word == ")")
-        if depth == 0 and token.word == "FROM":
-            return [*items, [next(found, token)]]
-        if depth == 0 and token.word == ",":
-            items.append([])
-        else:
-            items[-1].append(token)
-    return [*items, []]

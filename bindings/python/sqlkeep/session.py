@@ -1,23 +1,26 @@
 """The native interface: a database in memory with its transaction, without the rules of the DB-API."""
-from dataclasses import dataclass
-from typing import Any, List, NamedTuple, Optional, Sequence, Tuple, Union
+from __future__ import annotations
 
-from . import errors
+from dataclasses import dataclass
+from typing import TYPE_CHECKING, Any, NamedTuple, Sequence
+
 from ._engine import Engine
 from .account import Account
-from .catalogue import Catalogue
-from .plans import plan_of, select_list
-from .text import Token, first_fault, place_of, statements
+from .answers import CHANGED, EMPTY, REFUSED, ROWS, columns_of, encoded, error_of, fault_in
+from .catalogue import Catalogue, catalogue_of
+from .causes import TOLD
+from .errors import DatabaseError, refused
+from .plans import COMMIT, plan_of
+from .text import statements
 from .transcript import Transcript, parse_transcript
 from .values import Value
 
-__all__ = ["Outcome", "Pending", "Run", "Session", "Work", "answer_error", "columns_of"]
+if TYPE_CHECKING:
+    from typing import Tuple
 
-DONE, CHANGED, ROWS, REFUSED, FAULT, COUNT, MANY, EMPTY = range(8)
-# Restrict, Violation, ActionConflict and Signal are executed once more, for their accounts.
-TOLD = 1 << 12 | 1 << 13 | 1 << 14 | 1 << 15
+    Row = Tuple[Value, ...]
 
-Row = Tuple[Value, ...]
+__all__ = ["Outcome", "Pending", "Run", "Session", "Work"]
 
 
 class Work(NamedTuple):
@@ -45,7 +48,7 @@ class Run:
     accepted: int
     refused: int
     memory_refused: int
-    fault: Optional[int]
+    fault: int | None
 
     def parsed(self) -> Transcript:
         """The transcript as dataclasses."""
@@ -55,11 +58,11 @@ class Run:
 class Outcome:
     """What a statement answered.
 
-    `count` is the number of rows that it changed, `rows` those of a query, with `columns`, and `error` the exception of one that
-    was refused. `account` tells what happened, where accounts are asked for, and always of a refusal for a row.
+    `count` is the number of rows that it changed, `rows` those of a query, with the names of their `columns`, and `error` the
+    exception of one that was refused. `lines` are those that the program writes, where accounts are asked for and of a refusal.
     """
 
-    def __init__(self, count: Optional[int], rows: Optional[List[Row]], columns: Sequence[str], error: Optional[errors.DatabaseError], lines: str) -> None:
+    def __init__(self, count: int | None = None, rows: list[Row] | None = None, columns: Sequence[str] = (), error: DatabaseError | None = None, lines: str = "") -> None:
         self.count = count
         self.rows = rows
         self.columns = tuple(columns)
@@ -67,16 +70,16 @@ class Outcome:
         self.lines = lines
 
     def __repr__(self) -> str:
-        return f"Outcome({self.lines.splitlines()[0] if self.lines else 'accepted'!r})"
+        return f"<Outcome {self.error or (f'{len(self.rows)} rows' if self.rows is not None else 'ok' if self.count is None else f'ok {self.count}')}>"
 
     @property
     def account(self) -> Account:
-        """What happened in the statement; empty where no account was asked for."""
+        """What happened in the statement: of a refusal for a row always, otherwise where accounts are asked for."""
         if self.error is not None:
             return self.error.account or Account()
         return parse_transcript(self.lines).answers[0].account if self.lines else Account()
 
-    def check(self) -> "Outcome":
+    def check(self) -> Outcome:
         """The outcome itself; where the statement was refused, its error is raised."""
         if self.error is not None:
             raise self.error
@@ -90,14 +93,14 @@ class Session:
     `explain` each outcome has its account.
     """
 
-    def __init__(self, depth: int = 16, changes: int = 65_536, explain: bool = False) -> None:
-        self._engine = Engine(depth, changes)
-        self._engine.tell(TOLD)
+    def __init__(self, depth: int = 16, changes: int = 65_536, explain: bool = False, *, engine: Engine | None = None) -> None:
+        self._engine = Engine(depth, changes) if engine is None else engine
+        if engine is None:
+            self._engine.tell(TOLD)
         self._explain = False
-        self._catalogue = Catalogue()
         self.explain = explain
 
-    def __enter__(self) -> "Session":
+    def __enter__(self) -> Session:
         return self
 
     def __exit__(self, *_: object) -> None:
@@ -124,40 +127,41 @@ class Session:
 
     @property
     def catalogue(self) -> Catalogue:
-        """The tables, constraints and triggers."""
-        return self._catalogue
+        """The tables, constraints and triggers that there are now."""
+        return catalogue_of(self._engine)
 
-    def run(self, script: Union[str, bytes]) -> Run:
+    def run(self, script: str | bytes) -> Run:
         """Runs a whole script in a database of its own, as the program does, and gives its transcript. The database of this
         session is neither read nor changed."""
-        lines, accepted, refused, memory_refused, fault = self._engine.run(script if isinstance(script, bytes) else encoded(script))
-        return Run(lines.decode(), accepted, refused, memory_refused, fault)
+        lines, accepted, refusals, memory_refused, fault = self._engine.run(script if isinstance(script, bytes) else encoded(script))
+        return Run(lines.decode(), accepted, refusals, memory_refused, fault)
 
     def execute(self, text: str, parameters: Sequence[Value] = ()) -> Outcome:
-        """Executes one statement, with values for each `?` in it. A refusal is an outcome and raises nothing; a text that is no
+        """Executes one statement, with a value for each `?` in it. A refusal is an outcome and raises nothing; a text that is no
         statement raises ProgrammingError."""
-        plan = plan_of(text)
-        answer = self._engine.execute(text, tuple(parameters) or None, plan.is_commit)
+        answer = self._engine.execute(text, tuple(parameters), plan_of(text) == COMMIT)
         return self._outcome(answer, text, len(parameters))
 
-    def script(self, text: str) -> List[Outcome]:
+    def script(self, text: str) -> list[Outcome]:
         """Executes the statements of a text until one is refused, and gives their outcomes. Where something of the text is no
         statement nothing is executed, and ProgrammingError is raised."""
-        outcomes: List[Outcome] = []
+        outcomes: list[Outcome] = []
         for part in self.parts(text):
-            if not outcomes or outcomes[-1].error is None:
-                outcomes.append(self.execute(part))
+            outcomes.append(self.execute(part))
+            if outcomes[-1].error is not None:
+                outcomes[-1].error.statement = len(outcomes)
+                break
         return outcomes
 
-    def parts(self, text: str) -> List[str]:
+    def parts(self, text: str) -> list[str]:
         """The statements of a text, each with its semicolon; the last may lack it. ProgrammingError where something is left that
         is no statement. Nothing is executed."""
         count, fault = self._engine.read(encoded(text))
         if fault is not None:
-            again, still = self._engine.read(encoded(text + "\n;"))
-            if still is not None:
-                raise fault_error(text, fault, count + 1)
-            count, text = again, text + "\n;"
+            whole, text = count, text + "\n;"
+            count, fault = self._engine.read(encoded(text))
+            if fault is not None:
+                raise fault_in(text[:-2], whole, whole + 1)
         return [text[start:end] for start, end in statements(text)[:count]]
 
     def commit(self) -> Outcome:
@@ -172,7 +176,7 @@ class Session:
         """ROLLBACK TO SAVEPOINT."""
         return self._outcome(self._engine.rollback_to(encoded(name.upper())), "ROLLBACK", 0)
 
-    def pending(self) -> List[Pending]:
+    def pending(self) -> list[Pending]:
         """What COMMIT would find: the violations of deferred constraints, by the constraint's creation, then by row."""
         return [Pending(*found) for found in self._engine.pending()]
 
@@ -180,75 +184,14 @@ class Session:
         """What the last statement did."""
         return Work(*self._engine.work())
 
-    def _outcome(self, answer: Tuple[Any, ...], text: str, given: int) -> Outcome:
+    def _outcome(self, answer: tuple[Any, ...], text: str, given: int) -> Outcome:
         kind = answer[0]
         if kind == REFUSED:
-            error = errors.refused(answer[1], answer[2], answer[3])
-            return Outcome(None, None, (), error, error.lines)
+            error = refused(answer)
+            return Outcome(error=error, lines=error.lines)
         if kind > REFUSED and kind != EMPTY:
-            raise answer_error(answer, text, given)
+            raise error_of(answer, text, given)
         lines = self._engine.lines(1).decode() if self._explain and kind != EMPTY else ""
-        if kind == DONE and plan_of(text).is_schema:
-            self._catalogue.note(text)
-        columns = [name for name, _ in columns_of(text, self._catalogue)] if kind == ROWS else []
-        return Outcome(answer[1] if kind == CHANGED else None, answer[1] if kind == ROWS else None, columns, None, lines)
-
-
-def encoded(text: str) -> bytes:
-    """The bytes of a text; ProgrammingError where UTF-8 can't hold it."""
-    try:
-        return text.encode()
-    except UnicodeEncodeError:
-        raise errors.ProgrammingError("the text has a surrogate, which UTF-8 can't hold") from None
-
-
-def answer_error(answer: Tuple[Any, ...], text: str, given: int, statement: Optional[int] = None) -> errors.DatabaseError:
-    """The error of an answer that isn't accepted."""
-    kind = answer[0]
-    if kind == REFUSED:
-        return errors.refused(answer[1], answer[2], answer[3], statement)
-    if kind == FAULT:
-        return fault_error(text, answer[1], statement)
-    if kind == COUNT:
-        holes = f"{answer[1]} placeholder{'' if answer[1] == 1 else 's'}"
-        return errors.ProgrammingError(f"the statement has {holes}, and {given} value{' is' if given == 1 else 's are'} given")
-    return errors.ProgrammingError("there are several statements; execute takes one, and executescript many")
-
-
-def fault_error(text: str, place: int, statement: Optional[int] = None) -> errors.ProgrammingError:
-    """The error of a text of which something is left, from this byte on, that is no statement. Where no token begins at some
-    later place, that is where the fault is."""
-    at, lexical = len(text.encode()[:place].decode("utf-8", "ignore")), first_fault(text)
-    if lexical is not None and lexical.start >= at:
-        found = place_of(text, lexical.start)
-        return errors.faulted(f": {lexical_fault(lexical)}: {found.words}", found.line, found.column, statement)
-    found = place_of(text, at)
-    return errors.faulted(f": {found.words}" if found.words else "", found.line, found.column, statement)
-
-
-def lexical_fault(token: Token) -> str:
-    if token.word == "'":
-        return "a text doesn't end"
-    if token.word == '"':
-        return "a text is written between single quotes"
-    return "a name or a number is too long" if len(token.word) > 1 else "no word begins so"
-
-
-def columns_of(text: str, catalogue: Catalogue) -> List[Tuple[str, Optional[str]]]:
-    """The columns of a SELECT, each with its type where it is known."""
-    items = select_list(text)
-    table = items.pop()
-    found = catalogue.columns_of(table[0].word) if table else ()
-    types = {column.name: column.type for column in found}
-    if len(items) == 1 and [token.word for token in items[0]] == ["*"]:
-        return [(column.name, column.type) for column in found]
-    return [column_named(text, item, types) for item in items]
-
-
-def column_named(text: str, item: List[Token], types: "dict[str, str]") -> Tuple[str, Optional[str]]:
-    """The name of an expression: that of its column, or its text. A name is in upper case."""
-    words = [token.word for token in item]
-    if len(words) in (1, 3) and item[-1].kind == "word" and words[1:2] in ([], ["."]):
-        return words[-1], types.get(words[-1])
-    is_integer = words[0] == "COUNT" or any(word in "+-*" for word in words if len(word) == 1)
-    return text[item[0].start : item[-1].end], "INTEGER" if is_integer else None
+        if kind == ROWS:
+            return Outcome(rows=answer[1], columns=[name for name, _ in columns_of(text, answer[2], self._engine)], lines=lines)
+        return Outcome(count=answer[1] if kind == CHANGED else None, lines=lines)

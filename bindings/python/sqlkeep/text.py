@@ -6,7 +6,7 @@ one is whole, and which columns a SELECT asks for.
 import re
 from typing import List, NamedTuple, Optional, Tuple
 
-__all__ = ["KEYWORDS", "Place", "Token", "first_fault", "is_name", "is_whole", "place_of", "statements", "tokens"]
+__all__ = ["KEYWORDS", "Place", "Token", "first_fault", "is_name", "is_whole", "lexical_fault", "place_of", "select_list", "statements", "tokens"]
 
 KEYWORDS = frozenset(
     """ACTION ADD AFTER ALL ALTER AND AS ATOMIC BEFORE BEGIN CASCADE CHAR CHARACTER CHECK COMMIT CONSTRAINT CONSTRAINTS
@@ -103,3 +103,28 @@ def place_of(text: str, at: int) -> Place:
     start = text.rfind("\n", 0, at) + 1
     words = re.match(r"[^\x00-\x08\x0a-\x1f\x7f]{0,60}", text[at:])
     return Place(text.count("\n", 0, at) + 1, at - start + 1, words[0].rstrip() if words is not None else "")
+
+
+def lexical_fault(token: Token) -> str:
+    """Why no token begins there."""
+    if token.word == "'":
+        return "a text doesn't end"
+    if token.word == '"':
+        return "a text is written between single quotes"
+    return "a name or a number is too long" if len(token.word) > 1 else "no word begins so"
+
+
+def select_list(text: str) -> List[List[Token]]:
+    """The expressions of a SELECT and, as the last item, its table's name."""
+    items: List[List[Token]] = [[]]
+    depth = 0
+    found = iter(tokens(text)[1:])
+    for token in found:
+        depth += (token.word == "(") - (token.word == ")")
+        if depth == 0 and token.word == "FROM":
+            return [*items, [next(found, token)]]
+        if depth == 0 and token.word == ",":
+            items.append([])
+        else:
+            items[-1].append(token)
+    return [*items, []]

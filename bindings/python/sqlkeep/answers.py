@@ -1,0 +1,76 @@
+"""What the engine answers to a statement, as errors and columns."""
+from __future__ import annotations
+
+from .errors import DatabaseError, ProgrammingError, faulted, refused
+
+TYPE_CHECKING = False
+if TYPE_CHECKING:
+    from typing import Any
+
+    from ._engine import Engine
+
+__all__ = ["CHANGED", "DONE", "EMPTY", "REFUSED", "ROWS", "columns_of", "encoded", "error_of", "fault_in"]
+
+DONE, CHANGED, ROWS, REFUSED, FAULT, COUNT, MANY, EMPTY = range(8)
+
+
+def encoded(text: str) -> bytes:
+    """The bytes of a text; ProgrammingError where UTF-8 can't hold it."""
+    try:
+        return text.encode()
+    except UnicodeEncodeError:
+        raise ProgrammingError("the text has a surrogate, which UTF-8 can't hold") from None
+
+
+def error_of(answer: tuple[Any, ...], text: str, given: int, statement: int | None = None) -> DatabaseError:
+    """The error of an answer that isn't accepted. `given` is the number of parameters."""
+    kind = answer[0]
+    if kind == REFUSED:
+        return refused(answer, statement)
+    if kind == FAULT:
+        return fault_in(text, answer[1], statement)
+    error = ProgrammingError(count_fault(text, given) if kind == COUNT else "there are several statements; execute takes one, and executescript many")
+    error.statement = statement
+    return error
+
+
+def count_fault(text: str, given: int) -> str:
+    from .text import tokens  # pylint: disable=import-outside-toplevel
+
+    holes = sum(token.word == "?" for token in tokens(text))
+    return f"the statement has {holes} placeholder{'' if holes == 1 else 's'}, and {given} value{' is' if given == 1 else 's are'} given"
+
+
+def fault_in(text: str, whole: int, statement: int | None = None) -> ProgrammingError:
+    """The error of a text of which something is left, behind so many whole statements, that is no statement. The place is where no
+    word begins, if there is such a place, and otherwise where the statement begins."""
+    from .text import lexical_fault, place_of, statements, tokens  # pylint: disable=import-outside-toplevel
+
+    ends = [end for _, end in statements(text)][:whole]
+    rest = [token for token in tokens(text) if not ends or token.start >= ends[-1]]
+    if not rest:
+        return faulted(": the text is empty or ends too early", *place_of(text, len(text))[:2], statement)
+    at, reason = (rest[-1].start, f" {lexical_fault(rest[-1])}:") if rest[-1].kind == "fault" else (rest[0].start, "")
+    place = place_of(text, at)
+    return faulted(f":{reason} {place.words}", place.line, place.column, statement)
+
+
+def columns_of(text: str, names: list[str], engine: Engine) -> list[tuple[str, str | None]]:
+    """The columns of a SELECT with the names that the engine gave, each with its type where it is known. An expression is called by
+    its text."""
+    from .text import select_list  # pylint: disable=import-outside-toplevel
+
+    items = select_list(text)
+    table = items.pop()
+    tables = {name: {column[0]: "INTEGER" if column[1] == 1 else "VARCHAR" for column in columns} for name, columns in engine.catalogue()[0]}
+    types = tables.get(table[0].word, {}) if table else {}
+    is_count = bool(items[0]) and items[0][0].word == "COUNT"
+    parts = [text[item[0].start : item[-1].end] if item else "" for item in items]
+    return [(name or parts[at], "INTEGER" if is_count else type_of(name, parts[at : at + 1], types)) for at, name in enumerate(names)]
+
+
+def type_of(name: str, part: list[str], types: dict[str, str]) -> str | None:
+    """The type of a column; that of an expression with an operator is an integer."""
+    if name:
+        return types.get(name)
+    return "INTEGER" if part and not part[0].startswith("'") and part[0] != "NULL" else None
