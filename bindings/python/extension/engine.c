@@ -108,6 +108,9 @@ int engine_ready(engine *self) {
                      self->thread, PyThread_get_thread_ident());
         return -1;
     }
+    if (self->untold != NULL) {
+        engine_tell(self);
+    }
     return 0;
 }
 
@@ -128,12 +131,17 @@ static PyObject *engine_new(PyTypeObject *type, PyObject *arguments, PyObject *k
     if (!PyArg_ParseTuple(arguments, "LL:Engine", &depth, &changes)) {
         return NULL;
     }
+    if (errors.by_cause == NULL) {
+        PyErr_SetString(PyExc_ImportError, "import sqlkeep, and not its engine alone");
+        return NULL;
+    }
     allocfunc allocate = (allocfunc)PyType_GetSlot(type, Py_tp_alloc);
     engine *self = (engine *)allocate(type, 0);
     if (self == NULL) {
         return NULL;
     }
     self->thread = PyThread_get_thread_ident();
+    self->accounts = true;
     close_left(self->thread);
     bool fits = depth >= 0 && depth <= UINT8_MAX && changes >= 0 && changes <= UINT32_MAX;
     uint32_t status = fits ? sqlkeep_open(&self->handle, (uint8_t)depth, (uint32_t)changes) : (uint32_t)SQLKEEP_LIMITS;
@@ -151,6 +159,7 @@ static void engine_dealloc(PyObject *object) {
     end_session(self);
     bytes_free(&self->text);
     Py_CLEAR(self->held);
+    Py_CLEAR(self->untold);
     release(object);
     Py_DECREF(type);
 }
@@ -379,13 +388,13 @@ static PyObject *engine_explain(engine *self, PyObject *arguments) {
     return done_or_failed(sqlkeep_explain(&self->handle, self->explains));
 }
 
-/* tell(bits): which causes are executed once more for their accounts. */
-static PyObject *engine_tell(engine *self, PyObject *arguments) {
-    unsigned long told;
-    if (!PyArg_ParseTuple(arguments, "k:tell", &told) || engine_ready(self) != 0) {
+/* account(is_wanted): whether a statement that is refused for a row is executed once more for its account. */
+static PyObject *engine_account(engine *self, PyObject *arguments) {
+    int is_wanted;
+    if (!PyArg_ParseTuple(arguments, "p:account", &is_wanted) || engine_ready(self) != 0) {
         return NULL;
     }
-    self->told = told;
+    self->accounts = is_wanted != 0;
     return nothing();
 }
 
@@ -410,7 +419,7 @@ static PyMethodDef methods[] = {
     {"catalogue", (PyCFunction)engine_catalogue, METH_NOARGS, NULL},
     {"progress", (PyCFunction)engine_progress, METH_NOARGS, NULL},
     {"explain", (PyCFunction)engine_explain, METH_VARARGS, NULL},
-    {"tell", (PyCFunction)engine_tell, METH_VARARGS, NULL},
+    {"account", (PyCFunction)engine_account, METH_VARARGS, NULL},
     {NULL, NULL, 0, NULL},
 };
 
@@ -424,16 +433,17 @@ static PyType_Slot slots[] = {
 
 static PyType_Spec spec = {"sqlkeep._engine.Engine", sizeof(engine), 0, Py_TPFLAGS_DEFAULT, slots};
 
-/* set_errors(programming, data, operational): the classes of the exceptions that are raised here. */
+/* set_errors(programming, data, operational, by_cause): the classes of the exceptions. This thread is the main one. */
 static PyObject *set_errors(PyObject *module, PyObject *arguments) {
-    error_classes given;
+    error_classes given = {NULL, NULL, NULL, NULL, PyThread_get_thread_ident()};
     (void)module;
-    if (!PyArg_ParseTuple(arguments, "OOO:set_errors", &given.programming, &given.data, &given.operational)) {
+    if (!PyArg_ParseTuple(arguments, "OOOO!:set_errors", &given.programming, &given.data, &given.operational, &PyTuple_Type, &given.by_cause)) {
         return NULL;
     }
     Py_INCREF(given.programming);
     Py_INCREF(given.data);
     Py_INCREF(given.operational);
+    Py_INCREF(given.by_cause);
     errors = given;
     return nothing();
 }
@@ -450,8 +460,6 @@ static struct PyModuleDef definition = {
 PyMODINIT_FUNC PyInit__engine(void) {
     PyObject *module = PyModule_Create(&definition);
     PyObject *type = module == NULL ? NULL : PyType_FromSpec(&spec);
-    error_classes first = {PyExc_RuntimeError, PyExc_RuntimeError, PyExc_RuntimeError};
-    errors = first;
     if (type == NULL || PyModule_AddObject(module, "Engine", type) != 0) {
         Py_XDECREF(type);
         Py_XDECREF(module);

@@ -14,8 +14,12 @@ typedef struct engine {
     unsigned long thread;
     /* Whether accounts are asked for by the caller. */
     bool explains;
-    /* Which causes are executed once more to be told: bit n is cause n. */
-    unsigned long told;
+    /* Whether a statement that is refused for a row is executed once more for its account. */
+    bool accounts;
+    /* A weak reference to the error of the last refusal, where it is still to be told; the refusal, and the place of its statement. */
+    PyObject *untold;
+    sqlkeep_outcome refused;
+    size_t refused_place;
     /* What the last statement did, where it was executed once more after that. */
     bool has_work;
     sqlkeep_done work;
@@ -33,7 +37,10 @@ int engine_ready(engine *self);
 /* The lines of the last outcome as bytes, with this number. NULL with an exception where memory is refused. */
 PyObject *engine_lines(engine *self, uint64_t number);
 
-/* The answer to an outcome: (kind, count), (kind, rows, names) or (kind, cause, row, lines). */
+/* Tells the error of the last refusal, if it is still there. */
+void engine_tell(engine *self);
+
+/* The answer to an outcome: (kind, count) or (kind, rows, names). NULL with the error of a refusal, or another exception. */
 PyObject *engine_answer(engine *self, size_t place, const sqlkeep_outcome *outcome, bool is_told);
 
 /* Methods of statements. */

@@ -12,9 +12,11 @@
 #include <stdint.h>
 #include "sqlkeep.h"
 
-/* The classes of exceptions that Python gave. */
+/* The classes of exceptions that Python gave: three that are raised here, and a tuple with that of each cause. */
 typedef struct error_classes {
-    PyObject *programming, *data, *operational;
+    PyObject *programming, *data, *operational, *by_cause;
+    /* The thread that gave them. */
+    unsigned long main_thread;
 } error_classes;
 
 extern error_classes errors;

@@ -1,16 +1,17 @@
 /* Statements: a text is read with its values and executed, and its outcome is told.
 
-   A statement that is refused for a row is executed once more with its account asked for, since an account costs time that
-   those that are accepted needn't pay. That is sound: a refusal leaves everything as it was, row numbers too, but for a COMMIT,
-   and a statement answers by what there is alone. So the second run is refused as the first. Causes 19, where COMMIT has rolled
-   back, and 22, where memory was refused, are never executed again: COMMIT is executed with its account asked for at once. */
+   An account of a statement costs time that those that are accepted needn't pay. So a statement is executed without one, and a
+   refused one is executed once more with it, when its error is asked for the reason, or else before the next call for the session
+   if the error is still there. That is sound: a refusal leaves everything as it was, row numbers too, and a statement answers by what there is alone,
+   so the second run is refused as the first. Two causes are never executed again: 19, where COMMIT has rolled back, so COMMIT is
+   executed with its account asked for at once; and 22, where memory was refused. */
 #include "engine.h"
 
 #include <string.h>
 
-/* Unknown and Duplicate: their names are told without a second run. */
-#define NAMES ((1UL << SQLKEEP_CAUSE_UNKNOWN) | (1UL << SQLKEEP_CAUSE_DUPLICATE))
-#define NEVER_AGAIN ((1UL << SQLKEEP_CAUSE_COMMIT_REFUSED) | (1UL << SQLKEEP_CAUSE_OUT_OF_MEMORY))
+/* Restrict, Violation, ActionConflict and Signal: their accounts tell the rows. */
+#define TOLD_BY_ACCOUNT \
+    ((1UL << SQLKEEP_CAUSE_RESTRICT) | (1UL << SQLKEEP_CAUSE_VIOLATION) | (1UL << SQLKEEP_CAUSE_ACTION_CONFLICT) | (1UL << SQLKEEP_CAUSE_SIGNAL))
 
 /* How many statements are read at once for `executemany`, and how long their text may get. */
 enum { MOST_AT_ONCE = 64, LONGEST_AT_ONCE = 65536 };
@@ -41,20 +42,65 @@ static void run_again(engine *self, size_t place, const sqlkeep_outcome *first) 
     }
 }
 
-static PyObject *refusal(engine *self, size_t place, const sqlkeep_outcome *outcome, bool is_told) {
-    unsigned long cause = 1UL << outcome->cause;
-    if (!is_told && !self->explains && (self->told & cause & ~NEVER_AGAIN & ~NAMES) != 0) {
-        run_again(self, place, outcome);
-    } else if ((cause & NAMES) != 0) {
-        sqlkeep_explain(&self->handle, 1);
-    }
+/* Puts the lines of the last outcome into the error. Where memory is refused for them, it has none. */
+static void put_lines(engine *self, PyObject *error) {
     PyObject *lines = engine_lines(self, 1);
-    sqlkeep_explain(&self->handle, self->explains);
-    if (lines == NULL) {
+    if (lines == NULL || PyObject_SetAttrString(error, "_lines", lines) != 0 || PyObject_SetAttrString(error, "_engine", Py_None) != 0) {
         PyErr_Clear();
-        lines = PyBytes_FromStringAndSize("", 0);
     }
-    return lines == NULL ? NULL : Py_BuildValue("IIKN", outcome->kind, outcome->cause, (unsigned long long)outcome->row, lines);
+    Py_XDECREF(lines);
+}
+
+void engine_tell(engine *self) {
+    PyObject *reference = self->untold;
+    self->untold = NULL;
+    PyObject *error = PyWeakref_GetObject(reference);
+    if (error != NULL && error != Py_None) {
+        Py_INCREF(error);
+        bool is_again = self->accounts && (TOLD_BY_ACCOUNT & (1UL << self->refused.cause)) != 0;
+        if (is_again) {
+            run_again(self, self->refused_place, &self->refused);
+        } else {
+            sqlkeep_explain(&self->handle, 1);
+        }
+        put_lines(self, error);
+        sqlkeep_explain(&self->handle, self->explains);
+        Py_DECREF(error);
+    }
+    Py_DECREF(reference);
+}
+
+/* Notes that the error of the last outcome is still to be told. */
+static int tell_later(engine *self, PyObject *error, size_t place, const sqlkeep_outcome *outcome) {
+    self->untold = PyWeakref_NewRef(error, NULL);
+    self->refused = *outcome;
+    self->refused_place = place;
+    return self->untold == NULL ? -1 : PyObject_SetAttrString(error, "_engine", (PyObject *)self);
+}
+
+/* Raises the error of a refusal; NULL. It is told later, where that can be: an error of another thread than the main one may be
+   read on yet another, where the session can't be asked. */
+static PyObject *refusal(engine *self, size_t place, const sqlkeep_outcome *outcome, bool is_told) {
+    PyObject *error = PyObject_CallObject(PyTuple_GetItem(errors.by_cause, (Py_ssize_t)outcome->cause), NULL);
+    PyObject *cause = error == NULL ? NULL : PyLong_FromUnsignedLong(outcome->cause);
+    PyObject *row = cause == NULL ? NULL : PyLong_FromUnsignedLongLong(outcome->row);
+    bool is_made = row != NULL && PyObject_SetAttrString(error, "cause", cause) == 0 && PyObject_SetAttrString(error, "_row", row) == 0;
+    Py_XDECREF(cause);
+    Py_XDECREF(row);
+    bool is_last = outcome->cause == SQLKEEP_CAUSE_COMMIT_REFUSED || outcome->cause == SQLKEEP_CAUSE_OUT_OF_MEMORY;
+    if (is_made && (is_told || is_last || self->explains)) {
+        put_lines(self, error);
+    } else if (is_made) {
+        is_made = tell_later(self, error, place, outcome) == 0;
+        if (is_made && self->thread != errors.main_thread) {
+            engine_tell(self);
+        }
+    }
+    if (is_made) {
+        PyErr_SetObject((PyObject *)Py_TYPE(error), error);
+    }
+    Py_XDECREF(error);
+    return NULL;
 }
 
 static PyObject *query(engine *self, const sqlkeep_outcome *outcome) {
@@ -202,10 +248,9 @@ static PyObject *encoded(PyObject *text, template *given) {
     return held;
 }
 
-/* Keeps a text whose statement was read without values, so that it needn't be read again. */
+/* Keeps a text whose statement was read without values and accepted, so that it needn't be read again. */
 static void hold(engine *self, PyObject *text, PyObject *answer) {
-    unsigned long kind = PyLong_AsUnsignedLong(PyTuple_GetItem(answer, 0));
-    if (kind <= SQLKEEP_REFUSED) {
+    if (PyLong_AsUnsignedLong(PyTuple_GetItem(answer, 0)) < SQLKEEP_REFUSED) {
         Py_INCREF(text);
         self->held = text;
     }

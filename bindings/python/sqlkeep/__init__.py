@@ -17,7 +17,7 @@ from ._engine import set_errors
 from .connection import LEGACY_TRANSACTION_CONTROL, Connection, connect
 from .cursor import Cursor
 from .errors import (
-    DatabaseError, DataError, Error, IntegrityError, InterfaceError, InternalError, NotSupportedError, OperationalError, ProgrammingError, Warning,
+    BY_CAUSE, DatabaseError, DataError, Error, IntegrityError, InterfaceError, InternalError, NotSupportedError, OperationalError, ProgrammingError, Warning,
 )
 
 TYPE_CHECKING = False
@@ -30,7 +30,7 @@ if TYPE_CHECKING:
         BINARY, DATETIME, NUMBER, ROWID, STRING, Binary, Date, DateFromTicks, Time, TimeFromTicks, Timestamp, TimestampFromTicks,
     )
 
-set_errors(ProgrammingError, DataError, OperationalError)
+set_errors(ProgrammingError, DataError, OperationalError, BY_CAUSE)
 
 #: The version of the DB-API.
 apilevel = "2.0"

@@ -1,7 +1,7 @@
 """What the engine answers to a statement, as errors and columns."""
 from __future__ import annotations
 
-from .errors import DatabaseError, ProgrammingError, faulted, refused
+from .errors import ProgrammingError, faulted
 
 TYPE_CHECKING = False
 if TYPE_CHECKING:
@@ -9,9 +9,10 @@ if TYPE_CHECKING:
 
     from ._engine import Engine
 
-__all__ = ["CHANGED", "DONE", "EMPTY", "REFUSED", "ROWS", "columns_of", "encoded", "error_of", "fault_in"]
+__all__ = ["CHANGED", "DONE", "EMPTY", "ROWS", "columns_of", "encoded", "error_of", "fault_in"]
 
-DONE, CHANGED, ROWS, REFUSED, FAULT, COUNT, MANY, EMPTY = range(8)
+# What the engine answers: kinds of an outcome, and why nothing was executed. It raises the error of a refusal.
+DONE, CHANGED, ROWS, _, FAULT, COUNT, MANY, EMPTY = range(8)
 
 
 def encoded(text: str) -> bytes:
@@ -22,11 +23,9 @@ def encoded(text: str) -> bytes:
         raise ProgrammingError("the text has a surrogate, which UTF-8 can't hold") from None
 
 
-def error_of(answer: tuple[Any, ...], text: str, given: int, statement: int | None = None) -> DatabaseError:
-    """The error of an answer that isn't accepted. `given` is the number of parameters."""
+def error_of(answer: tuple[Any, ...], text: str, given: int, statement: int | None = None) -> ProgrammingError:
+    """The error of a text that wasn't executed. `given` is the number of parameters."""
     kind = answer[0]
-    if kind == REFUSED:
-        return refused(answer, statement)
     if kind == FAULT:
         return fault_in(text, answer[1], statement)
     error = ProgrammingError(count_fault(text, given) if kind == COUNT else "there are several statements; execute takes one, and executescript many")

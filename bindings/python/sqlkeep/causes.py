@@ -1,7 +1,7 @@
 """The 22 causes of a refusal: their names, the class of the exception, and what they say where no account tells more."""
 from __future__ import annotations
 
-__all__ = ["CAUSES", "TOLD"]
+__all__ = ["CAUSES"]
 
 CAUSES: dict[int, tuple[str, str, str]] = {
     1: ("Unknown", "ProgrammingError", "a name names nothing"),
@@ -27,6 +27,3 @@ CAUSES: dict[int, tuple[str, str, str]] = {
     21: ("Limit", "OperationalError", "there are more tables, columns, constraints or other things than there may be"),
     22: ("OutOfMemory", "OperationalError", "memory was refused; nothing was changed"),
 }
-
-# Restrict, Violation, ActionConflict and Signal are executed once more, for their accounts.
-TOLD = 1 << 12 | 1 << 13 | 1 << 14 | 1 << 15

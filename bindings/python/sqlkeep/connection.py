@@ -3,8 +3,7 @@ from __future__ import annotations
 
 from . import errors
 from ._engine import Engine
-from .answers import CHANGED, DONE, REFUSED, error_of
-from .causes import TOLD
+from .answers import CHANGED, DONE, error_of
 from .cursor import Cursor, values_of
 from .plans import COMMIT, WANTS_TRANSACTION, plan_of
 
@@ -112,9 +111,11 @@ class Connection:
         if self._autocommit == LEGACY_TRANSACTION_CONTROL and self.in_transaction:
             self.commit()
         for number, part in enumerate(parts, 1):
-            answer = self._answer_in_mode(part, (), plan_of(part))
-            if answer[0] == REFUSED:
-                raise error_of(answer, part, 0, number)
+            try:
+                self._answer_in_mode(part, (), plan_of(part))
+            except errors.DatabaseError as error:
+                error.statement = number
+                raise
         return Cursor(self)
 
     def commit(self) -> None:
@@ -122,7 +123,7 @@ class Connection:
         happens where none is open, or where `autocommit` is True."""
         self._engine.check()
         if self._autocommit is not True:
-            self._commit()
+            self._engine.commit()
 
     def rollback(self) -> None:
         """Takes the transaction back. Nothing happens where none is open, or where `autocommit` is True."""
@@ -160,7 +161,7 @@ class Connection:
             was_open = self._engine.in_transaction()
             changed += self._answer_list(text, [values_of(each)], number)
             if self._autocommit is True and not was_open:
-                self._commit(number + 1)
+                self._engine.commit()
         return changed
 
     def _answer_list(self, text: str, values: list[Any], before: int) -> int:
@@ -178,24 +179,19 @@ class Connection:
         was_open = self._autocommit is not True or self._engine.in_transaction()
         answer = self._engine.execute(text, values, plan == COMMIT)
         if answer[0] == CHANGED and not was_open:
-            self._commit()
+            self._engine.commit()
         return answer
 
     def _answer_in_new(self, text: str, values: tuple[Value, ...]) -> tuple[Any, ...]:
         """Begins a transaction for a SAVEPOINT or a SET CONSTRAINTS. Where that isn't accepted, none was begun."""
         self._engine.execute("START TRANSACTION", (), False)
-        answer: tuple[Any, ...] = (REFUSED,)
+        answer: tuple[Any, ...] = (None,)
         try:
             answer = self._engine.execute(text, values, False)
         finally:
             if answer[0] != DONE:
                 self._engine.rollback()
         return answer
-
-    def _commit(self, statement: int | None = None) -> None:
-        answer = self._engine.commit()
-        if answer[0] == REFUSED:
-            raise error_of(answer, "COMMIT", 0, statement)
 
 
 class Savepoint:
@@ -214,8 +210,12 @@ class Savepoint:
         if kind is None:
             self.connection.execute(f"RELEASE SAVEPOINT {self.name}")
         elif engine.is_open() and engine.in_transaction():
-            engine.execute(f"ROLLBACK TO SAVEPOINT {self.name}", (), False)
-            engine.execute(f"RELEASE SAVEPOINT {self.name}", (), False)
+            try:
+                engine.execute(f"ROLLBACK TO SAVEPOINT {self.name}", (), False)
+                engine.execute(f"RELEASE SAVEPOINT {self.name}", (), False)
+            except errors.ProgrammingError:
+                # The transaction of the savepoint has ended, and another is open.
+                pass
         return False
 
 
@@ -236,5 +236,5 @@ def connect(
     if database not in (":memory:", ""):
         raise errors.NotSupportedError("a database is in memory alone; leave the name out, or say ':memory:'")
     engine = Engine(depth, changes)
-    engine.tell(TOLD if accounts else 0)
+    engine.account(accounts)
     return Connection(engine, autocommit)

@@ -20,18 +20,19 @@ __all__ = ["Cursor"]
 class Cursor:
     """A cursor: it executes statements, and holds the rows of the last query. Cursors of a connection share its transaction."""
 
+    #: How many rows `fetchmany` gives.
+    arraysize = 1
+    #: How many rows the last statement changed, or a query gave; -1 where it did neither.
+    rowcount = -1
+    _closed = False
+    _rows: Iterator[Row] | None = None
+    _text = ""
+    _names: list[str] = []
+    _columns: list[tuple[str, str | None]] | None = None
+
     def __init__(self, connection: Connection) -> None:
         self._connection = connection
         self._engine = connection._engine
-        self._closed = False
-        self._rows: Iterator[Row] | None = None
-        self._text = ""
-        self._names: list[str] = []
-        self._columns: list[tuple[str, str | None]] | None = None
-        #: How many rows `fetchmany` gives.
-        self.arraysize = 1
-        #: How many rows the last statement changed, or a query gave; -1 where it did neither.
-        self.rowcount = -1
 
     def __enter__(self) -> Cursor:
         return self
@@ -67,7 +68,8 @@ class Cursor:
         """Executes one statement, with a value for each `?`, and gives the cursor itself. The semicolon may be left out."""
         if self._closed:
             raise ProgrammingError("the cursor is closed")
-        self._rows, self.rowcount = None, -1
+        if self._rows is not None or self.rowcount >= 0:
+            self._rows, self.rowcount = None, -1
         if not isinstance(operation, str):
             raise ProgrammingError(f"a statement is a str, and not of type {type(operation).__name__}")
         values = parameters if type(parameters) is tuple else values_of(parameters)

@@ -11,6 +11,7 @@ TYPE_CHECKING = False
 if TYPE_CHECKING:
     from typing import Any
 
+    from ._engine import Engine
     from .account import Account, Violation
     from .transcript import Refusal
 
@@ -36,6 +37,8 @@ class Error(Exception):
     column: int | None = None
     _row = 0
     _lines = b""
+    # The session that is to tell the lines; None where they were told.
+    _engine: Engine | None = None
     _parsed: tuple[Refusal, Account] | None = None
 
     def __str__(self) -> str:
@@ -43,7 +46,8 @@ class Error(Exception):
         return place + (super().__str__() if self.cause is None else reason_of(self))
 
     def __reduce__(self) -> Any:
-        kept = {key: value for key, value in self.__dict__.items() if key != "_parsed"}
+        self._tell()
+        kept = {key: value for key, value in self.__dict__.items() if key not in ("_parsed", "_engine")}
         return rebuilt, (type(self), self.args, kept)
 
     @property
@@ -90,23 +94,32 @@ class Error(Exception):
     @property
     def account(self) -> Account | None:
         """What happened in the refused statement, up to the refusal."""
-        return self._parse()[1] if self._lines else None
+        return self._parse()[1] if self._tell() else None
 
     @property
     def refusal(self) -> Refusal | None:
         """The parts of the line that the engine writes of the refusal."""
-        return self._parse()[0] if self._lines else None
+        return self._parse()[0] if self._tell() else None
 
     @property
     def lines(self) -> str:
         """The lines of the refusal and of its account, as the program writes them; empty where nothing was refused."""
-        return self._lines.decode()
+        return self._tell().decode()
+
+    def _tell(self) -> bytes:
+        """The lines, which the session tells where it hasn't yet. Another thread than its own can't ask it."""
+        if self._engine is not None:
+            try:
+                self._engine.check()
+            except ProgrammingError:
+                pass
+        return self._lines
 
     def _parse(self) -> tuple[Refusal, Account]:
         if self._parsed is None:
             from .transcript import parse_refusal  # pylint: disable=import-outside-toplevel
 
-            self._parsed = parse_refusal(self.lines)
+            self._parsed = parse_refusal(self._lines.decode())
         return self._parsed
 
 
@@ -143,23 +156,14 @@ class NotSupportedError(DatabaseError):
 
 
 CLASSES: dict[str, type[DatabaseError]] = {each.__name__: each for each in (DataError, OperationalError, IntegrityError, ProgrammingError)}
-BY_CAUSE: dict[int, type[DatabaseError]] = {number: CLASSES[cause[1]] for number, cause in CAUSES.items()}
+# By the number of the cause; none has number 0.
+BY_CAUSE: tuple[type[DatabaseError], ...] = (DatabaseError, *(CLASSES[CAUSES[number][1]] for number in sorted(CAUSES)))
 
 
 def rebuilt(kind: type[Error], words: tuple[object, ...], kept: dict[str, Any]) -> Error:
     """The error that was pickled."""
     error = kind(*words)
     error.__dict__.update(kept)
-    return error
-
-
-def refused(answer: tuple[Any, ...], statement: int | None = None) -> DatabaseError:
-    """The error of an answer of the engine: (3, cause, row, lines)."""
-    _, cause, row, lines = answer
-    error = BY_CAUSE[cause]()
-    error.cause, error._row, error._lines = cause, row, lines
-    if statement is not None:
-        error.statement = statement
     return error
 
 

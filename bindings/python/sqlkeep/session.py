@@ -6,10 +6,9 @@ from typing import TYPE_CHECKING, Any, NamedTuple, Sequence
 
 from ._engine import Engine
 from .account import Account
-from .answers import CHANGED, EMPTY, REFUSED, ROWS, columns_of, encoded, error_of, fault_in
+from .answers import CHANGED, DONE, EMPTY, ROWS, columns_of, encoded, error_of, fault_in
 from .catalogue import Catalogue, catalogue_of
-from .causes import TOLD
-from .errors import DatabaseError, refused
+from .errors import DatabaseError
 from .plans import COMMIT, plan_of
 from .text import statements
 from .transcript import Transcript, parse_transcript
@@ -59,7 +58,7 @@ class Outcome:
     """What a statement answered.
 
     `count` is the number of rows that it changed, `rows` those of a query, with the names of their `columns`, and `error` the
-    exception of one that was refused. `lines` are those that the program writes, where accounts are asked for and of a refusal.
+    exception of one that was refused.
     """
 
     def __init__(self, count: int | None = None, rows: list[Row] | None = None, columns: Sequence[str] = (), error: DatabaseError | None = None, lines: str = "") -> None:
@@ -67,17 +66,22 @@ class Outcome:
         self.rows = rows
         self.columns = tuple(columns)
         self.error = error
-        self.lines = lines
+        self._lines = lines
 
     def __repr__(self) -> str:
         return f"<Outcome {self.error or (f'{len(self.rows)} rows' if self.rows is not None else 'ok' if self.count is None else f'ok {self.count}')}>"
+
+    @property
+    def lines(self) -> str:
+        """The lines that the program writes: of a refusal always, otherwise where accounts are asked for."""
+        return self._lines if self.error is None else self.error.lines
 
     @property
     def account(self) -> Account:
         """What happened in the statement: of a refusal for a row always, otherwise where accounts are asked for."""
         if self.error is not None:
             return self.error.account or Account()
-        return parse_transcript(self.lines).answers[0].account if self.lines else Account()
+        return parse_transcript(self._lines).answers[0].account if self._lines else Account()
 
     def check(self) -> Outcome:
         """The outcome itself; where the statement was refused, its error is raised."""
@@ -95,8 +99,6 @@ class Session:
 
     def __init__(self, depth: int = 16, changes: int = 65_536, explain: bool = False, *, engine: Engine | None = None) -> None:
         self._engine = Engine(depth, changes) if engine is None else engine
-        if engine is None:
-            self._engine.tell(TOLD)
         self._explain = False
         self.explain = explain
 
@@ -139,7 +141,10 @@ class Session:
     def execute(self, text: str, parameters: Sequence[Value] = ()) -> Outcome:
         """Executes one statement, with a value for each `?` in it. A refusal is an outcome and raises nothing; a text that is no
         statement raises ProgrammingError."""
-        answer = self._engine.execute(text, tuple(parameters), plan_of(text) == COMMIT)
+        try:
+            answer = self._engine.execute(text, tuple(parameters), plan_of(text) == COMMIT)
+        except DatabaseError as error:
+            return refused(error)
         return self._outcome(answer, text, len(parameters))
 
     def script(self, text: str) -> list[Outcome]:
@@ -166,7 +171,10 @@ class Session:
 
     def commit(self) -> Outcome:
         """COMMIT. Where it is refused, the transaction is rolled back."""
-        return self._outcome(self._engine.commit(), "COMMIT", 0)
+        try:
+            return self._outcome(self._engine.commit(), "COMMIT", 0)
+        except DatabaseError as error:
+            return refused(error)
 
     def rollback(self) -> None:
         """ROLLBACK."""
@@ -174,7 +182,10 @@ class Session:
 
     def rollback_to(self, name: str) -> Outcome:
         """ROLLBACK TO SAVEPOINT."""
-        return self._outcome(self._engine.rollback_to(encoded(name.upper())), "ROLLBACK", 0)
+        try:
+            return self._outcome(self._engine.rollback_to(encoded(name.upper())), "ROLLBACK", 0)
+        except DatabaseError as error:
+            return refused(error)
 
     def pending(self) -> list[Pending]:
         """What COMMIT would find: the violations of deferred constraints, by the constraint's creation, then by row."""
@@ -186,12 +197,16 @@ class Session:
 
     def _outcome(self, answer: tuple[Any, ...], text: str, given: int) -> Outcome:
         kind = answer[0]
-        if kind == REFUSED:
-            error = refused(answer)
-            return Outcome(error=error, lines=error.lines)
-        if kind > REFUSED and kind != EMPTY:
+        if kind not in (DONE, CHANGED, ROWS, EMPTY):
             raise error_of(answer, text, given)
         lines = self._engine.lines(1).decode() if self._explain and kind != EMPTY else ""
         if kind == ROWS:
             return Outcome(rows=answer[1], columns=[name for name, _ in columns_of(text, answer[2], self._engine)], lines=lines)
         return Outcome(count=answer[1] if kind == CHANGED else None, lines=lines)
+
+
+def refused(error: DatabaseError) -> Outcome:
+    """The outcome of a refusal; an error that is about something else is raised again."""
+    if error.cause is None:
+        raise error
+    return Outcome(error=error.with_traceback(None))
