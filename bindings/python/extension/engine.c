@@ -325,12 +325,14 @@ static PyObject *engine_in_transaction(engine *self, PyObject *unused) {
 }
 
 static PyObject *engine_work(engine *self, PyObject *unused) {
-    sqlkeep_done work = self->work;
+    sqlkeep_done work = {0, 0, 0};
     (void)unused;
     if (engine_ready(self) != 0) {
         return NULL;
     }
-    uint32_t status = self->has_work ? (uint32_t)SQLKEEP_OK : sqlkeep_work(&self->handle, &work);
+    uint32_t status = sqlkeep_work(&self->handle, &work);
+    /* That of a statement that was executed once more is the one of the first time. */
+    work = self->has_work ? self->work : work;
     if (status != SQLKEEP_OK) {
         return failed(status);
     }

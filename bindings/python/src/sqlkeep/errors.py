@@ -182,7 +182,7 @@ def reason_of(error: Error) -> str:
     name, _, sentence = CAUSES[error.cause or 22]
     refusal = error.refusal
     if refusal is None:
-        return f"{name}: {sentence}"
+        return f"{name}: {f'row {error.row}: ' if error.row is not None else ''}{sentence}"
     inside = f", in trigger {refusal.inside}" if refusal.inside is not None else ""
     of = refusal.constraint or refusal.trigger
     return f"{name}{f' of {of}' if of is not None else ''}: {matter_of(error, refusal, sentence)}{inside}"
