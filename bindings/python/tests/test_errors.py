@@ -159,18 +159,32 @@ class Faults(unittest.TestCase):
         connection = sqlkeep.connect()
         connection.execute("CREATE TABLE t (a INT)")
         for text, line, column, wanted in [
-            ("SELEKT * FROM t", 1, 1, "no statement at line 1, column 1: SELEKT * FROM t"),
-            ("\n\n  SELECT a b c FROM t", 3, 3, "no statement at line 3, column 3: SELECT a b c FROM t"),
-            ("SELECT * FROM t WHERE a = \"x\"", 1, 27, "no statement at line 1, column 27: a text is written between single quotes: \"x\""),
-            ("SELECT * FROM t\nWHERE a = 'x", 2, 11, "no statement at line 2, column 11: a text doesn't end: 'x"),
-            ("SELECT a / 2 FROM t", 1, 10, "no statement at line 1, column 10: no word begins so: / 2 FROM t"),
-            ("INSERT INTO t VALUES (9223372036854775808)", 1, 23, "no statement at line 1, column 23: a name or a number is too long: 9223372036854775808)"),
-            (";", 1, 1, "no statement at line 1, column 1: ;"),
-            ("SELECT * FROM t; SELEKT", 1, 18, "no statement at line 1, column 18: SELEKT"),
+            ("SELEKT * FROM t", 1, 1, "SELEKT * FROM t (did you mean SELECT?)"),
+            ("\n\n  SELECT a b c FROM t", 3, 3, "SELECT a b c FROM t"),
+            ("SELECT * FROM t WHERE a = \"x\"", 1, 27, "\"x\" (a text is written between single quotes)"),
+            ("SELECT * FROM t\nWHERE a = 'x", 2, 11, "'x (a text doesn't end)"),
+            ("SELECT a / 2 FROM t", 1, 10, "/ 2 FROM t (no word begins so)"),
+            ("INSERT INTO t VALUES (9223372036854775808)", 1, 23, "9223372036854775808) (a name or a number is too long)"),
+            (";", 1, 1, "; (there is no statement before the semicolon)"),
+            ("SELECT * FROM t; SELEKT", 1, 18, "SELEKT (did you mean SELECT?)"),
+            ("SELECT 1", 1, 1, "SELECT 1 (a SELECT has a FROM)"),
+            ("SELECT a FROM t ORDER BY a", 1, 17, "ORDER BY a (there is no ORDER BY)"),
+            ("SELECT a, FROM t", 1, 9, ", FROM t (there is a comma too many)"),
+            ("SELECT (a FROM t", 1, 8, "(a FROM t (this parenthesis isn't closed)"),
+            ("INSERT INTO t VALUES 1", 1, 22, "1 (each row of values is in parentheses)"),
+            ("INSERT t VALUES (1)", 1, 8, "t VALUES (1) (INSERT is followed by INTO)"),
+            ("CREATE TABLE u (key INT)", 1, 17, "key INT) (KEY is a keyword, and no name)"),
+            ("CREATE TABLE u (a TEXT)", 1, 19, "TEXT) (there is no type TEXT; write VARCHAR(100))"),
+            ("CREATE TABLE u (a VARCHAR)", 1, 19, "VARCHAR) (a VARCHAR has a length: VARCHAR(100))"),
+            ("CREATE TABLE u (a INT NOT NULL DEFAULT 1)", 1, 32, "DEFAULT 1) (DEFAULT comes before the constraints)"),
+            ("DROP TABLE t", 1, 6, "TABLE t (only triggers are dropped)"),
+            ("DELETE t", 1, 8, "t (DELETE is followed by FROM)"),
+            ("BEGIN", 1, 1, "BEGIN (a transaction begins with START TRANSACTION)"),
+            ("PRAGMA foreign_keys = ON", 1, 1, "PRAGMA foreign_keys = ON (no statement begins so)"),
         ]:
             with self.subTest(text):
                 error = refusal(connection.execute, text)
-                self.assertEqual((type(error), error.line, error.column, str(error)), (sqlkeep.ProgrammingError, line, column, wanted))
+                self.assertEqual((type(error), error.line, error.column, str(error)), (sqlkeep.ProgrammingError, line, column, f"no statement at line {line}, column {column}: {wanted}"))
 
     def test_with_parameters(self):
         connection = sqlkeep.connect()
@@ -182,7 +196,7 @@ class Faults(unittest.TestCase):
     def test_in_a_script_nothing_is_executed(self):
         connection = sqlkeep.connect()
         error = refusal(connection.executescript, "CREATE TABLE t (a INT);\nINSERT INTO t VALUES 1;\nCOMMIT;")
-        self.assertEqual((error.statement, error.line, error.column, str(error)), (2, 2, 1, "statement 2: no statement at line 2, column 1: INSERT INTO t VALUES 1;"))
+        self.assertEqual((error.statement, error.line, error.column, str(error)), (2, 2, 22, "statement 2: no statement at line 2, column 22: 1; (each row of values is in parentheses)"))
         self.assertEqual(refusal(connection.execute, "SELECT * FROM t").name, "T")
 
     def test_a_column_is_a_character(self):

@@ -9,7 +9,7 @@ if TYPE_CHECKING:
 
     from ._engine import Engine
 
-__all__ = ["CHANGED", "DONE", "EMPTY", "ROWS", "columns_of", "encoded", "error_of", "fault_in"]
+__all__ = ["CHANGED", "DONE", "EMPTY", "ROWS", "columns_of", "encoded", "error_of", "fault_in", "fault_place"]
 
 # What the engine answers: kinds of an outcome, and why nothing was executed. It raises the error of a refusal.
 DONE, CHANGED, ROWS, _, FAULT, COUNT, MANY, EMPTY = range(8)
@@ -40,18 +40,29 @@ def count_fault(text: str, given: int) -> str:
     return f"the statement has {holes} placeholder{'' if holes == 1 else 's'}, and {given} value{' is' if given == 1 else 's are'} given"
 
 
-def fault_in(text: str, whole: int, statement: int | None = None) -> ProgrammingError:
-    """The error of a text of which something is left, behind so many whole statements, that is no statement. The place is where no
-    word begins, if there is such a place, and otherwise where the statement begins."""
+def fault_place(text: str, whole: int) -> tuple[int, int, str, str]:
+    """Where something of a text is left, behind so many whole statements, that is no statement: at the place where no word begins, or
+    at the word that a hint is about, or where the statement begins. The line, the column, the words there, and what is probably the
+    matter, which may be empty."""
+    from .hints import hint_of  # pylint: disable=import-outside-toplevel
     from .text import lexical_fault, place_of, statements, tokens  # pylint: disable=import-outside-toplevel
 
-    ends = [end for _, end in statements(text)][:whole]
-    rest = [token for token in tokens(text) if not ends or token.start >= ends[-1]]
+    spans = statements(text)
+    behind = spans[whole - 1][1] if 0 < whole <= len(spans) else 0
+    end = spans[whole][1] if whole < len(spans) else len(text)
+    rest = [token for token in tokens(text) if behind <= token.start < end]
     if not rest:
-        return faulted(": the text is empty or ends too early", *place_of(text, len(text))[:2], statement)
-    at, reason = (rest[-1].start, f" {lexical_fault(rest[-1])}:") if rest[-1].kind == "fault" else (rest[0].start, "")
-    place = place_of(text, at)
-    return faulted(f":{reason} {place.words}", place.line, place.column, statement)
+        return (*place_of(text, len(text)), "there is no statement")
+    if rest[-1].kind == "fault":
+        return (*place_of(text, rest[-1].start), lexical_fault(rest[-1]))
+    hint = hint_of(rest)
+    return (*place_of(text, rest[0].start if hint is None else hint.token.start), "" if hint is None else hint.reason)
+
+
+def fault_in(text: str, whole: int, statement: int | None = None) -> ProgrammingError:
+    """The error of such a text."""
+    line, column, words, reason = fault_place(text, whole)
+    return faulted((f": {words}" if words else "") + (f" ({reason})" if reason else ""), line, column, statement)
 
 
 def columns_of(text: str, names: list[str], engine: Engine) -> list[tuple[str, str | None]]:

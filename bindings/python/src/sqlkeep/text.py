@@ -6,7 +6,7 @@ one is whole, and which columns a SELECT asks for.
 import re
 from typing import List, NamedTuple, Optional, Tuple
 
-__all__ = ["KEYWORDS", "Place", "Token", "first_fault", "is_name", "is_whole", "lexical_fault", "place_of", "select_list", "statements", "tokens"]
+__all__ = ["KEYWORDS", "Place", "Token", "is_name", "is_whole", "lexical_fault", "place_of", "select_list", "statements", "tokens"]
 
 KEYWORDS = frozenset(
     """ACTION ADD AFTER ALL ALTER AND AS ATOMIC BEFORE BEGIN CASCADE CHAR CHARACTER CHECK COMMIT CONSTRAINT CONSTRAINTS
@@ -64,16 +64,15 @@ def tokens(text: str) -> List[Token]:
 def statements(text: str) -> List[Tuple[int, int]]:
     """Where each whole statement of a text begins and ends, with its semicolon. Semicolons in a trigger's body end none."""
     found: List[Tuple[int, int]] = []
-    start: Optional[int] = None
+    first: Optional[Token] = None
     in_body = False
     for token in tokens(text):
-        if start is None:
-            start = token.start
+        first = first or token
         if token.kind == "word" and token.word in ("BEGIN", "END"):
-            in_body = token.word == "BEGIN"
+            in_body = token.word == "BEGIN" and first.word == "CREATE"
         if token.word == ";" and not in_body:
-            found.append((start, token.end))
-            start = None
+            found.append((first.start, token.end))
+            first = None
     return found
 
 
@@ -85,12 +84,6 @@ def is_whole(text: str) -> bool:
         return True
     ends = statements(text)
     return not found or (bool(ends) and ends[-1][1] == found[-1].end)
-
-
-def first_fault(text: str) -> Optional[Token]:
-    """The first place of a text where no token begins, if there is one."""
-    found = tokens(text)
-    return found[-1] if found and found[-1].kind == "fault" else None
 
 
 def is_name(word: str) -> bool:
