@@ -12,7 +12,7 @@ if TYPE_CHECKING:
     from types import TracebackType
     from typing import Any, Iterable, Literal, Sequence
 
-    from .session import Pending, Session
+    from .session import Outcome, Pending, Session
     from .values import Value
 
 __all__ = ["Connection", "LEGACY_TRANSACTION_CONTROL", "connect"]
@@ -60,6 +60,9 @@ class Connection:
     @property
     def session(self) -> Session:
         """The same database by the native interface."""
+        return self._native()
+
+    def _native(self) -> Session:
         if self._session is None:
             from .session import Session  # pylint: disable=import-outside-toplevel
 
@@ -74,6 +77,10 @@ class Connection:
 
     @autocommit.setter
     def autocommit(self, mode: bool | int) -> None:
+        self.set_autocommit(mode)
+
+    def set_autocommit(self, mode: bool | int) -> None:
+        """Sets `autocommit`."""
         if mode not in (True, False, LEGACY_TRANSACTION_CONTROL):
             raise errors.ProgrammingError("autocommit is True, False or LEGACY_TRANSACTION_CONTROL")
         if mode == 1 and self.in_transaction:
@@ -107,7 +114,7 @@ class Connection:
         something of the text is no statement, nothing is executed. Where a statement is refused, those before it stay, those
         after it aren't executed, and the error's `statement` says which it was."""
         self._engine.check()
-        parts = self.session.parts(script)
+        parts = self._native().parts(script)
         if self._autocommit == LEGACY_TRANSACTION_CONTROL and self.in_transaction:
             self.commit()
         for number, part in enumerate(parts, 1):
@@ -142,7 +149,7 @@ class Connection:
 
     def pending(self) -> list[Pending]:
         """What COMMIT would find: the violations of deferred constraints, each as a constraint's name and a row."""
-        return self.session.pending()
+        return self._native().pending()
 
     # ---- for cursors
 
@@ -151,6 +158,15 @@ class Connection:
         if plan == WANTS_TRANSACTION and self._autocommit is not True and not self._engine.in_transaction():
             return self._answer_in_new(text, values)
         return self._answer_in_mode(text, values, plan)
+
+    def outcome(self, text: str, values: tuple[Value, ...]) -> Outcome:
+        """What one statement answers, by the rules of transactions. A refusal is an outcome and raises nothing."""
+        from .session import outcome_of, refused  # pylint: disable=import-outside-toplevel
+
+        try:
+            return outcome_of(self._native(), self.answer(text, values, plan_of(text)), text, len(values))
+        except errors.DatabaseError as error:
+            return refused(error)
 
     def answer_many(self, text: str, parameters: Iterable[Sequence[Value]]) -> int:
         """Executes the text once for each set of values: how many rows were changed."""

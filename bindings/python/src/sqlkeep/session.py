@@ -145,7 +145,7 @@ class Session:
             answer = self._engine.execute(text, tuple(parameters), plan_of(text) == COMMIT)
         except DatabaseError as error:
             return refused(error)
-        return self._outcome(answer, text, len(parameters))
+        return outcome_of(self, answer, text, len(parameters))
 
     def script(self, text: str) -> list[Outcome]:
         """Executes the statements of a text until one is refused, and gives their outcomes. Where something of the text is no
@@ -172,7 +172,7 @@ class Session:
     def commit(self) -> Outcome:
         """COMMIT. Where it is refused, the transaction is rolled back."""
         try:
-            return self._outcome(self._engine.commit(), "COMMIT", 0)
+            return outcome_of(self, self._engine.commit(), "COMMIT", 0)
         except DatabaseError as error:
             return refused(error)
 
@@ -183,7 +183,7 @@ class Session:
     def rollback_to(self, name: str) -> Outcome:
         """ROLLBACK TO SAVEPOINT."""
         try:
-            return self._outcome(self._engine.rollback_to(encoded(name.upper())), "ROLLBACK", 0)
+            return outcome_of(self, self._engine.rollback_to(encoded(name.upper())), "ROLLBACK", 0)
         except DatabaseError as error:
             return refused(error)
 
@@ -195,14 +195,16 @@ class Session:
         """What the last statement did."""
         return Work(*self._engine.work())
 
-    def _outcome(self, answer: tuple[Any, ...], text: str, given: int) -> Outcome:
-        kind = answer[0]
-        if kind not in (DONE, CHANGED, ROWS, EMPTY):
-            raise error_of(answer, text, given)
-        lines = self._engine.lines(1).decode() if self._explain and kind != EMPTY else ""
-        if kind == ROWS:
-            return Outcome(rows=answer[1], columns=[name for name, _ in columns_of(text, answer[2], self._engine)], lines=lines)
-        return Outcome(count=answer[1] if kind == CHANGED else None, lines=lines)
+
+def outcome_of(session: Session, answer: tuple[Any, ...], text: str, given: int) -> Outcome:
+    """The outcome of a statement that the engine has answered."""
+    kind, engine = answer[0], session._engine
+    if kind not in (DONE, CHANGED, ROWS, EMPTY):
+        raise error_of(answer, text, given)
+    lines = engine.lines(1).decode() if session.explain and kind != EMPTY else ""
+    if kind == ROWS:
+        return Outcome(rows=answer[1], columns=[name for name, _ in columns_of(text, answer[2], engine)], lines=lines)
+    return Outcome(count=answer[1] if kind == CHANGED else None, lines=lines)
 
 
 def refused(error: DatabaseError) -> Outcome:
