@@ -93,7 +93,7 @@ def entry_points():
 
 def files(folder):
     """What the wheel has, by path: bytes."""
-    proved = Path(folder).name != "unproved"
+    proved = Path(folder).resolve() == Path(ROOT, "out")
     room = PACKAGE / "src" / "sqlkeep"
     found = {f"sqlkeep/{path.relative_to(room).as_posix()}": path.read_bytes() for path in room.rglob("*") if path.suffix in KINDS and path.name != "_build.py"}
     found["sqlkeep/_build.py"] = f'"""What this package was built of."""\n\nVERSION = "{version()}"\nPROVED = {proved}\n'.encode()

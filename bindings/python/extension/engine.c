@@ -435,11 +435,12 @@ static PyType_Slot slots[] = {
 
 static PyType_Spec spec = {"sqlkeep._engine.Engine", sizeof(engine), 0, Py_TPFLAGS_DEFAULT, slots};
 
-/* set_errors(programming, data, operational, by_cause): the classes of the exceptions. This thread is the main one. */
+/* set_errors(programming, data, operational, by_cause, main_thread): the classes of the exceptions, and the main thread. */
 static PyObject *set_errors(PyObject *module, PyObject *arguments) {
-    error_classes given = {NULL, NULL, NULL, NULL, PyThread_get_thread_ident()};
+    error_classes given = {NULL, NULL, NULL, NULL, 0};
     (void)module;
-    if (!PyArg_ParseTuple(arguments, "OOOO!:set_errors", &given.programming, &given.data, &given.operational, &PyTuple_Type, &given.by_cause)) {
+    if (!PyArg_ParseTuple(arguments, "OOOO!k:set_errors", &given.programming, &given.data, &given.operational, &PyTuple_Type, &given.by_cause,
+                          &given.main_thread)) {
         return NULL;
     }
     Py_INCREF(given.programming);

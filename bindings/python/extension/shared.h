@@ -15,7 +15,7 @@
 /* The classes of exceptions that Python gave: three that are raised here, and a tuple with that of each cause. */
 typedef struct error_classes {
     PyObject *programming, *data, *operational, *by_cause;
-    /* The thread that gave them. */
+    /* The main thread. */
     unsigned long main_thread;
 } error_classes;
 

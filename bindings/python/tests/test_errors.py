@@ -2,6 +2,8 @@
 import copy
 import gc
 import pickle
+import subprocess
+import sys
 import threading
 import unittest
 
@@ -293,6 +295,18 @@ class Telling(unittest.TestCase):
         connection.execute("CREATE TABLE t (a INT CHECK (a > 0))")
         error = refusal(connection.execute, "INSERT INTO t VALUES (0)")
         self.assertEqual((error.constraint, error.row, error.table, str(error)), ("T_C1", 1, None, "Violation of T_C1: row 1: a constraint is violated"))
+
+
+class Imported(unittest.TestCase):
+    def test_on_another_thread(self):
+        """Which thread is the main one doesn't depend on who imports the package."""
+        code = (
+            "import threading, importlib\nthread = threading.Thread(target=lambda: importlib.import_module('sqlkeep'))\nthread.start(); thread.join()\n"
+            "import sqlkeep\nkept = []\ndef work():\n    c = sqlkeep.connect()\n    try: c.execute('SELECT * FROM t')\n    except sqlkeep.Error as error: kept.append(error)\n"
+            "thread = threading.Thread(target=work)\nthread.start(); thread.join()\nprint(kept[0])\n"
+        )
+        done = subprocess.run([sys.executable, "-c", code], capture_output=True, text=True, timeout=60, check=False)
+        self.assertEqual((done.stdout, done.stderr), ("Unknown: table T isn't there\n", ""))
 
 
 class Threads(unittest.TestCase):

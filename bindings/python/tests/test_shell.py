@@ -57,6 +57,15 @@ class WithoutTerminal(unittest.TestCase):
         self.assertEqual(ran("CREATE TABLE t (a INT);\nINSERT INTO t VALUES (1), (2);\n", "--changes", "2"),
                          ("ok\n", "Refused: TooManyChanges: the statement, with all that follows from it, changes too many rows\n", 1))
 
+    def test_bytes_that_are_no_text(self):
+        done = subprocess.run([sys.executable, "-m", "sqlkeep"], input=b"SELECT '\xff';\nCOMMIT;\n", capture_output=True, env={"PATH": os.environ["PATH"], "LANG": "C.UTF-8"}, timeout=60, check=False)
+        self.assertEqual((done.stdout, done.stderr, done.returncode), (b"ok\n", b"the text has a surrogate, which UTF-8 can't hold\n", 1))
+
+    def test_nobody_reads(self):
+        command = f"yes 'COMMIT;' | head -n 20000 | {sys.executable} -m sqlkeep | head -n 1"
+        done = subprocess.run(["sh", "-c", command], capture_output=True, text=True, timeout=60, check=False)
+        self.assertEqual((done.stdout, done.stderr), ("ok\n", ""))
+
     def test_the_stored_example(self):
         """In transcript mode with accounts the shell writes what the program does."""
         root = Path(os.environ.get("SQLKEEP_ROOT", Path(__file__).resolve().parents[3]))

@@ -12,6 +12,9 @@ A statement that is refused raises an error that says why, with the constraint a
 """
 from __future__ import annotations
 
+import _thread
+import sys
+
 from ._build import PROVED, VERSION
 from ._engine import set_errors
 from .connection import LEGACY_TRANSACTION_CONTROL, Connection, connect
@@ -30,7 +33,16 @@ if TYPE_CHECKING:
         BINARY, DATETIME, NUMBER, ROWID, STRING, Binary, Date, DateFromTicks, Time, TimeFromTicks, Timestamp, TimestampFromTicks,
     )
 
-set_errors(ProgrammingError, DataError, OperationalError, BY_CAUSE)
+
+
+def main_thread() -> int:
+    """The main thread. Where nothing has imported `threading`, there is no other."""
+    threading = sys.modules.get("threading")
+    ident: int | None = threading.main_thread().ident if threading is not None else None
+    return _thread.get_ident() if ident is None else ident
+
+
+set_errors(ProgrammingError, DataError, OperationalError, BY_CAUSE, main_thread())
 
 #: The version of the DB-API.
 apilevel = "2.0"

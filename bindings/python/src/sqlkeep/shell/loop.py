@@ -22,6 +22,8 @@ __all__ = ["Shell"]
 
 PROMPT, MORE = "sqlkeep> ", "   ...> "
 DONE = {"INSERT": "inserted", "UPDATE": "updated", "DELETE": "deleted"}
+# What people type who want a command.
+WORDS = {"help": ".help", "quit": ".quit", "exit": ".quit", "\\q": ".quit", "?": ".help"}
 # As many violations are listed; the others are counted.
 MOST_LISTED = 20
 
@@ -111,6 +113,9 @@ class Shell:
             try:
                 line = self.read_line(MORE if typed else PROMPT)
             except KeyboardInterrupt:
+                if not self.is_at_terminal:
+                    self.status = 130
+                    return
                 # A terminal shows Ctrl-C itself, unless readline reads from it.
                 self.write("^C\n" if self.has_readline else "\n")
                 typed = ""
@@ -133,9 +138,13 @@ class Shell:
 
     def take(self, typed: str, line: str) -> str:
         """Takes a line behind what was typed before, and gives what isn't whole yet."""
-        if not typed and line.lstrip().startswith("."):
-            self.command(line)
+        word = line.strip().rstrip(";").lower()
+        if not typed and (word.startswith(".") or word in WORDS):
+            self.command(WORDS.get(word, line))
             return ""
+        if typed and (word in WORDS or word in COMMANDS) and not is_in_text(typed):
+            self.complain("a statement is open: end it with a semicolon, or drop it with Ctrl-C")
+            return typed
         typed = f"{typed}\n{line}" if typed else line
         if not is_whole(typed):
             return typed
@@ -265,6 +274,12 @@ def parts(text: str) -> Iterator[tuple[int, int]]:
     rest = [token for token in tokens(text) if token.start >= behind]
     if rest:
         yield rest[0].start, len(text)
+
+
+def is_in_text(typed: str) -> bool:
+    """Whether what comes next is inside a text between quotes."""
+    found = tokens(typed)
+    return bool(found) and found[-1].kind == "fault" and typed.startswith("'", found[-1].start)
 
 
 def done(part: str, outcome: Outcome) -> str:
