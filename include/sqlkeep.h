@@ -311,7 +311,7 @@ typedef struct sqlkeep_done {
     /* How many row changes it made, those of triggers and actions too, and how many it undid. */
     uint64_t changes;
     uint64_t undone;
-    /* How many keys it looked up. */
+    /* How many keys it looked up for constraints. What conditions look at is not counted. */
     uint64_t lookups;
 } sqlkeep_done;
 
