@@ -1,7 +1,7 @@
 use Rattle.std.specs.Prelude.{max}
 use Rattle.std.proofs.Common.{◌≡◌, ℕ, ◌-◌, ◌≤◌, length}
 use Rattle.iv_index.specs.Groups.{groups_of}
-use Rattle.iv_index.proofs.groups.cover.Given as goal
+use Rattle.iv_index.proofs.indexes.cover.Given as goal
 
 abbrev pub invariant-loop-alloc : goal.invariant-loop-alloc
 invariant-loop-alloc l = record {

@@ -1,4 +1,4 @@
-use Rattle.iv_index.proofs.groups.kept.Goals as goal
+use Rattle.iv_index.proofs.indexes.kept.Goals as goal
 
 pub returns : goal.returns
 returns c = record {
