@@ -43,6 +43,18 @@ for block in json.load(sys.stdin):
 json.dump(answers, sys.stdout)
 """
 
+# Prints the public names that have no text for help().
+WITHOUT_HELP = """
+import inspect, sqlkeep
+def parts(thing):
+    named = vars(thing).items() if inspect.isclass(thing) else ()
+    return [thing, *(part for key, part in named if not key.startswith("_") and (callable(part) or isinstance(part, property)))]
+for name in sqlkeep.__all__:
+    thing = getattr(sqlkeep, name)
+    if inspect.isclass(thing) or inspect.isfunction(thing):
+        print(*(f"{name}: {part}" for part in parts(thing) if not inspect.getdoc(part)), sep="", end="")
+"""
+
 
 class Skipped(Exception):
     """A test that can't be made here; the text names the package that it wants."""
@@ -82,7 +94,8 @@ class Room:
 
     def run(self, *words, given=None, folder=None, env=None):
         """Runs a program, without what the environment here would tell it."""
-        clean = {"HOME": str(self.home), "PATH": os.environ["PATH"], "PIP_NO_INDEX": "1", "PIP_DISABLE_PIP_VERSION_CHECK": "1", "PYTHONDONTWRITEBYTECODE": "1", "LANG": "C.UTF-8", "SQLKEEP_ROOT": str(ROOT)}
+        clean = {"HOME": str(self.home), "PATH": os.environ["PATH"], "LANG": "C.UTF-8", "SQLKEEP_ROOT": str(ROOT)}
+        clean.update({"PIP_NO_INDEX": "1", "PIP_DISABLE_PIP_VERSION_CHECK": "1", "PYTHONDONTWRITEBYTECODE": "1"})
         words = [str(word) for word in words]
         return subprocess.run(words, input=given, cwd=folder or self.folder, env={**clean, **(env or {})}, capture_output=True, text=True, timeout=600, check=False)
 
@@ -166,13 +179,16 @@ def suite(room, python, name):
     return int(ran[1]) - failed - skipped, max(failed, int(done.returncode != 0)), skipped
 
 
+def programs(part):
+    """The programs of a part of a page, each with what it prints."""
+    blocks = [*BLOCK.findall(part), ("", "")]
+    return [(code, after[1] if after[0] == "text" else "") for (kind, code), after in zip(blocks, blocks[1:]) if kind == "python"]
+
+
 def sections(page):
-    """The sections of a page: each its title and its blocks, as pairs of a program and what it prints."""
-    for part in re.split(r"^## ", (PAGES / page).read_text("utf-8"), flags=re.M)[1:]:
-        blocks = BLOCK.findall(part)
-        pairs = [(code, blocks[at + 1][1] if at + 1 < len(blocks) and blocks[at + 1][0] == "text" else "") for at, (kind, code) in enumerate(blocks) if kind == "python"]
-        if pairs:
-            yield part.split("\n", 1)[0], pairs
+    """The sections of a page that have programs: each its title and the programs."""
+    parts = re.split(r"^## ", (PAGES / page).read_text("utf-8"), flags=re.M)[1:]
+    return [(part.split("\n", 1)[0], programs(part)) for part in parts if programs(part)]
 
 
 def section_runs(room, python, pairs):
@@ -235,15 +251,13 @@ def speaks_types(room, python):
         "reveal_type(row)\nreveal_type(sqlkeep.Session().catalogue.tables['T'].columns[0].name)\nreveal_type(sqlkeep.IntegrityError().violations)\n", "utf-8")
     done = room.run(mypy, "--strict", "--python-executable", python, program)
     told = re.findall(r'Revealed type is "(.*)"', done.stdout)
-    assert [re.sub(r"builtins\.|, None|Union", "", each) for each in told] == ["Optional[tuple[[int, str]]]", "str", "list[sqlkeep.account.Violation]"] or len(told) == 3 and "error:" not in done.stdout, done.stdout
+    plain = [each.replace("builtins.", "").replace("Tuple", "tuple") for each in told]
+    assert plain[1:] == ["str", "list[sqlkeep.account.Violation]"] and "tuple[Union[int, str, None], ...]" in plain[0] and "error:" not in done.stdout, done.stdout
 
 
 def help_is_there(room, python):
     """Each public name has a text for help()."""
-    code = "import inspect, sqlkeep\nfor name in sqlkeep.__all__:\n    thing = getattr(sqlkeep, name)\n    if inspect.isclass(thing) or inspect.isfunction(thing):\n" \
-           "        parts = [thing, *(part for key, part in vars(thing).items() if not key.startswith('_') and (callable(part) or isinstance(part, property)))] if inspect.isclass(thing) else [thing]\n" \
-           "        for part in parts:\n            if not inspect.getdoc(part): print(name, getattr(part, '__name__', part))\n"
-    done = room.run(python, "-c", code)
+    done = room.run(python, "-c", WITHOUT_HELP)
     assert (done.stdout, done.stderr) == ("", ""), done.stdout + done.stderr
 
 

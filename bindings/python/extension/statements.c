@@ -152,10 +152,10 @@ static PyObject *not_read(uint32_t status) {
     return failed(status);
 }
 
-/* Reads the buffer with the values that are bound. */
-static uint32_t read_buffer(engine *self, size_t length, sqlkeep_script *script) {
+/* Reads a text with the values that are bound. */
+static uint32_t read_bound(engine *self, const uint8_t *text, size_t length, sqlkeep_script *script) {
     Py_CLEAR(self->held);
-    uint32_t status = sqlkeep_read_bound(&self->handle, self->text.at, length, script);
+    uint32_t status = sqlkeep_read_bound(&self->handle, text, length, script);
     if (status != SQLKEEP_OK) {
         sqlkeep_unbind(&self->handle);
     }
@@ -171,7 +171,7 @@ static PyObject *read_with(engine *self, const template *given, ending with, sql
     if (given->values != NULL && bind_values(&self->handle, given->values) != 0) {
         return NULL;
     }
-    uint32_t status = read_buffer(self, self->text.length, script);
+    uint32_t status = read_bound(self, self->text.at, self->text.length, script);
     return status == SQLKEEP_OK ? NULL : not_read(status);
 }
 
@@ -292,7 +292,9 @@ typedef struct many {
     PyObject *list;
     Py_ssize_t at, size;
     unsigned long long changed;
-    /* How many copies of the template are in the buffer, each with its ending. */
+    /* Copies of the template, each with its ending, and how many they are. The buffer of the session isn't used for them: a signal
+       that comes in between may run a handler that executes something else. */
+    bytes text;
     size_t copies;
 } many;
 
@@ -317,12 +319,12 @@ static size_t length_of_copy(const many *work) {
     return work->given.length + (size_t)work->with;
 }
 
-/* Puts as many copies of the template into the buffer as are read at once. */
-static int copy_template(engine *self, many *work) {
+/* Makes as many copies of the template as are read at once. */
+static int copy_template(many *work) {
     size_t most = LONGEST_AT_ONCE / length_of_copy(work);
-    self->text.length = 0;
+    work->text.length = 0;
     for (work->copies = 0; work->copies < MOST_AT_ONCE && work->copies < most; work->copies++) {
-        if (bytes_push(&self->text, work->given.text, work->given.length) != 0 || bytes_push(&self->text, end_of_text, (size_t)work->with) != 0) {
+        if (bytes_push(&work->text, work->given.text, work->given.length) != 0 || bytes_push(&work->text, end_of_text, (size_t)work->with) != 0) {
             return -1;
         }
     }
@@ -365,7 +367,8 @@ static PyObject *execute_some(engine *self, many *work, Py_ssize_t wanted, bool 
     sqlkeep_script script = {0, 0, 0};
     sqlkeep_outcome last = {SQLKEEP_DONE, 0, 0, 0};
     size_t count = bind_many(self, work, wanted);
-    *was_read = count > 0 && read_buffer(self, count * length_of_copy(work), &script) == SQLKEEP_OK && script.statements == count && script.has_fault == 0;
+    *was_read = count > 0 && read_bound(self, work->text.at, count * length_of_copy(work), &script) == SQLKEEP_OK;
+    *was_read = *was_read && script.statements == count && script.has_fault == 0;
     if (!*was_read) {
         sqlkeep_unbind(&self->handle);
         return NULL;
@@ -398,7 +401,7 @@ static PyObject *execute_next(engine *self, many *work) {
 static PyObject *execute_step(engine *self, many *work) {
     bool was_read = false;
     bool is_alone = work->at == 0 || self->explains || work->size - work->at == 1;
-    if (!is_alone && work->copies == 0 && copy_template(self, work) != 0) {
+    if (!is_alone && work->copies == 0 && copy_template(work) != 0) {
         return NULL;
     }
     if (!is_alone) {
@@ -426,7 +429,7 @@ static PyObject *execute_list(engine *self, many *work) {
 /* execute_many(text, list): (how many were accepted, how many rows they changed, None or the answer of the next). */
 PyObject *engine_execute_many(engine *self, PyObject *arguments) {
     PyObject *text;
-    many work = {{NULL, 0, NULL}, AS_IT_IS, NULL, 0, 0, 0, 0};
+    many work = {{NULL, 0, NULL}, AS_IT_IS, NULL, 0, 0, 0, {NULL, 0, 0}, 0};
     if (!PyArg_ParseTuple(arguments, "UO!:execute_many", &text, &PyList_Type, &work.list) || engine_ready(self) != 0) {
         return NULL;
     }
@@ -436,6 +439,7 @@ PyObject *engine_execute_many(engine *self, PyObject *arguments) {
     }
     work.size = PyList_Size(work.list);
     PyObject *answer = execute_list(self, &work);
+    bytes_free(&work.text);
     Py_DECREF(bytes_of_text);
     self->progress = work.at;
     if (answer == NULL && PyErr_Occurred()) {

@@ -101,7 +101,10 @@ class ByHand(unittest.TestCase):
             self.assertEqual(found.events[1], Violation("C", "T", 1, (text, -1), "same key", other_row=2, other_values=(text, 2)))
 
     def test_what_is_none(self):
-        for text in ("insert T row 1 (1)\n", "  insert T row 1 (1)", "  insert T row x (1)\n", "  insert T row 1 (1\n", "    insert T row 1 (1)\n", "  nothing\n", "  C: T row 1 (5) is odd\n", "  insert T row 1 (1x)\n"):
+        for text in (
+            "insert T row 1 (1)\n", "  insert T row 1 (1)", "  insert T row x (1)\n", "  insert T row 1 (1\n", "    insert T row 1 (1)\n", "  nothing\n", "  C: T row 1 (5) is odd\n",
+            "  insert T row 1 (1x)\n",
+        ):
             with self.subTest(text), self.assertRaises(ValueError):
                 sqlkeep.parse_account(text)
 

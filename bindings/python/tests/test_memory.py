@@ -78,7 +78,9 @@ class Memory(unittest.TestCase):
             "refused commit": lambda: (connection.execute("INSERT INTO c VALUES (999)"), connection.pending(), str(refused(connection.commit))),
             "script": lambda: connection.session.run("CREATE TABLE t (a INT); INSERT INTO t VALUES (1); SELECT * FROM t;"),
             "catalogue": lambda: connection.session.catalogue,
-            "account": lambda: (setattr(connection.session, "explain", True), connection.session.execute("DELETE FROM p").account, setattr(connection.session, "explain", False), connection.rollback()),
+            "account": lambda: (
+                setattr(connection.session, "explain", True), connection.session.execute("DELETE FROM p").account, setattr(connection.session, "explain", False), connection.rollback(),
+            ),
             "connection": lambda: sqlkeep.connect().execute("CREATE TABLE t (a INT)"),
             "connection of another thread": threads,
             "bytes that are no text": lambda: refused(other.session.run, b"\xff"),

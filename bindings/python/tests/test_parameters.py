@@ -1,4 +1,5 @@
 """Parameters: what a value may be, what becomes of it, and that no value becomes more of a statement than a literal."""
+import signal
 import unittest
 
 import sqlkeep
@@ -154,6 +155,34 @@ class Many(unittest.TestCase):
         with self.assertRaisesRegex(sqlkeep.ProgrammingError, "there are several statements"):
             connection.executemany("INSERT INTO t VALUES (?); INSERT INTO t VALUES (?)", [(1, 2), (3, 4)])
         self.assertEqual(connection.execute("SELECT * FROM t").fetchall(), [])
+
+    def test_a_signal_in_between(self):
+        """A handler may use the connection: what it executes comes between two statements."""
+        connection = sqlkeep.connect()
+        connection.executescript("CREATE TABLE t (a INT); CREATE TABLE u (a INT);")
+        before = signal.signal(signal.SIGALRM, lambda *_: connection.execute("INSERT INTO u VALUES (?)", (7,)))
+        signal.setitimer(signal.ITIMER_REAL, 0.002, 0.002)
+        try:
+            connection.executemany("INSERT INTO t VALUES (?)", [(number,) for number in range(50_000)])
+        finally:
+            signal.setitimer(signal.ITIMER_REAL, 0)
+            signal.signal(signal.SIGALRM, before)
+        self.assertEqual([number for number, in connection.execute("SELECT a FROM t")], list(range(50_000)))
+        self.assertEqual({number for number, in connection.execute("SELECT a FROM u")}, {7})
+
+    def test_ctrl_c_in_between(self):
+        connection = sqlkeep.connect()
+        connection.execute("CREATE TABLE t (a INT)")
+        signal.setitimer(signal.ITIMER_REAL, 0.01)
+        before = signal.signal(signal.SIGALRM, signal.default_int_handler)
+        try:
+            with self.assertRaises(KeyboardInterrupt):
+                connection.executemany("INSERT INTO t VALUES (?)", [(number,) for number in range(1_000_000)])
+        finally:
+            signal.signal(signal.SIGALRM, before)
+        count = connection.execute("SELECT COUNT(*) FROM t").fetchone()[0]
+        self.assertEqual([number for number, in connection.execute("SELECT a FROM t")], list(range(count)))
+        self.assertLess(count, 1_000_000)
 
     def test_long_templates(self):
         connection = sqlkeep.connect()

@@ -40,7 +40,9 @@ class Connections(unittest.TestCase):
         connection = filled()
         cursor = connection.execute("SELECT name FROM author")
         connection.close()
-        for call in (connection.cursor, connection.commit, connection.rollback, cursor.fetchone, cursor.fetchall, lambda: cursor.execute("SELECT name FROM author"), lambda: connection.execute("COMMIT")):
+        for call in (
+            connection.cursor, connection.commit, connection.rollback, cursor.fetchone, cursor.fetchall, lambda: cursor.execute("SELECT name FROM author"), lambda: connection.execute("COMMIT"),
+        ):
             with self.assertRaisesRegex(sqlkeep.ProgrammingError, "^the connection is closed$"):
                 call()
 

@@ -18,7 +18,8 @@ ELSEWHERE = {
     "ORDER": "there is no ORDER BY", "GROUP": "there is no GROUP BY", "HAVING": "there is no HAVING", "LIMIT": "there is no LIMIT", "JOIN": "there is no JOIN; EXISTS asks another table",
     "INNER": "there is no JOIN; EXISTS asks another table", "LEFT": "there is no JOIN; EXISTS asks another table", "BETWEEN": "there is no BETWEEN; write a >= 1 AND a <= 9",
     "LIKE": "there is no LIKE", "IN": "there is no IN; write a = 1 OR a = 2", "CASE": "there is no CASE", "UNION": "there is no UNION", "RETURNING": "there is no RETURNING",
-    "AUTOINCREMENT": "there is no AUTOINCREMENT; a key is given with the row", "AUTO_INCREMENT": "there is no AUTO_INCREMENT; a key is given with the row", "SERIAL": "there is no SERIAL; a key is given with the row",
+    "AUTOINCREMENT": "there is no AUTOINCREMENT; a key is given with the row", "AUTO_INCREMENT": "there is no AUTO_INCREMENT; a key is given with the row",
+    "SERIAL": "there is no SERIAL; a key is given with the row",
     "CONFLICT": "there is no ON CONFLICT", "CURRENT_TIMESTAMP": "there are no times; write one as a text",
 }
 TYPES = {
