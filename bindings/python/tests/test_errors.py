@@ -297,6 +297,18 @@ class Telling(unittest.TestCase):
         self.assertEqual((error.constraint, error.row, error.table, str(error)), ("T_C1", 1, None, "Violation of T_C1: row 1: a constraint is violated"))
 
 
+class Names(unittest.TestCase):
+    def test_in_a_traceback(self):
+        done = subprocess.run([sys.executable, "-c", "import sqlkeep; sqlkeep.connect().execute('SELECT * FROM t')"], capture_output=True, text=True, timeout=60, check=False)
+        self.assertEqual(done.stderr.splitlines()[-1], "sqlkeep.ProgrammingError: Unknown: table T isn't there")
+
+    def test_lines_that_are_not_known(self):
+        """An error always has a text, also where the lines of its account can't be read."""
+        error = sqlkeep.IntegrityError()
+        error.cause, error._row, error._lines = 13, 5, b"1 refused 13 Violation C row 5\n  something new\n"
+        self.assertEqual((str(error), error.row, error.violations, error.lines), ("Violation: row 5: a constraint is violated", 5, [], error._lines.decode()))
+
+
 class Imported(unittest.TestCase):
     def test_on_another_thread(self):
         """Which thread is the main one doesn't depend on who imports the package."""

@@ -3,7 +3,7 @@ from __future__ import annotations
 
 from .answers import CHANGED, DONE, EMPTY, ROWS, columns_of, error_of
 from .errors import ProgrammingError
-from .plans import DATA, PLAIN, plan_of, plans
+from .plans import DATA, plan_of, plans
 
 TYPE_CHECKING = False
 if TYPE_CHECKING:

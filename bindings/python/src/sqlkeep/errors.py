@@ -117,9 +117,14 @@ class Error(Exception):
 
     def _parse(self) -> tuple[Refusal, Account]:
         if self._parsed is None:
-            from .transcript import parse_refusal  # pylint: disable=import-outside-toplevel
+            from .account import Account  # pylint: disable=import-outside-toplevel
+            from .transcript import Refusal, parse_refusal  # pylint: disable=import-outside-toplevel
 
-            self._parsed = parse_refusal(self._lines.decode())
+            try:
+                self._parsed = parse_refusal(self._lines.decode())
+            except ValueError:
+                # An engine that writes other lines than this package knows: `lines` has them.
+                self._parsed = Refusal(self.cause or 0, self.cause_name or "", row=self.row), Account()
         return self._parsed
 
 
@@ -172,6 +177,11 @@ def faulted(message: str, line: int, column: int, statement: int | None = None) 
     error = ProgrammingError(f"no statement at line {line}, column {column}{message}")
     error.line, error.column, error.statement = line, column, statement
     return error
+
+
+# People name them without their module.
+for each in __all__:
+    globals()[each].__module__ = "sqlkeep"
 
 
 # ---- what a refusal says

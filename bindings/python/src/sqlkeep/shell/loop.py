@@ -12,7 +12,7 @@ from ..session import Outcome, Session
 from ..text import is_whole, statements, tokens
 from ..transcript import Answer, Refusal
 from .colours import Colours
-from .commands import COMMANDS, Failed, run_command
+from .commands import COMMANDS, Failed, read, run_command
 from .complete import candidates
 from .interrupts import Interrupts
 from .kept import Kept
@@ -51,7 +51,7 @@ class Shell:
         """Executes the file, if there is one, and then what is typed, to the end."""
         if file is not None:
             try:
-                run_command(self, f".read {file}")
+                read(self, file)
             except Failed as why:
                 self.complain(str(why))
                 return 2
