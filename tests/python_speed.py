@@ -3,7 +3,8 @@
 
     python_speed.py [--rounds N]
 
-Run it with the Python of a virtual environment where the wheel is installed. Each figure is the least of some rounds, taken in turn.
+Run it with the Python of a virtual environment where the wheel is installed. Each figure is the least of some rounds, taken in turn, in
+milliseconds of the processor; of the import in milliseconds by the clock.
 """
 import argparse
 import sqlite3
@@ -17,6 +18,14 @@ SCHEMA = ("CREATE TABLE item (id INT PRIMARY KEY, name VARCHAR(40) NOT NULL)", "
 ROWS = 100_000
 SELECTED = 10_000
 REFUSED = 10_000
+# Of what, the statement, and its values by a number.
+REFUSALS = [
+    ("a key", "INSERT INTO item VALUES (?, ?)", lambda number: (number, "again")),
+    ("NOT NULL", "INSERT INTO item VALUES (?, ?)", lambda number: (number + SELECTED, None)),
+    ("a foreign key", "INSERT INTO line VALUES (?, ?)", lambda number: (number, number + SELECTED)),
+    ("NOT NULL, of an UPDATE", "UPDATE item SET name = NULL WHERE id = ?", lambda number: (number,)),
+]
+MANY = [(number, f"item {number}") for number in range(ROWS)]
 
 
 def opened(module):
@@ -29,13 +38,13 @@ def opened(module):
 
 
 def timed(work, *words):
-    began = time.perf_counter()
+    began = time.process_time()
     work(*words)
-    return time.perf_counter() - began
+    return time.process_time() - began
 
 
 def many(connection):
-    connection.executemany("INSERT INTO item VALUES (?, ?)", [(number, f"item {number}") for number in range(ROWS)])
+    connection.executemany("INSERT INTO item VALUES (?, ?)", MANY)
 
 
 def select(connection):
@@ -60,10 +69,8 @@ def times(module):
     connection = opened(module)
     connection.executemany("INSERT INTO item VALUES (?, ?)", [(number, f"item {number}") for number in range(SELECTED)])
     found[f"SELECT of {SELECTED:,} rows"] = timed(select, connection)
-    same_key = [("INSERT INTO item VALUES (?, ?)", (number, "again")) for number in range(REFUSED)]
-    found[f"{REFUSED:,} refusals for a key"] = timed(refuse, connection, module, same_key)
-    no_parent = [("UPDATE item SET name = NULL WHERE id = ?", (number,)) for number in range(REFUSED)]
-    found[f"{REFUSED:,} refusals for NOT NULL"] = timed(refuse, connection, module, no_parent)
+    for kind, text, values in REFUSALS:
+        found[f"{REFUSED:,} refusals for {kind}"] = timed(refuse, connection, module, [(text, values(number)) for number in range(REFUSED)])
     return found
 
 
@@ -72,8 +79,8 @@ def imported(name):
     return float(subprocess.run([sys.executable, "-c", code], capture_output=True, check=True).stdout)
 
 
-def least(module, rounds):
-    found = [{"import": imported(module.__name__), **times(module)} for _ in range(rounds)]
+def least(found):
+    """The least of each kind over the rounds."""
     return {kind: min(each[kind] for each in found) for kind in found[0]}
 
 
@@ -81,7 +88,8 @@ def main():
     parser = argparse.ArgumentParser()
     parser.add_argument("--rounds", type=int, default=5)
     rounds = parser.parse_args().rounds
-    ours, theirs = least(sqlkeep, rounds), least(sqlite3, rounds)
+    found = [[{"import": imported(module.__name__), **times(module)} for module in (sqlkeep, sqlite3)] for _ in range(rounds)]
+    ours, theirs = (least(of_one) for of_one in zip(*found))
     print(f"Python {sys.version.split()[0]}, sqlkeep {sqlkeep.__version__} ({'proved' if sqlkeep.is_proved else 'not proved'}), SQLite {sqlite3.sqlite_version}; milliseconds")
     print(f"{'':34}{'sqlkeep':>10}{'sqlite3':>10}{'times':>8}")
     for kind in ours:

@@ -437,7 +437,7 @@ static PyType_Spec spec = {"sqlkeep._engine.Engine", sizeof(engine), 0, Py_TPFLA
 
 /* set_errors(programming, data, operational, by_cause, main_thread): the classes of the exceptions, and the main thread. */
 static PyObject *set_errors(PyObject *module, PyObject *arguments) {
-    error_classes given = {NULL, NULL, NULL, NULL, 0};
+    error_classes given = {NULL, NULL, NULL, NULL, 0, NULL, NULL, NULL, NULL};
     (void)module;
     if (!PyArg_ParseTuple(arguments, "OOOO!k:set_errors", &given.programming, &given.data, &given.operational, &PyTuple_Type, &given.by_cause,
                           &given.main_thread)) {
@@ -447,8 +447,12 @@ static PyObject *set_errors(PyObject *module, PyObject *arguments) {
     Py_INCREF(given.data);
     Py_INCREF(given.operational);
     Py_INCREF(given.by_cause);
+    given.cause = PyUnicode_InternFromString("cause");
+    given.row = PyUnicode_InternFromString("_row");
+    given.lines = PyUnicode_InternFromString("_lines");
+    given.engine = PyUnicode_InternFromString("_engine");
     errors = given;
-    return nothing();
+    return PyErr_Occurred() ? NULL : nothing();
 }
 
 static PyMethodDef functions[] = {

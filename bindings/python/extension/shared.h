@@ -17,6 +17,8 @@ typedef struct error_classes {
     PyObject *programming, *data, *operational, *by_cause;
     /* The main thread. */
     unsigned long main_thread;
+    /* The names of the attributes of an error that are set here. */
+    PyObject *cause, *row, *lines, *engine;
 } error_classes;
 
 extern error_classes errors;

@@ -42,10 +42,17 @@ static void run_again(engine *self, size_t place, const sqlkeep_outcome *first) 
     }
 }
 
+/* Sets an attribute of an error to a new reference, which is taken. */
+static int set_and_take(PyObject *error, PyObject *name, PyObject *value) {
+    int failed = value == NULL ? -1 : PyObject_SetAttr(error, name, value);
+    Py_XDECREF(value);
+    return failed;
+}
+
 /* Puts the lines of the last outcome into the error. Where memory is refused for them, it has none. */
 static void put_lines(engine *self, PyObject *error) {
     PyObject *lines = engine_lines(self, 1);
-    if (lines == NULL || PyObject_SetAttrString(error, "_lines", lines) != 0 || PyObject_SetAttrString(error, "_engine", Py_None) != 0) {
+    if (lines == NULL || PyObject_SetAttr(error, errors.lines, lines) != 0 || PyObject_SetAttr(error, errors.engine, Py_None) != 0) {
         PyErr_Clear();
     }
     Py_XDECREF(lines);
@@ -75,18 +82,15 @@ static int tell_later(engine *self, PyObject *error, size_t place, const sqlkeep
     self->untold = PyWeakref_NewRef(error, NULL);
     self->refused = *outcome;
     self->refused_place = place;
-    return self->untold == NULL ? -1 : PyObject_SetAttrString(error, "_engine", (PyObject *)self);
+    return self->untold == NULL ? -1 : PyObject_SetAttr(error, errors.engine, (PyObject *)self);
 }
 
 /* Raises the error of a refusal; NULL. It is told later, where that can be: an error of another thread than the main one may be
    read on yet another, where the session can't be asked. */
 static PyObject *refusal(engine *self, size_t place, const sqlkeep_outcome *outcome, bool is_told) {
     PyObject *error = PyObject_CallObject(PyTuple_GetItem(errors.by_cause, (Py_ssize_t)outcome->cause), NULL);
-    PyObject *cause = error == NULL ? NULL : PyLong_FromUnsignedLong(outcome->cause);
-    PyObject *row = cause == NULL ? NULL : PyLong_FromUnsignedLongLong(outcome->row);
-    bool is_made = row != NULL && PyObject_SetAttrString(error, "cause", cause) == 0 && PyObject_SetAttrString(error, "_row", row) == 0;
-    Py_XDECREF(cause);
-    Py_XDECREF(row);
+    bool is_made = error != NULL && set_and_take(error, errors.cause, PyLong_FromUnsignedLong(outcome->cause)) == 0;
+    is_made = is_made && (outcome->row == 0 || set_and_take(error, errors.row, PyLong_FromUnsignedLongLong(outcome->row)) == 0);
     bool is_last = outcome->cause == SQLKEEP_CAUSE_COMMIT_REFUSED || outcome->cause == SQLKEEP_CAUSE_OUT_OF_MEMORY;
     if (is_made && (is_told || is_last || self->explains)) {
         put_lines(self, error);
@@ -296,6 +300,11 @@ typedef struct many {
        that comes in between may run a handler that executes something else. */
     bytes text;
     size_t copies;
+    /* Where the template's row of values begins and ends, if its rows may be inserted by one statement; otherwise 0. */
+    size_t row_from, row_to;
+    /* One statement with so many rows. */
+    bytes grouped;
+    size_t rows;
 } many;
 
 /* Item `at` of the list as a tuple; a new reference. */
@@ -331,11 +340,11 @@ static int copy_template(many *work) {
     return 0;
 }
 
-/* Binds the values of as many statements as there are copies; how many, or 0 where some can't be bound: they are then executed
-   one by one, and the one says why. */
-static size_t bind_many(engine *self, const many *work, Py_ssize_t wanted) {
+/* Binds the values of as many statements; how many, or 0 where some can't be bound: they are then executed one by one, and the
+   one says why. */
+static size_t bind_many(engine *self, const many *work, size_t most, Py_ssize_t wanted) {
     size_t count = 0;
-    while (count < work->copies && work->at + (Py_ssize_t)count < work->size) {
+    while (count < most && work->at + (Py_ssize_t)count < work->size) {
         PyObject *values = values_at(work, work->at + (Py_ssize_t)count);
         bool is_bound = values != NULL && PyTuple_Size(values) == wanted && bind_values(&self->handle, values) == 0;
         Py_XDECREF(values);
@@ -366,7 +375,7 @@ static size_t execute_read_many(engine *self, size_t count, sqlkeep_outcome *las
 static PyObject *execute_some(engine *self, many *work, Py_ssize_t wanted, bool *was_read) {
     sqlkeep_script script = {0, 0, 0};
     sqlkeep_outcome last = {SQLKEEP_DONE, 0, 0, 0};
-    size_t count = bind_many(self, work, wanted);
+    size_t count = bind_many(self, work, work->copies, wanted);
     *was_read = count > 0 && read_bound(self, work->text.at, count * length_of_copy(work), &script) == SQLKEEP_OK;
     *was_read = *was_read && script.statements == count && script.has_fault == 0;
     if (!*was_read) {
@@ -377,6 +386,46 @@ static PyObject *execute_some(engine *self, many *work, Py_ssize_t wanted, bool 
     size_t done = execute_read_many(self, count, &last, &work->changed);
     work->at += (Py_ssize_t)done;
     return done == count ? NULL : engine_answer(self, done, &last, false);
+}
+
+/* Makes one statement with so many rows of values. */
+static int group_template(many *work, size_t rows) {
+    const char *row = work->given.text + work->row_from;
+    size_t length = work->row_to - work->row_from;
+    work->grouped.length = 0;
+    work->rows = 0;
+    if (bytes_push(&work->grouped, work->given.text, work->row_to) != 0) {
+        return -1;
+    }
+    for (size_t more = 1; more < rows; more++) {
+        if (bytes_push(&work->grouped, ",", 1) != 0 || bytes_push(&work->grouped, row, length) != 0) {
+            return -1;
+        }
+    }
+    work->rows = rows;
+    return bytes_push(&work->grouped, end_of_text, WITH_SEMICOLON);
+}
+
+/* Inserts the rows of several statements by one. The caller has looked that this comes to the same: no trigger runs, and no row can
+   need a later one, so that each statement by itself would be accepted too. Where the one isn't, nothing was changed, and the
+   statements are executed one after the other. Whether it was accepted. */
+static bool execute_group(engine *self, many *work, Py_ssize_t wanted) {
+    sqlkeep_script script = {0, 0, 0};
+    sqlkeep_outcome outcome = {SQLKEEP_DONE, 0, 0, 0};
+    size_t left = (size_t)(work->size - work->at) - 1, rows = left < MOST_AT_ONCE ? left : MOST_AT_ONCE;
+    if (rows < 2 || (work->rows != rows && group_template(work, rows) != 0) || bind_many(self, work, rows, wanted) != rows) {
+        return false;
+    }
+    if (read_bound(self, work->grouped.at, work->grouped.length, &script) != SQLKEEP_OK || !is_one(&script)) {
+        return false;
+    }
+    self->has_work = false;
+    if (run_at(self, 0, &outcome) != SQLKEEP_OK || outcome.kind != SQLKEEP_CHANGED) {
+        return false;
+    }
+    work->at += (Py_ssize_t)rows;
+    work->changed += outcome.count;
+    return true;
 }
 
 /* Executes one statement. NULL where it was accepted or with an exception, otherwise its answer. */
@@ -397,22 +446,32 @@ static PyObject *execute_next(engine *self, many *work) {
     return answer;
 }
 
+/* How many values the first statement had. */
+static Py_ssize_t count_of_values(const many *work) {
+    PyObject *first = values_at(work, 0);
+    Py_ssize_t count = first == NULL ? -1 : PyTuple_Size(first);
+    Py_XDECREF(first);
+    PyErr_Clear();
+    return count;
+}
+
 /* Executes the next statements: several at once where that can be, otherwise one. */
 static PyObject *execute_step(engine *self, many *work) {
     bool was_read = false;
-    bool is_alone = work->at == 0 || self->explains || work->size - work->at == 1;
-    if (!is_alone && work->copies == 0 && copy_template(work) != 0) {
+    if (work->at == 0 || self->explains || work->size - work->at == 1) {
+        return execute_next(self, work);
+    }
+    Py_ssize_t wanted = count_of_values(work);
+    if (work->row_to > 0 && execute_group(self, work, wanted)) {
         return NULL;
     }
-    if (!is_alone) {
-        PyObject *first = values_at(work, 0);
-        Py_ssize_t wanted = first == NULL ? -1 : PyTuple_Size(first);
-        Py_XDECREF(first);
-        PyObject *answer = execute_some(self, work, wanted, &was_read);
-        if (was_read || answer != NULL) {
-            return answer;
-        }
-        PyErr_Clear();
+    work->row_to = 0;
+    if (PyErr_Occurred() || (work->copies == 0 && copy_template(work) != 0)) {
+        return NULL;
+    }
+    PyObject *answer = execute_some(self, work, wanted, &was_read);
+    if (was_read || answer != NULL || PyErr_Occurred()) {
+        return answer;
     }
     return execute_next(self, work);
 }
@@ -426,20 +485,25 @@ static PyObject *execute_list(engine *self, many *work) {
     return answer;
 }
 
-/* execute_many(text, list): (how many were accepted, how many rows they changed, None or the answer of the next). */
+/* execute_many(text, list, row_from, row_to): (how many were accepted, how many rows they changed, None or the answer of the next). */
 PyObject *engine_execute_many(engine *self, PyObject *arguments) {
     PyObject *text;
-    many work = {{NULL, 0, NULL}, AS_IT_IS, NULL, 0, 0, 0, {NULL, 0, 0}, 0};
-    if (!PyArg_ParseTuple(arguments, "UO!:execute_many", &text, &PyList_Type, &work.list) || engine_ready(self) != 0) {
+    Py_ssize_t row_from, row_to;
+    many work = {.with = AS_IT_IS};
+    if (!PyArg_ParseTuple(arguments, "UO!nn:execute_many", &text, &PyList_Type, &work.list, &row_from, &row_to) || engine_ready(self) != 0) {
         return NULL;
     }
     PyObject *bytes_of_text = encoded(text, &work.given);
     if (bytes_of_text == NULL) {
         return NULL;
     }
+    bool is_row = 0 < row_from && row_from < row_to && (size_t)row_to <= work.given.length;
+    work.row_from = is_row ? (size_t)row_from : 0;
+    work.row_to = is_row ? (size_t)row_to : 0;
     work.size = PyList_Size(work.list);
     PyObject *answer = execute_list(self, &work);
     bytes_free(&work.text);
+    bytes_free(&work.grouped);
     Py_DECREF(bytes_of_text);
     self->progress = work.at;
     if (answer == NULL && PyErr_Occurred()) {

@@ -5,7 +5,8 @@ from . import errors
 from ._engine import Engine
 from .answers import CHANGED, DONE, error_of
 from .cursor import Cursor, values_of
-from .plans import COMMIT, WANTS_TRANSACTION, plan_of
+from .groups import row_of_values
+from .plans import COMMIT, DATA, WANTS_TRANSACTION, plan_of, plans
 
 TYPE_CHECKING = False
 if TYPE_CHECKING:
@@ -20,6 +21,8 @@ __all__ = ["Connection", "LEGACY_TRANSACTION_CONTROL", "connect"]
 #: The default of `autocommit`, as in `sqlite3`: a transaction begins with the first INSERT, UPDATE or DELETE.
 LEGACY_TRANSACTION_CONTROL = -1
 
+# From so many sets on `executemany` looks whether their rows may be inserted by one statement.
+FEWEST_GROUPED = 8
 # What `executemany` may take at once: no code of the caller runs between two statements.
 PLAIN = (list, tuple)
 
@@ -103,6 +106,10 @@ class Connection:
 
     def execute(self, operation: str, parameters: Sequence[Value] = ()) -> Cursor:
         """Executes one statement with a new cursor, and gives that."""
+        if type(operation) is str and type(parameters) is tuple and self._autocommit is not True and plans.get(operation, COMMIT) <= DATA:
+            # The short way of a statement that was seen before.
+            answer = self._engine.execute(operation, parameters, False)
+            return Cursor(self).take(operation, parameters, answer)
         return Cursor(self).execute(operation, parameters)
 
     def executemany(self, operation: str, parameters: Iterable[Sequence[Value]]) -> Cursor:
@@ -182,7 +189,8 @@ class Connection:
 
     def _answer_list(self, text: str, values: list[Any], before: int) -> int:
         try:
-            done, changed, answer = self._engine.execute_many(text, values)
+            row = row_of_values(text, self._engine) if len(values) >= FEWEST_GROUPED else (0, 0)
+            done, changed, answer = self._engine.execute_many(text, values, *row)
         except errors.Error as error:
             if self._engine.is_open():
                 error.statement = before + self._engine.progress() + 1

@@ -80,19 +80,18 @@ class Cursor:
             answer = self._engine.execute(operation, values, False)
         else:
             answer = self._connection.answer(operation, values, plan)
+        return self.take(operation, values, answer)
+
+    def take(self, text: str, values: tuple[Value, ...], answer: tuple[Any, ...]) -> Cursor:
+        """Takes what the engine has answered to a statement, and gives the cursor itself."""
         kind = answer[0]
         if kind == CHANGED:
             self.rowcount = answer[1]
         elif kind == ROWS:
-            self._take(operation, answer)
+            self.rowcount, self._rows, self._text, self._names, self._columns = len(answer[1]), iter(answer[1]), text, answer[2], None
         elif kind not in (DONE, EMPTY):
-            raise error_of(answer, operation, len(values))
+            raise error_of(answer, text, len(values))
         return self
-
-    def _take(self, text: str, answer: tuple[Any, ...]) -> None:
-        """Takes the rows of a query."""
-        rows: list[Row] = answer[1]
-        self.rowcount, self._rows, self._text, self._names, self._columns = len(rows), iter(rows), text, answer[2], None
 
     def executemany(self, operation: str, parameters: Iterable[Sequence[Value]]) -> Cursor:
         """Executes an INSERT, UPDATE or DELETE once for each set of values. Where one is refused, those before it stay in the
