@@ -202,6 +202,15 @@ def section_runs(room, python, pairs):
     return len(pairs), 0, 0
 
 
+def readme_runs(room, python):
+    """The program of the package's README raises what stands below it."""
+    text = (PACKAGE / "README.md").read_text("utf-8")
+    code = BLOCK.search(text)[2]
+    wanted = re.search(r"^    (sqlkeep\.\w+Error: .*)$", text, re.M)[1]
+    done = room.run(python, "-c", code)
+    assert done.stderr.rstrip("\n").split("\n")[-1] == wanted, done.stderr
+
+
 def shell_of_page(room, python):
     """The dialogue of the page, played on a terminal."""
     text = (PAGES / "python.md").read_text("utf-8")
@@ -318,6 +327,7 @@ def try_all(counts, room, wheel, library):
         counts.test(f"suite {name}", suite, room, python, name)
     for title, pairs in sections("python.md"):
         counts.test(f"page: {title}", section_runs, room, python, pairs)
+    counts.test("page: the README", readme_runs, room, python)
     counts.test("page: the shell", shell_of_page, room, python)
     counts.test("page: classes", classes_of_page, room, python)
     counts.test("help", help_is_there, room, python)

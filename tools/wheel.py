@@ -127,11 +127,16 @@ def write(path, found):
             archive.writestr(entry, found[name])
 
 
+def old_ones(folder):
+    """The wheels that were left in a folder: none stays that isn't of this library."""
+    return list(Path(folder).glob(f"sqlkeep-*-{TAG}-*.whl"))
+
+
 def make(folder, to):
     """Makes the wheel of the library in a folder; its path."""
     path = Path(to) / f"sqlkeep-{version()}-{TAG}-{platform()}.whl"
     found = files(folder)
-    for old in Path(to).glob(f"sqlkeep-*-{TAG}-*.whl"):
+    for old in old_ones(to):
         old.unlink()
     write(path.with_suffix(".part"), found)
     os.replace(path.with_suffix(".part"), path)
@@ -148,6 +153,8 @@ def main(words):
     try:
         path = make(words[0], words[2] if len(words) == 3 else words[0])
     except NotMade as why:
+        for old in old_ones(words[-1]):
+            old.unlink()
         say(why)
         return 0 if "skipped" in str(why) else 1
     say(f"{path.name} is in {path.parent}: {path.stat().st_size / 1e6:.1f} MB; pip installs it")

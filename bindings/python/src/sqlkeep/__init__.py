@@ -1,4 +1,4 @@
-"""sqlkeep: an in-memory SQL engine for integrity constraints, by the DB-API 2.0 (PEP 249).
+"""An in-memory SQL engine for integrity constraints, by the DB-API 2.0 (PEP 249).
 
     import sqlkeep
 
