@@ -108,10 +108,37 @@ int engine_ready(engine *self) {
                      self->thread, PyThread_get_thread_ident());
         return -1;
     }
+    if (self->is_busy) {
+        PyErr_SetString(errors.programming, "the connection is executing a statement");
+        return -1;
+    }
     if (self->untold != NULL) {
         engine_tell(self);
     }
     return 0;
+}
+
+int engine_begin(engine *self) {
+    if (engine_ready(self) != 0) {
+        return -1;
+    }
+    self->is_busy = true;
+    return 0;
+}
+
+PyObject *engine_end(engine *self, PyObject *result) {
+    self->is_busy = false;
+    return result;
+}
+
+int engine_let_signals(engine *self) {
+    self->is_busy = false;
+    int status = PyErr_CheckSignals();
+    if (status == 0) {
+        status = engine_ready(self);
+    }
+    self->is_busy = true;
+    return status;
 }
 
 static PyObject *nothing(void) {
@@ -211,21 +238,15 @@ PyObject *engine_lines(engine *self, uint64_t number) {
 
 static PyObject *engine_told_lines(engine *self, PyObject *arguments) {
     unsigned long long number;
-    if (!PyArg_ParseTuple(arguments, "K:lines", &number) || engine_ready(self) != 0) {
+    if (!PyArg_ParseTuple(arguments, "K:lines", &number) || engine_begin(self) != 0) {
         return NULL;
     }
-    return engine_lines(self, number);
+    return engine_end(self, engine_lines(self, number));
 }
 
-/* run(bytes): the transcript, how many were accepted, refused, and refused memory, and the byte of the fault or None. */
-static PyObject *engine_run(engine *self, PyObject *arguments) {
-    const char *text;
-    Py_ssize_t length;
+static PyObject *run_text(engine *self, const char *text, Py_ssize_t length) {
     sqlkeep_summary summary = {0, 0, 0, 0, 0};
     uint32_t status;
-    if (!PyArg_ParseTuple(arguments, "y#:run", &text, &length) || engine_ready(self) != 0) {
-        return NULL;
-    }
     Py_BEGIN_ALLOW_THREADS
     status = sqlkeep_run(&self->handle, (const uint8_t *)text, (size_t)length, &summary);
     Py_END_ALLOW_THREADS
@@ -237,6 +258,16 @@ static PyObject *engine_run(engine *self, PyObject *arguments) {
     }
     return Py_BuildValue("NKKKN", lines, (unsigned long long)summary.accepted, (unsigned long long)summary.refused,
                          (unsigned long long)summary.memory_refused, fault);
+}
+
+/* run(bytes): the transcript, how many were accepted, refused, and refused memory, and the byte of the fault or None. */
+static PyObject *engine_run(engine *self, PyObject *arguments) {
+    const char *text;
+    Py_ssize_t length;
+    if (!PyArg_ParseTuple(arguments, "y#:run", &text, &length) || engine_begin(self) != 0) {
+        return NULL;
+    }
+    return engine_end(self, run_text(self, text, length));
 }
 
 /* ---- scripts */
@@ -258,34 +289,13 @@ static PyObject *engine_read(engine *self, PyObject *arguments) {
     return fault == NULL ? NULL : Py_BuildValue("KN", (unsigned long long)script.statements, fault);
 }
 
-/* execute_at(place, is_told): the answer of a statement of those that were read. */
-static PyObject *engine_execute_at(engine *self, PyObject *arguments) {
-    unsigned long long place;
-    int is_told;
-    uint32_t status;
-    sqlkeep_outcome outcome = {SQLKEEP_DONE, 0, 0, 0};
-    if (!PyArg_ParseTuple(arguments, "Kp:execute_at", &place, &is_told) || engine_ready(self) != 0) {
-        return NULL;
-    }
-    self->has_work = false;
-    if (is_told) {
-        sqlkeep_explain(&self->handle, 1);
-    }
-    Py_BEGIN_ALLOW_THREADS
-    status = sqlkeep_execute(&self->handle, (size_t)place, &outcome);
-    Py_END_ALLOW_THREADS
-    PyObject *answer = status == SQLKEEP_OK ? engine_answer(self, (size_t)place, &outcome, is_told) : failed(status);
-    sqlkeep_explain(&self->handle, self->explains);
-    return answer;
-}
-
 /* ---- transactions, and what the library tells */
 
 /* commit(): the answer of COMMIT. A refused one rolls back, so its account is asked for at once. */
 static PyObject *engine_commit(engine *self, PyObject *unused) {
     sqlkeep_outcome outcome = {SQLKEEP_DONE, 0, 0, 0};
     (void)unused;
-    if (engine_ready(self) != 0) {
+    if (engine_begin(self) != 0) {
         return NULL;
     }
     self->has_work = false;
@@ -293,7 +303,7 @@ static PyObject *engine_commit(engine *self, PyObject *unused) {
     uint32_t status = sqlkeep_commit(&self->handle, &outcome);
     PyObject *answer = status == SQLKEEP_OK ? engine_answer(self, 0, &outcome, true) : failed(status);
     sqlkeep_explain(&self->handle, self->explains);
-    return answer;
+    return engine_end(self, answer);
 }
 
 static PyObject *engine_rollback(engine *self, PyObject *unused) {
@@ -306,12 +316,12 @@ static PyObject *engine_rollback_to(engine *self, PyObject *arguments) {
     const char *name;
     Py_ssize_t length;
     sqlkeep_outcome outcome = {SQLKEEP_DONE, 0, 0, 0};
-    if (!PyArg_ParseTuple(arguments, "y#:rollback_to", &name, &length) || engine_ready(self) != 0) {
+    if (!PyArg_ParseTuple(arguments, "y#:rollback_to", &name, &length) || engine_begin(self) != 0) {
         return NULL;
     }
     self->has_work = false;
     uint32_t status = sqlkeep_rollback_to(&self->handle, (const uint8_t *)name, (size_t)length, &outcome);
-    return status == SQLKEEP_OK ? engine_answer(self, 0, &outcome, true) : failed(status);
+    return engine_end(self, status == SQLKEEP_OK ? engine_answer(self, 0, &outcome, true) : failed(status));
 }
 
 static PyObject *engine_in_transaction(engine *self, PyObject *unused) {
@@ -352,12 +362,8 @@ static PyObject *violation_at(engine *self, size_t place) {
     return Py_BuildValue("s#K", name, (Py_ssize_t)copied, (unsigned long long)row);
 }
 
-static PyObject *engine_pending(engine *self, PyObject *unused) {
+static PyObject *violations(engine *self) {
     size_t count = 0;
-    (void)unused;
-    if (engine_ready(self) != 0) {
-        return NULL;
-    }
     uint32_t status = sqlkeep_pending(&self->handle, &count);
     PyObject *list = status == SQLKEEP_OK ? PyList_New((Py_ssize_t)count) : failed(status);
     for (size_t place = 0; list != NULL && place < count; place++) {
@@ -370,6 +376,11 @@ static PyObject *engine_pending(engine *self, PyObject *unused) {
     return list;
 }
 
+static PyObject *engine_pending(engine *self, PyObject *unused) {
+    (void)unused;
+    return engine_begin(self) != 0 ? NULL : engine_end(self, violations(self));
+}
+
 /* progress(): how many statements the last `execute_many` went through. */
 static PyObject *engine_progress(engine *self, PyObject *unused) {
     (void)unused;
@@ -378,7 +389,7 @@ static PyObject *engine_progress(engine *self, PyObject *unused) {
 
 static PyObject *engine_catalogue(engine *self, PyObject *unused) {
     (void)unused;
-    return engine_ready(self) != 0 ? NULL : catalogue_of(&self->handle);
+    return engine_begin(self) != 0 ? NULL : engine_end(self, catalogue_of(&self->handle));
 }
 
 static PyObject *engine_explain(engine *self, PyObject *arguments) {
@@ -409,7 +420,6 @@ static PyMethodDef methods[] = {
     {"execute", (PyCFunction)engine_execute, METH_VARARGS, NULL},
     {"execute_many", (PyCFunction)engine_execute_many, METH_VARARGS, NULL},
     {"read", (PyCFunction)engine_read, METH_VARARGS, NULL},
-    {"execute_at", (PyCFunction)engine_execute_at, METH_VARARGS, NULL},
     {"lines", (PyCFunction)engine_told_lines, METH_VARARGS, NULL},
     {"run", (PyCFunction)engine_run, METH_VARARGS, NULL},
     {"commit", (PyCFunction)engine_commit, METH_NOARGS, NULL},

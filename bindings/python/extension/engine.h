@@ -12,6 +12,8 @@ typedef struct engine {
     sqlkeep handle;
     /* The thread that opened it, and alone may use it. */
     unsigned long thread;
+    /* Whether a call is running. Code of the caller may run within it, as the end of an object, and must not use the session then. */
+    bool is_busy;
     /* Whether accounts are asked for by the caller. */
     bool explains;
     /* Whether a statement that is refused for a row is executed once more for its account. */
@@ -31,8 +33,15 @@ typedef struct engine {
     PyObject *held;
 } engine;
 
-/* 0 where the call may go on; -1 with an exception where the session is closed, or of another thread. */
+/* 0 where the call may go on; -1 with an exception where the session is closed, of another thread, or busy. */
 int engine_ready(engine *self);
+
+/* The same, and the session is busy from now on until `engine_end`, which gives the result. */
+int engine_begin(engine *self);
+PyObject *engine_end(engine *self, PyObject *result);
+
+/* Lets handlers of signals run, which may use the session. 0, or -1 with an exception. */
+int engine_let_signals(engine *self);
 
 /* The lines of the last outcome as bytes, with this number. NULL with an exception where memory is refused. */
 PyObject *engine_lines(engine *self, uint64_t number);

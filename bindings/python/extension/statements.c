@@ -60,7 +60,9 @@ static void put_lines(engine *self, PyObject *error) {
 
 void engine_tell(engine *self) {
     PyObject *reference = self->untold;
+    bool was_busy = self->is_busy;
     self->untold = NULL;
+    self->is_busy = true;
     PyObject *error = PyWeakref_GetObject(reference);
     if (error != NULL && error != Py_None) {
         Py_INCREF(error);
@@ -75,6 +77,7 @@ void engine_tell(engine *self) {
         Py_DECREF(error);
     }
     Py_DECREF(reference);
+    self->is_busy = was_busy;
 }
 
 /* Notes that the error of the last outcome is still to be told. */
@@ -260,30 +263,31 @@ static void hold(engine *self, PyObject *text, PyObject *answer) {
     }
 }
 
-/* execute(text, values, is_told): values is a tuple. */
-PyObject *engine_execute(engine *self, PyObject *arguments) {
-    PyObject *text, *values;
-    int is_told;
+/* Executes a text that isn't held. */
+static PyObject *execute_new(engine *self, PyObject *text, PyObject *values, bool is_told) {
     ending with;
-    template given = {NULL, 0, NULL};
-    if (!PyArg_ParseTuple(arguments, "UO!p:execute", &text, &PyTuple_Type, &values, &is_told) || engine_ready(self) != 0) {
-        return NULL;
-    }
-    bool is_plain = PyTuple_Size(values) == 0;
-    if (is_plain && self->held == text) {
-        return execute_read(self, is_told);
-    }
+    template given = {NULL, 0, values};
     PyObject *bytes_of_text = encoded(text, &given);
     if (bytes_of_text == NULL) {
         return NULL;
     }
-    given.values = values;
     PyObject *answer = execute_template(self, &given, is_told, &with);
     Py_DECREF(bytes_of_text);
-    if (answer != NULL && is_plain) {
+    if (answer != NULL && PyTuple_Size(values) == 0) {
         hold(self, text, answer);
     }
     return answer;
+}
+
+/* execute(text, values, is_told): values is a tuple. */
+PyObject *engine_execute(engine *self, PyObject *arguments) {
+    PyObject *text, *values;
+    int is_told;
+    if (!PyArg_ParseTuple(arguments, "UO!p:execute", &text, &PyTuple_Type, &values, &is_told) || engine_begin(self) != 0) {
+        return NULL;
+    }
+    bool is_held = self->held == text && PyTuple_Size(values) == 0;
+    return engine_end(self, is_held ? execute_read(self, is_told) : execute_new(self, text, values, is_told));
 }
 
 /* ---- many statements of one template */
@@ -479,33 +483,25 @@ static PyObject *execute_step(engine *self, many *work) {
 /* Goes through the list: NULL where all were accepted or with an exception, otherwise the answer of the one that wasn't. */
 static PyObject *execute_list(engine *self, many *work) {
     PyObject *answer = NULL;
-    while (work->at < work->size && answer == NULL && !PyErr_Occurred() && PyErr_CheckSignals() == 0) {
+    while (work->at < work->size && answer == NULL && !PyErr_Occurred() && engine_let_signals(self) == 0) {
         answer = execute_step(self, work);
     }
     return answer;
 }
 
-/* execute_many(text, list, row_from, row_to): (how many were accepted, how many rows they changed, None or the answer of the next). */
-PyObject *engine_execute_many(engine *self, PyObject *arguments) {
-    PyObject *text;
-    Py_ssize_t row_from, row_to;
-    many work = {.with = AS_IT_IS};
-    if (!PyArg_ParseTuple(arguments, "UO!nn:execute_many", &text, &PyList_Type, &work.list, &row_from, &row_to) || engine_ready(self) != 0) {
-        return NULL;
-    }
-    PyObject *bytes_of_text = encoded(text, &work.given);
+/* Executes a text once for each item of a list. */
+static PyObject *execute_all(engine *self, PyObject *text, many *work) {
+    PyObject *bytes_of_text = encoded(text, &work->given);
     if (bytes_of_text == NULL) {
         return NULL;
     }
-    bool is_row = 0 < row_from && row_from < row_to && (size_t)row_to <= work.given.length;
-    work.row_from = is_row ? (size_t)row_from : 0;
-    work.row_to = is_row ? (size_t)row_to : 0;
-    work.size = PyList_Size(work.list);
-    PyObject *answer = execute_list(self, &work);
-    bytes_free(&work.text);
-    bytes_free(&work.grouped);
+    bool is_row = 0 < work->row_from && work->row_from < work->row_to && work->row_to <= work->given.length;
+    work->row_to = is_row ? work->row_to : 0;
+    PyObject *answer = execute_list(self, work);
+    bytes_free(&work->text);
+    bytes_free(&work->grouped);
     Py_DECREF(bytes_of_text);
-    self->progress = work.at;
+    self->progress = work->at;
     if (answer == NULL && PyErr_Occurred()) {
         return NULL;
     }
@@ -513,5 +509,19 @@ PyObject *engine_execute_many(engine *self, PyObject *arguments) {
         Py_INCREF(Py_None);
         answer = Py_None;
     }
-    return Py_BuildValue("nKN", work.at, work.changed, answer);
+    return Py_BuildValue("nKN", work->at, work->changed, answer);
+}
+
+/* execute_many(text, list, row_from, row_to): (how many were accepted, how many rows they changed, None or the answer of the next). */
+PyObject *engine_execute_many(engine *self, PyObject *arguments) {
+    PyObject *text;
+    Py_ssize_t row_from, row_to;
+    many work = {.with = AS_IT_IS};
+    if (!PyArg_ParseTuple(arguments, "UO!nn:execute_many", &text, &PyList_Type, &work.list, &row_from, &row_to) || engine_begin(self) != 0) {
+        return NULL;
+    }
+    work.row_from = row_from < 0 ? 0 : (size_t)row_from;
+    work.row_to = row_to < 0 ? 0 : (size_t)row_to;
+    work.size = PyList_Size(work.list);
+    return engine_end(self, execute_all(self, text, &work));
 }

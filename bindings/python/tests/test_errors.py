@@ -258,6 +258,15 @@ class Telling(unittest.TestCase):
         again = refusal(self.connection.execute, "INSERT INTO t VALUES (2, 3)")
         self.assertEqual(str(again), "Violation of T_C1: T row 2 (2, 2) has the key of row 3 (2, 3)")
 
+    def test_a_commit_is_never_executed_again(self):
+        """The engine knows by the cause that COMMIT has rolled back, also where nobody has said that the statement is one."""
+        connection = sqlkeep.connect()
+        connection.execute("CREATE TABLE t (a INT CONSTRAINT c CHECK (a > 0) INITIALLY DEFERRED)")
+        connection.execute("INSERT INTO t VALUES (0)")
+        error = refusal(connection._engine.execute, "COMMIT", (), False)
+        connection.execute("INSERT INTO t VALUES (1)")
+        self.assertEqual((error.cause, error.constraint, error.row, error.violations, connection.in_transaction), (19, "C", 1, [], True))
+
     def test_pickle_and_copy(self):
         for make in (lambda error: pickle.loads(pickle.dumps(error)), copy.copy, copy.deepcopy):
             error = make(self.refused())

@@ -1,4 +1,5 @@
 """Parameters: what a value may be, what becomes of it, and that no value becomes more of a statement than a literal."""
+import gc
 import signal
 import unittest
 
@@ -53,6 +54,15 @@ class Values(unittest.TestCase):
             with self.assertRaisesRegex(sqlkeep.ProgrammingError, f"^parameter 1 is of type {name}; a value is an int, a str or None$"):
                 self.connection.execute("INSERT INTO t VALUES (?, 1)", (value,))
         self.assertEqual(self.rows(), [])
+
+    def test_a_value_that_is_refused_leaves_nothing_behind(self):
+        for wrong in (1.5, 2**63, "\ud800"):
+            for call in (lambda: self.connection.execute("INSERT INTO t VALUES (?, ?)", ("x", wrong)), lambda: self.connection.executemany("INSERT INTO t VALUES (?, ?)", [("x", wrong)])):
+                with self.assertRaises(sqlkeep.DatabaseError):
+                    call()
+                self.connection.execute("INSERT INTO t VALUES (?, ?)", ("y", 1))
+                self.assertEqual(self.rows(), [("y", 1)])
+                self.connection.rollback()
 
     def test_surrogates(self):
         with self.assertRaisesRegex(sqlkeep.DataError, "^parameter 1 is a text with a surrogate, which UTF-8 can't hold$"):
@@ -169,6 +179,74 @@ class Many(unittest.TestCase):
             signal.signal(signal.SIGALRM, before)
         self.assertEqual([number for number, in connection.execute("SELECT a FROM t")], list(range(50_000)))
         self.assertEqual({number for number, in connection.execute("SELECT a FROM u")}, {7})
+
+    def test_a_refusal_by_a_signal_in_between(self):
+        """The error of a handler is told before the next statement is read, and no statement is executed twice for it."""
+        connection = sqlkeep.connect()
+        connection.executescript("CREATE TABLE t (a INT, b INT); CREATE TABLE u (a INT CONSTRAINT c CHECK (a > 0));")
+        kept = []
+
+        def handle(*_):
+            try:
+                connection.execute("INSERT INTO u VALUES (?)", (0,))
+            except sqlkeep.IntegrityError as error:
+                kept.append(error)
+
+        before = signal.signal(signal.SIGALRM, handle)
+        signal.setitimer(signal.ITIMER_REAL, 0.002, 0.002)
+        try:
+            for text in ("INSERT INTO t VALUES (?, 1)", "INSERT INTO t SELECT ?, 2 FROM p"):
+                if "FROM p" in text:
+                    connection.commit()
+                    connection.executescript("CREATE TABLE p (k INT); INSERT INTO p VALUES (1); COMMIT;")
+                connection.executemany(text, [(number,) for number in range(30_000)])
+        finally:
+            signal.setitimer(signal.ITIMER_REAL, 0)
+            signal.signal(signal.SIGALRM, before)
+        self.assertEqual(connection.execute("SELECT a, b FROM t").fetchall(), [(number, kind) for kind in (1, 2) for number in range(30_000)])
+        self.assertTrue(kept)
+        self.assertEqual({error.violations[0].reason.partition(" row ")[0] + error.constraint for error in kept}, {"UC"})
+
+    def test_an_object_that_ends_in_between(self):
+        """The end of an object may come in the middle of a call, and can't use the connection then."""
+        connection = sqlkeep.connect()
+        connection.execute("CREATE TABLE t (a INT, b VARCHAR(9))")
+        connection.executemany("INSERT INTO t VALUES (?, ?)", [(number, str(number)) for number in range(2_000)])
+        connection.commit()
+        wrong, before = [], gc.get_threshold()
+
+        class Meddler:
+            def __init__(self):
+                self.me = self
+
+            def __del__(self):
+                try:
+                    connection.execute("SELECT * FROM t WHERE a = 5")
+                except sqlkeep.ProgrammingError as error:
+                    if str(error) != "the connection is executing a statement":
+                        wrong.append(error)
+
+        try:
+            for _ in range(20):
+                gc.collect()
+                gc.set_threshold(1000, 1, 1)
+                Meddler()
+                rows = connection.execute("SELECT a, b FROM t").fetchall()
+                self.assertEqual(rows, [(number, str(number)) for number in range(2_000)])
+        finally:
+            gc.set_threshold(*before)
+        self.assertEqual(wrong, [])
+
+    def test_a_signal_that_closes(self):
+        connection = sqlkeep.connect()
+        connection.execute("CREATE TABLE t (a INT)")
+        before = signal.signal(signal.SIGALRM, lambda *_: connection.close())
+        signal.setitimer(signal.ITIMER_REAL, 0.01)
+        try:
+            with self.assertRaisesRegex(sqlkeep.ProgrammingError, "the connection is closed"):
+                connection.executemany("INSERT INTO t VALUES (?)", [(number,) for number in range(1_000_000)])
+        finally:
+            signal.signal(signal.SIGALRM, before)
 
     def test_ctrl_c_in_between(self):
         connection = sqlkeep.connect()
