@@ -129,7 +129,11 @@ class Account:
         return bool(self.events)
 
     def __str__(self) -> str:
-        return "".join(line + "\n" for line in written(self.events, "  "))
+        return "".join(line + "\n" for line in self.lines())
+
+    def lines(self) -> Iterator[str]:
+        """The lines of the account. A value may hold line feeds, so a line may go over several."""
+        return written(self.events, "  ")
 
     @property
     def violations(self) -> List[Violation]:

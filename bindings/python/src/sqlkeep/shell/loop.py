@@ -16,7 +16,7 @@ from .commands import COMMANDS, Failed, read, run_command
 from .complete import candidates
 from .interrupts import Interrupts
 from .kept import Kept
-from .show import as_csv, as_json, as_table, caret, counted
+from .show import as_account, as_csv, as_json, as_table, caret, counted, visible
 
 __all__ = ["Shell"]
 
@@ -226,7 +226,7 @@ class Shell:
         elif self.mode == "table":
             self.write(self.colours.of("ok", done(part, outcome)) + "\n")
         if self.session.explain:
-            self.write(str(outcome.account))
+            self.write(as_account(outcome.account))
 
     def show_rows(self, outcome: Outcome) -> None:
         rows = outcome.rows or []
@@ -246,8 +246,8 @@ class Shell:
         """Says why a statement was refused, with all violations of a COMMIT."""
         violations = error.violations if len(error.violations) > 1 and not self.session.explain else []
         left = len(violations) - MOST_LISTED
-        more = "".join(f"  {violation}\n" for violation in violations[:MOST_LISTED]) + (f"  and {left} more\n" if left > 0 else "")
-        self.complain(f"Refused: {error}{self.hint(error)}", more)
+        more = "".join(f"  {visible(str(violation))}\n" for violation in violations[:MOST_LISTED]) + (f"  and {left} more\n" if left > 0 else "")
+        self.complain(f"Refused: {visible(str(error))}{self.hint(error)}", more)
 
     def hint(self, error: DatabaseError) -> str:
         """A name that is like the one that isn't there."""

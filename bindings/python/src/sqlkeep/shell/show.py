@@ -7,9 +7,10 @@ import json
 import unicodedata
 from typing import Callable, Sequence
 
+from ..account import Account
 from ..values import Value
 
-__all__ = ["as_csv", "as_json", "as_table", "caret", "counted", "visible", "width_of"]
+__all__ = ["as_account", "as_csv", "as_json", "as_table", "caret", "counted", "visible", "width_of"]
 
 Row = Sequence[Value]
 Colour = Callable[[str, str], str]
@@ -79,5 +80,11 @@ def as_json(columns: Sequence[str], rows: Sequence[Row]) -> str:
 def caret(text: str, line: int, column: int) -> str:
     """A line of a text, with a caret below a column. A tab stays a tab, so that the caret stands where it belongs."""
     words = text.split("\n")[line - 1].rstrip("\r")
-    blanks = "".join("\t" if character == "\t" else " " * width_of(character) for character in words[: column - 1])
-    return f"  {words}\n  {blanks}^\n"
+    before = "\t".join(map(visible, words[: column - 1].split("\t")))
+    blanks = "".join("\t" if character == "\t" else " " * width_of(character) for character in before)
+    return "  " + "\t".join(map(visible, words.split("\t"))) + f"\n  {blanks}^\n"
+
+
+def as_account(account: Account) -> str:
+    """The lines of an account, each of them one line of the terminal, whatever the values hold."""
+    return "".join(visible(line) + "\n" for line in account.lines())
