@@ -1,0 +1,291 @@
+// What the buttons, the keys and the lists of the page do.
+
+import { Answers, signOf } from "./answers.mjs";
+import { byId, element, prose } from "./elements.mjs";
+import { Editor } from "./editor.mjs";
+import { count } from "./said.mjs";
+import { addressOf, scriptOf, textOf } from "./share.mjs";
+
+// The statements of the examples that show most.
+const SHOWN_FIRST = { first: 6, nulls: 6, transactions: 8, keys: 6, references: 6, cascades: 11, rings: 10, savepoints: 8, guards: 11, logs: 11, authors: 8 };
+const OWN = "your script";
+
+export class Controls {
+  #chosen = 0;
+  #asked = 0;
+  #own = null;
+
+  constructor(run, panes, examples) {
+    Object.assign(this, { run, panes, examples });
+    this.editor = new Editor(byId("editor"), { onChange: () => this.#edited(), onCaret: (number) => this.#caret(number) });
+    this.answers = new Answers(byId("answers"), (number) => this.choose(number));
+    run.onBusy = (isBusy) => this.#busy(isBusy);
+    this.#listen();
+  }
+
+  /** Opens the script of the address, or the first example, and runs it. */
+  async begin() {
+    this.#fillExamples();
+    await this.#openAddress() || await this.#openExample(this.examples[0].name);
+  }
+
+  #listen() {
+    const buttons = { run: () => this.runAll(), step: () => this.step(), back: () => this.back(), stop: () => this.run.stop(), share: () => this.share(), open: () => byId("file").click(), save: () => this.save() };
+    Object.entries(buttons).forEach(([id, work]) => byId(id).addEventListener("click", work));
+    byId("example").addEventListener("change", () => this.#openExample(byId("example").value));
+    byId("file").addEventListener("change", () => this.#openFile());
+    addEventListener("hashchange", () => this.#openAddress());
+    addEventListener("keydown", (event) => this.#key(event));
+  }
+
+  #key(event) {
+    const keys = { "Control+Enter": () => this.runAll(), "Meta+Enter": () => this.runAll(), "Alt+ArrowDown": () => this.step(), "Alt+ArrowUp": () => this.back() };
+    const name = `${event.ctrlKey ? "Control+" : ""}${event.metaKey ? "Meta+" : ""}${event.altKey ? "Alt+" : ""}${event.key}`;
+    if (name in keys) {
+      event.preventDefault();
+      keys[name]();
+    }
+  }
+
+  #busy(isBusy) {
+    document.body.setAttribute("aria-busy", String(isBusy));
+    // A short run would only make the button flicker.
+    clearTimeout(this.stopTimer);
+    if (isBusy) {
+      this.stopTimer = setTimeout(() => (byId("stop").disabled = false), 80);
+    } else {
+      byId("stop").disabled = true;
+    }
+  }
+
+  #say(text, isBad = false) {
+    byId("status").className = isBad ? "bad" : "";
+    byId("status").textContent = text;
+  }
+
+  #fillExamples() {
+    const options = this.examples.map((example, at) => element("option", { value: example.name }, `${at + 1} ${example.name}: ${example.title}`));
+    byId("example").replaceChildren(...(this.#own === null ? [] : [element("option", { value: OWN }, OWN)]), ...options);
+  }
+
+  /** Puts a script into the editor. One that was changed by hand is kept in the list of examples. */
+  #put(script, name, tour = []) {
+    if (byId("example").value === OWN && this.#own !== null) {
+      this.#own = this.editor.text;
+    }
+    this.editor.text = script;
+    this.run.forget();
+    this.#chosen = 0;
+    if (name === OWN) {
+      this.#own = script;
+    }
+    this.#fillExamples();
+    byId("example").value = name;
+    byId("tour").replaceChildren(...tour);
+    this.#clear();
+  }
+
+  #clear() {
+    this.answers.show([]);
+    this.answers.choose(0);
+    this.panes.clear();
+  }
+
+  async #openExample(name, number = SHOWN_FIRST[name]) {
+    const example = this.examples.find((each) => each.name === name);
+    if (name === OWN || !example) {
+      this.#put(this.#own ?? "", OWN);
+      await this.runAll();
+      return;
+    }
+    const tour = example.question ? [
+      element("h2", {}, `${example.title[0].toUpperCase()}${example.title.slice(1)}`),
+      element("p", {}, ...prose(example.text)),
+      element("p", {}, element("strong", {}, "Question. "), ...prose(example.question)),
+      element("details", {}, element("summary", {}, "Answer"), element("p", {}, ...prose(example.answer))),
+    ] : [];
+    this.#put(example.script, name, tour);
+    await this.runAll(number);
+  }
+
+  async #openAddress() {
+    try {
+      const found = await scriptOf(location.hash);
+      if (!found) {
+        return false;
+      }
+      if (found.example !== undefined) {
+        await this.#openExample(found.example, found.number || undefined);
+      } else {
+        this.#put(found.script, OWN);
+        await this.runAll(found.number || undefined);
+      }
+      return true;
+    } catch (error) {
+      await this.#openExample(this.examples[0].name);
+      this.#say(`This address holds no script: ${error.message}.`, true);
+      return true;
+    }
+  }
+
+  async #openFile() {
+    const [file] = byId("file").files;
+    byId("file").value = "";
+    if (!file) {
+      return;
+    }
+    try {
+      // A file that is far too long isn't read at all.
+      const script = file.size > 1 << 21 ? textOf({ length: file.size }) : textOf(new Uint8Array(await file.arrayBuffer()));
+      this.#put(script, OWN);
+      await this.runAll();
+    } catch (error) {
+      this.#say(`${file.name} was not opened: ${error.message}.`, true);
+    }
+  }
+
+  /** Writes the script to a file. */
+  save() {
+    const name = byId("example").value === OWN ? "script.sql" : `${byId("example").value}.sql`;
+    const address = URL.createObjectURL(new Blob([this.editor.text], { type: "text/plain" }));
+    element("a", { href: address, download: name }).click();
+    setTimeout(() => URL.revokeObjectURL(address), 1000);
+    this.#say(`The script is saved as ${name}.`);
+  }
+
+  /** Puts the script into the address, and the address into the clipboard where that is allowed. */
+  async share() {
+    const address = await addressOf(this.editor.text, this.#chosen);
+    history.replaceState(null, "", address);
+    const isCopied = await (navigator.clipboard?.writeText(location.href) ?? Promise.reject()).then(() => true, () => false);
+    this.#say(`The script is in the address${isCopied ? ", which is copied" : ": copy it from there"}. It has ${count(location.href.length, "character")}.`);
+  }
+
+  #edited() {
+    if (byId("example").value !== OWN) {
+      this.#own = this.editor.text;
+      this.#fillExamples();
+    }
+    byId("example").value = OWN;
+    this.#own = this.editor.text;
+    this.#chosen = 0;
+    this.run.forget();
+    this.#clear();
+    this.#say("The script was changed: run it again.");
+  }
+
+  #caret(number) {
+    if (number > 0 && number <= this.run.answers.length && number !== this.#chosen) {
+      this.choose(number, false);
+    }
+  }
+
+  /** Executes the whole script, and chooses a statement: the one that is named, else the first that is refused, else the last. */
+  async runAll(wanted) {
+    const number = typeof wanted === "number" ? wanted : this.#chosen;
+    await this.#execute(Infinity, () => {
+      const refused = this.run.answers.findIndex((answer) => answer.kind === "refused") + 1;
+      return (number <= this.run.answers.length && number) || (this.run.fault && this.run.answers.length + 1) || refused || this.run.answers.length;
+    });
+  }
+
+  /** Goes on to the next statement, and executes it where that wasn't done. */
+  async step() {
+    const next = this.#chosen + 1;
+    if (next <= this.run.answers.length) {
+      await this.choose(next);
+    } else {
+      await this.#execute(next, () => Math.min(next, this.run.count + (this.run.fault ? 1 : 0)));
+    }
+  }
+
+  /** Goes back to the statement before. */
+  async back() {
+    if (this.#chosen > 1) {
+      await this.choose(this.#chosen - 1);
+    }
+  }
+
+  async #execute(upTo, pick) {
+    if (this.run.isBusy) {
+      return;
+    }
+    const began = performance.now();
+    let drawn = 0;
+    try {
+      await this.run.execute(this.editor.text, upTo, () => {
+        if (performance.now() - drawn > 100) {
+          this.#showAnswers();
+          this.#say(`${count(this.run.answers.length, "statement")} of ${this.run.count.toLocaleString("en")} executed`);
+          drawn = performance.now();
+        }
+      });
+      this.#showAnswers();
+      this.#sayRun(performance.now() - began);
+      await this.choose(pick());
+    } catch (error) {
+      this.#failed(error);
+    }
+  }
+
+  #sayRun(time) {
+    const { answers, fault, isWhole, isOpen } = this.run;
+    const refused = answers.filter((answer) => answer.kind === "refused").length;
+    const end = isWhole && isOpen ? " A transaction is open at the end; the program would roll it back." : "";
+    const place = isWhole && fault ? ` No statement begins at line ${fault.line}, column ${fault.column}.` : "";
+    this.#say(`${count(answers.length, "statement")} executed, ${refused} refused, in ${time < 10 ? time.toFixed(1) : Math.round(time)} ms.${place}${end}`, place !== "");
+  }
+
+  #failed(error) {
+    this.#showAnswers();
+    if (error.isTrap) {
+      this.#say(`The engine stopped at statement ${error.at + 1} (${error.message}). Its session is thrown away; Run begins a new one.`, true);
+    } else if (error.name === "Stopped") {
+      this.#say(error.message === "stopped" ? `Stopped after ${count(this.run.answers.length, "statement")}.` : `The worker failed: ${error.message}.`, error.message !== "stopped");
+    } else {
+      this.#say(error.message, true);
+    }
+  }
+
+  // The answers with the texts of their statements, and the fault after them.
+  #items() {
+    const { answers, fault, isWhole } = this.run;
+    const text = (at) => (this.editor.statements[at] ? this.editor.text.slice(this.editor.statements[at].at, this.editor.statements[at].end) : "");
+    const items = answers.map((answer, at) => ({ ...answer, text: text(at), at: this.editor.statements[at]?.at }));
+    if (fault && isWhole) {
+      items.push({ line: `${answers.length + 1} fault ${fault.byte}`, kind: "fault", pending: null, text: fault.words, at: fault.at });
+    }
+    return items;
+  }
+
+  #showAnswers() {
+    const items = this.#items();
+    this.answers.show(items);
+    this.editor.mark(items.map(({ at, kind }) => ({ at, sign: signOf(kind), name: kind === "refused" || kind === "fault" ? kind : "ok" })));
+  }
+
+  /** Shows a statement that was executed. */
+  async choose(number, isScrolled = true) {
+    if (number < 1) {
+      return;
+    }
+    const asked = ++this.#asked;
+    this.#chosen = number;
+    this.answers.choose(number);
+    this.editor.choose(number, isScrolled);
+    byId("back").disabled = number <= 1;
+    if (number > this.run.answers.length) {
+      this.panes.showFault(this.run.fault, number);
+      return;
+    }
+    try {
+      const detail = await this.run.view(number);
+      if (asked === this.#asked) {
+        const { at, end } = this.editor.statements[number - 1] ?? { at: 0, end: 0 };
+        this.panes.show(detail, this.editor.text.slice(at, end), this.run.answers, this.run.count);
+      }
+    } catch (error) {
+      this.#failed(error);
+    }
+  }
+}

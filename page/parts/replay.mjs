@@ -1,0 +1,132 @@
+// A script in a session of its own, run up to any of its statements, with the rows, violations and modes as they are then.
+
+import { linesOf } from "../account.mjs";
+import { Schema } from "../schema.mjs";
+import { statementsOf, tokensOf } from "../tokens.mjs";
+import { Modes } from "./modes.mjs";
+import { Journal } from "./journal.mjs";
+
+const PENDING_UP_TO = 400;
+
+/** Where a byte of a text stands: its place, its line and its column, and the words there. */
+export function placeOfByte(text, byte) {
+  const before = new TextDecoder().decode(new TextEncoder().encode(text).subarray(0, byte));
+  const lines = before.split("\n");
+  const words = /^[^\u0000-\u0008\u000a-\u001f\u007f]*/.exec(text.slice(before.length))[0];
+  return { at: before.length, line: lines.length, column: [...lines.at(-1)].length + 1, words: [...words].slice(0, 60).join("") };
+}
+
+export class Replay {
+  constructor(engine, script) {
+    this.engine = engine;
+    this.script = script;
+    this.statements = statementsOf(tokensOf(script));
+    this.restart();
+    // The engine executes nothing of a text with a fault, so the statements before it are read alone.
+    if (this.fault) {
+      this.restart(script.slice(0, this.fault.at));
+    }
+  }
+
+  /** Begins again with a new session, before the first statement. */
+  restart(script = this.whole) {
+    this.session?.close();
+    this.session = this.engine.open({ explain: true });
+    this.whole = script ?? this.script;
+    const { statements, faultAt } = this.session.read(this.whole);
+    this.fault ??= faultAt === null ? null : { ...placeOfByte(this.script, faultAt), byte: faultAt };
+    this.count = statements;
+    this.at = 0;
+    this.last = null;
+    this.isRead = true;
+    this.schema = new Schema();
+    this.modes = new Modes(this.schema);
+    this.journal = new Journal();
+  }
+
+  /** Executes the next statement, and gives what a list of answers shows of it. */
+  step() {
+    if (!this.isRead) {
+      this.session.read(this.whole);
+      this.isRead = true;
+    }
+    const outcome = this.session.attempt(this.at);
+    const statement = this.statements[this.at];
+    const isOpen = this.session.inTransaction;
+    const entries = outcome.kind === "changed" ? this.session.account : [];
+    const changes = this.journal.follow({ statement, outcome, entries, isOpen });
+    this.modes.follow({ statement, outcome, isOpen });
+    if (outcome.kind !== "refused" && statement) {
+      this.schema.accept(this.script, statement.tokens);
+    }
+    this.at += 1;
+    this.last = { outcome, account: this.session.account, changes, isOpen, work: this.session.work() };
+    return { line: linesOf(outcome.lines)[0], kind: outcome.kind, pending: this.count <= PENDING_UP_TO ? this.session.pending().length : null };
+  }
+
+  /** Goes to the moment after the statement with this number. */
+  goTo(number) {
+    if (number < this.at) {
+      this.restart();
+    }
+    while (this.at < number) {
+      this.step();
+    }
+  }
+
+  /** All that is to be seen after the statement with this number. */
+  view(number) {
+    this.goTo(number);
+    const { outcome, account, changes, isOpen, work } = this.last;
+    const { lines, ...answer } = outcome;
+    const texts = linesOf(lines);
+    return {
+      number, answer, line: texts[0], lines: outcome.kind === "rows" ? [] : texts.slice(1), account, changes, isOpen, work, schema: this.schema,
+      tables: this.tables(), pending: this.pending(), modes: this.modes.list(), columns: this.columnsOfAnswer(number),
+    };
+  }
+
+  pending() {
+    return this.session.pending().map((each) => {
+      const table = this.schema.constraints.get(each.constraint)?.table ?? null;
+      return { ...each, table, values: this.journal.rows(table).get(each.row) ?? null };
+    });
+  }
+
+  /** The rows of each table, from a SELECT. Row numbers are those of the accounts, where they tell the same rows. */
+  tables() {
+    this.isRead = false;
+    return [...this.schema.tables.values()].map((table) => {
+      const values = this.session.query(`SELECT * FROM ${table.name};`);
+      const numbers = this.journal.numbers(table.name, values);
+      return { name: table.name, rows: values.map((row, at) => ({ row: numbers?.[at] ?? null, values: row })) };
+    });
+  }
+
+  // The heads of the columns of a query: those of its table, or the expressions of its list.
+  columnsOfAnswer(number) {
+    const statement = this.statements[number - 1];
+    if (!statement || statement.tokens[0].word !== "SELECT") {
+      return [];
+    }
+    const from = statement.tokens.findIndex((token) => token.word === "FROM");
+    if (statement.tokens[1].word === "*") {
+      return this.schema.tables.get(statement.tokens[from + 1].word)?.columns.map((column) => column.name) ?? [];
+    }
+    return listOf(this.script, statement.tokens.slice(1, from));
+  }
+}
+
+// The texts between the commas outside of parentheses.
+function listOf(text, tokens) {
+  let depth = 0, from = tokens[0]?.at;
+  const texts = [];
+  for (const token of [...tokens, { word: ",", at: tokens.at(-1)?.end }]) {
+    depth += { "(": 1, ")": -1 }[token.word] ?? 0;
+    if (token.word === "," && depth === 0) {
+      texts.push(text.slice(from, token.at).trim());
+      from = token.end;
+    }
+  }
+  return texts;
+}
