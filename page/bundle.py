@@ -13,6 +13,7 @@ HERE = Path(__file__).resolve().parent
 ROOT = HERE.parent
 IMPORT = re.compile(r'^import \{([^}]*)\} from "(\.[^"]+)";\n', re.M)
 EXPORT = re.compile(r"^export ((?:async )?(?:class|const|function\*?) (\w+))", re.M)
+LINK = r"\[([^\]]*)\]\([^)]*\)"
 PROVED = "The engine is compiled to WebAssembly from the proved library."
 UNPROVED = "The engine is compiled to WebAssembly from the sources, without proof."
 
@@ -44,8 +45,10 @@ def one_script(file):
 
 
 def plain(text):
-    """A paragraph without links."""
-    return re.sub(r"\s+", " ", re.sub(r"\[([^\]]*)\]\([^)]*\)", r"\1", text)).strip()
+    """A paragraph without links: those that only say where to read on are left out."""
+    text = re.sub(r"(?<=[.)])(,?\s+" + LINK + r")+\s*$", "", text.strip())
+    text = re.sub(r"\s*\(" + LINK + r"\)", "", text)
+    return re.sub(r"\s+", " ", re.sub(LINK, r"\1", text)).strip()
 
 
 def tour():

@@ -7,12 +7,12 @@ import { Controls } from "./controls.mjs";
 import { Panes } from "./panes.mjs";
 import { Run } from "./run.mjs";
 
+const compiled = async () => WebAssembly.compile(await unzipped(bytesOf(byId("engine").textContent)));
+
 async function start() {
-  const module = await WebAssembly.compile(await unzipped(bytesOf(byId("engine").textContent)));
-  const client = new Client(byId("worker").textContent, module);
-  const run = new Run(client);
-  const panes = new Panes();
-  const controls = new Controls(run, panes, JSON.parse(byId("examples").textContent));
+  // The worker starts while the engine is compiled.
+  const client = new Client(byId("worker").textContent, compiled());
+  const controls = new Controls(new Run(client), new Panes(), JSON.parse(byId("examples").textContent));
   await controls.begin();
   document.documentElement.dataset.ready = String(Math.round(performance.now()));
 }

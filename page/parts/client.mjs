@@ -12,10 +12,11 @@ export class Client {
   #calls = new Map();
   #next = 0;
   #worker = null;
+  #begun = null;
 
   /**
    * @param {string} source the text of the worker
-   * @param {WebAssembly.Module} module
+   * @param {Promise<WebAssembly.Module>} module
    */
   constructor(source, module) {
     this.address = URL.createObjectURL(new Blob([source], { type: "text/javascript" }));
@@ -27,11 +28,17 @@ export class Client {
     this.#worker = new Worker(this.address);
     this.#worker.onmessage = ({ data }) => this.#hear(data);
     this.#worker.onerror = (event) => this.#fail(event.message || "the worker stopped");
-    this.call("begin", { module: this.module });
+    this.#begun = this.module.then((module) => this.#send("begin", { module }, () => {}));
+    this.#begun.catch(() => {});
   }
 
   /** Asks the worker for something. `onPart` hears what comes before the answer. */
-  call(name, words = {}, onPart = () => {}) {
+  async call(name, words = {}, onPart = () => {}) {
+    await this.#begun;
+    return this.#send(name, words, onPart);
+  }
+
+  #send(name, words, onPart) {
     const id = this.#next++;
     return new Promise((resolve, reject) => {
       this.#calls.set(id, { resolve, reject, onPart });

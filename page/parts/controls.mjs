@@ -10,6 +10,12 @@ import { addressOf, scriptOf, textOf } from "./share.mjs";
 const SHOWN_FIRST = { first: 6, nulls: 6, transactions: 8, keys: 6, references: 6, cascades: 11, rings: 10, savepoints: 8, guards: 11, logs: 11, authors: 8 };
 const OWN = "your script";
 
+function download(text, name) {
+  const address = URL.createObjectURL(new Blob([text], { type: "text/plain" }));
+  element("a", { href: address, download: name }).click();
+  setTimeout(() => URL.revokeObjectURL(address), 1000);
+}
+
 export class Controls {
   #chosen = 0;
   #asked = 0;
@@ -30,7 +36,7 @@ export class Controls {
   }
 
   #listen() {
-    const buttons = { run: () => this.runAll(), step: () => this.step(), back: () => this.back(), stop: () => this.run.stop(), share: () => this.share(), open: () => byId("file").click(), save: () => this.save() };
+    const buttons = { run: () => this.runAll(), step: () => this.step(), back: () => this.back(), stop: () => this.run.stop(), share: () => this.share(), open: () => byId("file").click(), save: () => this.save(), transcript: () => this.saveTranscript() };
     Object.entries(buttons).forEach(([id, work]) => byId(id).addEventListener("click", work));
     byId("example").addEventListener("change", () => this.#openExample(byId("example").value));
     byId("file").addEventListener("change", () => this.#openFile());
@@ -144,13 +150,24 @@ export class Controls {
     }
   }
 
+  get #name() {
+    return byId("example").value === OWN ? "script" : byId("example").value;
+  }
+
   /** Writes the script to a file. */
   save() {
-    const name = byId("example").value === OWN ? "script.sql" : `${byId("example").value}.sql`;
-    const address = URL.createObjectURL(new Blob([this.editor.text], { type: "text/plain" }));
-    element("a", { href: address, download: name }).click();
-    setTimeout(() => URL.revokeObjectURL(address), 1000);
-    this.#say(`The script is saved as ${name}.`);
+    download(this.editor.text, `${this.#name}.sql`);
+    this.#say(`The script is saved as ${this.#name}.sql.`);
+  }
+
+  /** Writes the transcript of the script to a file. */
+  async saveTranscript() {
+    try {
+      download(await this.run.transcript(this.editor.text), `${this.#name}.out`);
+      this.#say(`The transcript is saved as ${this.#name}.out.`);
+    } catch (error) {
+      this.#failed(error);
+    }
   }
 
   /** Puts the script into the address, and the address into the clipboard where that is allowed. */
@@ -233,7 +250,7 @@ export class Controls {
     const refused = answers.filter((answer) => answer.kind === "refused").length;
     const end = isWhole && isOpen ? " A transaction is open at the end; the program would roll it back." : "";
     const place = isWhole && fault ? ` No statement begins at line ${fault.line}, column ${fault.column}.` : "";
-    this.#say(`${count(answers.length, "statement")} executed, ${refused} refused, in ${time < 10 ? time.toFixed(1) : Math.round(time)} ms.${place}${end}`, place !== "");
+    this.#say(`${count(answers.length, "statement")}, ${refused} refused, ${time < 10 ? time.toFixed(1) : Math.round(time)} ms.${place}${end}`, place !== "");
   }
 
   #failed(error) {

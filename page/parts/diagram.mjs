@@ -71,7 +71,7 @@ function arrows(sheet, foreign, places, right) {
   ways.sort((one, other) => Math.abs(one.from - one.to) - Math.abs(other.from - other.to));
   ways.forEach(({ from, to }, at) => {
     const x = right + PAD + TIP + at * TRACK, end = right + TIP;
-    sheet.add({ kind: "path", y: Math.min(from, to), h: Math.abs(from - to), name: "arrow", d: `M${right} ${from}H${x}V${to}H${end}` });
-    sheet.add({ kind: "path", y: to - 5, h: 10, name: "tip", d: `M${right} ${to}l${TIP} -4.5v9z` });
+    sheet.path(right, from, to, "arrow", `M0 0H${x - right}V${to - from}H${end - right}`);
+    sheet.path(right, to, to, "tip", `M0 0l${TIP} -4.5v9z`);
   });
 }

@@ -2,8 +2,11 @@
 
 import { units } from "./groups.mjs";
 
-const CELL = 14, PAD = 10, HEAD = 20, ROW = 24, ROW_GAP = 4, GROUP_GAP = 12, CAPTION = 22;
-const ARM = 26, PILL = 36, PILL_GAP = 8, PILL_LINE = 24, MARGIN = 22, TIP = 7;
+const CELL = 11, PAD = 8, HEAD = 20, ROW = 24, ROW_GAP = 4, GROUP_GAP = 12, CAPTION = 22;
+const ARM = 21, PILL = 36, PILL_GAP = 8, PILL_LINE = 24, MARGIN = 22, TIP = 7;
+
+/** How small a picture may be made so that it fits. */
+export const LEAST_SCALE = 0.86;
 
 const textOf = (cell) => cell.map((piece) => piece.text).join("");
 
@@ -48,7 +51,7 @@ export class Flow {
 
   /** Puts the columns at a place; what they take up to the bottom and to the right. */
   place(x, y, room) {
-    return this.columns.length > 1 && this.width() > room ? this.#below(x, y) : this.#beside(x, y);
+    return this.columns.length > 1 && this.width() > room / LEAST_SCALE ? this.#below(x, y) : this.#beside(x, y);
   }
 
   #beside(x, y) {
@@ -127,16 +130,14 @@ export class Flow {
   #pillsBeside(links, at, x, y) {
     const room = this.#gap(at);
     const ends = this.#ends(links, at).map((link) => ({ ...link, middle: middleOf(link.to) })).sort((one, other) => one.middle - other.middle);
-    let bottom = y + (this.columns[at].caption ? CAPTION : 0);
-    ends.forEach((link) => {
-      const top = Math.max(bottom, link.middle - PILL / 2);
-      const left = x + (room - link.w) / 2;
+    const tops = spread(ends.map((link) => link.middle - PILL / 2), PILL + PILL_GAP, y + (this.columns[at].caption ? CAPTION : 0));
+    ends.forEach((link, place) => {
+      const top = tops[place], left = x + (room - link.w) / 2;
       this.#pill(link, left, top, PILL);
       link.from.forEach((box) => this.#curve(box.x + box.w, box.y + box.h / 2, left, top + PILL / 2, link.name, false));
       link.to.forEach((box) => this.#curve(left + link.w, top + PILL / 2, box.x, box.y + box.h / 2, link.name, true));
-      bottom = top + PILL + PILL_GAP;
     });
-    return ends.length > 0 ? bottom - PILL_GAP : y;
+    return ends.length > 0 ? tops.at(-1) + PILL : y;
   }
 
   #pill(link, x, y, height) {
@@ -149,14 +150,14 @@ export class Flow {
   #curve(x, y, toX, toY, name, isTipped) {
     const end = isTipped ? toX - TIP : toX;
     const bend = Math.max(10, (end - x) * 0.6);
-    this.sheet.add({ kind: "path", y: Math.min(y, toY) - 2, h: Math.abs(toY - y) + 4, name: `arrow ${name}`, d: `M${x} ${y}C${x + bend} ${y} ${end - bend} ${toY} ${end} ${toY}` });
+    this.sheet.path(x, y, toY, `arrow ${name}`, `M0 0C${bend} 0 ${end - bend - x} ${toY - y} ${end - x} ${toY - y}`);
     if (isTipped) {
       this.#tip(toX, toY, name);
     }
   }
 
   #tip(x, y, name) {
-    this.sheet.add({ kind: "path", y: y - 5, h: 10, name: `tip ${name}`, d: `M${x} ${y}l${-TIP - 2} -4.5v9z` });
+    this.sheet.path(x, y, y, `tip ${name}`, `M0 0l${-TIP - 2} -4.5v9z`);
   }
 
   // One column below the other, with the lines of links in the margins: out at the right, and in at the left.
@@ -194,8 +195,23 @@ export class Flow {
   }
 
   #corner([x, y], over, [toX, toY], name) {
-    this.sheet.add({ kind: "path", y: Math.min(y, toY) - 2, h: Math.abs(toY - y) + 4, name: `arrow ${name}`, d: `M${x} ${y}H${over}V${toY}H${toX}` });
+    this.sheet.path(x, y, toY, `arrow ${name}`, `M0 0H${over - x}V${toY - y}H${toX - x}`);
   }
+}
+
+// Heights at least a step apart, each as near as can be to the one that is wanted; none is less than the first that is allowed.
+function spread(wanted, step, least) {
+  const heaps = [];
+  wanted.forEach((top, at) => {
+    let heap = { sum: top - at * step, count: 1 };
+    while (heaps.length > 0 && heaps.at(-1).sum / heaps.at(-1).count > heap.sum / heap.count) {
+      const before = heaps.pop();
+      heap = { sum: heap.sum + before.sum, count: heap.count + before.count };
+    }
+    heaps.push(heap);
+  });
+  const bases = heaps.flatMap((heap) => Array.from({ length: heap.count }, () => heap.sum / heap.count));
+  return bases.map((base, at) => Math.max(base, least) + at * step);
 }
 
 const middleOf = (boxes) => boxes.reduce((sum, box) => sum + box.y + box.h / 2, 0) / boxes.length;

@@ -4,34 +4,7 @@ import { blocksOf, linksOf } from "./blocks.mjs";
 import { changeBox, groupsOf, keyGroup, otherBox, seenGroups, units, violatingBox } from "./groups.mjs";
 import { Flow } from "./flow.mjs";
 
-const PAD = 14, LINE = 20, INDENT = 12, BETWEEN = 14;
-
-/** Collects shapes, and knows how wide a text is. */
-export class Sheet {
-  shapes = [];
-
-  constructor(characterWidth, schema) {
-    this.characterWidth = characterWidth;
-    this.schema = schema;
-  }
-
-  width(text) {
-    return units(text) * this.characterWidth;
-  }
-
-  add(shape) {
-    this.shapes.push(shape);
-    return shape;
-  }
-
-  box(x, y, w, h, name, title = null) {
-    return this.add({ kind: "box", x, y, w, h, name, title });
-  }
-
-  text(x, y, text, name = "") {
-    return this.add({ kind: "text", x, y: y - 13, h: 18, base: y, w: this.width(text), text, name });
-  }
-}
+const PAD = 12, LINE = 20, INDENT = 12, BETWEEN = 14;
 
 /**
  * The picture of what happened in a statement.
@@ -52,14 +25,31 @@ export function layout(detail, sheet, room) {
   return { width: right + PAD, height: bottom + PAD };
 }
 
-// Waves from left to right, then triggers, one below the other, then what the refusal is about.
+// Waves from left to right, then triggers, as many beside each other as there is room for, then what the refusal is about.
 function placeBlocks(sheet, blocks, x, y, room, isRefused) {
   const made = [
     ...(blocks.waves.length > 0 ? [(top) => placeWaves(sheet, blocks.waves, x, top, room)] : []),
-    ...blocks.triggers.map((run) => (top) => placeTrigger(sheet, run, x, top, room, isRefused)),
+    ...(blocks.triggers.length > 0 ? [(top) => wrapped(sheet, blocks.triggers.map((run) => (at) => placeTrigger(sheet, run, x, at, room, isRefused)), x, top, room)] : []),
     ...blocks.violations.map((violation) => (top) => placeViolation(sheet, violation, x, top, room)),
   ];
   return stacked(made, x, y);
+}
+
+// Parts from left to right, and on below where there is no more room.
+function wrapped(sheet, made, x, y, room) {
+  let [top, left, bottom, right] = [y, x, y, x];
+  made.forEach((make, at) => {
+    const first = sheet.shapes.length;
+    const size = make(top);
+    const isNext = at > 0 && left + size.right - x <= x + room;
+    const [overX, overY] = at === 0 ? [0, 0] : isNext ? [left - x, 0] : [0, bottom + BETWEEN - top];
+    sheet.shift(first, overX, overY);
+    top += overY;
+    left = size.right + overX + BETWEEN;
+    bottom = Math.max(isNext ? bottom : 0, size.bottom + overY);
+    right = Math.max(right, size.right + overX);
+  });
+  return { bottom, right };
 }
 
 function stacked(made, x, y) {
@@ -72,14 +62,12 @@ function stacked(made, x, y) {
   );
 }
 
-const captionOf = (at) => (at === 0 ? "Wave 1" : `Wave ${at + 1}`);
-
 function placeWaves(sheet, waves, x, y, room) {
   const last = waves.at(-1);
   // Where a statement is refused before its actions are done, the rows that they would reach are known by number alone.
   const reached = last.actions.map(({ table, row }) => ({ table, row, label: `row ${row}`, kind: "absent", cells: [], title: `${table} row ${row}` }));
   const columns = waves.map((wave, at) => ({
-    caption: captionOf(at),
+    caption: waves.length > 1 || reached.length > 0 ? `Wave ${at + 1}` : "",
     before: wave.before.map((run) => (left, top, width) => placeTrigger(sheet, run, left, top, width, false)),
     beforeWidth: Math.max(0, ...wave.before.slice(0, 200).map((run) => triggerWidth(sheet, run))),
     groups: groupsOf(wave.changes.map((change) => changeBox(change)), sheet.schema),
@@ -147,7 +135,8 @@ function otherSide(violation, schema) {
   const [, words] = REASONS[violation.reason] ?? ["", violation.reason];
   const condition = schema.constraints.get(violation.constraint)?.condition;
   const text = violation.reason === "condition" && condition ? `${condition} ${words}` : violation.reason === "null" ? `${violation.column} ${words}` : words;
-  return [{ head: "", columns: [], rows: [{ label: text, kind: "absent", cells: [], title: text }] }];
+  // The empty head keeps the words beside the row that they are about.
+  return [{ head: " ", columns: [], rows: [{ label: text, kind: "absent", cells: [], title: text }] }];
 }
 
 function placeViolation(sheet, violation, x, y, room) {

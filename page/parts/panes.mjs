@@ -3,14 +3,15 @@
 import { Schema } from "../schema.mjs";
 import { byId, element } from "./elements.mjs";
 import { diagram } from "./diagram.mjs";
-import { layout, Sheet } from "./layout.mjs";
+import { layout } from "./layout.mjs";
 import { characterWidth, Picture } from "./picture.mjs";
 import { Rolling } from "./rolling.mjs";
+import { Sheet } from "./sheet.mjs";
 import { count, faultOf, saidOf } from "./said.mjs";
 import { tablesOf } from "./tables.mjs";
 import { waitingOf } from "./waiting.mjs";
 
-const LINE = 20;
+const LINE = 20, BORDERS = 2;
 
 export class Panes {
   #detail = null;
@@ -29,7 +30,7 @@ export class Panes {
   /** Shows a statement. */
   show(detail, text, answers, whole) {
     detail.schema = Object.assign(new Schema(), detail.schema);
-    detail.wentBack = wentBack(detail, text) ? detail.changes : [];
+    detail.wentBack = wentBack(detail, text) ? [...detail.changes].sort((one, other) => one.row - other.row) : [];
     this.#detail = detail;
     byId("detail").hidden = false;
     byId("statement-head").textContent = `Statement ${detail.number} of ${whole}`;
@@ -74,9 +75,9 @@ export class Panes {
     ["deferred", "tables", "schema"].forEach((id) => byId(id).hidden = detail.schema.tables.size === 0);
     this.#drawAccount(detail, hasPicture);
     if (detail.schema.tables.size > 0) {
-      const sheet = new Sheet(characterWidth(byId("diagram")), detail.schema);
-      const size = diagram(detail.schema, sheet, byId("diagram").clientWidth);
-      this.diagram.show(sheet.shapes, size, schemaLabel(detail.schema));
+      const sheet = new Sheet(characterWidth(), detail.schema);
+      const room = this.#width - BORDERS;
+      this.diagram.show(sheet.shapes, diagram(detail.schema, sheet, room), room, schemaLabel(detail.schema));
     }
   }
 
@@ -89,9 +90,9 @@ export class Panes {
       this.picture.clear();
       return;
     }
-    const sheet = new Sheet(characterWidth(byId("picture")), detail.schema);
-    const size = layout(detail, sheet, byId("picture").clientWidth);
-    this.picture.show(sheet.shapes, size, accountLabel(detail));
+    const sheet = new Sheet(characterWidth(), detail.schema);
+    const room = this.#width - BORDERS;
+    this.picture.show(sheet.shapes, layout(detail, sheet, room), room, accountLabel(detail));
   }
 }
 

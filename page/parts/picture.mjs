@@ -1,52 +1,60 @@
 // Draws the shapes of a sheet as SVG: those alone that are in the part that is seen.
 
 import { drawing } from "./elements.mjs";
+import { LEAST_SCALE } from "./flow.mjs";
 
-const MARGIN = 200;
+const MARGIN = 200, HIGHEST = 3000;
 
-/** How wide a character of the picture is, in pixels. */
-export function characterWidth(box) {
+/** How wide a character of a picture is, in pixels. */
+export function characterWidth() {
   const probe = drawing("text", {}, "0".repeat(100));
-  const svg = drawing("svg", { width: 10, height: 10 }, probe);
-  box.append(svg);
+  const svg = drawing("svg", { class: "probe", width: 10, height: 10 }, probe);
+  document.body.append(svg);
   const width = probe.getComputedTextLength() / 100;
   svg.remove();
-  return width || 7.2;
+  return width || 7.3;
 }
 
 const makers = {
   box: ({ x, y, w, h, name, title }) => drawing("rect", { x, y, width: Math.max(0, w), height: Math.max(0, h), rx: 5, class: name }, title ? drawing("title", {}, title) : null),
-  text: ({ x, base, text, name }) => drawing("text", { x, y: base, class: name || null }, text),
-  path: ({ d, name }) => drawing("path", { d, class: name }),
+  text: ({ x, y, text, name }) => drawing("text", { x, y: y + 13, class: name || null }, text),
+  path: ({ x, y, down, d, name }) => drawing("path", { d, class: name, transform: `translate(${x} ${y + down})` }),
 };
 
 export class Picture {
   #shapes = [];
   #frame = 0;
+  #size = { width: 0, height: 0 };
+  #scale = 1;
 
   /** @param {HTMLElement} box the element that scrolls */
   constructor(box) {
     this.box = box;
     this.svg = drawing("svg", { role: "img" });
+    this.sheet = document.createElement("div");
+    this.sheet.className = "sheet-of-picture";
+    this.sheet.append(this.svg);
     box.addEventListener("scroll", () => this.#soon());
     new ResizeObserver(() => this.#soon()).observe(box);
   }
 
   /** Shows these shapes in a picture of this size. `label` says in words what is to be seen. */
-  show(shapes, { width, height }, label) {
+  show(shapes, size, room, label) {
     this.#shapes = shapes;
+    this.#size = size;
+    this.#scale = Math.min(1, Math.max(LEAST_SCALE, room / size.width));
+    const [width, height] = [size.width * this.#scale, size.height * this.#scale];
     this.svg.setAttribute("aria-label", label);
-    const sheet = document.createElement("div");
-    sheet.style.cssText = `width:${Math.ceil(width)}px;height:${Math.ceil(height)}px;position:relative`;
-    sheet.append(this.svg);
-    this.box.replaceChildren(sheet);
+    this.sheet.style.width = `${Math.floor(width)}px`;
+    this.sheet.style.height = `${Math.ceil(height)}px`;
+    this.box.replaceChildren(this.sheet);
+    this.box.classList.toggle("high", height > HIGHEST);
     // What scrolls can be reached by the keyboard.
-    const isScrolled = width > this.box.clientWidth + 1 || height > this.box.clientHeight + 1;
-    this.box.toggleAttribute("tabindex", isScrolled);
-    if (isScrolled) {
+    if (width > room + 1 || height > HIGHEST) {
       this.box.setAttribute("tabindex", "0");
+    } else {
+      this.box.removeAttribute("tabindex");
     }
-    this.width = Math.ceil(width);
     this.draw();
   }
 
@@ -63,13 +71,13 @@ export class Picture {
 
   /** Makes the shapes that are seen. */
   draw() {
-    const top = Math.max(0, this.box.scrollTop - MARGIN), bottom = this.box.scrollTop + this.box.clientHeight + MARGIN;
+    const [width, height] = [this.#size.width, this.#size.height];
+    const top = Math.max(0, this.box.scrollTop / this.#scale - MARGIN);
+    const bottom = Math.min(height, (this.box.scrollTop + this.box.clientHeight) / this.#scale + MARGIN);
     const seen = this.#shapes.filter((shape) => shape.y + shape.h >= top && shape.y <= bottom);
-    const height = Math.max(0, Math.min(bottom, this.box.scrollHeight) - top);
-    this.svg.setAttribute("width", this.width ?? 0);
-    this.svg.setAttribute("height", height);
-    this.svg.setAttribute("viewBox", `0 ${top} ${this.width ?? 0} ${height}`);
-    this.svg.style.top = `${top}px`;
+    const attributes = { width: width * this.#scale, height: Math.max(0, bottom - top) * this.#scale, viewBox: `0 ${top} ${width} ${Math.max(0, bottom - top)}` };
+    Object.entries(attributes).forEach(([name, value]) => this.svg.setAttribute(name, value));
+    this.svg.style.top = `${top * this.#scale}px`;
     this.svg.replaceChildren(...seen.map((shape) => makers[shape.kind](shape)));
   }
 }

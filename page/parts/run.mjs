@@ -59,6 +59,11 @@ export class Run {
     });
   }
 
+  /** What the program writes for a script. */
+  async transcript(script) {
+    return this.#busy(async () => (await this.client.call("transcript", { script, options: {} })).transcript);
+  }
+
   async #busy(work) {
     this.isBusy = true;
     this.onBusy?.(true);

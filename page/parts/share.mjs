@@ -11,7 +11,11 @@ async function through(stream, bytes) {
 
 /** Bytes out of base64. */
 export function bytesOf(base64) {
-  return Uint8Array.from(atob(base64), (character) => character.charCodeAt(0));
+  const characters = atob(base64), bytes = new Uint8Array(characters.length);
+  for (let at = 0; at < bytes.length; at++) {
+    bytes[at] = characters.charCodeAt(at);
+  }
+  return bytes;
 }
 
 /** Bytes that were compressed by gzip, as they were. */

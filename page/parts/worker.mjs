@@ -37,6 +37,11 @@ const calls = {
     return { isOpen: replay.session.inTransaction };
   },
 
+  // The transcript of a whole script, as the program writes it, from a new database.
+  transcript({ script, options }) {
+    return engine.run(script, options);
+  },
+
   view({ number }) {
     return { detail: replay.view(number) };
   },
@@ -54,7 +59,7 @@ function failure(error) {
 
 self.onmessage = ({ data }) => {
   try {
-    if (data.call !== "begin" && data.call !== "load" && !replay) {
+    if (["run", "view"].includes(data.call) && !replay) {
       throw new Error("no script is read");
     }
     self.postMessage({ id: data.id, isDone: true, ...calls[data.call](data) });
