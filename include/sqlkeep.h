@@ -47,6 +47,9 @@
 extern "C" {
 #endif
 
+/* The version of this header and of the library that belongs to it. */
+#define SQLKEEP_VERSION "0.1.0"
+
 /* What a call answers. */
 enum sqlkeep_status {
     SQLKEEP_OK = 0,
@@ -65,7 +68,11 @@ enum sqlkeep_status {
     /* There is nothing at this place. */
     SQLKEEP_NOTHING = 7,
     /* The pointer to the handle is null. */
-    SQLKEEP_NO_HANDLE = 8
+    SQLKEEP_NO_HANDLE = 8,
+    /* The template has another number of question marks than there are values. */
+    SQLKEEP_WRONG_COUNT = 9,
+    /* At some place of the template there is neither a token nor a question mark. */
+    SQLKEEP_NO_TEMPLATE = 10
 };
 
 /* A handle of a session. */
@@ -108,11 +115,37 @@ enum sqlkeep_kind {
     SQLKEEP_REFUSED = 3
 };
 
+/* Why a statement was refused, as docs/language/refusals.md has it. */
+enum sqlkeep_cause_number {
+    SQLKEEP_CAUSE_UNKNOWN = 1,
+    SQLKEEP_CAUSE_DUPLICATE = 2,
+    SQLKEEP_CAUSE_SCHEMA_FAULT = 3,
+    SQLKEEP_CAUSE_IN_TRANSACTION = 4,
+    SQLKEEP_CAUSE_NO_TRANSACTION = 5,
+    SQLKEEP_CAUSE_ACTIVE_TRANSACTION = 6,
+    SQLKEEP_CAUSE_UNKNOWN_SAVEPOINT = 7,
+    SQLKEEP_CAUSE_NOT_DEFERRABLE = 8,
+    SQLKEEP_CAUSE_WRONG_SHAPE = 9,
+    SQLKEEP_CAUSE_NUMBER_OUT_OF_RANGE = 10,
+    SQLKEEP_CAUSE_TEXT_TOO_LONG = 11,
+    SQLKEEP_CAUSE_RESTRICT = 12,
+    SQLKEEP_CAUSE_VIOLATION = 13,
+    SQLKEEP_CAUSE_ACTION_CONFLICT = 14,
+    SQLKEEP_CAUSE_SIGNAL = 15,
+    SQLKEEP_CAUSE_DEPTH_LIMIT = 16,
+    SQLKEEP_CAUSE_TOO_MANY_CHANGES = 17,
+    SQLKEEP_CAUSE_TRANSACTION_TOO_LARGE = 18,
+    SQLKEEP_CAUSE_COMMIT_REFUSED = 19,
+    SQLKEEP_CAUSE_ADD_REFUSED = 20,
+    SQLKEEP_CAUSE_LIMIT = 21,
+    SQLKEEP_CAUSE_OUT_OF_MEMORY = 22
+};
+
 /* The outcome of a statement. */
 typedef struct sqlkeep_outcome {
     /* One of enum sqlkeep_kind. */
     uint32_t kind;
-    /* The number of the cause of a refusal, 1 to 22, as docs/language/refusals.md has them; otherwise 0. */
+    /* One of enum sqlkeep_cause_number where the statement was refused; otherwise 0. */
     uint32_t cause;
     /* How many rows were changed, or how many a query gave; otherwise 0. */
     uint64_t count;
@@ -127,6 +160,17 @@ enum sqlkeep_value_kind {
     SQLKEEP_TEXT = 2
 };
 
+/* A value for a question mark of a template. */
+typedef struct sqlkeep_parameter {
+    /* One of enum sqlkeep_value_kind. */
+    uint64_t kind;
+    /* The integer; not looked at where the value is none. */
+    int64_t integer;
+    /* The bytes of the text, which are UTF-8, and their number; not looked at where the value is none. */
+    const uint8_t *text;
+    size_t length;
+} sqlkeep_parameter;
+
 /* A value of a row. */
 typedef struct sqlkeep_cell {
     /* One of enum sqlkeep_value_kind. */
@@ -136,6 +180,82 @@ typedef struct sqlkeep_cell {
     /* How many bytes the text has; 0 where it is none. */
     uint64_t length;
 } sqlkeep_cell;
+
+/* How many tables, constraints and triggers there are. */
+typedef struct sqlkeep_sizes {
+    uint64_t tables;
+    uint64_t constraints;
+    uint64_t triggers;
+} sqlkeep_sizes;
+
+/* The type of a column. */
+enum sqlkeep_column_kind {
+    SQLKEEP_COLUMN_INTEGER = 1,
+    SQLKEEP_COLUMN_VARCHAR = 2
+};
+
+typedef struct sqlkeep_column_type {
+    /* One of enum sqlkeep_column_kind. */
+    uint64_t kind;
+    /* The most characters that a value of a VARCHAR column may have; otherwise 0. */
+    uint64_t longest;
+} sqlkeep_column_type;
+
+/* The kind of a constraint. */
+enum sqlkeep_constraint_kind {
+    SQLKEEP_NOT_NULL = 0,
+    SQLKEEP_CHECK = 1,
+    SQLKEEP_UNIQUE = 2,
+    SQLKEEP_PRIMARY_KEY = 3,
+    SQLKEEP_FOREIGN_KEY = 4
+};
+
+/* What a foreign key does where the row that it refers to is deleted, or its key is updated. */
+enum sqlkeep_action {
+    SQLKEEP_NO_ACTION = 0,
+    SQLKEEP_RESTRICT = 1,
+    SQLKEEP_CASCADE = 2,
+    SQLKEEP_SET_NULL = 3,
+    SQLKEEP_SET_DEFAULT = 4
+};
+
+/* A constraint. */
+typedef struct sqlkeep_constraint_definition {
+    /* One of enum sqlkeep_constraint_kind. */
+    uint32_t kind;
+    /* The place of its table. */
+    uint32_t table;
+    /* How many columns it is of; 0 for a CHECK. */
+    uint64_t columns;
+    /* 1 if SET CONSTRAINTS may set its mode, otherwise 0; and 1 if its mode is deferred at the start of a transaction, otherwise 0. */
+    uint32_t deferrable;
+    uint32_t initially_deferred;
+    /* 1 for UNIQUE NULLS NOT DISTINCT, otherwise 0. */
+    uint32_t nulls_not_distinct;
+    /* Of a foreign key: the place of the table that it refers to; 1 for MATCH FULL, otherwise 0; and its actions, each one of
+       enum sqlkeep_action. Otherwise 0. */
+    uint32_t referenced;
+    uint32_t match_full;
+    uint32_t on_delete;
+    uint32_t on_update;
+} sqlkeep_constraint_definition;
+
+enum sqlkeep_time { SQLKEEP_BEFORE = 0, SQLKEEP_AFTER = 1 };
+enum sqlkeep_event { SQLKEEP_INSERT = 0, SQLKEEP_UPDATE = 1, SQLKEEP_DELETE = 2 };
+enum sqlkeep_granularity { SQLKEEP_FOR_EACH_ROW = 0, SQLKEEP_FOR_EACH_STATEMENT = 1 };
+
+/* A trigger. */
+typedef struct sqlkeep_trigger_definition {
+    /* The place of its table. */
+    uint32_t table;
+    /* One of enum sqlkeep_time, of enum sqlkeep_event and of enum sqlkeep_granularity. */
+    uint32_t time;
+    uint32_t event;
+    uint32_t granularity;
+    /* How many columns UPDATE OF lists; and how many statements its body has. */
+    uint64_t columns;
+    uint64_t statements;
+} sqlkeep_trigger_definition;
 
 /* What the last statement or call did. */
 typedef struct sqlkeep_done {
@@ -184,6 +304,27 @@ uint32_t sqlkeep_transcript(sqlkeep *handle, size_t from, uint8_t *buffer, size_
    SQLKEEP_CLOSED, SQLKEEP_NOT_UTF8, SQLKEEP_NO_MEMORY. */
 uint32_t sqlkeep_read(sqlkeep *handle, const uint8_t *text, size_t length, sqlkeep_script *script);
 
+/* ---- templates
+
+   A template is a text in which a question mark stands where a literal may stand; one in a text or in a comment is no such
+   mark. It is read with values in place of its question marks, and no value can end a statement, add one, or become a name:
+   NULL is NULL, an integer its digits, in parentheses where it is negative, and a text stands between quotes, with each
+   quote in it doubled. sqlkeep_read_filled below takes the values as an array. */
+
+/* Forgets the values that are bound. SQLKEEP_CLOSED. */
+uint32_t sqlkeep_unbind(sqlkeep *handle);
+
+/* Binds a value after those that are bound. SQLKEEP_CLOSED, SQLKEEP_NO_MEMORY; SQLKEEP_NOT_UTF8 of a text. */
+uint32_t sqlkeep_bind_null(sqlkeep *handle);
+uint32_t sqlkeep_bind_integer(sqlkeep *handle, int64_t integer);
+uint32_t sqlkeep_bind_text(sqlkeep *handle, const uint8_t *text, size_t length);
+
+/* Reads the statements of a template with the values that are bound, keeps them as sqlkeep_read does, and forgets the values.
+   `script->fault_at` is a byte of the filled text.
+   SQLKEEP_CLOSED, SQLKEEP_NOT_UTF8, SQLKEEP_NO_MEMORY; SQLKEEP_WRONG_COUNT: the template has another number of question marks
+   than values are bound; SQLKEEP_NO_TEMPLATE: at some place of it there is neither a token nor a question mark. */
+uint32_t sqlkeep_read_bound(sqlkeep *handle, const uint8_t *text, size_t length, sqlkeep_script *script);
+
 /* Executes the statement at this place, from 0, of those that were read. SQLKEEP_OK says that it was executed, also where it
    was refused: then `outcome->kind` is SQLKEEP_REFUSED. Where memory was refused, the cause is 22, the database is as
    before, and the statement may be executed again.
@@ -208,6 +349,51 @@ uint32_t sqlkeep_value(sqlkeep *handle, size_t row, size_t column, sqlkeep_cell 
 /* Copies bytes of a text to the buffer, from byte `from` on, as sqlkeep_transcript does.
    SQLKEEP_CLOSED; SQLKEEP_NOTHING: there is no such value. */
 uint32_t sqlkeep_value_text(sqlkeep *handle, size_t row, size_t column, size_t from, uint8_t *buffer, size_t size, size_t *copied);
+
+/* ---- the columns of a query
+
+   These are about the statement that was executed last, where it is among those that were read last and is a query, also
+   where it gave no row. SQLKEEP_NOTHING: it is none, or its table isn't there. */
+
+/* How many columns it has. SQLKEEP_CLOSED, SQLKEEP_NOTHING. */
+uint32_t sqlkeep_query(sqlkeep *handle, size_t *columns);
+
+/* Copies bytes of a column's name to the buffer, from byte `from` on, as sqlkeep_transcript does. It is COUNT for COUNT(*), and
+   empty for an expression that is no column. SQLKEEP_CLOSED; SQLKEEP_NOTHING: there is no such column. */
+uint32_t sqlkeep_query_column(sqlkeep *handle, size_t column, size_t from, uint8_t *buffer, size_t size, size_t *copied);
+
+/* ---- the catalogue
+
+   Tables, constraints and triggers stand in the order of their creation and columns in that of their text, each from 0. A
+   dropped trigger leaves no gap. Names are copied to the buffer, from byte `from` on, as sqlkeep_transcript does.
+   SQLKEEP_CLOSED; SQLKEEP_NOTHING: there is none at this place. */
+
+/* How many tables, constraints and triggers there are. SQLKEEP_CLOSED. */
+uint32_t sqlkeep_catalogue(sqlkeep *handle, sqlkeep_sizes *sizes);
+
+/* How many columns a table has, and its name. */
+uint32_t sqlkeep_table(sqlkeep *handle, size_t table, size_t *columns);
+uint32_t sqlkeep_table_name(sqlkeep *handle, size_t table, size_t from, uint8_t *buffer, size_t size, size_t *copied);
+
+/* The type and the name of a column. */
+uint32_t sqlkeep_column(sqlkeep *handle, size_t table, size_t column, sqlkeep_column_type *type);
+uint32_t sqlkeep_column_name(sqlkeep *handle, size_t table, size_t column, size_t from, uint8_t *buffer, size_t size, size_t *copied);
+
+/* The value of DEFAULT of a column, NULL where it has none; and the bytes of a text. */
+uint32_t sqlkeep_default(sqlkeep *handle, size_t table, size_t column, sqlkeep_cell *value);
+uint32_t sqlkeep_default_text(sqlkeep *handle, size_t table, size_t column, size_t from, uint8_t *buffer, size_t size, size_t *copied);
+
+/* A constraint, its name, a column that it is of, and the column that a foreign key refers to from there, as their places in
+   their tables. */
+uint32_t sqlkeep_constraint_at(sqlkeep *handle, size_t at, sqlkeep_constraint_definition *constraint);
+uint32_t sqlkeep_constraint_name(sqlkeep *handle, size_t at, size_t from, uint8_t *buffer, size_t size, size_t *copied);
+uint32_t sqlkeep_constraint_column(sqlkeep *handle, size_t at, size_t place, uint32_t *column);
+uint32_t sqlkeep_referenced_column(sqlkeep *handle, size_t at, size_t place, uint32_t *column);
+
+/* A trigger, its name, and a column that UPDATE OF lists, as its place in the table. */
+uint32_t sqlkeep_trigger_at(sqlkeep *handle, size_t at, sqlkeep_trigger_definition *trigger);
+uint32_t sqlkeep_trigger_name(sqlkeep *handle, size_t at, size_t from, uint8_t *buffer, size_t size, size_t *copied);
+uint32_t sqlkeep_trigger_column(sqlkeep *handle, size_t at, size_t place, uint32_t *column);
 
 /* ---- why the last statement was refused
 
@@ -326,6 +512,69 @@ static inline uint32_t sqlkeep_tested_pending(sqlkeep *handle, size_t *count) {
 static inline uint32_t sqlkeep_tested_violation(sqlkeep *handle, size_t at, uint64_t *row, uint8_t *buffer, size_t size, size_t *copied) {
     return handle == NULL ? (uint32_t)SQLKEEP_NO_HANDLE : sqlkeep_violation(handle, at, row, buffer, size, copied);
 }
+static inline uint32_t sqlkeep_tested_unbind(sqlkeep *handle) {
+    return handle == NULL ? (uint32_t)SQLKEEP_NO_HANDLE : sqlkeep_unbind(handle);
+}
+static inline uint32_t sqlkeep_tested_bind_null(sqlkeep *handle) {
+    return handle == NULL ? (uint32_t)SQLKEEP_NO_HANDLE : sqlkeep_bind_null(handle);
+}
+static inline uint32_t sqlkeep_tested_bind_integer(sqlkeep *handle, int64_t integer) {
+    return handle == NULL ? (uint32_t)SQLKEEP_NO_HANDLE : sqlkeep_bind_integer(handle, integer);
+}
+static inline uint32_t sqlkeep_tested_bind_text(sqlkeep *handle, const uint8_t *text, size_t length) {
+    return handle == NULL ? (uint32_t)SQLKEEP_NO_HANDLE : sqlkeep_bind_text(handle, text, length);
+}
+static inline uint32_t sqlkeep_tested_read_bound(sqlkeep *handle, const uint8_t *text, size_t length, sqlkeep_script *script) {
+    return handle == NULL ? (uint32_t)SQLKEEP_NO_HANDLE : sqlkeep_read_bound(handle, text, length, script);
+}
+static inline uint32_t sqlkeep_tested_query(sqlkeep *handle, size_t *columns) {
+    return handle == NULL ? (uint32_t)SQLKEEP_NO_HANDLE : sqlkeep_query(handle, columns);
+}
+static inline uint32_t sqlkeep_tested_query_column(sqlkeep *handle, size_t column, size_t from, uint8_t *buffer, size_t size, size_t *copied) {
+    return handle == NULL ? (uint32_t)SQLKEEP_NO_HANDLE : sqlkeep_query_column(handle, column, from, buffer, size, copied);
+}
+static inline uint32_t sqlkeep_tested_catalogue(sqlkeep *handle, sqlkeep_sizes *sizes) {
+    return handle == NULL ? (uint32_t)SQLKEEP_NO_HANDLE : sqlkeep_catalogue(handle, sizes);
+}
+static inline uint32_t sqlkeep_tested_table(sqlkeep *handle, size_t table, size_t *columns) {
+    return handle == NULL ? (uint32_t)SQLKEEP_NO_HANDLE : sqlkeep_table(handle, table, columns);
+}
+static inline uint32_t sqlkeep_tested_table_name(sqlkeep *handle, size_t table, size_t from, uint8_t *buffer, size_t size, size_t *copied) {
+    return handle == NULL ? (uint32_t)SQLKEEP_NO_HANDLE : sqlkeep_table_name(handle, table, from, buffer, size, copied);
+}
+static inline uint32_t sqlkeep_tested_column(sqlkeep *handle, size_t table, size_t column, sqlkeep_column_type *type) {
+    return handle == NULL ? (uint32_t)SQLKEEP_NO_HANDLE : sqlkeep_column(handle, table, column, type);
+}
+static inline uint32_t sqlkeep_tested_column_name(sqlkeep *handle, size_t table, size_t column, size_t from, uint8_t *buffer, size_t size, size_t *copied) {
+    return handle == NULL ? (uint32_t)SQLKEEP_NO_HANDLE : sqlkeep_column_name(handle, table, column, from, buffer, size, copied);
+}
+static inline uint32_t sqlkeep_tested_default(sqlkeep *handle, size_t table, size_t column, sqlkeep_cell *value) {
+    return handle == NULL ? (uint32_t)SQLKEEP_NO_HANDLE : sqlkeep_default(handle, table, column, value);
+}
+static inline uint32_t sqlkeep_tested_default_text(sqlkeep *handle, size_t table, size_t column, size_t from, uint8_t *buffer, size_t size, size_t *copied) {
+    return handle == NULL ? (uint32_t)SQLKEEP_NO_HANDLE : sqlkeep_default_text(handle, table, column, from, buffer, size, copied);
+}
+static inline uint32_t sqlkeep_tested_constraint_at(sqlkeep *handle, size_t at, sqlkeep_constraint_definition *constraint) {
+    return handle == NULL ? (uint32_t)SQLKEEP_NO_HANDLE : sqlkeep_constraint_at(handle, at, constraint);
+}
+static inline uint32_t sqlkeep_tested_constraint_name(sqlkeep *handle, size_t at, size_t from, uint8_t *buffer, size_t size, size_t *copied) {
+    return handle == NULL ? (uint32_t)SQLKEEP_NO_HANDLE : sqlkeep_constraint_name(handle, at, from, buffer, size, copied);
+}
+static inline uint32_t sqlkeep_tested_constraint_column(sqlkeep *handle, size_t at, size_t place, uint32_t *column) {
+    return handle == NULL ? (uint32_t)SQLKEEP_NO_HANDLE : sqlkeep_constraint_column(handle, at, place, column);
+}
+static inline uint32_t sqlkeep_tested_referenced_column(sqlkeep *handle, size_t at, size_t place, uint32_t *column) {
+    return handle == NULL ? (uint32_t)SQLKEEP_NO_HANDLE : sqlkeep_referenced_column(handle, at, place, column);
+}
+static inline uint32_t sqlkeep_tested_trigger_at(sqlkeep *handle, size_t at, sqlkeep_trigger_definition *trigger) {
+    return handle == NULL ? (uint32_t)SQLKEEP_NO_HANDLE : sqlkeep_trigger_at(handle, at, trigger);
+}
+static inline uint32_t sqlkeep_tested_trigger_name(sqlkeep *handle, size_t at, size_t from, uint8_t *buffer, size_t size, size_t *copied) {
+    return handle == NULL ? (uint32_t)SQLKEEP_NO_HANDLE : sqlkeep_trigger_name(handle, at, from, buffer, size, copied);
+}
+static inline uint32_t sqlkeep_tested_trigger_column(sqlkeep *handle, size_t at, size_t place, uint32_t *column) {
+    return handle == NULL ? (uint32_t)SQLKEEP_NO_HANDLE : sqlkeep_trigger_column(handle, at, place, column);
+}
 
 #define sqlkeep_open sqlkeep_tested_open
 #define sqlkeep_close sqlkeep_tested_close
@@ -349,6 +598,60 @@ static inline uint32_t sqlkeep_tested_violation(sqlkeep *handle, size_t at, uint
 #define sqlkeep_work sqlkeep_tested_work
 #define sqlkeep_pending sqlkeep_tested_pending
 #define sqlkeep_violation sqlkeep_tested_violation
+#define sqlkeep_unbind sqlkeep_tested_unbind
+#define sqlkeep_bind_null sqlkeep_tested_bind_null
+#define sqlkeep_bind_integer sqlkeep_tested_bind_integer
+#define sqlkeep_bind_text sqlkeep_tested_bind_text
+#define sqlkeep_read_bound sqlkeep_tested_read_bound
+#define sqlkeep_query sqlkeep_tested_query
+#define sqlkeep_query_column sqlkeep_tested_query_column
+#define sqlkeep_catalogue sqlkeep_tested_catalogue
+#define sqlkeep_table sqlkeep_tested_table
+#define sqlkeep_table_name sqlkeep_tested_table_name
+#define sqlkeep_column sqlkeep_tested_column
+#define sqlkeep_column_name sqlkeep_tested_column_name
+#define sqlkeep_default sqlkeep_tested_default
+#define sqlkeep_default_text sqlkeep_tested_default_text
+#define sqlkeep_constraint_at sqlkeep_tested_constraint_at
+#define sqlkeep_constraint_name sqlkeep_tested_constraint_name
+#define sqlkeep_constraint_column sqlkeep_tested_constraint_column
+#define sqlkeep_referenced_column sqlkeep_tested_referenced_column
+#define sqlkeep_trigger_at sqlkeep_tested_trigger_at
+#define sqlkeep_trigger_name sqlkeep_tested_trigger_name
+#define sqlkeep_trigger_column sqlkeep_tested_trigger_column
+
+/* ---- a template with its values
+
+   Reads the statements of a template with these values in place of its question marks, the first for the first, and keeps them
+   as sqlkeep_read does. Values that were bound before are forgotten, and those that are bound here too, whatever the status.
+   SQLKEEP_CLOSED, SQLKEEP_NOT_UTF8, SQLKEEP_NO_MEMORY, SQLKEEP_NO_HANDLE, SQLKEEP_WRONG_COUNT, SQLKEEP_NO_TEMPLATE;
+   SQLKEEP_NOTHING: the kind of a value is none of enum sqlkeep_value_kind. */
+static inline uint32_t sqlkeep_bind(sqlkeep *handle, const sqlkeep_parameter *value) {
+    switch (value->kind) {
+    case SQLKEEP_NULL:
+        return sqlkeep_bind_null(handle);
+    case SQLKEEP_INTEGER:
+        return sqlkeep_bind_integer(handle, value->integer);
+    case SQLKEEP_TEXT:
+        return sqlkeep_bind_text(handle, value->text, value->length);
+    default:
+        return SQLKEEP_NOTHING;
+    }
+}
+
+static inline uint32_t sqlkeep_read_filled(sqlkeep *handle, const uint8_t *text, size_t length, const sqlkeep_parameter *values, size_t count, sqlkeep_script *script) {
+    uint32_t status = sqlkeep_unbind(handle);
+    for (size_t at = 0; status == SQLKEEP_OK && at < count; at++) {
+        status = sqlkeep_bind(handle, &values[at]);
+    }
+    if (status == SQLKEEP_OK) {
+        status = sqlkeep_read_bound(handle, text, length, script);
+    }
+    if (status != SQLKEEP_OK) {
+        sqlkeep_unbind(handle);
+    }
+    return status;
+}
 
 #ifdef __cplusplus
 }

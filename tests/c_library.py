@@ -200,8 +200,15 @@ def tried(room):
             if what == 'C':
                 yield from by_c(room, program)
     yield from firsts(room)
-    program, why = room.c_program(os.path.join(HERE, 'c_sessions.c'), 'sessions')
-    yield 'sessions side by side', why or told([program])
+    for what, name in (('sessions side by side', 'c_sessions'), ('templates and the catalogue', 'c_catalogue')):
+        program, why = room.c_program(os.path.join(HERE, name + '.c'), name)
+        yield what, why or told([program])
+        if shutil.which('valgrind'):
+            yield what + ' under valgrind', why or told(['valgrind', '-q', '--leak-check=full', '--error-exitcode=99', program])
+    with open(os.path.join(HERE, '..', 'VERSION'), encoding='ascii') as file:
+        line = '#define SQLKEEP_VERSION "%s"\n' % file.read().strip()
+    with open(os.path.join(room.library, 'sqlkeep.h'), encoding='utf-8') as file:
+        yield 'the version of the header', [] if line in file.read() else ['not ' + line]
 
 
 def main():

@@ -220,6 +220,39 @@ static int accounts(void) {
     return 0;
 }
 
+/* A table with a trigger before each row, and one whose rows are doubled and then updated. */
+static const char LARGE[] =
+    "CREATE TABLE t (a INT); CREATE TRIGGER before_t BEFORE INSERT ON t REFERENCING NEW AS n FOR EACH ROW SET n.a = n.a + 1;"
+    "CREATE TABLE many (a INT); INSERT INTO many VALUES (0); COMMIT;"
+    "INSERT INTO many SELECT a FROM many; UPDATE many SET a = a + 1; INSERT INTO t VALUES (5); ROLLBACK;";
+
+/* At 1,048,576 changes of a transaction an INSERT is refused before its triggers are asked, so nothing is told of it. */
+static int a_full_transaction(void) {
+    sqlkeep session = SQLKEEP_EMPTY;
+    sqlkeep_script script;
+    sqlkeep_outcome outcome;
+    WANT(sqlkeep_open(&session, 16, 65536) == SQLKEEP_OK);
+    WANT(read_text(&session, LARGE, &script) == SQLKEEP_OK && script.statements == 9);
+    for (size_t at = 0; at < 5; at++) {
+        WANT(sqlkeep_execute(&session, at, &outcome) == SQLKEEP_OK && outcome.kind != SQLKEEP_REFUSED);
+    }
+    for (size_t doubled = 0; doubled < 15; doubled++) {
+        WANT(sqlkeep_execute(&session, 5, &outcome) == SQLKEEP_OK && outcome.count == (uint64_t)1 << doubled);
+    }
+    for (size_t updated = 0; updated < 31; updated++) {
+        WANT(sqlkeep_execute(&session, 6, &outcome) == SQLKEEP_OK && outcome.count == 32768);
+    }
+    /* 32,767 and 31 times 32,768 changes: one is left. */
+    WANT(sqlkeep_explain(&session, 1) == SQLKEEP_OK);
+    WANT(sqlkeep_execute(&session, 7, &outcome) == SQLKEEP_OK && sqlkeep_lines(&session, 1) == SQLKEEP_OK);
+    WANT(has_transcript(&session, "1 ok 1\n  trigger BEFORE_T NEW (5)\n  insert T row 32769 (6)\n"));
+    WANT(sqlkeep_execute(&session, 7, &outcome) == SQLKEEP_OK && outcome.cause == SQLKEEP_CAUSE_TRANSACTION_TOO_LARGE);
+    WANT(sqlkeep_lines(&session, 2) == SQLKEEP_OK && has_transcript(&session, "2 refused 18 TransactionTooLarge\n"));
+    WANT(sqlkeep_execute(&session, 8, &outcome) == SQLKEEP_OK && outcome.kind == SQLKEEP_DONE);
+    WANT(sqlkeep_close(&session) == SQLKEEP_OK);
+    return 0;
+}
+
 static const char NAMES[] = "CREATE TABLE t (a INT); INSERT INTO t (b) VALUES (1); CREATE TABLE t (a INT); COMMIT;";
 
 /* The name that a refusal is about, and the place of a fault. */
@@ -283,6 +316,7 @@ int main(void) {
     failed = failed ? failed : statements();
     failed = failed ? failed : accounts();
     failed = failed ? failed : names();
+    failed = failed ? failed : a_full_transaction();
     failed = failed ? failed : absent();
     return failed ? failed : empty();
 }

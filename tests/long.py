@@ -8,8 +8,8 @@ children follow; deletes a parent with its children; and rolls a part of it back
 it. There are 200,000 rounds, with --all 2,000,000.
 
 Resident memory may rise by 2 MB from the middle to the end at most, and a round of the last tenth may take 1.2 of the processor time
-of one of the first. Then sessions that had 60,000 rows at a time, which were rolled back or deleted, and ten small transactions after
-that, are held against one that had only the small ones: they may have 2 MB more. The C library keeps small blocks that were freed, so
+of one of the first. Then sessions that had 60,000 rows at a time, which were rolled back or deleted, with accounts asked for and after
+6,000 savepoints too, and ten small transactions after that, are held against one that had only the small ones: they may have 2 MB more. The C library keeps small blocks that were freed, so
 it is asked to give them to the system first. The last line is `N passed, N failed`."""
 import argparse
 import ctypes
@@ -46,6 +46,8 @@ MANY = 60_000
 GROWN = {
     'rolled back': ['START TRANSACTION', '{rows}', 'ROLLBACK'],
     'deleted': ['{rows}', 'COMMIT', 'DELETE FROM w', 'COMMIT'],
+    'told in accounts': ['{explain}', '{rows}', 'UPDATE w SET a = -a - 1', 'ROLLBACK', '{quiet}'],
+    'with savepoints': ['START TRANSACTION', '{savepoints}', '{rows}', 'ROLLBACK'],
 }
 
 
@@ -106,6 +108,20 @@ def inserts(count):
     return '; '.join('INSERT INTO w VALUES ' + ', '.join("(%d, 'word %d')" % (n, n) for n in range(first, first + 1000)) for first in range(0, count, 1000))
 
 
+def savepoints(count):
+    """So many savepoints, each with a name of its own."""
+    return '; '.join('SAVEPOINT s%d' % n for n in range(count))
+
+
+def run_grown(session, statement):
+    """Runs one of the lines above."""
+    if statement in ('{explain}', '{quiet}'):
+        session.explain(statement == '{explain}')
+        return
+    for part in {'{rows}': inserts(MANY), '{savepoints}': savepoints(MANY // 10)}.get(statement, statement).split('; '):
+        run(session, part + ';')
+
+
 def size_after(library, statements):
     """The bytes in memory of a process of its own after a session that had these statements, and then ten small transactions."""
     reader, writer = os.pipe()
@@ -114,8 +130,7 @@ def size_after(library, statements):
         session = sqlkeep.Session(library=library)
         run(session, 'CREATE TABLE w (a INT PRIMARY KEY, b VARCHAR(20) UNIQUE); COMMIT;')
         for statement in statements:
-            for part in (inserts(MANY) if statement == '{rows}' else statement).split('; '):
-                run(session, part + ';')
+            run_grown(session, statement)
         for number in range(10):
             run(session, "INSERT INTO w VALUES (%d, 'x'); COMMIT; DELETE FROM w; COMMIT;" % number)
         give_back()
@@ -148,7 +163,8 @@ def main():
     wrong = [*large_transactions(library), *long_session(library, words.rounds or (2_000_000 if words.all else 200_000))]
     for line in wrong:
         print('FAIL', line)
-    print('%d passed, %d failed' % (4 - len(wrong), len(wrong)))
+    count = 2 + len(GROWN)
+    print('%d passed, %d failed' % (count - len(wrong), len(wrong)))
     return 1 if wrong else 0
 
 

@@ -16,7 +16,7 @@ use Rattle.iv_lex.specs.Longest.IsToken.{a_word, a_number, a_text, a_symbol}
 use Rattle.iv_lex.specs.Longest.IsRun.{word, digits, text, open_text, symbol}
 
 -- how many bytes at the front pass the test, by recursion
-pub front : (ℕ → Bool) → List ℕ → ℕ
+unfoldable pub front : (ℕ → Bool) → List ℕ → ℕ
 front p [] = 0
 front p (b ∷ bs) = if p b then suc (front p bs) else 0
 

@@ -9,4 +9,8 @@ scripts = record {
   one_check = refl;
   two_checks = refl;
   table_in_transaction = refl;
+  first_insert_told = refl;
+  refused_commit_told = refl;
+  accepted_commit_told = refl;
+  without_meaning_told = refl;
 }

@@ -27,7 +27,12 @@ use Rattle.iv_machine.specs.declared.answer.Answer.{Answer}
 use Rattle.iv_machine.specs.declared.answer.Answer.TheVariants.{Done, Changed, Rows}
 use Rattle.iv_machine.specs.Machine.{empty_state}
 use Rattle.iv_value.specs.declared.value.Value.{Value}
+use Rattle.iv_expr.specs.declared.row.Change.{Change}
+use Rattle.iv_expr.specs.declared.row.StoredRow.{StoredRow}
+use Rattle.iv_account.specs.declared.entry.Entry.{Entry}
+use Rattle.iv_account.specs.declared.entry.Entry.TheVariants as entry
 use Rattle.iv_step.specs.Step.{run}
+use Rattle.iv_step.specs.Telling.{statement_told}
 
 -- ---- answers
 
@@ -53,6 +58,17 @@ refused cause = Err (record { cause = cause; trigger = None })
 -- in a new session with the usual limits
 abbrev pub answers_to : List Statement → List Answered
 answers_to statements = (run (empty_state (record { depth = 16; changes = 65536 })) statements).0
+
+-- what is told of a statement after these, in a new session with the usual limits
+abbrev pub told_after : List Statement → Statement → List Entry
+told_after statements st = statement_told (run (empty_state (record { depth = 16; changes = 65536 })) statements).1 st
+
+-- a row of the first table, and its insertion
+abbrev pub first_table_row : ℕ → List Value → StoredRow
+first_table_row number values = record { table = 0; number = number; values = values }
+
+abbrev pub row_inserted : ℕ → List Value → Change
+row_inserted number values = record { table = 0; row = number; old = None; new = Some values }
 
 -- ---- statements
 
@@ -85,6 +101,13 @@ parsed_select = statement.Select (select.Rows Star (record { table = codes "T"; 
 abbrev pub a_table : Statement
 a_table = statement.CreateTable (codes "T") (parsed_column (codes "A") ∷ [])
 
+-- CREATE TABLE T (A INT, CONSTRAINT POS CHECK (A > 0) INITIALLY DEFERRED, CONSTRAINT BIG CHECK (A < 9))
+abbrev pub two_checks_table : Statement
+two_checks_table =
+    statement.CreateTable (codes "T")
+    (parsed_column (codes "A") ∷ check (Some (codes "POS")) Greater 0 (Some Deferred)
+    ∷ check (Some (codes "BIG")) Less 9 None ∷ [])
+
 -- CREATE TABLE T (A INTEGER, CHECK (A > 0)); INSERT INTO T VALUES (1); COMMIT; SELECT * FROM T;
 abbrev pub check_insert_commit_select : List Statement
 check_insert_commit_select =
@@ -96,10 +119,7 @@ check_insert_commit_select =
 -- COMMIT; SELECT * FROM T;
 abbrev pub two_checks_one_deferred : List Statement
 two_checks_one_deferred =
-    statement.CreateTable (codes "T")
-    (parsed_column (codes "A") ∷ check (Some (codes "POS")) Greater 0 (Some Deferred)
-    ∷ check (Some (codes "BIG")) Less 9 None ∷ [])
-    ∷ parsed_insert (expression.Number 0) ∷ parsed_insert (expression.Number 9) ∷ statement.Commit
+    two_checks_table ∷ parsed_insert (expression.Number 0) ∷ parsed_insert (expression.Number 9) ∷ statement.Commit
     ∷ parsed_insert expression.Null ∷ statement.Commit ∷ parsed_select ∷ []
 
 -- CREATE TABLE T (A INTEGER); INSERT INTO T VALUES (1); CREATE TABLE T (A INTEGER); ROLLBACK;
@@ -118,3 +138,13 @@ pub record WorkedScripts : Type 0 where
   -- that a transaction is open is answered before all else
   pub table_in_transaction : answers_to table_created_again
       ≡ ok ∷ ok_rows 1 ∷ refused InTransaction ∷ ok ∷ refused Duplicate ∷ []
+  -- the first INSERT of a session
+  pub first_insert_told : told_after (a_table ∷ []) (parsed_insert (expression.Number 1)) ≡ entry.Changed (row_inserted 1 (Int (pos 1) ∷ []) ∷ []) ∷ []
+  -- a COMMIT that is refused
+  pub refused_commit_told :
+      told_after (two_checks_table ∷ parsed_insert (expression.Number 0) ∷ []) statement.Commit
+      ≡ entry.Faulted (fault 0 1) (first_table_row 1 (Int (pos 0) ∷ []) ∷ []) ∷ []
+  -- a COMMIT that is accepted
+  pub accepted_commit_told : told_after (a_table ∷ parsed_insert (expression.Number 1) ∷ []) statement.Commit ≡ []
+  -- a statement without meaning: there is no table T
+  pub without_meaning_told : told_after [] (parsed_insert (expression.Number 1)) ≡ []

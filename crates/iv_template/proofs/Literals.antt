@@ -13,10 +13,11 @@ use Rattle.iv_lex.specs.declared.kind.TokenKind.TheVariants as kind
 use Rattle.iv_syntax.specs.declared.limits.TheConstants.{GREATEST_INTEGER}
 use Rattle.iv_lex.specs.Reserved.{word_kind}
 use Rattle.iv_lex.specs.Tokens.{is_space, is_letter, is_digit, opens_comment, gap_by, gap, value_from, number_kind, closing, Front, with_length, quoted_by, number_at, token_at}
+use Rattle.iv_lex.proofs.Longest.{front}
 use Rattle.iv_lex.specs.Words.{Word, number, quoted, plain, single_quotes}
 use Rattle.iv_template.specs.Templates.{literal, least}
 use Rattle.iv_template.specs.Literals.{quote_doubled, literal_text, IsSmall}
-use Rattle.iv_template.proofs.Local.{apart_space, run, word_inside, number_inside}
+use Rattle.iv_template.proofs.Local.{apart_space, word_inside, number_inside}
 use Rattle.iv_template.proofs.Lexing.{word_from, Lexes, more, after_space, one_word}
 use Rattle.iv_template.proofs.Found.{inner_is}
 
@@ -54,11 +55,12 @@ writes n h = decimal_by_steps (λ m ds. Writes m ds)
     })
     n h
 
-run_all : (p : ℕ → Bool) (ds : List ℕ) → list_all p ds ≡ true → run p ds ≡ length ds
-run_all p [] h = refl
-run_all p (d ∷ ds) h =
+front_of_all : (p : ℕ → Bool) (ds : List ℕ) → list_all p ds ≡ true → front p ds ≡ length ds
+unfolding front
+front_of_all p [] h = refl
+front_of_all p (d ∷ ds) h =
     let two = and_parts (p d) (list_all p ds) h in
-    ap (λ z. if z then suc (run p ds) else 0) two.0 ∙ ap suc (run_all p ds two.1)
+    ap (λ z. if z then suc (front p ds) else 0) two.0 ∙ ap suc (front_of_all p ds two.1)
 
 take_all : (ds : List ℕ) → take (length ds) ds ≡ ds
 take_all ds = grind (arith, common_steps)
@@ -91,7 +93,7 @@ number_token n (b ∷ ds) other w h =
     let d : is_digit b ≡ true = (and_parts (is_digit b) (list_all is_digit ds) w.digits).0 in
     second (is_letter b) (is_digit b) _ _ _ (digit_no_letter b d) d
     ∙ number_inside (b ∷ ds) 32 other apart_space
-    ∙ ap (number_at (b ∷ ds)) (run_all is_digit (b ∷ ds) w.digits)
+    ∙ ap (number_at (b ∷ ds)) (front_of_all is_digit (b ∷ ds) w.digits)
     ∙ ap (λ z. with_length (length (b ∷ ds)) (number_kind z)) (take_all (b ∷ ds))
     ∙ ap (with_length (length (b ∷ ds))) (kind_of_digits n (b ∷ ds) w h)
 

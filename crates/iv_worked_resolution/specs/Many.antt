@@ -3,21 +3,16 @@ use Rattle.std.specs.Prelude.{ℕ, zero, suc, false, List, [], ◌∷◌, map, c
 use Rattle.iv_worked_resolution.specs.Words.{Condition, Expression, ColumnRule, TableElement, TriggerAction, Table}
 use Rattle.iv_worked_resolution.specs.Words.value
 use Rattle.iv_worked_resolution.specs.Words.kind
-use Rattle.iv_worked_resolution.specs.Words.cond
 use Rattle.iv_worked_resolution.specs.Words.mode
 use Rattle.iv_worked_resolution.specs.Words.type
 use Rattle.iv_worked_resolution.specs.Words.column_rule
-use Rattle.iv_worked_resolution.specs.Words.time
-use Rattle.iv_worked_resolution.specs.Words.event
-use Rattle.iv_worked_resolution.specs.Words.granularity
 use Rattle.iv_worked_resolution.specs.Words.action
 use Rattle.iv_worked_resolution.specs.Words.rule
-use Rattle.iv_worked_resolution.specs.Words.body
 use Rattle.iv_syntax.specs.Trees.{group, enclosed}
 use Rattle.iv_catalogue.specs.Names.{generated_name}
 use Rattle.iv_catalogue.specs.Catalogues.{Schema}
 use Rattle.iv_resolution.specs.Worked.{a, p, t, defined}
-use Rattle.iv_worked_resolution.specs.Words.{x}
+use Rattle.iv_worked_resolution.specs.Words.{x, signalling}
 
 -- the numbers below this one, the greatest first
 abbrev pub numbers : ℕ → List ℕ
@@ -83,17 +78,6 @@ abbrev pub with_triggers : ℕ → ℕ → Schema
 with_triggers n created = record {
   tables = table_of t (a ∷ []) ∷ [];
   constraints = [];
-  triggers =
-      map (λ name. record {
-        id = 0;
-        name = name;
-        table = 0;
-        time = time.After;
-        event = event.Insert;
-        columns = [];
-        granularity = granularity.Statement;
-        when = cond.Always;
-        body = body.Signal (codes "x") ∷ [];
-      }) (numbered n);
+  triggers = map signalling (numbered n);
   created = created;
 }

@@ -54,6 +54,7 @@ pub use Rattle.iv_catalogue.specs.declared.constraint.Rule.TheVariants as rule
 pub use Rattle.iv_catalogue.specs.declared.plan.BodyStatement.TheVariants as body
 pub use Rattle.iv_catalogue.specs.declared.plan.Plan.TheVariants as plan
 pub use Rattle.iv_catalogue.specs.declared.plan.SchemaPlan.TheVariants as schema_plan
+pub use Rattle.iv_catalogue.specs.declared.plan.Trigger.{Trigger}
 use Rattle.std.specs.Prelude.{ℕ, Bool, true, false, List, [], ◌∷◌, codes, Option, None}
 use Rattle.iv_catalogue.specs.Catalogues.{Schema}
 use Rattle.iv_resolution.specs.Worked.{a, b, k, p, t, z}
@@ -89,6 +90,20 @@ y = codes "Y"
 
 -- ---- the catalogue
 
+-- CREATE TRIGGER name AFTER INSERT ON t SIGNAL 'x'; t is the first table
+abbrev pub signalling : List ℕ → Trigger
+signalling name = record {
+  id = 0;
+  name = name;
+  table = 0;
+  time = time.After;
+  event = event.Insert;
+  columns = [];
+  granularity = granularity.Statement;
+  when = cond.Always;
+  body = body.Signal (codes "x") ∷ [];
+}
+
 -- CREATE TABLE t (a INT, b VARCHAR(2));
 -- CREATE TABLE p (k INT PRIMARY KEY);
 -- CREATE TABLE q (a INT, b VARCHAR(2), k INT, z INT CONSTRAINT v_c1 UNIQUE, PRIMARY KEY (a, b), CONSTRAINT d_c3 UNIQUE (k) DEFERRABLE);
@@ -114,19 +129,7 @@ schema = record {
       ∷ record { name = codes "D_C3"; table = 2; rule = rule.Unique nulls.Distinct (2 ∷ []); deferrable = true; initially = mode.Immediate }
       ∷ record { name = codes "D_C1"; table = 3; rule = rule.PrimaryKey (0 ∷ []); deferrable = true; initially = mode.Immediate }
       ∷ record { name = codes "D_C2"; table = 3; rule = rule.Unique nulls.Distinct (0 ∷ []); deferrable = false; initially = mode.Immediate } ∷ [];
-  triggers =
-      record {
-        id = 0;
-        name = s;
-        table = 0;
-        time = time.After;
-        event = event.Insert;
-        columns = [];
-        granularity = granularity.Statement;
-        when = cond.Always;
-        body = body.Signal (codes "x") ∷ [];
-      }
-      ∷ [];
+  triggers = signalling s ∷ [];
   created = 1;
 }
 

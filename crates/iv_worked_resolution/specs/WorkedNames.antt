@@ -1,7 +1,6 @@
 -- Worked statements: the name that a refusal of each is about. The SQL is above each; the names are worked out by hand.
 use Rattle.std.specs.Prelude.{◌≡◌, ℕ, false, List, [], ◌∷◌, ◌++◌, codes, Option, Some, None}
 use Rattle.iv_expr.specs.declared.tree.Comparison.TheVariants.{Equal}
-use Rattle.iv_expr.specs.declared.tree.Cond.TheVariants as cond
 use Rattle.iv_expr.specs.declared.tree.Side.TheVariants.{Old, New}
 use Rattle.iv_syntax.specs.declared.tree.Condition.{Condition}
 use Rattle.iv_syntax.specs.declared.tree.Condition.TheVariants as condition
@@ -35,8 +34,8 @@ use Rattle.iv_syntax.specs.declared.trigger.TriggerEvent.TheVariants as event
 use Rattle.iv_syntax.specs.Trees.{product, sum, both, exists_where}
 use Rattle.iv_catalogue.specs.declared.cause.Cause.TheVariants.{Unknown, Duplicate, WrongShape}
 use Rattle.iv_catalogue.specs.declared.constraint.Rule.TheVariants as rule
-use Rattle.iv_catalogue.specs.declared.plan.BodyStatement.TheVariants as body
 use Rattle.iv_catalogue.specs.Catalogues.{Schema}
+use Rattle.iv_worked_resolution.specs.Words.{signalling}
 use Rattle.iv_resolution.specs.Worked.{a, b, k, p, t, w, z, tables, column, of_range, one, from, called, insert_into, select_of, delete_where, any_time, defined, constrained, create, to_table, item}
 use Rattle.iv_resolution.specs.Items.{Fault, table_item, column_item, variable_item, trigger_item, constraint_item, generated_item, transition_item, unknown_fault, in_use_fault, twice_fault}
 use Rattle.iv_resolution.specs.NameFaults.{name_fault}
@@ -61,19 +60,7 @@ schema = record tables {
       tables.constraints
       ++ record { name = codes "V_C1"; table = 0; rule = rule.Unique Distinct (0 ∷ []); deferrable = false; initially = mode.Immediate }
       ∷ record { name = codes "P_C2"; table = 0; rule = rule.Unique Distinct (1 ∷ []); deferrable = false; initially = mode.Immediate } ∷ [];
-  triggers =
-      record {
-        id = 0;
-        name = s;
-        table = 0;
-        time = time.After;
-        event = event.Insert;
-        columns = [];
-        granularity = granularity.Statement;
-        when = cond.Always;
-        body = body.Signal (codes "x") ∷ [];
-      }
-      ∷ [];
+  triggers = signalling s ∷ [];
   created = 1;
 }
 

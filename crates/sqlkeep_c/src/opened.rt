@@ -4,6 +4,7 @@ use iv_index_store::IndexStore;
 use iv_machine::Limits;
 use iv_session::{Outcome, Session};
 use iv_syntax::Statement;
+use iv_value::Value;
 use sqlite_items::Items;
 
 /// A session over the store that finds rows by their keys.
@@ -16,6 +17,8 @@ pub struct Opened {
     pub session: Database,
     /// The statements that were read last.
     pub statements: Items<Statement>,
+    /// The values for the question marks of the next template.
+    pub values: Vec<Value>,
     /// What the last statement or call answered.
     pub outcome: Outcome,
     /// The place among the statements of the one that answered it; none where another call did, or others were read since.

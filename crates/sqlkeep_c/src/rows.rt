@@ -41,7 +41,8 @@ fn value_at(outcome: &Outcome, row: usize, column: usize) -> Option<&Value>
     }
 }
 
-fn shown(value: &Value) -> ShownValue
+/// A value in the numbers that C reads.
+pub(crate) fn shown(value: &Value) -> ShownValue
     ensures { result ≡ value_shown value.now }
 {
     match value {
@@ -63,7 +64,8 @@ fn shown(value: &Value) -> ShownValue
     }
 }
 
-fn text_of(value: &Value) -> &[u8]
+/// The bytes of a text, none of any other value.
+pub(crate) fn text_of(value: &Value) -> &[u8]
     ensures { result.now ≡ text_of value.now }
 {
     match value {

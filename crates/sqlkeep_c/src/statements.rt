@@ -4,7 +4,7 @@ ghost use Rattle.std.specs.Str.{IsUtf8};
 ghost use Rattle.iv_parse.specs.Script.{IsScript};
 ghost use Rattle.iv_print.specs.Writing.{Writes};
 ghost use Rattle.sqlkeep_c.specs.Calls.{Called};
-ghost use Rattle.sqlkeep_c.specs.OutcomeLines.{name_line_of, outcome_lines};
+ghost use Rattle.sqlkeep_c.specs.OutcomeLines.{executed, name_line_of, outcome_lines};
 ghost use Rattle.iv_session.specs.Executed.{Executed};
 ghost use Rattle.sqlkeep_c.specs.Statements.{IsRead, outcome_shown, place_shown};
 ghost use Rattle.sqlkeep_c.specs.Statuses.{IsStatus, IsStatusOfText, found, status_by};
@@ -32,7 +32,8 @@ pub struct ReadScript {
     pub fault_at: u64,
 }
 
-fn shown(count: usize, fault: Option<SyntaxFault>) -> ReadScript
+/// What C reads of the statements of a text.
+pub(crate) fn shown(count: usize, fault: Option<SyntaxFault>) -> ReadScript
     ensures count { result.statements ≡ count }
     ensures place { place_shown fault result.has_fault result.fault_at }
 {
@@ -190,14 +191,21 @@ fn write_name_of<W: Sink>(
     }
 }
 
+/// The statement that was executed last, where it is among those that were read last.
+pub(crate) fn executed(opened: &Opened) -> Option<&Statement>
+    ensures { option_copied result ≡ executed opened.now.statements opened.now.executed }
+{
+    match opened.executed {
+        Some(at) => statement_at(opened.statements.as_slice(), at),
+        None => None,
+    }
+}
+
 // The lines of the last outcome, those of its account, and the name that a refusal is about, as the program writes them.
 fn lines(alloc: Global, number: u64, opened: &Opened) -> Result<Vec<u8>, DeviceFault>
     ensures { IfOk result (λ t. t.items ≡ outcome_lines number opened.now) }
 {
-    let statement = match opened.executed {
-        Some(at) => statement_at(opened.statements.as_slice(), at),
-        None => None,
-    };
+    let statement = executed(opened);
     let explained = Explained {
         asked: opened.session.explains(),
         alloc,

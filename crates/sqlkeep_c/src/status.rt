@@ -23,3 +23,11 @@ pub const NO_MEMORY: u32 = 6;
 
 /// There is nothing at this place.
 pub const NOTHING: u32 = 7;
+
+// 8 is the header's: the pointer to the handle is null.
+
+/// The template has so many question marks, and not so many values are bound.
+pub const WRONG_COUNT: u32 = 9;
+
+/// The template has a place at which there is neither a token nor a question mark.
+pub const NO_TEMPLATE: u32 = 10;
