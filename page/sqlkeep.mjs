@@ -11,9 +11,9 @@
 // addresses of 64 bits cross to the module as BigInts; its memory has addresses of 32 bits.
 
 import { entriesOf, linesOf } from "./account.mjs";
-import { filled } from "./tokens.mjs";
+import { readCatalogue } from "./catalogue.mjs";
 
-const OK = 0, CLOSED = 1, LIMITS = 3, NOT_UTF8 = 4, TOO_LONG = 5, NO_MEMORY = 6, NOTHING = 7;
+const OK = 0, CLOSED = 1, LIMITS = 3, NOT_UTF8 = 4, TOO_LONG = 5, NO_MEMORY = 6, NOTHING = 7, WRONG_COUNT = 9, NO_TEMPLATE = 10;
 const CHANGED = 1, ROWS = 2, REFUSED = 3;
 const NULL = 0, INTEGER = 1;
 const HANDLE_BYTES = 16, RESULT_BYTES = 64, BUFFER_BYTES = 1 << 16;
@@ -25,6 +25,8 @@ const WORDS = new Map([
   [TOO_LONG, "the script is longer than 1048576 bytes"],
   [NO_MEMORY, "out of memory"],
   [NOTHING, "there is nothing at this place"],
+  [WRONG_COUNT, "the template has another number of question marks than there are values"],
+  [NO_TEMPLATE, "the template has something that is neither a token nor a question mark"],
 ]);
 
 /** A call that could not be made; `status` is that of the library for C. */
@@ -151,8 +153,11 @@ export class Session {
 
   /** Reads a text and executes nothing. The statements stay until the next text is read. */
   read(text, values) {
-    const whole = values === undefined ? text : filled(text, values);
-    this.#withText(whole, (at, length) => this.#ask("sqlkeep_read", at, length, this.#result));
+    if (values !== undefined) {
+      this.#bind(values);
+    }
+    const call = values === undefined ? "sqlkeep_read" : "sqlkeep_read_bound";
+    this.#withText(text, (at, length) => this.#ask(call, at, length, this.#result));
     const [statements, hasFault, faultAt] = [0, 1, 2].map((place) => this.#number(place));
     return { statements, faultAt: hasFault ? faultAt : null };
   }
@@ -161,6 +166,21 @@ export class Session {
   attempt(at, number = at + 1) {
     this.#ask("sqlkeep_execute", BigInt(at), this.#result);
     return this.#outcome(number);
+  }
+
+  // Each value is tested before any is bound, so that none is changed on its way: a number has to be exact, and a text to be UTF-16.
+  #bind(values) {
+    const exact = values.map(tested);
+    this.#ask("sqlkeep_unbind");
+    exact.forEach((value) => {
+      if (value === null) {
+        this.#ask("sqlkeep_bind_null");
+      } else if (typeof value === "bigint") {
+        this.#ask("sqlkeep_bind_integer", value);
+      } else {
+        this.#withText(value, (at, length) => this.#ask("sqlkeep_bind_text", at, length));
+      }
+    });
   }
 
   /** The account of the last statement, as objects; empty where no account is asked for. */
@@ -175,6 +195,18 @@ export class Session {
       throw new EngineError("the last statement is no query", NOTHING);
     }
     return last.rows;
+  }
+
+  /** The tables, constraints and triggers, in the order in which they were made. */
+  catalogue() {
+    return readCatalogue({
+      ask: (name, ...words) => {
+        this.#ask(name, ...words, this.#result);
+        return new DataView(this.#exports.memory.buffer, Number(this.#result), RESULT_BYTES);
+      },
+      text: (name, ...words) => this.#pieces(name, ...words),
+      value: (cell, text, ...words) => this.#value(cell, text, ...words),
+    });
   }
 
   /** COMMIT. */
@@ -320,20 +352,26 @@ export class Session {
       return { kind: "refused", cause, reason: this.#pieces("sqlkeep_cause"), constraint, trigger, signal, row: row || null, lines, number };
     }
     if (kind === ROWS) {
-      return { kind: "rows", count, rows: this.#rows(count), lines };
+      return { kind: "rows", count, columns: this.#columns(), rows: this.#rows(count), lines };
     }
     return { kind: kind === CHANGED ? "changed" : "done", count, lines };
+  }
+
+  // The names of the columns of the query that was executed last; empty for an expression that is no column.
+  #columns() {
+    this.#ask("sqlkeep_query", this.#result);
+    return Array.from({ length: this.#number(0) }, (_, column) => this.#pieces("sqlkeep_query_column", BigInt(column)));
   }
 
   #rows(count) {
     return Array.from({ length: count }, (_, row) => {
       this.#ask("sqlkeep_columns", BigInt(row), this.#result);
-      return Array.from({ length: this.#number(0) }, (_, column) => this.#value(BigInt(row), BigInt(column)));
+      return Array.from({ length: this.#number(0) }, (_, column) => this.#value("sqlkeep_value", "sqlkeep_value_text", BigInt(row), BigInt(column)));
     });
   }
 
-  #value(row, column) {
-    this.#ask("sqlkeep_value", row, column, this.#result);
+  #value(cell, text, ...place) {
+    this.#ask(cell, ...place, this.#result);
     const kind = this.#number(0);
     if (kind === NULL) {
       return null;
@@ -342,6 +380,24 @@ export class Session {
       const integer = this.#view.getBigInt64(Number(this.#result) + 8, true);
       return Number.isSafeInteger(Number(integer)) ? Number(integer) : integer;
     }
-    return this.#pieces("sqlkeep_value_text", row, column);
+    return this.#pieces(text, ...place);
   }
+}
+
+// A value that can be bound as it is: null, a BigInt of 64 bits, or a text.
+function tested(value) {
+  if (value === null || (typeof value === "string" && !/\p{Surrogate}/u.test(value))) {
+    return value;
+  }
+  if (typeof value === "string") {
+    throw new TypeError("a text has half of a character");
+  }
+  if (typeof value !== "bigint" && !Number.isSafeInteger(value)) {
+    throw new TypeError(`${typeof value === "number" ? value : `a value of type ${typeof value}`} is none: null, an exact integer, a BigInt or a string is one`);
+  }
+  const integer = BigInt(value);
+  if (BigInt.asIntN(64, integer) !== integer) {
+    throw new RangeError(`${integer} has more than 64 bits`);
+  }
+  return integer;
 }

@@ -121,7 +121,7 @@ def lower(room, to):
     run(room, "wasm-opt", *(f"--enable-{feature}" for feature in FEATURES), "--memory64-lowering", "wide.wasm", "-o", "low.wasm")
     to.mkdir(parents=True, exist_ok=True)
     shutil.copyfile(room / "low.wasm", to / "sqlkeep.wasm")
-    for file in ("sqlkeep.mjs", "account.mjs", "tokens.mjs", "sqlkeep.d.ts", "package.json"):
+    for file in ("sqlkeep.mjs", "account.mjs", "catalogue.mjs", "sqlkeep.d.ts", "package.json"):
         shutil.copyfile(Path(ROOT, "page", file), to / file)
 
 

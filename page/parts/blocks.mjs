@@ -49,7 +49,7 @@ const MANY = 8;
  * where there are many.
  * @param {Wave} wave
  * @param {Wave | undefined} next
- * @param {import("../schema.mjs").Schema} schema
+ * @param {import("./schema.mjs").Schema} schema
  * @returns {{constraint: string, action: string, sources: object[], targets: {table: string, row: number}[]}[]}
  */
 export function linksOf(wave, next, schema) {
@@ -85,13 +85,13 @@ function gathered(found) {
 // A function from the values of a row that refers to the change that took the key away: of several the one with the least row number.
 function sourceFinder(wave, name, schema) {
   const constraint = schema.constraints.get(name);
-  if (!constraint?.parent) {
+  if (!constraint?.referenced) {
     return () => null;
   }
   const own = schema.places(constraint.table, constraint.columns);
-  const referred = schema.places(constraint.parent, schema.parentColumns(constraint));
+  const referred = schema.places(constraint.referenced, constraint.referencedColumns);
   const lost = new Map();
-  wave.changes.filter((change) => change.table === constraint.parent && change.before).forEach((change) => {
+  wave.changes.filter((change) => change.table === constraint.referenced && change.before).forEach((change) => {
     const key = keyOf(change.before, referred);
     const first = lost.get(key);
     const isLost = !change.after || keyOf(change.after, referred) !== key;

@@ -1,5 +1,6 @@
 // The schema as a diagram: tables one below the other, and each foreign key as an arrow beside them to the table that it refers to.
 
+import { writtenValue } from "../account.mjs";
 import { units } from "./groups.mjs";
 
 const PAD = 12, LINE = 20, HEAD = 26, BETWEEN = 16, TRACK = 12, TIP = 8;
@@ -9,7 +10,7 @@ const short = (text, most) => ([...text].length > most ? `${[...text].slice(0, M
 /** Puts the tables of a schema on a sheet. */
 export function diagram(schema, sheet, room) {
   const tables = [...schema.tables.values()];
-  const foreign = tables.flatMap((table) => table.constraints.filter((constraint) => constraint.kind === "FOREIGN KEY" && schema.tables.has(constraint.parent)));
+  const foreign = tables.flatMap((table) => table.constraints.filter((constraint) => constraint.kind === "FOREIGN KEY" && schema.tables.has(constraint.referenced)));
   const margin = foreign.length * TRACK + 3 * PAD + TIP;
   const most = Math.max(24, Math.floor((room - margin - 2 * PAD) / sheet.characterWidth));
   const parts = tables.map((table) => partsOf(table, schema, most));
@@ -21,8 +22,12 @@ export function diagram(schema, sheet, room) {
   return { width: PAD + width + margin, height: bottom + PAD };
 }
 
+function typeOf({ type, length, default: value }) {
+  return `${type === "INTEGER" ? "INT" : `${type}(${length})`}${value === null ? "" : ` DEFAULT ${writtenValue(value)}`}`;
+}
+
 function timeOf(constraint) {
-  return constraint.isDeferred ? " deferred" : constraint.isDeferrable ? " deferrable" : "";
+  return constraint.isInitiallyDeferred ? " deferred" : constraint.isDeferrable ? " deferrable" : "";
 }
 
 function actionsOf(constraint) {
@@ -33,19 +38,19 @@ function actionsOf(constraint) {
 function ruleOf(constraint) {
   const columns = constraint.columns.join(", ");
   if (constraint.kind === "FOREIGN KEY") {
-    return `${constraint.name} (${columns}) refers to ${constraint.parent}${actionsOf(constraint)}${timeOf(constraint)}`;
+    return `${constraint.name} (${columns}) refers to ${constraint.referenced}${constraint.isMatchFull ? " match full" : ""}${actionsOf(constraint)}${timeOf(constraint)}`;
   }
-  return constraint.kind === "CHECK" ? `${constraint.name} check ${constraint.condition}${timeOf(constraint)}` : `${constraint.name} ${constraint.kind.toLowerCase()} (${columns})${timeOf(constraint)}`;
+  return constraint.kind === "CHECK" ? `${constraint.name} check ${constraint.condition}${timeOf(constraint)}` : `${constraint.name} ${constraint.kind.toLowerCase()}${constraint.nullsNotDistinct ? " nulls not distinct" : ""} (${columns})${timeOf(constraint)}`;
 }
 
 // The lines of a table: its columns, its constraints, its triggers.
 function partsOf(table, schema, most) {
   const named = Math.max(0, ...table.columns.map((column) => column.name.length));
   const lines = [
-    ...table.columns.map((column) => ({ text: `${column.name.padEnd(named)} ${column.type}`, name: "", constraint: null })),
+    ...table.columns.map((column) => ({ text: `${column.name.padEnd(named)} ${typeOf(column)}`, name: "", constraint: null })),
     ...table.constraints.map((constraint) => ({ text: ruleOf(constraint), name: constraint.kind === "FOREIGN KEY" ? "accent" : "soft", constraint: constraint.name })),
     ...[...schema.triggers.values()].filter((trigger) => trigger.table === table.name)
-      .map((trigger) => ({ text: `trigger ${trigger.name} ${trigger.time.toLowerCase()} ${trigger.event.toLowerCase()}`, name: "trigger-text", constraint: null })),
+      .map((trigger) => ({ text: `trigger ${trigger.name} ${trigger.time.toLowerCase()} ${trigger.event.toLowerCase()}${trigger.columns.length > 0 ? ` of ${trigger.columns.join(", ")}` : ""}`, name: "trigger-text", constraint: null })),
   ];
   return { name: table.name, lines: lines.map((line) => ({ ...line, title: line.text, text: short(line.text, most) })) };
 }
@@ -67,7 +72,7 @@ function placeTable(sheet, part, y, width, places) {
 
 // Each foreign key has a track of its own; the shorter its way, the nearer the track.
 function arrows(sheet, foreign, places, right) {
-  const ways = foreign.map((constraint) => ({ from: places.get(`constraint ${constraint.name}`), to: places.get(constraint.parent) }));
+  const ways = foreign.map((constraint) => ({ from: places.get(`constraint ${constraint.name}`), to: places.get(constraint.referenced) }));
   ways.sort((one, other) => Math.abs(one.from - one.to) - Math.abs(other.from - other.to));
   ways.forEach(({ from, to }, at) => {
     const x = right + PAD + TIP + at * TRACK, end = right + TIP;

@@ -1,7 +1,7 @@
 // The editor: a textarea with transparent text, over lines with numbers, marks and colours.
 
 import { element } from "./elements.mjs";
-import { statementsOf, tokensOf } from "../tokens.mjs";
+import { statementsOf, tokensOf } from "./tokens.mjs";
 
 const LONG = 60000, DELAY = 200;
 const escaped = (text) => text.replace(/[&<>]/g, (sign) => ({ "&": "&amp;", "<": "&lt;", ">": "&gt;" })[sign]);

@@ -88,7 +88,7 @@ export function keyGroup(violation, schema) {
   const isAbsent = violation.reason === "absent";
   const cells = violation.other.map((value) => [{ text: shownValue(value), name: "violating" }]);
   const box = { label: isAbsent ? "isn't there" : "lost key", kind: "absent", cells, title: `${violation.otherTable} ${written(violation.other)}` };
-  const columns = constraint ? schema.parentColumns(constraint) : [];
+  const columns = constraint?.referencedColumns ?? [];
   return { head: violation.otherTable, columns: columns.length === cells.length ? columns : cells.map(() => ""), rows: [box] };
 }
 

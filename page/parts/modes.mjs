@@ -1,17 +1,16 @@
 // Which constraints are deferred at a moment: by their definitions, by SET CONSTRAINTS, and back by savepoints and ends of transactions.
 
-export class Modes {
-  #set = new Map();
-  #savepoints = [];
+const NOTHING = { all: null, names: new Map() };
 
-  constructor(schema) {
-    this.schema = schema;
-  }
+export class Modes {
+  // What SET CONSTRAINTS said since the transaction began: of ALL, and after that of names.
+  #set = NOTHING;
+  #savepoints = [];
 
   /** Takes in a statement that was executed. */
   follow({ statement, outcome, isOpen }) {
     if (!isOpen) {
-      this.#set = new Map();
+      this.#set = NOTHING;
       this.#savepoints = [];
     } else if (outcome.kind !== "refused" && statement) {
       this.#accept(statement.tokens.map((token) => token.word).filter((word) => word !== "WORK"));
@@ -19,9 +18,9 @@ export class Modes {
   }
 
   /** The constraints that may wait, with whether each is deferred now. */
-  list() {
-    return [...this.schema.constraints.values()].filter((constraint) => constraint.isDeferrable).map((constraint) => ({
-      constraint: constraint.name, table: constraint.table, isDeferred: this.#set.get(constraint.name) ?? constraint.isDeferred, isInitially: constraint.isDeferred,
+  list(constraints) {
+    return [...constraints].filter((constraint) => constraint.isDeferrable).map(({ name, table, isInitiallyDeferred }) => ({
+      constraint: name, table, isDeferred: this.#set.names.get(name) ?? this.#set.all ?? isInitiallyDeferred, isInitially: isInitiallyDeferred,
     }));
   }
 
@@ -29,20 +28,23 @@ export class Modes {
     if (words[0] === "SET") {
       this.#setModes(words.slice(2));
     } else if (words[0] === "SAVEPOINT") {
-      this.#savepoints = [...this.#savepoints.filter((savepoint) => savepoint.name !== words[1]), { name: words[1], set: new Map(this.#set) }];
+      this.#savepoints = [...this.#savepoints.filter((savepoint) => savepoint.name !== words[1]), { name: words[1], set: this.#set }];
     } else if (words[0] === "ROLLBACK" && words[1] === "TO") {
       this.#cut(words[3], 1);
-      this.#set = new Map(this.#savepoints.at(-1)?.set ?? this.#set);
+      this.#set = this.#savepoints.at(-1)?.set ?? this.#set;
     } else if (words[0] === "RELEASE") {
       this.#cut(words[2], 0);
     }
   }
 
   #setModes(words) {
-    const isDeferred = words.includes("DEFERRED");
-    const deferrable = this.list().map((each) => each.constraint);
-    const names = words[0] === "ALL" ? deferrable : words.filter((word) => deferrable.includes(word));
-    names.forEach((name) => this.#set.set(name, isDeferred));
+    const isDeferred = words.at(-2) === "DEFERRED";
+    if (words[0] === "ALL") {
+      this.#set = { all: isDeferred, names: new Map() };
+    } else {
+      const names = words.slice(0, -2).filter((word) => word !== ",");
+      this.#set = { ...this.#set, names: new Map([...this.#set.names, ...names.map((name) => [name, isDeferred])]) };
+    }
   }
 
   #cut(name, kept) {

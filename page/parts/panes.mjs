@@ -1,11 +1,11 @@
 // The panes beside the script, for the chosen statement.
 
-import { Schema } from "../schema.mjs";
 import { byId, element } from "./elements.mjs";
 import { diagram } from "./diagram.mjs";
 import { layout } from "./layout.mjs";
 import { characterWidth, Picture } from "./picture.mjs";
 import { Rolling } from "./rolling.mjs";
+import { Schema } from "./schema.mjs";
 import { Sheet } from "./sheet.mjs";
 import { count, faultOf, saidOf } from "./said.mjs";
 import { tablesOf } from "./tables.mjs";
@@ -29,7 +29,7 @@ export class Panes {
 
   /** Shows a statement. */
   show(detail, text, answers, whole) {
-    detail.schema = Object.assign(new Schema(), detail.schema);
+    detail.schema = new Schema(detail.catalogue, detail.conditions);
     detail.wentBack = wentBack(detail, text) ? [...detail.changes].sort((one, other) => one.row - other.row) : [];
     this.#detail = detail;
     byId("detail").hidden = false;
@@ -113,5 +113,5 @@ function accountLabel({ account, answer, wentBack }) {
 
 function schemaLabel(schema) {
   const foreign = [...schema.constraints.values()].filter((constraint) => constraint.kind === "FOREIGN KEY");
-  return `Diagram of ${count(schema.tables.size, "table")}${foreign.length > 0 ? `: ${foreign.map((each) => `${each.table} refers to ${each.parent} by ${each.name}`).join(", ")}` : ""}`;
+  return `Diagram of ${count(schema.tables.size, "table")}${foreign.length > 0 ? `: ${foreign.map((each) => `${each.table} refers to ${each.referenced} by ${each.name}`).join(", ")}` : ""}`;
 }

@@ -1,10 +1,10 @@
 // A script in a session of its own, run up to any of its statements, with the rows, violations and modes as they are then.
 
 import { linesOf } from "../account.mjs";
-import { Schema } from "../schema.mjs";
-import { statementsOf, tokensOf } from "../tokens.mjs";
+import { statementsOf, tokensOf } from "./tokens.mjs";
 import { Modes } from "./modes.mjs";
 import { Journal } from "./journal.mjs";
+import { conditionsOf, Schema } from "./schema.mjs";
 
 const PENDING_UP_TO = 400;
 
@@ -39,8 +39,8 @@ export class Replay {
     this.at = 0;
     this.last = null;
     this.isRead = true;
-    this.schema = new Schema();
-    this.modes = new Modes(this.schema);
+    this.conditions = [];
+    this.modes = new Modes();
     this.journal = new Journal();
   }
 
@@ -56,8 +56,8 @@ export class Replay {
     const entries = outcome.kind === "changed" ? this.session.account : [];
     const changes = this.journal.follow({ statement, outcome, entries, isOpen });
     this.modes.follow({ statement, outcome, isOpen });
-    if (outcome.kind !== "refused" && statement) {
-      this.schema.accept(this.script, statement.tokens);
+    if (outcome.kind === "done" && statement) {
+      this.conditions.push(...conditionsOf(this.script, statement.tokens));
     }
     this.at += 1;
     this.last = { outcome, account: this.session.account, changes, isOpen, work: this.session.work() };
@@ -79,41 +79,38 @@ export class Replay {
     this.goTo(number);
     const { outcome, account, changes, isOpen, work } = this.last;
     const { lines, ...answer } = outcome;
-    const texts = linesOf(lines);
+    const texts = linesOf(lines), catalogue = this.session.catalogue(), schema = new Schema(catalogue, this.conditions);
     return {
-      number, answer, line: texts[0], lines: outcome.kind === "rows" ? [] : texts.slice(1), account, changes, isOpen, work, schema: this.schema,
-      tables: this.tables(), pending: this.pending(), modes: this.modes.list(), columns: this.columnsOfAnswer(number),
+      number, answer, line: texts[0], lines: outcome.kind === "rows" ? [] : texts.slice(1), account, changes, isOpen, work, catalogue, conditions: this.conditions,
+      tables: this.tables(catalogue), pending: this.pending(schema), modes: this.modes.list(catalogue.constraints), columns: this.columnsOf(outcome, number),
     };
   }
 
-  pending() {
+  pending(schema) {
     return this.session.pending().map((each) => {
-      const table = this.schema.constraints.get(each.constraint)?.table ?? null;
+      const table = schema.constraints.get(each.constraint)?.table ?? null;
       return { ...each, table, values: this.journal.rows(table).get(each.row) ?? null };
     });
   }
 
   /** The rows of each table, from a SELECT. Row numbers are those of the accounts, where they tell the same rows. */
-  tables() {
+  tables(catalogue) {
     this.isRead = false;
-    return [...this.schema.tables.values()].map((table) => {
-      const values = this.session.query(`SELECT * FROM ${table.name};`);
-      const numbers = this.journal.numbers(table.name, values);
-      return { name: table.name, rows: values.map((row, at) => ({ row: numbers?.[at] ?? null, values: row })) };
+    return catalogue.tables.map(({ name }) => {
+      const values = this.session.query(`SELECT * FROM ${name};`);
+      const numbers = this.journal.numbers(name, values);
+      return { name, rows: values.map((row, at) => ({ row: numbers?.[at] ?? null, values: row })) };
     });
   }
 
-  // The heads of the columns of a query: those of its table, or the expressions of its list.
-  columnsOfAnswer(number) {
-    const statement = this.statements[number - 1];
-    if (!statement || statement.tokens[0].word !== "SELECT") {
-      return [];
+  // The heads of a query: the names of its columns, and the texts of its expressions.
+  columnsOf(outcome, number) {
+    if (outcome.kind !== "rows" || outcome.columns.every((name) => name !== "")) {
+      return outcome.columns ?? [];
     }
-    const from = statement.tokens.findIndex((token) => token.word === "FROM");
-    if (statement.tokens[1].word === "*") {
-      return this.schema.tables.get(statement.tokens[from + 1].word)?.columns.map((column) => column.name) ?? [];
-    }
-    return listOf(this.script, statement.tokens.slice(1, from));
+    const { tokens } = this.statements[number - 1];
+    const texts = listOf(this.script, tokens.slice(1, tokens.findIndex((token) => token.word === "FROM")));
+    return outcome.columns.map((name, at) => name || texts[at] || "");
   }
 }
 

@@ -5,7 +5,7 @@ import { units } from "./groups.mjs";
 export class Sheet {
   shapes = [];
 
-  /** @param {number} characterWidth in pixels @param {import("../schema.mjs").Schema} schema names the columns */
+  /** @param {number} characterWidth in pixels @param {import("./schema.mjs").Schema} schema names the columns */
   constructor(characterWidth, schema) {
     this.characterWidth = characterWidth;
     this.schema = schema;

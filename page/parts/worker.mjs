@@ -18,7 +18,7 @@ const calls = {
     replay = null;
     ran = 0;
     replay = new Replay(engine, script);
-    return { count: replay.count, fault: replay.fault };
+    return { count: replay.count, fault: replay.fault, whole: replay.statements.filter((statement) => statement.isWhole).length };
   },
 
   // Executes up to the statement with this number, and tells the answers that weren't told yet.
@@ -54,7 +54,7 @@ function failure(error) {
   if (isTrap) {
     replay = null;
   }
-  return { error: { name: error.name, message: error.message, isTrap, at } };
+  return { error: { name: error.name, message: error.message, status: error.status ?? null, isTrap, at } };
 }
 
 self.onmessage = ({ data }) => {

@@ -1,4 +1,4 @@
-// The tokens of a text in SQL, its statements, and templates with values at their question marks.
+// The tokens of a text in SQL, and its statements.
 
 /** The words that can't be names. */
 export const KEYWORDS = new Set(
@@ -55,50 +55,4 @@ export function statementsOf(tokens) {
     close(false);
   }
   return statements;
-}
-
-/**
- * The literal of a value. A negative integer is in parentheses; the least one is an expression, since it has no literal.
- * @param {null | number | bigint | string} value
- */
-export function literalOf(value) {
-  if (value === null) {
-    return "NULL";
-  }
-  if (typeof value === "string") {
-    if (/\p{Surrogate}/u.test(value)) {
-      throw new TypeError("a text has half of a character: it is no UTF-16");
-    }
-    return `'${value.replaceAll("'", "''")}'`;
-  }
-  if (typeof value === "bigint" || Number.isSafeInteger(value)) {
-    return integerLiteral(BigInt(value));
-  }
-  throw new TypeError(`${typeof value === "number" ? value : typeof value} is no value: null, an integer, a BigInt or a string is one`);
-}
-
-const GREATEST = 9223372036854775807n;
-
-function integerLiteral(value) {
-  if (value > GREATEST || value < -GREATEST - 1n) {
-    throw new RangeError(`${value} has more than 64 bits`);
-  }
-  if (value === -GREATEST - 1n) {
-    return `( - ${GREATEST} - 1 )`;
-  }
-  return value < 0n ? `( ${value} )` : String(value);
-}
-
-/**
- * The template with the literals of values at its question marks, those in texts and comments left out.
- * @param {string} template
- * @param {(null | number | bigint | string)[]} values
- */
-export function filled(template, values) {
-  const holes = tokensOf(template).filter((token) => token.kind === "fault" && token.word === "?");
-  if (holes.length !== values.length) {
-    throw new RangeError(`the template has ${holes.length} question marks for ${values.length} values`);
-  }
-  const ends = [...holes.map((hole) => hole.at), template.length];
-  return ends.map((end, at) => template.slice(at === 0 ? 0 : ends[at - 1] + 1, end) + (at < values.length ? ` ${literalOf(values[at])} ` : "")).join("");
 }
