@@ -26,6 +26,11 @@ const REASONS = [
 ];
 const REFERS = { ", which isn't there": "absent", ", which RESTRICT protects": "restrict", ", and another foreign key sets a column otherwise": "conflict" };
 
+// Words of the program's own at the end of a line, with a quote in them.
+const ABSENT = "isn't there";
+
+const isOpen = (line) => ((line.split("'").length - (line.endsWith(ABSENT) ? 2 : 1)) & 1) === 1;
+
 /**
  * The lines of a text. A line feed between quotes ends no line.
  * @param {string} text
@@ -35,7 +40,7 @@ export function linesOf(text) {
   let own = "";
   for (const piece of text.split("\n")) {
     own += own === "" ? piece : `\n${piece}`;
-    if ((own.split("'").length & 1) === 1) {
+    if (!isOpen(own)) {
       lines.push(own);
       own = "";
     }

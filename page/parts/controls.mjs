@@ -232,7 +232,7 @@ export class Controls {
     try {
       await this.run.execute(this.editor.text, upTo, () => {
         if (performance.now() - drawn > 100) {
-          this.#showAnswers();
+          this.answers.show(this.#items());
           this.#say(`${count(this.run.answers.length, "statement")} of ${this.run.count.toLocaleString("en")} executed`);
           drawn = performance.now();
         }
@@ -278,7 +278,7 @@ export class Controls {
   #showAnswers() {
     const items = this.#items();
     this.answers.show(items);
-    this.editor.mark(items.map(({ at, kind }) => ({ at, sign: signOf(kind), name: kind === "refused" || kind === "fault" ? kind : "ok" })));
+    this.editor.mark(items.map(({ at, kind }) => ({ at, sign: signOf(kind), name: kind === "refused" || kind === "fault" ? kind : "ok" })), this.run.isWhole && this.run.fault ? this.run.fault.at : null);
   }
 
   /** Shows a statement that was executed. */

@@ -3,16 +3,21 @@
 import { element } from "./elements.mjs";
 import { statementsOf, tokensOf } from "./tokens.mjs";
 
-const LONG = 60000, DELAY = 200;
+const LONG = 60000, DELAY = 200, MANY = 1500, LINE = 20, MARGIN = 10;
 const escaped = (text) => text.replace(/[&<>]/g, (sign) => ({ "&": "&amp;", "<": "&lt;", ">": "&gt;" })[sign]);
 
-/** The lines of a text as HTML, with tokens in colour and the chosen statement marked. */
-export function colouredLines(text, tokens, chosen) {
+/**
+ * The lines of a part of a text as HTML, with tokens in colour.
+ * @param {string} text
+ * @param {{kind: string, at: number, end: number}[]} tokens those of the part
+ * @param {{at: number, end: number, name: string}[]} ranges what is marked besides
+ * @param {{from: number, to: number}} part
+ */
+export function colouredLines(text, tokens, ranges, { from: first, to: last }) {
   const lines = [""];
-  const cuts = chosen ? [chosen.at, chosen.end] : [];
+  const cuts = ranges.flatMap((range) => [range.at, range.end]);
   const put = (from, to, kind) => {
-    const isChosen = chosen && from >= chosen.at && to <= chosen.end;
-    const name = [kind, isChosen ? "chosen" : ""].filter(Boolean).join(" ");
+    const name = [kind, ...ranges.filter((range) => from >= range.at && to <= range.end).map((range) => range.name)].filter(Boolean).join(" ");
     text.slice(from, to).split("\n").forEach((part, at) => {
       if (at > 0) {
         lines.push("");
@@ -21,23 +26,34 @@ export function colouredLines(text, tokens, chosen) {
     });
   };
   const emit = (from, to, kind) => {
-    const places = [from, ...cuts.filter((cut) => cut > from && cut < to), to];
+    const places = [Math.max(from, first), ...cuts.filter((cut) => cut > from && cut < to).sort((one, other) => one - other), Math.min(to, last)];
     places.slice(1).forEach((place, at) => place > places[at] && put(places[at], place, kind));
   };
-  let end = 0;
-  tokens.forEach((token) => {
-    emit(end, token.at, "");
-    emit(token.at, token.end, token.kind === "name" || token.kind === "symbol" ? "" : token.kind);
-    end = token.end;
-  });
-  emit(end, text.length, "");
+  const end = tokens.reduce((before, token) => {
+    emit(before, token.at, "");
+    emit(token.at, token.end, ["name", "symbol"].includes(token.kind) ? "" : token.kind);
+    return token.end;
+  }, first);
+  emit(end, last, "");
   return lines;
+}
+
+// The place in a list, sorted by `of`, of the first element that isn't less.
+function placeIn(list, value, of = (each) => each) {
+  let [low, high] = [0, list.length];
+  while (low < high) {
+    const middle = (low + high) >> 1;
+    [low, high] = of(list[middle]) < value ? [middle + 1, high] : [low, middle];
+  }
+  return low;
 }
 
 export class Editor {
   #keys = [];
   #marks = new Map();
   #chosen = null;
+  #faultAt = null;
+  #place = 0;
   #timer = 0;
 
   /**
@@ -51,8 +67,11 @@ export class Editor {
       id: "script", "aria-label": "Script in SQL", spellcheck: "false", autocapitalize: "off", autocomplete: "off",
       oninput: () => this.#changed(), onkeyup: () => this.#caret(), onclick: () => this.#caret(),
     });
-    box.append(element("div", { class: "sheet" }, this.lines, this.area));
+    this.sheet = element("div", { class: "sheet" }, this.lines, this.area);
+    box.append(this.sheet);
     this.box = box;
+    box.addEventListener("scroll", () => this.isLong && this.draw());
+    new ResizeObserver(() => this.isLong && this.draw()).observe(box);
     this.#read();
   }
 
@@ -64,10 +83,15 @@ export class Editor {
     this.area.value = text;
     this.area.setSelectionRange(0, 0);
     this.box.scrollTop = 0;
-    this.#chosen = null;
-    this.#marks = new Map();
+    this.#forget();
     this.#read();
     this.draw();
+  }
+
+  #forget() {
+    this.#chosen = null;
+    this.#faultAt = null;
+    this.#marks = new Map();
   }
 
   /** The number of the statement at the caret, from 1; 0 where there is none. */
@@ -75,34 +99,48 @@ export class Editor {
     return this.statements.findLastIndex((statement) => statement.at <= this.area.selectionStart) + 1;
   }
 
-  /** Marks statements by number: a sign and a class for the line in which each begins. */
-  mark(marks) {
-    const lineOf = lineFinder(this.text);
-    this.#marks = new Map(marks.filter(({ at }) => at !== undefined).map(({ at, sign, name }) => [lineOf(at), { sign, name }]));
+  /** Marks statements: a sign and a class for the line in which each begins; and the place at which no statement begins. */
+  mark(marks, faultAt) {
+    this.#faultAt = faultAt;
+    this.#marks = new Map(marks.filter(({ at }) => at !== undefined).map(({ at, sign, name }) => [this.#lineOf(at), { sign, name }]));
     this.draw();
   }
 
   /** Marks one statement as the chosen one, and scrolls to it. */
   choose(number, isScrolled = true) {
+    this.#place = this.area.selectionStart;
     this.#chosen = this.statements[number - 1] ?? null;
     this.draw();
-    const line = this.#chosen && this.lines.children[lineFinder(this.text)(this.#chosen.at)];
-    if (line && isScrolled) {
-      const top = line.offsetTop, seen = this.box.clientHeight;
-      if (top < this.box.scrollTop || top + 40 > this.box.scrollTop + seen) {
+    if (this.#chosen && isScrolled) {
+      const line = this.#lineOf(this.#chosen.at), top = this.isLong ? line * LINE : this.lines.children[line].offsetTop, seen = this.box.clientHeight;
+      if (top < this.box.scrollTop || top + 2 * LINE > this.box.scrollTop + seen) {
         this.box.scrollTop = Math.max(0, top - seen / 3);
       }
     }
   }
 
+  // The line of a place of the text, from 0.
+  #lineOf(at) {
+    return placeIn(this.ends, at);
+  }
+
+  // Lines of a long script aren't wrapped, so that they have one height, and only those that are seen are made.
   #read() {
     this.tokens = tokensOf(this.text);
     this.statements = statementsOf(this.tokens);
+    this.ends = [...this.text.matchAll(/\n/g)].map((found) => found.index);
+    if (this.isLong !== this.ends.length > MANY) {
+      this.#keys = [];
+      this.lines.replaceChildren();
+    }
+    this.isLong = this.ends.length > MANY;
+    this.box.classList.toggle("long", this.isLong);
+    const longest = this.isLong ? this.ends.reduce((most, end, at) => Math.max(most, end - (this.ends[at - 1] ?? 0)), 0) : 0;
+    this.sheet.style.cssText = this.isLong ? `height:${(this.ends.length + 1) * LINE + 16}px;width:calc(${longest + 8}ch + 70px)` : "";
   }
 
   #changed() {
-    this.#chosen = null;
-    this.#marks = new Map();
+    this.#forget();
     this.listeners.onChange();
     clearTimeout(this.#timer);
     const again = () => {
@@ -116,29 +154,52 @@ export class Editor {
     }
   }
 
+  // A key that doesn't move the caret chooses nothing.
   #caret() {
-    this.listeners.onCaret(this.statementAtCaret);
+    if (this.area.selectionStart !== this.#place) {
+      this.#place = this.area.selectionStart;
+      this.listeners.onCaret(this.statementAtCaret);
+    }
   }
 
-  /** Makes the lines that changed anew. */
+  #ranges() {
+    const end = this.#faultAt === null ? 0 : this.text.indexOf("\n", this.#faultAt);
+    return [
+      ...(this.#chosen ? [{ ...this.#chosen, name: "chosen" }] : []),
+      ...(this.#faultAt === null ? [] : [{ at: this.#faultAt, end: end < 0 ? this.text.length : end, name: "faulty" }]),
+    ];
+  }
+
+  /** Makes the lines that changed anew; of a long script those that are seen. */
   draw() {
-    const html = colouredLines(this.text, this.tokens, this.#chosen);
-    const keys = html.map((line, at) => `${this.#marks.get(at)?.name ?? ""}|${this.#marks.get(at)?.sign ?? ""}|${line}`);
+    const first = this.isLong ? Math.max(0, Math.floor(this.box.scrollTop / LINE) - MARGIN) : 0;
+    const last = this.isLong ? Math.min(this.ends.length, first + Math.ceil(this.box.clientHeight / LINE) + 2 * MARGIN) : this.ends.length;
+    const part = { from: first === 0 ? 0 : this.ends[first - 1] + 1, to: this.ends[last] ?? this.text.length };
+    const tokens = this.isLong ? this.tokens.slice(placeIn(this.tokens, part.from, (token) => token.end), placeIn(this.tokens, part.to, (token) => token.at)) : this.tokens;
+    this.#drawLines(colouredLines(this.text, tokens, this.#ranges(), part), first);
+    this.lines.style.top = this.isLong ? `${first * LINE}px` : "";
+  }
+
+  #drawLines(html, first) {
+    const keys = html.map((line, at) => [first + at, this.#marks.get(first + at)?.name, line].join("|"));
     const old = this.#keys, least = Math.min(old.length, keys.length);
+    // Lines that only have another number are kept.
+    const same = (one, other) => one.slice(one.indexOf("|")) === other.slice(other.indexOf("|"));
     let front = 0, back = 0;
-    while (front < least && old[front] === keys[front]) {
+    while (front < least && same(old[front], keys[front])) {
       front++;
     }
-    while (back < least - front && old.at(-1 - back) === keys.at(-1 - back)) {
+    while (back < least - front && same(old.at(-1 - back), keys.at(-1 - back))) {
       back++;
     }
-    this.#replace(front, old.length - back, html.slice(front, html.length - back));
+    this.#replace(front, old.length - back, html.slice(front, html.length - back), first);
+    this.#number(first, keys.length === old.length && keys[0]?.split("|")[0] === old[0]?.split("|")[0] ? front : 0);
     this.#keys = keys;
   }
 
-  #replace(from, to, html) {
+  #replace(from, to, html, first) {
     const made = html.map((line, at) => {
-      const mark = this.#marks.get(from + at);
+      const mark = this.#marks.get(first + from + at);
       const made = element("div", { class: `line ${mark?.name ?? ""}`, "data-mark": mark?.sign ?? null });
       made.innerHTML = line || "\u200b";
       return made;
@@ -152,17 +213,10 @@ export class Editor {
     all.append(...made);
     this.lines.insertBefore(all, next);
   }
-}
 
-// A function from a place of a text to its line, from 0.
-function lineFinder(text) {
-  const ends = [...text.matchAll(/\n/g)].map((found) => found.index);
-  return (at) => {
-    let [low, high] = [0, ends.length];
-    while (low < high) {
-      const middle = (low + high) >> 1;
-      [low, high] = ends[middle] < at ? [middle + 1, high] : [low, middle];
-    }
-    return low;
-  };
+  #number(first, from) {
+    [...this.lines.children].slice(from).forEach((line, at) => {
+      line.dataset.number = first + from + at + 1;
+    });
+  }
 }
