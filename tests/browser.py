@@ -83,7 +83,8 @@ class Page:
         self.idle()
 
     def put(self, script):
-        """Puts a script into the editor, as if it were pasted."""
+        """Opens the page and puts a script into the editor, as if it were pasted."""
+        self.open()
         self.browser.script("const area = document.getElementById('script'); area.focus(); area.value = arguments[0]; area.dispatchEvent(new InputEvent('input'))", script)
         # A long script is coloured a moment later.
         self.browser.promise("await new Promise((resolve) => setTimeout(resolve, 300)); return null")
@@ -93,7 +94,6 @@ class Page:
         self.browser.send("#script", script)
 
     def run_script(self, script):
-        self.open()
         self.put(script)
         self.click("#run")
 

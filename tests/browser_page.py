@@ -478,10 +478,13 @@ def a_file_that_is_no_script_changes_nothing(page):
 # ---- what goes wrong, and what is long
 
 
+# 32,768 rows that are updated 300 times: a run of half a minute.
+LONG_RUN = ("CREATE TABLE u (a INT);\nINSERT INTO u VALUES (1);\n" + "INSERT INTO u SELECT * FROM u;\n" * 15 + "UPDATE u SET a = a;\nCOMMIT;\n" * 300)
+
+
 @test
 def stop_ends_a_run_and_the_page_goes_on(page):
-    doubled = "INSERT INTO t SELECT * FROM t;\n" * 15
-    page.put("CREATE TABLE t (a INT PRIMARY KEY);\n" + "CREATE TABLE u (a INT);\nINSERT INTO u VALUES (1);\n" + doubled.replace(" t", " u") + "UPDATE u SET a = a;\nCOMMIT;\n" * 300)
+    page.put(LONG_RUN)
     page.browser.click("#run")
     page.browser.wait(lambda: not page.browser.script("return document.getElementById('stop').disabled"), "Stop")
     page.browser.click("#stop")
@@ -489,6 +492,27 @@ def stop_ends_a_run_and_the_page_goes_on(page):
     assert re.fullmatch(r"Stopped after \d+ statements?\.", page.text("#status")), page.text("#status")
     page.run_script("COMMIT;")
     equal(page.lines(), ["1 ok"])
+
+
+@test
+def typing_ends_a_run(page):
+    page.put(LONG_RUN)
+    page.browser.click("#run")
+    page.browser.wait(lambda: len(page.texts(".answer")) > 0, "an answer")
+    page.browser.script("const area = document.getElementById('script'); area.value = 'COMMIT;'; area.dispatchEvent(new InputEvent('input'))")
+    page.idle()
+    equal([page.lines(), page.text("#status")], [[], "The script was changed: run it again."])
+    page.click("#run")
+    equal(page.lines(), ["1 ok"])
+
+
+@test
+def another_example_ends_a_run(page):
+    page.put(LONG_RUN)
+    page.browser.click("#run")
+    page.choose_example("first")
+    page.browser.wait(lambda: page.text("#statement-head") == "Statement 6 of 10", "the example")
+    equal(len(page.lines()), 10)
 
 
 @test
@@ -505,7 +529,6 @@ def after_a_trap_the_session_is_thrown_away(page):
 def a_long_account_is_drawn_where_it_is_seen(page):
     script = ("CREATE TABLE t (a INT);\nCREATE TABLE log (a INT);\nCREATE TRIGGER note AFTER INSERT ON t REFERENCING NEW AS n FOR EACH ROW INSERT INTO log VALUES (n.a);\nINSERT INTO t VALUES (1);\n"
               + "INSERT INTO t SELECT a FROM t;\n" * 13)
-    page.open()
     page.put(script)
     page.browser.script("window.gap = 0; let last = performance.now(); const beat = (now) => { window.gap = Math.max(window.gap, now - last); last = now; requestAnimationFrame(beat); }; requestAnimationFrame(beat)")
     page.click("#run")
@@ -521,7 +544,6 @@ def a_long_account_is_drawn_where_it_is_seen(page):
 
 @test
 def a_script_of_22000_statements_runs(page):
-    page.open()
     page.put("CREATE TABLE t (a INT PRIMARY KEY);\n" + "".join(f"INSERT INTO t VALUES ({n});\n" for n in range(21000)) + "COMMIT;\n" * 999)
     began = time.monotonic()
     page.click("#run")

@@ -19,7 +19,7 @@ const CAUSES = {
   16: "Statements of triggers are nested too deep.",
   17: "The statement, with all that follows from it, changes too many rows.",
   18: "The transaction has too many row changes.",
-  19: "COMMIT found a constraint violated, and rolled the transaction back.",
+  19: "COMMIT found that a constraint is violated.",
   20: "A row violates the constraint that is to be added.",
   21: "There are more tables, columns, constraints or other things than there may be.",
   22: "Memory was refused.",

@@ -47,7 +47,8 @@ export class Controls {
   #key(event) {
     const keys = { "Control+Enter": () => this.runAll(), "Meta+Enter": () => this.runAll(), "Alt+ArrowDown": () => this.step(), "Alt+ArrowUp": () => this.back() };
     const name = `${event.ctrlKey ? "Control+" : ""}${event.metaKey ? "Meta+" : ""}${event.altKey ? "Alt+" : ""}${event.key}`;
-    if (name in keys) {
+    // A list of choices has Alt and an arrow for itself.
+    if (name in keys && event.target.tagName !== "SELECT") {
       event.preventDefault();
       keys[name]();
     }
@@ -75,12 +76,13 @@ export class Controls {
   }
 
   /** Puts a script into the editor. One that was changed by hand is kept in the list of examples. */
-  #put(script, name, tour = []) {
+  async #put(script, name, tour = []) {
     if (byId("example").value === OWN && this.#own !== null) {
       this.#own = this.editor.text;
     }
     this.editor.text = script;
     this.run.forget();
+    await this.run.idle();
     this.#chosen = 0;
     if (name === OWN) {
       this.#own = script;
@@ -100,7 +102,7 @@ export class Controls {
   async #openExample(name, number = SHOWN_FIRST[name]) {
     const example = this.examples.find((each) => each.name === name);
     if (name === OWN || !example) {
-      this.#put(this.#own ?? "", OWN);
+      await this.#put(this.#own ?? "", OWN);
       await this.runAll();
       return;
     }
@@ -110,7 +112,7 @@ export class Controls {
       element("p", {}, element("strong", {}, "Question. "), ...prose(example.question)),
       element("details", {}, element("summary", {}, "Answer"), element("p", {}, ...prose(example.answer))),
     ] : [];
-    this.#put(example.script, name, tour);
+    await this.#put(example.script, name, tour);
     await this.runAll(number);
   }
 
@@ -123,7 +125,7 @@ export class Controls {
       if (found.example !== undefined) {
         await this.#openExample(found.example, found.number || undefined);
       } else {
-        this.#put(found.script, OWN);
+        await this.#put(found.script, OWN);
         await this.runAll(found.number || undefined);
       }
       return true;
@@ -143,7 +145,7 @@ export class Controls {
     try {
       // A file that is far too long isn't read at all.
       const script = file.size > 1 << 21 ? textOf({ length: file.size }) : textOf(new Uint8Array(await file.arrayBuffer()));
-      this.#put(script, OWN);
+      await this.#put(script, OWN);
       await this.runAll();
     } catch (error) {
       this.#say(`${file.name} was not opened: ${error.message}.`, true);
@@ -254,6 +256,9 @@ export class Controls {
   }
 
   #failed(error) {
+    if (error.name === "Stopped" && this.run.script === null) {
+      return;
+    }
     this.#showAnswers();
     if (error.isTrap) {
       this.#say(`The engine stopped at statement ${error.at + 1} (${error.message}). Its session is thrown away; Run begins a new one.`, true);

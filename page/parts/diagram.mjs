@@ -5,7 +5,16 @@ import { units } from "./groups.mjs";
 
 const PAD = 12, LINE = 20, HEAD = 26, BETWEEN = 16, TRACK = 12, TIP = 8;
 
-const short = (text, most) => ([...text].length > most ? `${[...text].slice(0, Math.max(1, most - 1)).join("")}…` : text);
+// A text in lines that aren't longer than this, broken between words; what goes on is indented.
+function broken(text, most) {
+  return text.split(" ").reduce((lines, word) => {
+    const last = lines.at(-1);
+    if (last === undefined || units(last) + 1 + units(word) > most) {
+      return [...lines, last === undefined ? word : `  ${word}`];
+    }
+    return [...lines.slice(0, -1), `${last} ${word}`];
+  }, []);
+}
 
 /** Puts the tables of a schema on a sheet. */
 export function diagram(schema, sheet, room) {
@@ -47,12 +56,13 @@ function ruleOf(constraint) {
 function partsOf(table, schema, most) {
   const named = Math.max(0, ...table.columns.map((column) => column.name.length));
   const lines = [
-    ...table.columns.map((column) => ({ text: `${column.name.padEnd(named)} ${typeOf(column)}`, name: "", constraint: null })),
+    ...table.columns.map((column) => ({ text: `${column.name}${"\u00a0".repeat(named - column.name.length)} ${typeOf(column)}`, name: "", constraint: null })),
     ...table.constraints.map((constraint) => ({ text: ruleOf(constraint), name: constraint.kind === "FOREIGN KEY" ? "accent" : "soft", constraint: constraint.name })),
     ...[...schema.triggers.values()].filter((trigger) => trigger.table === table.name)
       .map((trigger) => ({ text: `trigger ${trigger.name} ${trigger.time.toLowerCase()} ${trigger.event.toLowerCase()}${trigger.columns.length > 0 ? ` of ${trigger.columns.join(", ")}` : ""}`, name: "trigger-text", constraint: null })),
   ];
-  return { name: table.name, lines: lines.map((line) => ({ ...line, title: line.text, text: short(line.text, most) })) };
+  const parts = lines.flatMap((line) => broken(line.text, most).map((text, at) => ({ ...line, text, constraint: at === 0 ? line.constraint : null })));
+  return { name: table.name, lines: parts };
 }
 
 function placeTable(sheet, part, y, width, places) {

@@ -3,7 +3,7 @@
 import { element } from "./elements.mjs";
 import { statementsOf, tokensOf } from "./tokens.mjs";
 
-const LONG = 60000, DELAY = 200, MANY = 1500, LINE = 20, MARGIN = 10;
+const LONG = 60000, DELAY = 200, MANY = 1500, LINE = 20, PADDING = 8, MARGIN = 10;
 const escaped = (text) => text.replace(/[&<>]/g, (sign) => ({ "&": "&amp;", "<": "&lt;", ">": "&gt;" })[sign]);
 
 /**
@@ -114,7 +114,8 @@ export class Editor {
     if (this.#chosen && isScrolled) {
       const line = this.#lineOf(this.#chosen.at), top = this.isLong ? line * LINE : this.lines.children[line].offsetTop, seen = this.box.clientHeight;
       if (top < this.box.scrollTop || top + 2 * LINE > this.box.scrollTop + seen) {
-        this.box.scrollTop = Math.max(0, top - seen / 3);
+        // A whole line stands at the top.
+        this.box.scrollTop = top < seen / 3 ? 0 : Math.round((top - seen / 3) / LINE) * LINE + PADDING;
       }
     }
   }
@@ -136,7 +137,7 @@ export class Editor {
     this.isLong = this.ends.length > MANY;
     this.box.classList.toggle("long", this.isLong);
     const longest = this.isLong ? this.ends.reduce((most, end, at) => Math.max(most, end - (this.ends[at - 1] ?? 0)), 0) : 0;
-    this.sheet.style.cssText = this.isLong ? `height:${(this.ends.length + 1) * LINE + 16}px;width:calc(${longest + 8}ch + 70px)` : "";
+    this.sheet.style.cssText = this.isLong ? `height:${(this.ends.length + 1) * LINE + 2 * PADDING}px;width:calc(${longest + 8}ch + 70px)` : "";
   }
 
   #changed() {

@@ -6,16 +6,23 @@ export class Run {
   script = null;
   count = 0;
   fault = null;
-  isBusy = false;
   isOpen = false;
+  #busyCalls = 0;
   #isLoaded = false;
 
   constructor(client) {
     this.client = client;
   }
 
-  /** Forgets the answers: the script is another one. */
+  get isBusy() {
+    return this.#busyCalls > 0;
+  }
+
+  /** Ends what is being done, and forgets the answers: the script is another one. */
   forget() {
+    if (this.isBusy) {
+      this.stop();
+    }
     this.answers = [];
     this.script = null;
     this.#isLoaded = false;
@@ -65,7 +72,7 @@ export class Run {
   }
 
   async #busy(work) {
-    this.isBusy = true;
+    this.#busyCalls += 1;
     this.onBusy?.(true);
     try {
       return await work();
@@ -73,8 +80,8 @@ export class Run {
       this.#isLoaded &&= !error.isTrap && error.name !== "Stopped";
       throw error;
     } finally {
-      this.isBusy = false;
-      this.onBusy?.(false);
+      this.#busyCalls -= 1;
+      this.onBusy?.(this.isBusy);
     }
   }
 
@@ -82,6 +89,13 @@ export class Run {
   stop() {
     this.#isLoaded = false;
     this.client.stop();
+  }
+
+  /** Comes when nothing is being done any more. */
+  async idle() {
+    while (this.isBusy) {
+      await new Promise((resolve) => setTimeout(resolve, 0));
+    }
   }
 
   /** Whether each statement was executed. */
