@@ -101,7 +101,7 @@ def back_shows_the_rows_of_then(page):
 @test
 def the_open_transaction_at_the_end_is_told(page):
     page.run_script("CREATE TABLE t (a INT); INSERT INTO t VALUES (1);")
-    assert page.text("#status").endswith("A transaction is open at the end; the program would roll it back."), page.text("#status")
+    assert page.text("#status").endswith("The transaction that is open at the end is rolled back."), page.text("#status")
 
 
 # ---- choosing

@@ -250,7 +250,7 @@ export class Controls {
   #sayRun(time) {
     const { answers, fault, isWhole, isOpen } = this.run;
     const refused = answers.filter((answer) => answer.kind === "refused").length;
-    const end = isWhole && isOpen ? " A transaction is open at the end; the program would roll it back." : "";
+    const end = isWhole && isOpen ? " The transaction that is open at the end is rolled back." : "";
     const place = isWhole && fault ? ` No statement begins at line ${fault.line}, column ${fault.column}.` : "";
     this.#say(`${count(answers.length, "statement")}, ${refused} refused, ${time < 10 ? time.toFixed(1) : Math.round(time)} ms.${place}${end}`, place !== "");
   }

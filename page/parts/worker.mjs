@@ -3,7 +3,7 @@
 import { Engine, Trap } from "../sqlkeep.mjs";
 import { Replay } from "./replay.mjs";
 
-const BATCH = 500;
+const BATCH = 500, BATCH_MS = 100;
 let engine = null, replay = null, ran = 0;
 
 const calls = {
@@ -27,8 +27,8 @@ const calls = {
       replay.goTo(ran);
     }
     while (replay.at < upTo) {
-      const answers = [];
-      while (replay.at < upTo && answers.length < BATCH) {
+      const answers = [], until = performance.now() + BATCH_MS;
+      while (replay.at < upTo && answers.length < BATCH && performance.now() < until) {
         answers.push(replay.step());
       }
       self.postMessage({ id, from: replay.at - answers.length, answers });
