@@ -11,6 +11,7 @@ import argparse
 import base64
 import gzip
 import os
+import shutil
 import subprocess
 import sys
 import tempfile
@@ -282,27 +283,54 @@ def tried(function, page):
     return True
 
 
-def shot(page, name, width):
-    """A picture of the whole page with an example, in few colours."""
+def settled(page):
+    page.browser.promise("await new Promise((resolve) => setTimeout(resolve, 200)); return null")
+
+
+def page_shot(page, name, width):
+    """A picture of the whole page with an example."""
     page.browser.size(width, 900)
     page.open(f"#e={name}")
-    height = page.browser.script("return document.documentElement.scrollHeight")
-    page.browser.size(width, height)
-    page.browser.promise("await new Promise((resolve) => setTimeout(resolve, 200)); return null")
+    page.browser.size(width, page.browser.script("return document.documentElement.scrollHeight"))
+    settled(page)
     return page.browser.picture()
 
 
+def account_shot(page, name, scheme):
+    """A picture of the account of an example's statement, in two pixels for one."""
+    page.browser.size(1280, 900, 2)
+    page.browser.scheme(scheme)
+    page.open(f"#e={name}")
+    settled(page)
+    found = page.browser.picture("#picture svg")
+    page.browser.scheme("light")
+    return found
+
+
+def made_small(file):
+    """Takes colours away until the picture has few enough bytes; how many are left."""
+    whole = file.read_bytes()
+    for colours in (64, 48, 40, 32, 28, 24, 20, 16):
+        done = subprocess.run(["pngquant", "--nofs", "--strip", "--speed", "1", str(colours), "-"], input=whole, capture_output=True, check=True)
+        file.write_bytes(done.stdout)
+        if len(done.stdout) <= MOST_BYTES * 11 // 10:
+            subprocess.run(["zopflipng", "-y", str(file), str(file)], stdout=subprocess.DEVNULL, check=True)
+        if file.stat().st_size <= MOST_BYTES:
+            return colours
+    raise SystemExit(f"{file} has {file.stat().st_size:,} bytes with few colours")
+
+
 def pictures(page):
-    """Makes docs/page/NAME.png of each example, and NAME-phone.png of two; the status."""
+    """Makes docs/page/NAME.png of each example of the tour, NAME-phone.png of three, and NAME-account.png of two, also in dark; the status."""
     PICTURES.mkdir(exist_ok=True)
-    names = [(each["name"], 1280) for each in bundle.tour() if "question" in each] + [("first", 400), ("cascades", 400)]
-    for name, width in names:
-        file = PICTURES / f"{name}{'-phone' if width == 400 else ''}.png"
-        file.write_bytes(shot(page, name, width))
-        subprocess.run(["convert", str(file), "-strip", "-colors", "64", "-define", "png:compression-level=9", f"PNG8:{file}"], check=True)
-        print(f"{file.relative_to(ROOT)}: {file.stat().st_size:,} bytes")
-        if file.stat().st_size > MOST_BYTES:
-            return 1
+    shots = [(each["name"], lambda name=each["name"]: page_shot(page, name, 1280)) for each in bundle.tour() if "question" in each]
+    shots += [(f"{name}-phone", lambda name=name: page_shot(page, name, 400)) for name in ("first", "cascades", "logs")]
+    shots += [(f"{name}-account{ending}", lambda name=name, scheme=scheme: account_shot(page, name, scheme)) for name in ("first", "cascades") for scheme, ending in (("light", ""), ("dark", "-dark"))]
+    for name, make in shots:
+        file = PICTURES / f"{name}.png"
+        file.write_bytes(make())
+        colours = made_small(file)
+        print(f"{file.relative_to(ROOT)}: {file.stat().st_size:,} bytes, {colours} colours")
     return 0
 
 
@@ -327,6 +355,9 @@ def main():
     parser.add_argument("--pictures", action="store_true")
     words = parser.parse_args()
     file = Path(os.path.abspath(words.library), "sqlkeep.html")
+    if words.pictures and (shutil.which("pngquant") is None or shutil.which("zopflipng") is None):
+        print("what makes pictures small isn't here: apt-get install pngquant zopfli")
+        return 2
     if not is_here() or not file.exists():
         print(f"the page in a browser: skipped; {PACKAGES} binaryen nodejs, then ./build --page\n0 passed, 0 failed, 1 skipped")
         return 0

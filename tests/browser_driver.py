@@ -11,7 +11,7 @@ import urllib.request
 
 PACKAGES = "apt-get install chromium chromium-driver"
 ELEMENT = "element-6066-11e4-a52e-4f735466cecf"
-ARGUMENTS = ["--headless=new", "--no-sandbox", "--disable-gpu", "--disable-dev-shm-usage", "--hide-scrollbars", "--no-first-run", "--disable-background-networking", "--disable-component-update", "--disable-sync"]
+ARGUMENTS = ["--headless=new", "--no-sandbox", "--disable-gpu", "--disable-dev-shm-usage", "--hide-scrollbars", "--no-first-run", "--disable-background-networking", "--disable-component-update", "--disable-sync", "--disable-lcd-text"]
 KEYS = {"Control": "\ue009", "Alt": "\ue00a", "Shift": "\ue008", "Tab": "\ue004", "Enter": "\ue007", "Up": "\ue013", "Down": "\ue015", "Home": "\ue011", "End": "\ue010", "Delete": "\ue017"}
 
 
@@ -101,14 +101,15 @@ class Browser:
         steps = [{"type": "keyDown", "value": key} for key in keys] + [{"type": "keyUp", "value": key} for key in reversed(keys)]
         self.call("POST", "/actions", {"actions": [{"type": "key", "id": "keys", "actions": steps}]})
 
-    def size(self, width, height):
-        self.command("Emulation.setDeviceMetricsOverride", width=width, height=height, deviceScaleFactor=1, mobile=False)
+    def size(self, width, height, scale=1):
+        self.command("Emulation.setDeviceMetricsOverride", width=width, height=height, deviceScaleFactor=scale, mobile=False)
 
     def scheme(self, name):
         self.command("Emulation.setEmulatedMedia", features=[{"name": "prefers-color-scheme", "value": name}])
 
-    def picture(self):
-        return base64.b64decode(self.call("GET", "/screenshot"))
+    def picture(self, selector=None):
+        """A picture of what is seen, or of one element."""
+        return base64.b64decode(self.call("GET", "/screenshot" if selector is None else f"/element/{self.find(selector)}/screenshot"))
 
     def complaints(self):
         """What the page wrote to the console as errors."""

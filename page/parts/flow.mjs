@@ -5,9 +5,6 @@ import { units } from "./groups.mjs";
 const CELL = 11, PAD = 8, HEAD = 20, ROW = 24, ROW_GAP = 4, GROUP_GAP = 12, CAPTION = 22;
 const ARM = 21, PILL = 36, PILL_GAP = 8, PILL_LINE = 24, MARGIN = 22, TIP = 7;
 
-/** How small a picture may be made so that it fits. */
-export const LEAST_SCALE = 0.86;
-
 const textOf = (cell) => cell.map((piece) => piece.text).join("");
 
 /** How wide the label and the cells of a group are, in characters. */
@@ -51,7 +48,7 @@ export class Flow {
 
   /** Puts the columns at a place; what they take up to the bottom and to the right. */
   place(x, y, room) {
-    return this.columns.length > 1 && this.width() > room / LEAST_SCALE ? this.#below(x, y) : this.#beside(x, y);
+    return this.columns.length > 1 && this.width() > room ? this.#below(x, y) : this.#beside(x, y);
   }
 
   #beside(x, y) {

@@ -3,7 +3,7 @@
 import { byId, element } from "./elements.mjs";
 import { diagram } from "./diagram.mjs";
 import { layout } from "./layout.mjs";
-import { characterWidth, Picture } from "./picture.mjs";
+import { characterWidth, LEAST_SCALE, Picture } from "./picture.mjs";
 import { Rolling } from "./rolling.mjs";
 import { Schema } from "./schema.mjs";
 import { Sheet } from "./sheet.mjs";
@@ -92,7 +92,7 @@ export class Panes {
     }
     const sheet = new Sheet(characterWidth(), detail.schema);
     const room = this.#width - BORDERS;
-    this.picture.show(sheet.shapes, layout(detail, sheet, room), room, accountLabel(detail));
+    this.picture.show(sheet.shapes, layout(detail, sheet, room / LEAST_SCALE), room, accountLabel(detail));
   }
 }
 

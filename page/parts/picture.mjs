@@ -1,9 +1,11 @@
 // Draws the shapes of a sheet as SVG: those alone that are in the part that is seen.
 
 import { drawing } from "./elements.mjs";
-import { LEAST_SCALE } from "./flow.mjs";
 
 const MARGIN = 200, HIGHEST = 3000;
+
+/** How small a picture may be made so that it fits. */
+export const LEAST_SCALE = 0.86;
 
 /** How wide a character of a picture is, in pixels. */
 export function characterWidth() {
