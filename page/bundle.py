@@ -9,11 +9,12 @@ import re
 import sys
 from pathlib import Path
 
+sys.path.insert(0, str(Path(__file__).resolve().parent))
+import documents
+
 HERE = Path(__file__).resolve().parent
-ROOT = HERE.parent
 IMPORT = re.compile(r'^import \{([^}]*)\} from "(\.[^"]+)";\n', re.M)
 EXPORT = re.compile(r"^export ((?:async )?(?:class|const|function\*?) (\w+))", re.M)
-LINK = r"\[([^\]]*)\]\([^)]*\)"
 PROVED = "The engine is compiled to WebAssembly from the proved library."
 UNPROVED = "The engine is compiled to WebAssembly from the sources, without proof."
 
@@ -44,33 +45,13 @@ def one_script(file):
     return '"use strict";\n(() => {\n' + "".join(as_function(each, files) for each in files) + "})();\n"
 
 
-def plain(text):
-    """A paragraph without links: those that only say where to read on are left out."""
-    text = re.sub(r"(?<=[.)])(,?\s+" + LINK + r")+\s*$", "", text.strip())
-    text = re.sub(r"\s*\(" + LINK + r"\)", "", text)
-    return re.sub(r"\s+", " ", re.sub(LINK, r"\1", text)).strip()
-
-
-def tour():
-    """The examples of the tour with their questions, in its order, and the one that isn't in it."""
-    text = (ROOT / "docs" / "language" / "tour.md").read_text("utf-8")
-    body, answers = text.split("\n## Answers\n")
-    said = [plain(answer) for answer in re.split(r"^\d+\. ", answers, flags=re.M)[1:]]
-    parts = re.findall(r"^## (\d+) \[(\w+)\.sql\]\([^)]*\): ([^\n]+)\n(.*?)\n\*Question \d+\.\*(.*?)(?=\n## |\Z)", body, re.M | re.S)
-    examples = [{"name": name, "title": title, "text": plain(words), "question": plain(asked), "answer": said[int(at) - 1]} for at, name, title, words, asked in parts]
-    examples.append({"name": "authors", "title": "a first script"})
-    for example in examples:
-        example["script"] = (ROOT / "examples" / f"{example['name']}.sql").read_text("utf-8")
-    return examples
-
-
 def page(wasm, is_proved):
     """The text of the page."""
     parts = {
         "STYLE": (HERE / "style.css").read_text("utf-8"),
         "ORIGIN": PROVED if is_proved else UNPROVED,
         "ENGINE": base64.b64encode(gzip.compress(wasm, 9, mtime=0)).decode(),
-        "EXAMPLES": json.dumps(tour(), ensure_ascii=False).replace("</", "<\\/"),
+        "EXAMPLES": json.dumps(documents.groups(), ensure_ascii=False).replace("</", "<\\/"),
         "WORKER": one_script(HERE / "parts" / "worker.mjs"),
         "APPLICATION": one_script(HERE / "parts" / "application.mjs"),
     }

@@ -23,6 +23,7 @@ sys.dont_write_bytecode = True
 sys.path[:0] = [str(HERE), str(ROOT / "page")]
 import browser_page
 import bundle
+import documents
 import javascript
 import run
 from browser_driver import Browser, Fault, PACKAGES, is_here
@@ -51,7 +52,7 @@ HARNESS = """
 RUN = "const found = await ask('transcript', { script: decoded(words[0]), options: words[1] }); return found.error ? { status: found.error.status ?? found.error.message } : { transcript: found.transcript };"
 # A script step by step: the lines of its answers, and the rows of its tables at the end, which have no number where the accounts told others.
 STEPS = """
-    const script = new TextDecoder('utf-8', { ignoreBOM: true }).decode(decoded(words[0])), { count, fault, whole } = await ask('load', { script });
+    const script = new TextDecoder('utf-8', { ignoreBOM: true }).decode(decoded(words[0])), { count, fault, whole } = await ask('load', { script, limits: {} });
     const { answers } = await ask('run', { upTo: count });
     const detail = count > 0 ? (await ask('view', { number: count })).detail : { tables: [] };
     return { count, isFaulty: fault !== null, whole, lines: answers.map((answer) => answer.line), unknown: detail.tables.filter((table) => table.rows.some((row) => row.row === null)).map((table) => table.name) };
@@ -97,6 +98,11 @@ class Page:
     def run_script(self, script):
         self.put(script)
         self.click("#run")
+
+    def fill(self, selector, value):
+        """Types a value into a field and leaves it."""
+        self.browser.script("const field = document.querySelector(arguments[0]); field.value = arguments[1]; field.dispatchEvent(new Event('change'))", selector, value)
+        self.idle()
 
     def choose_example(self, name):
         self.browser.script("const list = document.getElementById('example'); list.value = arguments[0]; list.dispatchEvent(new Event('change'))", name)
@@ -323,7 +329,7 @@ def made_small(file):
 def pictures(page):
     """Makes docs/page/NAME.png of each example of the tour, NAME-phone.png of three, and NAME-account.png of two, also in dark; the status."""
     PICTURES.mkdir(exist_ok=True)
-    shots = [(each["name"], lambda name=each["name"]: page_shot(page, name, 1280)) for each in bundle.tour() if "question" in each]
+    shots = [(each["name"], lambda name=each["name"]: page_shot(page, name, 1280)) for each in documents.tour() if "question" in each]
     shots += [(f"{name}-phone", lambda name=name: page_shot(page, name, 400)) for name in ("first", "cascades", "logs")]
     shots += [(f"{name}-account{ending}", lambda name=name, scheme=scheme: account_shot(page, name, scheme)) for name in ("first", "cascades") for scheme, ending in (("light", ""), ("dark", "-dark"))]
     for name, make in shots:

@@ -3,6 +3,9 @@ import re
 import time
 from pathlib import Path
 
+import documents
+import links
+
 ROOT = Path(__file__).resolve().parent.parent
 TESTS = []
 LINE_OF_ANSWER = re.compile(r"^\d+ (?:ok|rows|refused|fault)\b.*$", re.M)
@@ -200,8 +203,10 @@ def an_own_script_is_kept_beside_the_examples(page):
     page.type("COMMIT; -- mine")
     page.choose_example("keys")
     assert page.value("#script").startswith("-- A library."), page.value("#script")[:40]
-    page.choose_example("your script")
-    equal(page.value("#script"), "COMMIT; -- mine")
+    page.upload("other.sql", b"ROLLBACK; -- other")
+    for name, script in (("your script", "COMMIT; -- mine"), ("your script 2", "ROLLBACK; -- other"), ("your script", "COMMIT; -- mine")):
+        page.choose_example(name)
+        equal(page.value("#script"), script)
 
 
 # ---- the answer
@@ -427,6 +432,65 @@ def the_schema_is_a_diagram(page):
 
 
 @test
+def limits_are_those_of_the_fields(page):
+    page.open("#cascades&n=11")
+    page.fill("#changes", "5")
+    equal([page.lines(), page.text("#status")], [[], "The limits were changed: run the script again."])
+    page.click("#run")
+    equal(page.lines()[10], "11 refused 17 TooManyChanges")
+    page.fill("#changes", "7")
+    page.click("#run")
+    equal(page.lines()[10], "11 ok 1")
+
+
+@test
+def a_limit_out_of_range_is_put_back(page):
+    page.open()
+    for field, value, why in (("#depth", "65", "The depth of triggers is a number from 1 to 64."), ("#changes", "0", "The number of row changes is a number from 1 to 65,536."), ("#depth", "1.5", "The depth of triggers is a number from 1 to 64.")):
+        page.fill(field, value)
+        equal([page.text("#status"), page.value("#depth"), page.value("#changes"), len(page.lines())], [why, "16", "65536", 10])
+
+
+@test
+def limits_go_with_a_shared_address(page):
+    page.run_script("CREATE TABLE t (a INT); INSERT INTO t VALUES (1), (2);")
+    page.fill("#changes", "2")
+    page.click("#run")
+    page.click("#share")
+    page.browser.wait(lambda: page.browser.script("return location.hash").startswith("#s="), "the address")
+    address = page.browser.script("return location.hash")
+    assert address.endswith("&changes=2"), address
+    page.open(address)
+    equal([page.value("#changes"), page.lines()], ["2", ["1 ok", "2 refused 17 TooManyChanges"]])
+
+
+@test
+def scripts_of_the_language_are_opened_by_name(page):
+    count = 0
+    for _, _, scripts in documents.pages():
+        for each in scripts:
+            page.open(f"#{each['name']}")
+            wanted = LINE_OF_ANSWER.findall(each["transcript"])
+            equal([each["name"], page.value("#script"), page.value("#example"), page.lines()], [each["name"], each["script"], each["name"], wanted])
+            count += 1
+    page.note(f"{count} scripts of docs/language were opened by their names")
+
+
+@test
+def links_lead_to_their_scripts(page):
+    for file, _, scripts in documents.pages():
+        text = links.linked(file)
+        equal(links.OLD.findall(text), [f"\n[in the page](../../out/sqlkeep.html#{each['name']})\n" for each in scripts])
+        equal(links.OLD.sub("", text), links.OLD.sub("", file.read_text("utf-8")))
+
+
+@test
+def a_name_that_is_not_there_is_told(page):
+    page.open("#tables-99")
+    equal([page.text("#status"), len(page.lines())], ["This address holds no script: there is none of the name tables-99.", 10])
+
+
+@test
 def a_shared_address_brings_the_script_back(page):
     page.run_script("CREATE TABLE t (a VARCHAR(9));\nINSERT INTO t VALUES ('é 三 \U0001f600');\nCOMMIT;\n")
     page.click("#answer-2")
@@ -571,7 +635,7 @@ def every_control_is_reached_by_the_tab_key(page):
     for _ in range(24):
         page.browser.press("Tab")
         seen.append(page.browser.script("return document.activeElement.id || document.activeElement.className || document.activeElement.tagName"))
-    wanted = ["example", "run", "back", "step", "share", "open", "save", "script", "transcript", "answers"]
+    wanted = ["example", "run", "back", "step", "share", "open", "save", "depth", "changes", "script", "transcript", "answers"]
     equal([name for name in seen if name in wanted][: len(wanted)], wanted)
 
 
@@ -587,7 +651,7 @@ def the_skip_links_lead_on(page):
 @test
 def controls_have_names(page):
     page.open()
-    names = {"#example": "Example", "#run": "Run", "#back": "Back", "#step": "Step", "#stop": "Stop", "#share": "Share", "#open": "Open", "#save": "Save", "#transcript": "Save transcript",
+    names = {"#example": "Example", "#run": "Run", "#back": "Back", "#step": "Step", "#stop": "Stop", "#share": "Share", "#open": "Open", "#save": "Save", "#transcript": "Save transcript", "#depth": "Trigger depth", "#changes": "Row changes",
              "#script": "Script in SQL", "#answers": "Answers"}
     equal({selector: page.browser.label(selector) for selector in names}, names)
     equal(page.browser.script("return [...document.querySelectorAll('svg[role=img]')].filter((svg) => !svg.getAttribute('aria-label')).length"), 0)

@@ -4,15 +4,13 @@ import { byId, element } from "./elements.mjs";
 import { bytesOf, unzipped } from "./share.mjs";
 import { Client } from "./client.mjs";
 import { Controls } from "./controls.mjs";
-import { Panes } from "./panes.mjs";
-import { Run } from "./run.mjs";
 
 const compiled = async () => WebAssembly.compile(await unzipped(bytesOf(byId("engine").textContent)));
 
 async function start() {
   // The worker starts while the engine is compiled.
   const client = new Client(byId("worker").textContent, compiled());
-  const controls = new Controls(new Run(client), new Panes(), JSON.parse(byId("examples").textContent));
+  const controls = new Controls(client, JSON.parse(byId("examples").textContent));
   await controls.begin();
   document.documentElement.dataset.ready = String(Math.round(performance.now()));
 }

@@ -1,14 +1,14 @@
 // What the buttons, the keys and the lists of the page do.
 
 import { Answers, signOf } from "./answers.mjs";
-import { byId, element, prose } from "./elements.mjs";
+import { byId, element } from "./elements.mjs";
 import { Editor } from "./editor.mjs";
+import { Examples, questionOf } from "./examples.mjs";
+import { Limits } from "./limits.mjs";
+import { Panes } from "./panes.mjs";
+import { Run } from "./run.mjs";
 import { count } from "./said.mjs";
 import { addressOf, scriptOf, textOf } from "./share.mjs";
-
-// The statements of the examples that show most.
-const SHOWN_FIRST = { first: 6, nulls: 6, transactions: 8, keys: 6, references: 6, cascades: 11, rings: 10, savepoints: 8, guards: 11, logs: 11, authors: 8 };
-const OWN = "your script";
 
 function download(text, name) {
   const address = URL.createObjectURL(new Blob([text], { type: "text/plain" }));
@@ -19,20 +19,22 @@ function download(text, name) {
 export class Controls {
   #chosen = 0;
   #asked = 0;
-  #own = null;
 
-  constructor(run, panes, examples) {
-    Object.assign(this, { run, panes, examples });
+  /** @param {import("./client.mjs").Client} client @param {object[]} groups the scripts that the page brings */
+  constructor(client, groups) {
+    this.limits = new Limits((fault) => this.#limited(fault));
+    this.run = new Run(client, () => this.limits.options);
+    this.panes = new Panes();
+    this.examples = new Examples(byId("example"), groups);
     this.editor = new Editor(byId("editor"), { onChange: () => this.#edited(), onCaret: (number) => this.#caret(number) });
     this.answers = new Answers(byId("answers"), (number) => this.choose(number));
-    run.onBusy = (isBusy) => this.#busy(isBusy);
+    this.run.onBusy = (isBusy) => this.#busy(isBusy);
     this.#listen();
   }
 
   /** Opens the script of the address, or the first example, and runs it. */
   async begin() {
-    this.#fillExamples();
-    await this.#openAddress() || await this.#openExample(this.examples[0].name);
+    await this.#openAddress() || await this.#openExample(this.examples.first);
   }
 
   #listen() {
@@ -70,26 +72,16 @@ export class Controls {
     byId("status").textContent = text;
   }
 
-  #fillExamples() {
-    const options = this.examples.map((example, at) => element("option", { value: example.name }, `${at + 1} ${example.name}: ${example.title}`));
-    byId("example").replaceChildren(...(this.#own === null ? [] : [element("option", { value: OWN }, OWN)]), ...options);
-  }
-
-  /** Puts a script into the editor. One that was changed by hand is kept in the list of examples. */
-  async #put(script, name, tour = []) {
-    if (byId("example").value === OWN && this.#own !== null) {
-      this.#own = this.editor.text;
-    }
-    this.editor.text = script;
+  // Puts a script into the editor. What was typed there is kept in the list of examples.
+  async #put(name, limits) {
+    const example = this.examples.find(name);
+    this.editor.text = example.script;
+    this.limits.set(limits ?? example.limits);
     this.run.forget();
     await this.run.idle();
     this.#chosen = 0;
-    if (name === OWN) {
-      this.#own = script;
-    }
-    this.#fillExamples();
-    byId("example").value = name;
-    byId("tour").replaceChildren(...tour);
+    this.examples.choose(name);
+    byId("tour").replaceChildren(...questionOf(example));
     this.#clear();
   }
 
@@ -99,41 +91,36 @@ export class Controls {
     this.panes.clear();
   }
 
-  async #openExample(name, number = SHOWN_FIRST[name]) {
-    const example = this.examples.find((each) => each.name === name);
-    if (name === OWN || !example) {
-      await this.#put(this.#own ?? "", OWN);
-      await this.runAll();
-      return;
-    }
-    const tour = example.question ? [
-      element("h2", {}, `${example.title[0].toUpperCase()}${example.title.slice(1)}`),
-      element("p", {}, ...prose(example.text)),
-      element("p", {}, element("strong", {}, "Question. "), ...prose(example.question)),
-      element("details", {}, element("summary", {}, "Answer"), element("p", {}, ...prose(example.answer))),
-    ] : [];
-    await this.#put(example.script, name, tour);
+  async #openExample(name, number = this.examples.shownFirst(name)) {
+    await this.#put(name);
     await this.runAll(number);
   }
 
   async #openAddress() {
     try {
       const found = await scriptOf(location.hash);
-      if (!found) {
+      // The links for those who read the page aloud lead to parts of it.
+      if (!found || byId(found.example)) {
         return false;
       }
       if (found.example !== undefined) {
-        await this.#openExample(found.example, found.number || undefined);
+        await this.#openNamed(found);
       } else {
-        await this.#put(found.script, OWN);
+        await this.#put(this.examples.add(found.script), found.limits);
         await this.runAll(found.number || undefined);
       }
-      return true;
     } catch (error) {
-      await this.#openExample(this.examples[0].name);
+      await this.#openExample(this.examples.first);
       this.#say(`This address holds no script: ${error.message}.`, true);
-      return true;
     }
+    return true;
+  }
+
+  async #openNamed({ example, number }) {
+    if (!this.examples.find(example)) {
+      throw new Error(`there is none of the name ${example}`);
+    }
+    await this.#openExample(example, number || undefined);
   }
 
   async #openFile() {
@@ -145,7 +132,7 @@ export class Controls {
     try {
       // A file that is far too long isn't read at all.
       const script = file.size > 1 << 21 ? textOf({ length: file.size }) : textOf(new Uint8Array(await file.arrayBuffer()));
-      await this.#put(script, OWN);
+      await this.#put(this.examples.add(script));
       await this.runAll();
     } catch (error) {
       this.#say(`${file.name} was not opened: ${error.message}.`, true);
@@ -153,7 +140,7 @@ export class Controls {
   }
 
   get #name() {
-    return byId("example").value === OWN ? "script" : byId("example").value;
+    return this.examples.isOwn ? "script" : this.examples.chosen;
   }
 
   /** Writes the script to a file. */
@@ -174,23 +161,31 @@ export class Controls {
 
   /** Puts the script into the address, and the address into the clipboard where that is allowed. */
   async share() {
-    const address = await addressOf(this.editor.text, this.#chosen);
+    const address = await addressOf(this.editor.text, this.#chosen, this.limits.unusual);
     history.replaceState(null, "", address);
     const isCopied = await (navigator.clipboard?.writeText(location.href) ?? Promise.reject()).then(() => true, () => false);
     this.#say(`The script is in the address${isCopied ? ", which is copied" : ": copy it from there"}. It has ${count(location.href.length, "character")}.`);
   }
 
   #edited() {
-    if (byId("example").value !== OWN) {
-      this.#own = this.editor.text;
-      this.#fillExamples();
+    this.examples.keep(this.editor.text);
+    this.#again("The script was changed: run it again.");
+  }
+
+  #limited(fault) {
+    if (fault) {
+      this.#say(fault, true);
+    } else {
+      this.#again("The limits were changed: run the script again.");
     }
-    byId("example").value = OWN;
-    this.#own = this.editor.text;
+  }
+
+  #again(why) {
     this.#chosen = 0;
     this.run.forget();
+    this.editor.mark([], null);
     this.#clear();
-    this.#say("The script was changed: run it again.");
+    this.#say(why);
   }
 
   #caret(number) {

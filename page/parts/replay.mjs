@@ -17,8 +17,10 @@ export function placeOfByte(text, byte) {
 }
 
 export class Replay {
-  constructor(engine, script) {
+  /** @param {import("../sqlkeep.mjs").Engine} engine @param {string} script @param {{depth: number, changes: number}} limits */
+  constructor(engine, script, limits) {
     this.engine = engine;
+    this.limits = limits;
     this.script = script;
     this.statements = statementsOf(tokensOf(script));
     this.restart();
@@ -31,7 +33,7 @@ export class Replay {
   /** Begins again with a new session, before the first statement. */
   restart(script = this.whole) {
     this.session?.close();
-    this.session = this.engine.open({ explain: true });
+    this.session = this.engine.open({ ...this.limits, explain: true });
     this.whole = script ?? this.script;
     const { statements, faultAt } = this.session.read(this.whole);
     this.fault ??= faultAt === null ? null : { ...placeOfByte(this.script, faultAt), byte: faultAt };

@@ -10,8 +10,10 @@ export class Run {
   #busyCalls = 0;
   #isLoaded = false;
 
-  constructor(client) {
+  /** @param {import("./client.mjs").Client} client @param {() => {depth: number, changes: number}} limits */
+  constructor(client, limits) {
     this.client = client;
+    this.limits = limits;
   }
 
   get isBusy() {
@@ -35,7 +37,7 @@ export class Run {
     if (script !== this.script) {
       this.answers = [];
     }
-    const { count, fault } = await this.client.call("load", { script });
+    const { count, fault } = await this.client.call("load", { script, limits: this.limits() });
     Object.assign(this, { script, count, fault });
     this.#isLoaded = true;
   }
@@ -68,7 +70,7 @@ export class Run {
 
   /** What the program writes for a script. */
   async transcript(script) {
-    return this.#busy(async () => (await this.client.call("transcript", { script, options: {} })).transcript);
+    return this.#busy(async () => (await this.client.call("transcript", { script, options: this.limits() })).transcript);
   }
 
   async #busy(work) {

@@ -1,5 +1,7 @@
 // A script in an address: compressed, in base64 with the letters that an address may have.
 
+import { isLimit } from "./limits.mjs";
+
 const MOST_BYTES = 1 << 20;
 
 async function through(stream, bytes) {
@@ -21,28 +23,36 @@ export function bytesOf(base64) {
 /** Bytes that were compressed by gzip, as they were. */
 export const unzipped = (bytes) => through(new DecompressionStream("gzip"), bytes);
 
-/** The part of an address that holds a script and the statement that is chosen. */
-export async function addressOf(script, number) {
+/** The part of an address that holds a script, the statement that is chosen, and unusual limits. */
+export async function addressOf(script, number, limits) {
   const bytes = await through(new CompressionStream("deflate-raw"), new TextEncoder().encode(script));
   const characters = Array.from(bytes, (byte) => String.fromCharCode(byte)).join("");
   const coded = btoa(characters).replaceAll("+", "-").replaceAll("/", "_").replace(/=+$/, "");
-  return `#s=${coded}${number > 0 ? `&n=${number}` : ""}`;
+  const rest = Object.entries({ n: number || undefined, ...limits }).filter(([, value]) => value !== undefined).map(([name, value]) => `&${name}=${value}`);
+  return `#s=${coded}${rest.join("")}`;
 }
 
-/** The script and the statement of an address; null where it has none. It throws where the script can't be read. */
+/**
+ * What an address holds: a script, or the name of one that the page brings, with the statement and the limits; null where it holds none.
+ * It throws where the script can't be read.
+ */
 export async function scriptOf(address) {
-  const words = new URLSearchParams(address.replace(/^#/, ""));
-  const coded = words.get("s");
-  const number = /^\d{1,6}$/.test(words.get("n") ?? "") ? Number(words.get("n")) : 0;
-  if (coded === null) {
-    return words.has("e") ? { example: words.get("e"), number } : null;
+  const text = address.replace(/^#/, ""), words = new URLSearchParams(text);
+  const number = Number(/^\d{1,6}$/.exec(words.get("n") ?? "")?.[0] ?? 0);
+  const limits = Object.fromEntries(["depth", "changes"].map((name) => [name, Number(words.get(name))]).filter(([name, value]) => isLimit(name, value)));
+  const name = words.get("e") ?? /^[a-z_]+(-\d+)?$/.exec(text.split("&")[0])?.[0];
+  if (words.has("s")) {
+    return { script: await decoded(words.get("s")), number, limits };
   }
+  return name === undefined ? null : { example: name, number };
+}
+
+async function decoded(coded) {
   if (!/^[\w-]*$/.test(coded)) {
     throw new Error("the address has signs that no shared script has");
   }
   try {
-    const bytes = await through(new DecompressionStream("deflate-raw"), bytesOf(coded.replaceAll("-", "+").replaceAll("_", "/")));
-    return { script: textOf(bytes), number };
+    return textOf(await through(new DecompressionStream("deflate-raw"), bytesOf(coded.replaceAll("-", "+").replaceAll("_", "/"))));
   } catch (error) {
     throw new Error(error instanceof TextFault ? error.message : "the script in the address is damaged or cut off");
   }

@@ -13,11 +13,11 @@ const calls = {
   },
 
   // Reads a script. Its statements are executed later.
-  load({ script }) {
+  load({ script, limits }) {
     replay?.session.close();
     replay = null;
     ran = 0;
-    replay = new Replay(engine, script);
+    replay = new Replay(engine, script, limits);
     return { count: replay.count, fault: replay.fault, whole: replay.statements.filter((statement) => statement.isWhole).length };
   },
 
