@@ -176,8 +176,16 @@ export class SyntaxFault extends Error {
 }
 
 /** A statement that was refused. */
-export interface Refusal extends Refused {}
-export class Refusal extends Error {}
+export class Refusal extends Error implements Refused {
+  cause: number;
+  reason: string;
+  constraint: string | null;
+  trigger: string | null;
+  signal: string | null;
+  row: number | null;
+  lines: string;
+  number: number;
+}
 
 export class Engine {
   open(options?: Options): Session;

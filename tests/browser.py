@@ -327,11 +327,12 @@ def made_small(file):
 
 
 def pictures(page):
-    """Makes docs/page/NAME.png of each example of the tour, NAME-phone.png of three, and NAME-account.png of two, also in dark; the status."""
+    """Makes docs/page/NAME.png of each example of the tour, NAME-phone.png of three, and NAME-account.png of three, also in dark; the status."""
     PICTURES.mkdir(exist_ok=True)
     shots = [(each["name"], lambda name=each["name"]: page_shot(page, name, 1280)) for each in documents.tour() if "question" in each]
+    shots.append(("authors", lambda: page_shot(page, "authors", 1280)))
     shots += [(f"{name}-phone", lambda name=name: page_shot(page, name, 400)) for name in ("first", "cascades", "logs")]
-    shots += [(f"{name}-account{ending}", lambda name=name, scheme=scheme: account_shot(page, name, scheme)) for name in ("first", "cascades") for scheme, ending in (("light", ""), ("dark", "-dark"))]
+    shots += [(f"{name}-account{ending}", lambda name=name, scheme=scheme: account_shot(page, name, scheme)) for name in ("authors", "first", "cascades") for scheme, ending in (("light", ""), ("dark", "-dark"))]
     for name, make in shots:
         file = PICTURES / f"{name}.png"
         file.write_bytes(make())

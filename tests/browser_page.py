@@ -314,6 +314,7 @@ def a_violating_row_is_shown_with_its_condition(page):
     equal(page.count("#picture .row.violating"), 1)
     words = page.texts("#picture svg text")
     assert {"KNOWN", "CHECK", "number > 0 is false", "row 2"} <= set(words), words
+    equal(page.texts("#picture .row.hit title"), ["insert ACCOUNT row 2 (-1, 50)"])
 
 
 @test

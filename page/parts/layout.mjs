@@ -28,7 +28,7 @@ export function layout(detail, sheet, room) {
 // Waves from left to right, then triggers, as many beside each other as there is room for, then what the refusal is about.
 function placeBlocks(sheet, blocks, x, y, room, isRefused) {
   const made = [
-    ...(blocks.waves.length > 0 ? [(top) => placeWaves(sheet, blocks.waves, x, top, room)] : []),
+    ...(blocks.waves.length > 0 ? [(top) => placeWaves(sheet, blocks, x, top, room)] : []),
     ...(blocks.triggers.length > 0 ? [(top) => wrapped(sheet, blocks.triggers.map((run) => (at) => placeTrigger(sheet, run, x, at, room, isRefused)), x, top, room)] : []),
     ...blocks.violations.map((violation) => (top) => placeViolation(sheet, violation, x, top, room)),
   ];
@@ -62,15 +62,16 @@ function stacked(made, x, y) {
   );
 }
 
-function placeWaves(sheet, waves, x, y, room) {
+function placeWaves(sheet, { waves, violations }, x, y, room) {
   const last = waves.at(-1);
+  const isHit = (change) => violations.some((violation) => violation.table === change.table && violation.row === change.row);
   // Where a statement is refused before its actions are done, the rows that they would reach are known by number alone.
   const reached = last.actions.map(({ table, row }) => ({ table, row, label: `row ${row}`, kind: "absent", cells: [], title: `${table} row ${row}` }));
   const columns = waves.map((wave, at) => ({
     caption: waves.length > 1 || reached.length > 0 ? `Wave ${at + 1}` : "",
     before: wave.before.map((run) => (left, top, width) => placeTrigger(sheet, run, left, top, width, false)),
     beforeWidth: Math.max(0, ...wave.before.slice(0, 200).map((run) => triggerWidth(sheet, run))),
-    groups: groupsOf(wave.changes.map((change) => changeBox(change)), sheet.schema),
+    groups: groupsOf(wave.changes.map((change) => changeBox(change)).map((box) => (isHit(box) ? { ...box, kind: `${box.kind} hit` } : box)), sheet.schema),
   }));
   if (reached.length > 0) {
     columns.push({ caption: "would follow", before: [], beforeWidth: 0, groups: groupsOf(reached, sheet.schema).map((group) => ({ ...group, columns: [] })) });

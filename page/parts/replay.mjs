@@ -55,14 +55,14 @@ export class Replay {
     const outcome = this.session.attempt(this.at);
     const statement = this.statements[this.at];
     const isOpen = this.session.inTransaction;
-    const entries = outcome.kind === "changed" ? this.session.account : [];
-    const changes = this.journal.follow({ statement, outcome, entries, isOpen });
+    const account = this.session.account;
+    const changes = this.journal.follow({ statement, outcome, entries: outcome.kind === "changed" ? account : [], isOpen });
     this.modes.follow({ statement, outcome, isOpen });
     if (outcome.kind === "done" && statement) {
       this.conditions.push(...conditionsOf(this.script, statement.tokens));
     }
     this.at += 1;
-    this.last = { outcome, account: this.session.account, changes, isOpen, work: this.session.work() };
+    this.last = { outcome, account, changes, isOpen, work: this.session.work() };
     return { line: linesOf(outcome.lines)[0], kind: outcome.kind, pending: this.count <= PENDING_UP_TO ? this.session.pending().length : null };
   }
 
