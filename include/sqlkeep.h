@@ -382,7 +382,8 @@ uint32_t sqlkeep_execute(sqlkeep *handle, size_t at, sqlkeep_outcome *outcome);
 
 /* Writes the lines of the last outcome as the program does, with this number in front, then those of its account and the name
    that a refusal is about where accounts are asked for, and keeps them for sqlkeep_transcript. It is to be called before the next
-   statement is executed; the name is told up to the next sqlkeep_read. SQLKEEP_CLOSED, SQLKEEP_NO_MEMORY. */
+   statement is executed; the name is told up to the next sqlkeep_read. Before any statement was
+   executed the outcome is `ok`. SQLKEEP_CLOSED, SQLKEEP_NO_MEMORY. */
 uint32_t sqlkeep_lines(sqlkeep *handle, uint64_t number);
 
 /* ---- the rows of a query

@@ -8,7 +8,7 @@ export interface Options {
   depth?: number;
   /** How many row changes a statement may make, 1 to 65536; 65536 if not given. */
   changes?: number;
-  /** Whether `lines` and transcripts have the account of each statement. */
+  /** Whether `lines`, transcripts and `account` have the account of each statement. */
   explain?: boolean;
 }
 
@@ -26,7 +26,26 @@ export interface Summary {
 export type Outcome =
   | { kind: "done"; count: number; lines: string }
   | { kind: "changed"; count: number; lines: string }
-  | { kind: "rows"; count: number; rows: Value[][]; lines: string };
+  /** `columns` has the name of each column, empty for an expression. */
+  | { kind: "rows"; count: number; columns: string[]; rows: Value[][]; lines: string };
+
+/** Why a statement was refused. */
+export interface Refused {
+  /** The number of the cause, 1 to 22. */
+  cause: number;
+  /** The number and the name of the cause. */
+  reason: string;
+  constraint: string | null;
+  trigger: string | null;
+  signal: string | null;
+  row: number | null;
+  /** The lines of the program, with the account if one is asked for. */
+  lines: string;
+  /** The number of the statement: its place in its text from 1, or the number that was given. */
+  number: number;
+}
+
+export type Attempt = Outcome | ({ kind: "refused" } & Refused);
 
 export interface Violation {
   row: number;
@@ -39,30 +58,132 @@ export interface Work {
   lookups: number;
 }
 
+/** A row that changed. `before` is null for an insert, `after` for a delete. */
+export interface Change {
+  kind: "insert" | "delete" | "update";
+  table: string;
+  row: number;
+  before: Value[] | null;
+  after: Value[] | null;
+}
+
+/** A foreign key that acted on a row. */
+export interface Action {
+  kind: "action";
+  constraint: string;
+  action: "CASCADE" | "SET NULL" | "SET DEFAULT";
+  table: string;
+  row: number;
+}
+
+/** A trigger that ran: the row that it saw before and after, or the rows of its transition tables, and what its statements did. */
+export interface TriggerRun {
+  kind: "trigger";
+  trigger: string;
+  old: Value[] | null;
+  new: Value[] | null;
+  saw: Change[];
+  statements: { kind: "statement"; place: number; entries: Entry[] }[];
+}
+
+/** A row that a refusal is about, and why. */
+export interface ViolationEntry {
+  kind: "violation";
+  constraint: string;
+  table: string;
+  row: number;
+  values: Value[];
+  reason: "condition" | "null" | "key" | "null key" | "absent" | "some nulls" | "restrict" | "conflict";
+  /** The column that is null. */
+  column?: string;
+  /** The other row with the same key, and its values. */
+  otherRow?: number;
+  /** The table that the row refers to; `other` has the key. */
+  otherTable?: string;
+  other?: Value[];
+}
+
+/** A line that tells the name that a refusal is about. */
+export interface Note {
+  kind: "note";
+  text: string;
+}
+
+export type Entry = Change | Action | TriggerRun | ViolationEntry | Note;
+
+export interface Column {
+  name: string;
+  type: "INTEGER" | "VARCHAR";
+  /** The most characters of a VARCHAR. */
+  length: number | null;
+  default: Value;
+}
+
+export interface Table {
+  name: string;
+  columns: Column[];
+}
+
+export type ReferentialAction = "NO ACTION" | "RESTRICT" | "CASCADE" | "SET NULL" | "SET DEFAULT";
+
+export interface Constraint {
+  name: string;
+  table: string;
+  kind: "NOT NULL" | "CHECK" | "UNIQUE" | "PRIMARY KEY" | "FOREIGN KEY";
+  /** Empty for a CHECK. */
+  columns: string[];
+  isDeferrable: boolean;
+  isInitiallyDeferred: boolean;
+  nullsNotDistinct: boolean;
+  /** The table and the columns that a foreign key refers to. */
+  referenced: string | null;
+  referencedColumns: string[];
+  isMatchFull: boolean;
+  onDelete: ReferentialAction | null;
+  onUpdate: ReferentialAction | null;
+}
+
+export interface Trigger {
+  name: string;
+  table: string;
+  time: "BEFORE" | "AFTER";
+  event: "INSERT" | "UPDATE" | "DELETE";
+  forEach: "ROW" | "STATEMENT";
+  /** The columns of UPDATE OF. */
+  columns: string[];
+  /** How many statements its body has. */
+  statements: number;
+}
+
+export interface Catalogue {
+  tables: Table[];
+  constraints: Constraint[];
+  triggers: Trigger[];
+}
+
 /** A call that could not be made. */
 export class EngineError extends Error {
   status: number;
 }
 
+/** The engine stopped by a trap. The session is given up, and so is its database. */
+export class Trap extends EngineError {}
+
 /** A text with something that is no statement. */
 export class SyntaxFault extends Error {
-  /** The byte at which it begins. */
+  /** The byte at which it begins; of a template, a byte of the text with the values in it. */
   at: number;
 }
 
 /** A statement that was refused. */
-export class Refusal extends Error {
-  /** The number of the cause, 1 to 22. */
+export class Refusal extends Error implements Refused {
   cause: number;
-  /** The number and the name of the cause. */
   reason: string;
   constraint: string | null;
   trigger: string | null;
   signal: string | null;
   row: number | null;
-  /** The lines of the program, with the account if one is asked for. */
   lines: string;
-  /** The place of the statement in its text, from 1. */
   number: number;
 }
 
@@ -74,9 +195,13 @@ export class Engine {
 export class Session {
   explain(asked?: boolean): void;
   run(script: string | Uint8Array): Summary;
-  execute(text: string | Uint8Array): Outcome[];
-  steps(text: string | Uint8Array): Generator<Outcome>;
-  query(text: string | Uint8Array): Value[][];
+  execute(text: string | Uint8Array, values?: Value[]): Outcome[];
+  steps(text: string | Uint8Array, values?: Value[]): Generator<Outcome>;
+  read(text: string | Uint8Array, values?: Value[]): { statements: number; faultAt: number | null };
+  attempt(at: number, number?: number): Attempt;
+  query(text: string | Uint8Array, values?: Value[]): Value[][];
+  readonly account: Entry[];
+  catalogue(): Catalogue;
   commit(): void;
   rollback(): void;
   rollbackTo(name: string): void;

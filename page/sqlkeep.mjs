@@ -10,7 +10,10 @@
 // Values are null, numbers, BigInts where a number isn't exact, and strings. A statement that is refused throws a Refusal. Numbers and
 // addresses of 64 bits cross to the module as BigInts; its memory has addresses of 32 bits.
 
-const OK = 0, CLOSED = 1, LIMITS = 3, NOT_UTF8 = 4, TOO_LONG = 5, NO_MEMORY = 6, NOTHING = 7;
+import { entriesOf, linesOf } from "./account.mjs";
+import { readCatalogue } from "./catalogue.mjs";
+
+const OK = 0, CLOSED = 1, LIMITS = 3, NOT_UTF8 = 4, TOO_LONG = 5, NO_MEMORY = 6, NOTHING = 7, WRONG_COUNT = 9, NO_TEMPLATE = 10;
 const CHANGED = 1, ROWS = 2, REFUSED = 3;
 const NULL = 0, INTEGER = 1;
 const HANDLE_BYTES = 16, RESULT_BYTES = 64, BUFFER_BYTES = 1 << 16;
@@ -22,6 +25,8 @@ const WORDS = new Map([
   [TOO_LONG, "the script is longer than 1048576 bytes"],
   [NO_MEMORY, "out of memory"],
   [NOTHING, "there is nothing at this place"],
+  [WRONG_COUNT, "the template has another number of question marks than there are values"],
+  [NO_TEMPLATE, "the template has something that is neither a token nor a question mark"],
 ]);
 
 /** A call that could not be made; `status` is that of the library for C. */
@@ -46,9 +51,18 @@ export class SyntaxFault extends Error {
 /** A statement that was refused. `lines` are those of the program, with its account where one is asked for. */
 export class Refusal extends Error {
   constructor(outcome) {
-    super(outcome.lines.split("\n")[0].replace(/^\d+ refused /, ""));
+    super(linesOf(outcome.lines)[0].replace(/^\d+ refused /, ""));
     this.name = "Refusal";
     Object.assign(this, outcome);
+  }
+}
+
+/** The engine stopped by a trap. The session is given up, and so is its database. */
+export class Trap extends EngineError {
+  constructor(call, cause) {
+    super(`the engine stopped in ${call}: ${cause.message}`, CLOSED);
+    this.name = "Trap";
+    this.cause = cause;
   }
 }
 
@@ -90,6 +104,7 @@ export class Session {
   #buffer;
   #trapped = false;
   #isOpen = false;
+  #account = [];
 
   constructor(instance, depth, changes, explain) {
     this.#exports = instance.exports;
@@ -113,36 +128,91 @@ export class Session {
     return { accepted, refused, memoryRefused, faultAt: hasFault ? faultAt : null, transcript: this.#transcript() };
   }
 
-  /** Executes the statements of a text, and gives the outcome of each. The first that is refused throws a Refusal. */
-  execute(text) {
-    return [...this.steps(text)];
+  /**
+   * Executes the statements of a text, and gives the outcome of each. The first that is refused throws a Refusal. Where values are given,
+   * the text is a template: each question mark stands for a value.
+   */
+  execute(text, values) {
+    return [...this.steps(text, values)];
   }
 
   /** So one after the other: the next is executed when it is asked for. Where the text has a fault nothing is executed. */
-  *steps(text) {
-    this.#withText(text, (at, length) => this.#ask("sqlkeep_read", at, length, this.#result));
-    const [statements, hasFault, faultAt] = [0, 1, 2].map((place) => this.#number(place));
-    if (hasFault) {
+  *steps(text, values) {
+    const { statements, faultAt } = this.read(text, values);
+    if (faultAt !== null) {
       throw new SyntaxFault(faultAt, null);
     }
     for (let at = 0; at < statements; at++) {
-      yield this.#executed(at);
+      const outcome = this.attempt(at);
+      if (outcome.kind === "refused") {
+        throw new Refusal(outcome);
+      }
+      yield outcome;
     }
   }
 
+  /** Reads a text and executes nothing. The statements stay until the next text is read. */
+  read(text, values) {
+    if (values !== undefined) {
+      this.#bind(values);
+    }
+    const call = values === undefined ? "sqlkeep_read" : "sqlkeep_read_bound";
+    this.#withText(text, (at, length) => this.#ask(call, at, length, this.#result));
+    const [statements, hasFault, faultAt] = [0, 1, 2].map((place) => this.#number(place));
+    return { statements, faultAt: hasFault ? faultAt : null };
+  }
+
+  /** Executes the statement at this place, from 0, of the text that was read last. A refusal is an outcome of kind "refused". */
+  attempt(at, number = at + 1) {
+    this.#ask("sqlkeep_execute", BigInt(at), this.#result);
+    return this.#outcome(number);
+  }
+
+  // Each value is tested before any is bound, so that none is changed on its way: a number has to be exact, and a text to be UTF-16.
+  #bind(values) {
+    const exact = values.map(tested);
+    this.#ask("sqlkeep_unbind");
+    exact.forEach((value) => {
+      if (value === null) {
+        this.#ask("sqlkeep_bind_null");
+      } else if (typeof value === "bigint") {
+        this.#ask("sqlkeep_bind_integer", value);
+      } else {
+        this.#withText(value, (at, length) => this.#ask("sqlkeep_bind_text", at, length));
+      }
+    });
+  }
+
+  /** The account of the last statement, as objects; empty where no account is asked for. */
+  get account() {
+    return entriesOf(this.#account);
+  }
+
   /** The rows of the last statement of a text, which is a query. */
-  query(text) {
-    const last = this.execute(text).at(-1);
+  query(text, values) {
+    const last = this.execute(text, values).at(-1);
     if (!last || last.kind !== "rows") {
       throw new EngineError("the last statement is no query", NOTHING);
     }
     return last.rows;
   }
 
+  /** The tables, constraints and triggers, in the order in which they were made. */
+  catalogue() {
+    return readCatalogue({
+      ask: (name, ...words) => {
+        this.#ask(name, ...words, this.#result);
+        return new DataView(this.#exports.memory.buffer, Number(this.#result), RESULT_BYTES);
+      },
+      text: (name, ...words) => this.#pieces(name, ...words),
+      value: (cell, text, ...words) => this.#value(cell, text, ...words),
+    });
+  }
+
   /** COMMIT. */
   commit() {
     this.#ask("sqlkeep_commit", this.#result);
-    this.#outcome(1);
+    this.#accepted();
   }
 
   /** ROLLBACK. */
@@ -153,7 +223,7 @@ export class Session {
   /** ROLLBACK TO SAVEPOINT, with the name as it is folded, in upper case. */
   rollbackTo(name) {
     this.#withText(name, (at, length) => this.#ask("sqlkeep_rollback_to", at, length, this.#result));
-    this.#outcome(1);
+    this.#accepted();
   }
 
   get inTransaction() {
@@ -220,7 +290,7 @@ export class Session {
       return this.#exports[name](...words);
     } catch (error) {
       this.#trapped = true;
-      throw new EngineError(`the engine stopped in ${name}: ${error.message}`, CLOSED);
+      throw new Trap(name, error);
     }
   }
 
@@ -263,36 +333,45 @@ export class Session {
     return this.#pieces("sqlkeep_transcript");
   }
 
-  #executed(at) {
-    this.#ask("sqlkeep_execute", BigInt(at), this.#result);
-    return this.#outcome(at + 1);
+  #accepted() {
+    const outcome = this.#outcome(1);
+    if (outcome.kind === "refused") {
+      throw new Refusal(outcome);
+    }
   }
 
-  // What a statement answered; a refusal is thrown.
+  // What a statement answered, with its lines.
   #outcome(number) {
     const view = this.#view, at = Number(this.#result);
     const kind = view.getUint32(at, true), cause = view.getUint32(at + 4, true), count = this.#number(1), row = this.#number(2);
     this.#ask("sqlkeep_lines", BigInt(number));
     const lines = this.#transcript();
+    this.#account = kind === ROWS ? [] : linesOf(lines).slice(1);
     if (kind === REFUSED) {
       const [constraint, trigger, signal] = ["constraint", "trigger", "signal"].map((what) => this.#pieces("sqlkeep_" + what) || null);
-      throw new Refusal({ cause, reason: this.#pieces("sqlkeep_cause"), constraint, trigger, signal, row: row || null, lines, number });
+      return { kind: "refused", cause, reason: this.#pieces("sqlkeep_cause"), constraint, trigger, signal, row: row || null, lines, number };
     }
     if (kind === ROWS) {
-      return { kind: "rows", count, rows: this.#rows(count), lines };
+      return { kind: "rows", count, columns: this.#columns(), rows: this.#rows(count), lines };
     }
     return { kind: kind === CHANGED ? "changed" : "done", count, lines };
+  }
+
+  // The names of the columns of the query that was executed last; empty for an expression that is no column.
+  #columns() {
+    this.#ask("sqlkeep_query", this.#result);
+    return Array.from({ length: this.#number(0) }, (_, column) => this.#pieces("sqlkeep_query_column", BigInt(column)));
   }
 
   #rows(count) {
     return Array.from({ length: count }, (_, row) => {
       this.#ask("sqlkeep_columns", BigInt(row), this.#result);
-      return Array.from({ length: this.#number(0) }, (_, column) => this.#value(BigInt(row), BigInt(column)));
+      return Array.from({ length: this.#number(0) }, (_, column) => this.#value("sqlkeep_value", "sqlkeep_value_text", BigInt(row), BigInt(column)));
     });
   }
 
-  #value(row, column) {
-    this.#ask("sqlkeep_value", row, column, this.#result);
+  #value(cell, text, ...place) {
+    this.#ask(cell, ...place, this.#result);
     const kind = this.#number(0);
     if (kind === NULL) {
       return null;
@@ -301,6 +380,24 @@ export class Session {
       const integer = this.#view.getBigInt64(Number(this.#result) + 8, true);
       return Number.isSafeInteger(Number(integer)) ? Number(integer) : integer;
     }
-    return this.#pieces("sqlkeep_value_text", row, column);
+    return this.#pieces(text, ...place);
   }
+}
+
+// A value that can be bound as it is: null, a BigInt of 64 bits, or a text.
+function tested(value) {
+  if (value === null || (typeof value === "string" && !/\p{Surrogate}/u.test(value))) {
+    return value;
+  }
+  if (typeof value === "string") {
+    throw new TypeError("a text has half of a character");
+  }
+  if (typeof value !== "bigint" && !Number.isSafeInteger(value)) {
+    throw new TypeError(`${typeof value === "number" ? value : `a value of type ${typeof value}`} is none: null, an exact integer, a BigInt or a string is one`);
+  }
+  const integer = BigInt(value);
+  if (BigInt.asIntN(64, integer) !== integer) {
+    throw new RangeError(`${integer} has more than 64 bits`);
+  }
+  return integer;
 }

@@ -4,7 +4,7 @@ import { readFileSync } from "node:fs";
 import { pathToFileURL } from "node:url";
 
 const folder = process.argv[2];
-const { EngineError, Refusal, SyntaxFault, load } = await import(pathToFileURL(`${folder}/sqlkeep.mjs`));
+const { EngineError, Refusal, Session, SyntaxFault, Trap, load } = await import(pathToFileURL(`${folder}/sqlkeep.mjs`));
 const engine = await load(readFileSync(`${folder}/sqlkeep.wasm`));
 
 const SCHEMA = `CREATE TABLE author (name VARCHAR(20) PRIMARY KEY);
@@ -75,6 +75,117 @@ const tests = {
     session.close();
     session.close();
     assert.throws(() => session.commit(), { name: "EngineError", message: "the session is closed" });
+  },
+  values_at_question_marks() {
+    const session = engine.open();
+    session.execute("CREATE TABLE t (a INT, b VARCHAR(60));");
+    const texts = ["'; DROP TABLE t; --", "?", "", "it's", "a -- b", "é€😀", "line\nline"];
+    texts.forEach((text, at) => session.execute("INSERT INTO t VALUES (?, ?);", [at, text]));
+    assert.deepEqual(session.query("SELECT b FROM t;"), texts.map((text) => [text]));
+    assert.deepEqual(session.query("SELECT a FROM t WHERE b = ? AND a = ?;", ["it's", 3]), [[3]]);
+    session.execute("INSERT INTO t VALUES (?, ?); INSERT INTO t VALUES (5 -?, NULL);", [-9223372036854775808n, null, -1]);
+    assert.deepEqual(session.query("SELECT a, b FROM t WHERE b IS NULL;"), [[-9223372036854775808n, null], [6, null]]);
+  },
+  values_that_are_none() {
+    const session = engine.open();
+    session.execute("CREATE TABLE t (a INT);");
+    for (const value of [1.5, NaN, 2 ** 53, true, undefined, {}, "\ud800"]) {
+      assert.throws(() => session.execute("INSERT INTO t VALUES (?);", [value]), TypeError);
+    }
+    assert.throws(() => session.execute("INSERT INTO t VALUES (?);", [2n ** 63n]), RangeError);
+    assert.deepEqual(session.query("SELECT a FROM t;"), []);
+  },
+  templates_with_another_number_of_values() {
+    const session = engine.open();
+    assert.throws(() => session.execute("SELECT ? FROM t;", []), { name: "EngineError", status: 9, message: "the template has another number of question marks than there are values" });
+    assert.throws(() => session.execute("SELECT '?' FROM t;", [1]), { status: 9 });
+    assert.throws(() => session.execute("SELECT ? # FROM t;", [1]), { status: 10 });
+    assert.throws(() => session.execute("SELECT ? FROM t;"), (fault) => fault instanceof SyntaxFault && fault.at === 0);
+  },
+  columns_of_a_query() {
+    const session = engine.open();
+    session.execute("CREATE TABLE t (a INT, b INT);");
+    assert.deepEqual(session.execute("SELECT * FROM t;")[0].columns, ["A", "B"]);
+    assert.deepEqual(session.execute("SELECT b, a + 1 FROM t;")[0].columns, ["B", ""]);
+    assert.deepEqual(session.execute("SELECT COUNT(*) FROM t;")[0].columns, ["COUNT"]);
+  },
+  a_refusal_as_an_outcome() {
+    const session = engine.open();
+    assert.deepEqual(session.read("CREATE TABLE t (a INT CHECK (a > 0)); INSERT INTO t VALUES (0); SELEKT"), { statements: 2, faultAt: 64 });
+    assert.equal(session.attempt(0).kind, "done");
+    const refused = session.attempt(1);
+    assert.deepEqual([refused.kind, refused.cause, refused.reason, refused.constraint, refused.row, refused.lines], ["refused", 13, "13 Violation", "T_C1", 1, "2 refused 13 Violation T_C1 row 1\n"]);
+    assert.throws(() => session.attempt(2), { status: 7 });
+  },
+  a_refusal_in_a_trigger() {
+    const session = engine.open();
+    session.execute("CREATE TABLE t (a INT); CREATE TRIGGER stop BEFORE DELETE ON t SIGNAL 'it''s kept';");
+    assert.throws(() => session.execute("DELETE FROM t;"), { cause: 15, trigger: "STOP", signal: "it's kept", constraint: null, row: null });
+  },
+  an_account_as_objects() {
+    const session = engine.open({ explain: true });
+    session.execute(SCHEMA);
+    session.execute("CREATE TABLE removed (title VARCHAR(30)); CREATE TRIGGER log AFTER DELETE ON book REFERENCING OLD AS o OLD TABLE AS olds FOR EACH ROW INSERT INTO removed VALUES (o.title);");
+    session.execute("INSERT INTO author VALUES ('O''Hara'); INSERT INTO book VALUES ('One\nTwo', 'O''Hara'); DELETE FROM author;");
+    const gone = ["One\nTwo", "O'Hara"];
+    assert.deepEqual(session.account, [
+      { kind: "delete", table: "AUTHOR", row: 1, before: ["O'Hara"], after: null },
+      { kind: "action", constraint: "WRITTEN_BY", action: "CASCADE", table: "BOOK", row: 2 },
+      { kind: "delete", table: "BOOK", row: 2, before: gone, after: null },
+      { kind: "trigger", trigger: "LOG", old: gone, new: null, saw: [], statements: [
+        { kind: "statement", place: 1, entries: [{ kind: "insert", table: "REMOVED", row: 3, before: null, after: ["One\nTwo"] }] }] },
+    ]);
+  },
+  violations_as_objects() {
+    const session = engine.open({ explain: true });
+    session.execute(SCHEMA);
+    session.execute("INSERT INTO book VALUES ('Dracula', 'Stoker'), ('Emma', 'Austen');");
+    assert.throws(() => session.commit(), { cause: 19 });
+    const violation = (row, values) => ({ kind: "violation", constraint: "WRITTEN_BY", table: "BOOK", row, values, reason: "absent", otherTable: "AUTHOR", other: [values[1]] });
+    assert.deepEqual(session.account, [violation(1, ["Dracula", "Stoker"]), violation(2, ["Emma", "Austen"])]);
+  },
+  each_reason_of_a_violation() {
+    const session = engine.open({ explain: true });
+    session.execute("CREATE TABLE p (k INT PRIMARY KEY, l INT UNIQUE); CREATE TABLE c (x INT NOT NULL, CONSTRAINT f FOREIGN KEY (x) REFERENCES p ON DELETE RESTRICT ON UPDATE CASCADE);");
+    session.execute("ALTER TABLE c ADD CONSTRAINT g FOREIGN KEY (x) REFERENCES p (l) ON UPDATE CASCADE; CREATE TABLE m (x INT, y INT UNIQUE, z INT CHECK (z > 0)); CREATE TABLE q (a INT, b INT, PRIMARY KEY (a, b));");
+    session.execute("CREATE TABLE full_key (a INT, b INT, FOREIGN KEY (a, b) REFERENCES q MATCH FULL); INSERT INTO p VALUES (5, 5); INSERT INTO c VALUES (5); INSERT INTO m VALUES (1, 1, 1);");
+    const reason = (text) => {
+      assert.throws(() => session.execute(text), Refusal);
+      return session.account.find((entry) => entry.kind === "violation").reason;
+    };
+    const texts = ["INSERT INTO m VALUES (1, 2, 0);", "INSERT INTO c VALUES (NULL);", "INSERT INTO m VALUES (1, 1, 1);", "INSERT INTO q VALUES (1, NULL);", "INSERT INTO c VALUES (6);", "INSERT INTO full_key VALUES (1, NULL);",
+      "DELETE FROM p;", "UPDATE p SET k = 6, l = 7;"];
+    assert.deepEqual(texts.map(reason), ["condition", "null", "key", "null key", "absent", "some nulls", "restrict", "conflict"]);
+  },
+  names_in_an_account() {
+    const session = engine.open({ explain: true });
+    assert.throws(() => session.execute("SELECT a FROM nowhere;"), { lines: "1 refused 1 Unknown\n  table NOWHERE isn't there\n" });
+    assert.deepEqual(session.account, [{ kind: "note", text: "table NOWHERE isn't there" }]);
+  },
+  a_catalogue() {
+    const session = engine.open();
+    assert.deepEqual(session.catalogue(), { tables: [], constraints: [], triggers: [] });
+    session.execute("CREATE TABLE p (k INT DEFAULT 7, l VARCHAR(9) DEFAULT 'none', PRIMARY KEY (l, k));");
+    session.execute("CREATE TABLE c (x INT, y VARCHAR(9) NOT NULL, CONSTRAINT f FOREIGN KEY (x, y) REFERENCES p (k, l) MATCH FULL ON DELETE SET NULL ON UPDATE CASCADE INITIALLY DEFERRED, UNIQUE NULLS NOT DISTINCT (y) DEFERRABLE, CHECK (x > 0));");
+    session.execute("CREATE TRIGGER r AFTER UPDATE OF y ON c FOR EACH ROW BEGIN ATOMIC DELETE FROM p; DELETE FROM c; END;");
+    const { tables, constraints, triggers } = session.catalogue();
+    assert.deepEqual(tables[0], { name: "P", columns: [{ name: "K", type: "INTEGER", length: null, default: 7 }, { name: "L", type: "VARCHAR", length: 9, default: "none" }] });
+    assert.deepEqual(constraints.map(({ name, table, kind, columns }) => [name, table, kind, columns]),
+      [["P_C1", "P", "PRIMARY KEY", ["L", "K"]], ["C_C1", "C", "NOT NULL", ["Y"]], ["F", "C", "FOREIGN KEY", ["X", "Y"]], ["C_C3", "C", "UNIQUE", ["Y"]], ["C_C4", "C", "CHECK", []]]);
+    assert.deepEqual(constraints[2], { name: "F", table: "C", kind: "FOREIGN KEY", columns: ["X", "Y"], isDeferrable: true, isInitiallyDeferred: true, nullsNotDistinct: false, referenced: "P",
+      referencedColumns: ["K", "L"], isMatchFull: true, onDelete: "SET NULL", onUpdate: "CASCADE" });
+    assert.deepEqual([constraints[3].nullsNotDistinct, constraints[3].isDeferrable, constraints[3].isInitiallyDeferred, constraints[3].referenced, constraints[3].onDelete], [true, true, false, null, null]);
+    assert.deepEqual(triggers, [{ name: "R", table: "C", time: "AFTER", event: "UPDATE", forEach: "ROW", columns: ["Y"], statements: 2 }]);
+  },
+  a_trap() {
+    // A function that traps in place of one of the module's: none of its own does.
+    const { exports } = new WebAssembly.Instance(new WebAssembly.Module(readFileSync(`${folder}/sqlkeep.wasm`)), {});
+    const trapping = () => { throw new WebAssembly.RuntimeError("unreachable"); };
+    const session = new Session({ exports: { ...exports, sqlkeep_execute: trapping } }, 16, 65536, false);
+    assert.throws(() => session.execute("CREATE TABLE t (a INT);"), (error) => error instanceof Trap && error.message === "the engine stopped in sqlkeep_execute: unreachable");
+    assert.throws(() => session.execute("COMMIT;"), { name: "EngineError", message: "the session was given up after a trap" });
+    session.close();
+    assert.equal(engine.open().execute("COMMIT;")[0].kind, "done");
   },
   two_sessions() {
     const [one, other] = [engine.open(), engine.open()];

@@ -1,4 +1,5 @@
-"""Makes out/sqlkeep.wasm of the library for C: the engine for a browser or for node, in a memory of 32 bits.
+"""Makes out/sqlkeep.wasm of the library for C: the engine for a browser or for node, in a memory of 32 bits; and out/sqlkeep.html, a page
+that shows it at work.
 
     page.py              of the proved library, over the crates that `./build --library` proved
     page.py --unproved   of the sources without proof, into out/unproved
@@ -18,6 +19,8 @@ from pathlib import Path
 
 sys.dont_write_bytecode = True
 sys.path.insert(0, os.path.dirname(os.path.realpath(__file__)))
+sys.path.insert(0, str(Path(os.path.realpath(__file__)).parent.parent / "page"))
+import bundle
 import libraries
 import repository
 import unproved
@@ -118,7 +121,7 @@ def lower(room, to):
     run(room, "wasm-opt", *(f"--enable-{feature}" for feature in FEATURES), "--memory64-lowering", "wide.wasm", "-o", "low.wasm")
     to.mkdir(parents=True, exist_ok=True)
     shutil.copyfile(room / "low.wasm", to / "sqlkeep.wasm")
-    for file in ("sqlkeep.mjs", "sqlkeep.d.ts", "package.json"):
+    for file in ("sqlkeep.mjs", "account.mjs", "catalogue.mjs", "sqlkeep.d.ts", "package.json"):
         shutil.copyfile(Path(ROOT, "page", file), to / file)
 
 
@@ -135,7 +138,8 @@ def main(words):
             return 1
         link(room)
         lower(room, to)
-    say(f"sqlkeep.wasm and sqlkeep.mjs are in {os.path.relpath(to, ROOT)}")
+    bundle.write(to, not is_unproved)
+    say(f"sqlkeep.wasm, sqlkeep.mjs and sqlkeep.html are in {os.path.relpath(to, ROOT)}")
     return 0
 
 

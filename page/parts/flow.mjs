@@ -1,0 +1,214 @@
+// Columns of row boxes with links between them: side by side where there is room, and otherwise one below the other.
+
+import { units } from "./groups.mjs";
+
+const CELL = 11, PAD = 8, HEAD = 20, ROW = 24, ROW_GAP = 4, GROUP_GAP = 12, CAPTION = 22;
+const ARM = 21, PILL = 36, PILL_GAP = 8, PILL_LINE = 24, MARGIN = 22, TIP = 7;
+
+const textOf = (cell) => cell.map((piece) => piece.text).join("");
+
+/** How wide the label and the cells of a group are, in characters. */
+function widthsOf(group) {
+  const label = Math.max(units(group.columns.length > 0 ? group.head : ""), ...group.rows.map((row) => units(row.label)));
+  const count = Math.max(0, ...group.rows.map((row) => row.cells.length));
+  const cells = Array.from({ length: count }, (_, at) => Math.max(units(group.columns[at] ?? ""), ...group.rows.map((row) => units(row.cells[at] ? textOf(row.cells[at]) : ""))));
+  return { label, cells };
+}
+
+export class Flow {
+  /**
+   * @param {object} sheet takes the shapes
+   * @param {{caption: string, before: Function[], beforeWidth: number, groups: object[]}[]} columns
+   * @param {{words: string[], name: string, from: object[], to: object[]}[][]} links those from each column to the next
+   */
+  constructor(sheet, columns, links) {
+    this.sheet = sheet;
+    this.columns = columns.map((column) => this.#measured(column));
+    this.links = links.map((between) => between.map((link) => ({ ...link, w: Math.max(...link.words.map((word) => sheet.width(word))) + 2 * PAD })));
+  }
+
+  #measured(column) {
+    const groups = column.groups.map((group) => {
+      const widths = widthsOf(group);
+      const inner = [widths.label, ...widths.cells].reduce((sum, width) => sum + width * this.sheet.characterWidth + CELL, -CELL);
+      return { ...group, widths, w: Math.max(inner, this.sheet.width(group.head)) + 2 * PAD };
+    });
+    return { ...column, groups, w: Math.max(this.sheet.width(column.caption), column.beforeWidth, ...groups.map((group) => group.w)) };
+  }
+
+  #gap(at) {
+    const links = this.links[at] ?? [];
+    return links.length > 0 ? 2 * ARM + Math.max(...links.map((link) => link.w)) : ARM;
+  }
+
+  /** How wide the columns are side by side. */
+  width() {
+    return this.columns.reduce((sum, column, at) => sum + column.w + (at > 0 ? this.#gap(at - 1) : 0), 0);
+  }
+
+  /** Puts the columns at a place; what they take up to the bottom and to the right. */
+  place(x, y, room) {
+    return this.columns.length > 1 && this.width() > room ? this.#below(x, y) : this.#beside(x, y);
+  }
+
+  #beside(x, y) {
+    let left = x, bottom = y;
+    this.columns.forEach((column, at) => {
+      column.boxes = new Map();
+      bottom = Math.max(bottom, this.#column(column, left, y, column.w));
+      left += column.w + this.#gap(at);
+    });
+    left = x;
+    this.links.slice(0, this.columns.length - 1).forEach((links, at) => {
+      left += this.columns[at].w;
+      bottom = Math.max(bottom, this.#pillsBeside(links, at, left, y));
+      left += this.#gap(at);
+    });
+    return { bottom, right: x + this.width() };
+  }
+
+  // The rows of a column from the top down; its bottom.
+  #column(column, x, y, width) {
+    let top = y;
+    if (column.caption) {
+      this.sheet.text(x, top + 12, column.caption, "soft sans");
+      top += CAPTION;
+    }
+    column.before.forEach((place) => {
+      top = place(x, top, width).bottom + GROUP_GAP;
+    });
+    column.groups.forEach((group, at) => {
+      top = this.#group(column, group, x, top + (at > 0 ? GROUP_GAP : 0), width);
+    });
+    return top;
+  }
+
+  #group(column, group, x, y, width) {
+    const { sheet } = this;
+    let top = y;
+    if (group.head) {
+      sheet.text(x + PAD, y + 13, group.head, "strong");
+      this.#cells(group, group.columns.map((name) => [{ text: name, name: "soft small" }]), x, y + 13);
+      top += HEAD;
+    }
+    group.rows.forEach((row) => {
+      const box = sheet.box(x, top, width, ROW, `row ${row.kind}`, row.title);
+      sheet.text(x + PAD, top + 16, row.label, row.kind === "absent" ? "violating" : row.kind);
+      this.#cells(group, row.cells, x, top + 16);
+      column.boxes.set(row, box);
+      column.boxes.set(`${row.table} ${row.row}`, box);
+      top += ROW + ROW_GAP;
+    });
+    return top - ROW_GAP;
+  }
+
+  #cells(group, cells, x, base) {
+    let left = x + PAD + group.widths.label * this.sheet.characterWidth + CELL;
+    cells.forEach((cell, at) => {
+      let from = left;
+      cell.forEach(({ text, name }) => {
+        this.sheet.text(from, base, text, name);
+        from += this.sheet.width(text);
+      });
+      left += group.widths.cells[at] * this.sheet.characterWidth + CELL;
+    });
+  }
+
+  #ends(links, at) {
+    const boxOf = (column, end) => column.boxes.get(end) ?? column.boxes.get(`${end.table} ${end.row}`);
+    return links.map((link) => ({
+      ...link,
+      from: link.from.map((end) => boxOf(this.columns[at], end)).filter(Boolean),
+      to: link.to.map((end) => boxOf(this.columns[at + 1], end)).filter(Boolean),
+    })).filter((link) => link.to.length > 0);
+  }
+
+  // The pills between two columns, each as near to the rows that it leads to as the others let it; their bottom.
+  #pillsBeside(links, at, x, y) {
+    const room = this.#gap(at);
+    const ends = this.#ends(links, at).map((link) => ({ ...link, middle: middleOf(link.to) })).sort((one, other) => one.middle - other.middle);
+    const tops = spread(ends.map((link) => link.middle - PILL / 2), PILL + PILL_GAP, y + (this.columns[at].caption ? CAPTION : 0));
+    ends.forEach((link, place) => {
+      const top = tops[place], left = x + (room - link.w) / 2;
+      this.#pill(link, left, top, PILL);
+      link.from.forEach((box) => this.#curve(box.x + box.w, box.y + box.h / 2, left, top + PILL / 2, link.name, false));
+      link.to.forEach((box) => this.#curve(left + link.w, top + PILL / 2, box.x, box.y + box.h / 2, link.name, true));
+    });
+    return ends.length > 0 ? tops.at(-1) + PILL : y;
+  }
+
+  #pill(link, x, y, height) {
+    this.sheet.box(x, y, link.w, height, `pill ${link.name}`);
+    link.words.forEach((word, at) => {
+      this.sheet.text(x + (link.w - this.sheet.width(word)) / 2, y + 15 + at * 15, word, at === 0 ? "strong" : link.name || "accent");
+    });
+  }
+
+  #curve(x, y, toX, toY, name, isTipped) {
+    const end = isTipped ? toX - TIP : toX;
+    const bend = Math.max(10, (end - x) * 0.6);
+    this.sheet.path(x, y, toY, `arrow ${name}`, `M0 0C${bend} 0 ${end - bend - x} ${toY - y} ${end - x} ${toY - y}`);
+    if (isTipped) {
+      this.#tip(toX, toY, name);
+    }
+  }
+
+  #tip(x, y, name) {
+    this.sheet.path(x, y, y, `tip ${name}`, `M0 0l${-TIP - 2} -4.5v9z`);
+  }
+
+  // One column below the other, with the lines of links in the margins: out at the right, and in at the left.
+  #below(x, y) {
+    const width = Math.max(...this.columns.map((column) => column.w), ...this.links.flat().map((link) => this.#lineWidth(link)));
+    let top = y;
+    this.columns.forEach((column, at) => {
+      column.boxes = new Map();
+      const links = at > 0 ? this.links[at - 1] ?? [] : [];
+      const room = links.length * (PILL_LINE + PILL_GAP);
+      const pillsAt = top + (at > 0 ? GROUP_GAP : 0);
+      top = this.#column(column, x + MARGIN, pillsAt + room + (room > 0 ? PILL_GAP : 0), width);
+      this.#pillsBelow(links, at - 1, x, pillsAt, width);
+    });
+    return { bottom: top, right: x + width + 2 * MARGIN };
+  }
+
+  #lineWidth(link) {
+    return this.sheet.width(link.words.join(" ")) + 2 * PAD;
+  }
+
+  #pillsBelow(links, at, x, y, width) {
+    this.#ends(links, at).forEach((link, place) => {
+      const w = this.#lineWidth(link), left = x + MARGIN + (width - w) / 2;
+      const top = y + place * (PILL_LINE + PILL_GAP), middle = top + PILL_LINE / 2;
+      const outX = x + MARGIN + width + 6 + (place % 4) * 4, inX = x + MARGIN - 8 - (place % 4) * 4;
+      this.sheet.box(left, top, w, PILL_LINE, `pill ${link.name}`);
+      const [first, second] = link.words;
+      this.sheet.text(left + PAD, top + 16, first, "strong");
+      this.sheet.text(left + PAD + this.sheet.width(`${first} `), top + 16, second, link.name || "accent");
+      link.from.forEach((box) => this.#corner([box.x + box.w, box.y + box.h / 2], outX, [left + w, middle], link.name));
+      link.to.forEach((box) => this.#corner([left, middle], inX, [box.x - TIP, box.y + box.h / 2], link.name));
+      link.to.forEach((box) => this.#tip(box.x, box.y + box.h / 2, link.name));
+    });
+  }
+
+  #corner([x, y], over, [toX, toY], name) {
+    this.sheet.path(x, y, toY, `arrow ${name}`, `M0 0H${over - x}V${toY - y}H${toX - x}`);
+  }
+}
+
+// Heights at least a step apart, each as near as can be to the one that is wanted; none is less than the first that is allowed.
+function spread(wanted, step, least) {
+  const heaps = [];
+  wanted.forEach((top, at) => {
+    let heap = { sum: top - at * step, count: 1 };
+    while (heaps.length > 0 && heaps.at(-1).sum / heaps.at(-1).count > heap.sum / heap.count) {
+      const before = heaps.pop();
+      heap = { sum: heap.sum + before.sum, count: heap.count + before.count };
+    }
+    heaps.push(heap);
+  });
+  const bases = heaps.flatMap((heap) => Array.from({ length: heap.count }, () => heap.sum / heap.count));
+  return bases.map((base, at) => Math.max(base, least) + at * step);
+}
+
+const middleOf = (boxes) => boxes.reduce((sum, box) => sum + box.y + box.h / 2, 0) / boxes.length;

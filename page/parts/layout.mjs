@@ -1,0 +1,160 @@
+// Where the parts of an account stand in its picture: shapes with places, of which the picture draws those that are seen.
+
+import { blocksOf, linksOf } from "./blocks.mjs";
+import { changeBox, groupsOf, keyGroup, otherBox, seenGroups, units, violatingBox } from "./groups.mjs";
+import { Flow } from "./flow.mjs";
+
+const PAD = 12, LINE = 20, INDENT = 12, BETWEEN = 14;
+
+/**
+ * The picture of what happened in a statement.
+ * @param {{account: object[], changes: object[], answer: object}} detail
+ * @param {Sheet} sheet
+ * @param {number} room how wide the picture may be
+ */
+export function layout(detail, sheet, room) {
+  const isRefused = detail.answer.kind === "refused";
+  const blocks = blocksOf(detail.account);
+  const size = placeBlocks(sheet, blocks, PAD, PAD, room - 2 * PAD, isRefused);
+  let { bottom, right } = size;
+  if (detail.wentBack?.length > 0) {
+    const back = placeBack(sheet, detail.wentBack, PAD, bottom > PAD ? bottom + BETWEEN : PAD, room - 2 * PAD);
+    bottom = back.bottom;
+    right = Math.max(right, back.right);
+  }
+  return { width: right + PAD, height: bottom + PAD };
+}
+
+// Waves from left to right, then triggers, as many beside each other as there is room for, then what the refusal is about.
+function placeBlocks(sheet, blocks, x, y, room, isRefused) {
+  const made = [
+    ...(blocks.waves.length > 0 ? [(top) => placeWaves(sheet, blocks, x, top, room)] : []),
+    ...(blocks.triggers.length > 0 ? [(top) => wrapped(sheet, blocks.triggers.map((run) => (at) => placeTrigger(sheet, run, x, at, room, isRefused)), x, top, room)] : []),
+    ...blocks.violations.map((violation) => (top) => placeViolation(sheet, violation, x, top, room)),
+  ];
+  return stacked(made, x, y);
+}
+
+// Parts from left to right, and on below where there is no more room.
+function wrapped(sheet, made, x, y, room) {
+  let [top, left, bottom, right] = [y, x, y, x];
+  made.forEach((make, at) => {
+    const first = sheet.shapes.length;
+    const size = make(top);
+    const isNext = at > 0 && left + size.right - x <= x + room;
+    const [overX, overY] = at === 0 ? [0, 0] : isNext ? [left - x, 0] : [0, bottom + BETWEEN - top];
+    sheet.shift(first, overX, overY);
+    top += overY;
+    left = size.right + overX + BETWEEN;
+    bottom = Math.max(isNext ? bottom : 0, size.bottom + overY);
+    right = Math.max(right, size.right + overX);
+  });
+  return { bottom, right };
+}
+
+function stacked(made, x, y) {
+  return made.reduce(
+    (size, make, at) => {
+      const next = make(at === 0 ? y : size.bottom + BETWEEN);
+      return { bottom: next.bottom, right: Math.max(size.right, next.right) };
+    },
+    { bottom: y, right: x },
+  );
+}
+
+function placeWaves(sheet, { waves, violations }, x, y, room) {
+  const last = waves.at(-1);
+  const isHit = (change) => violations.some((violation) => violation.table === change.table && violation.row === change.row);
+  // Where a statement is refused before its actions are done, the rows that they would reach are known by number alone.
+  const reached = last.actions.map(({ table, row }) => ({ table, row, label: `row ${row}`, kind: "absent", cells: [], title: `${table} row ${row}` }));
+  const columns = waves.map((wave, at) => ({
+    caption: waves.length > 1 || reached.length > 0 ? `Wave ${at + 1}` : "",
+    before: wave.before.map((run) => (left, top, width) => placeTrigger(sheet, run, left, top, width, false)),
+    beforeWidth: Math.max(0, ...wave.before.slice(0, 200).map((run) => triggerWidth(sheet, run))),
+    groups: groupsOf(wave.changes.map((change) => changeBox(change)).map((box) => (isHit(box) ? { ...box, kind: `${box.kind} hit` } : box)), sheet.schema),
+  }));
+  if (reached.length > 0) {
+    columns.push({ caption: "would follow", before: [], beforeWidth: 0, groups: groupsOf(reached, sheet.schema).map((group) => ({ ...group, columns: [] })) });
+  }
+  const links = waves.map((wave, at) => linksOf(wave, waves[at + 1], sheet.schema).map((link) => ({
+    words: [link.constraint, link.action], name: "", from: link.sources.map(({ table, row }) => ({ table, row })), to: link.targets,
+  })));
+  return new Flow(sheet, columns, links).place(x, y, room);
+}
+
+function triggerTitle(sheet, run) {
+  const trigger = sheet.schema.triggers.get(run.trigger);
+  return trigger ? ` ${trigger.time} ${trigger.event} ON ${trigger.table}` : "";
+}
+
+function triggerWidth(sheet, run) {
+  const head = sheet.width(`trigger ${run.trigger}${triggerTitle(sheet, run)}`);
+  const flow = new Flow(sheet, [{ caption: "", before: [], beforeWidth: 0, groups: seenGroups(run, sheet.schema) }], []);
+  return Math.max(head, flow.width()) + 2 * INDENT;
+}
+
+// A frame with the trigger's name, what it saw, and the statements of its body.
+function placeTrigger(sheet, run, x, y, room, isRefused) {
+  const frame = sheet.box(x, y, 0, 0, "trigger");
+  sheet.text(x + INDENT, y + LINE, `trigger ${run.trigger}`, "trigger-text strong");
+  const head = `trigger ${run.trigger}`, rest = triggerTitle(sheet, run);
+  const isLong = sheet.width(head + rest) > room - 2 * INDENT;
+  const [restX, restY] = isLong ? [x + INDENT, y + 2 * LINE] : [x + INDENT + sheet.width(head), y + LINE];
+  sheet.text(restX, restY, isLong ? rest.trim() : rest, "soft");
+  const seen = seenGroups(run, sheet.schema);
+  const made = [
+    ...(seen.length > 0 ? [(top) => new Flow(sheet, [{ caption: "", before: [], beforeWidth: 0, groups: seen }], []).place(x + INDENT, top, room - 2 * INDENT)] : []),
+    ...run.statements.map((statement) => (top) => placeStatement(sheet, statement, x + INDENT, top, room - 2 * INDENT, isRefused)),
+  ];
+  const inner = stacked(made, x, restY + 10);
+  const right = Math.max(inner.right, restX + sheet.width(isLong ? rest.trim() : rest)) + INDENT;
+  Object.assign(frame, { w: right - x, h: inner.bottom + (made.length > 0 ? INDENT : 0) - y });
+  return { bottom: y + frame.h, right };
+}
+
+function placeStatement(sheet, { place, blocks }, x, y, room, isRefused) {
+  const isEmpty = blocks.waves.length + blocks.triggers.length + blocks.violations.length === 0;
+  const words = `statement ${place} of the body${isEmpty ? (isRefused ? "" : ": no row") : ""}`;
+  sheet.text(x, y + 12, words, "soft");
+  const size = placeBlocks(sheet, blocks, x, y + LINE, room, isRefused);
+  return { bottom: isEmpty ? y + LINE : size.bottom, right: Math.max(size.right, x + sheet.width(words)) };
+}
+
+const REASONS = {
+  condition: ["CHECK", "is false"], null: ["NOT NULL", "is null"], "null key": ["PRIMARY KEY", "a null in the key"], "some nulls": ["MATCH FULL", "some of the key is null, not all"],
+  key: ["same key", ""], absent: ["refers to", ""], restrict: ["RESTRICT", ""], conflict: ["two actions", ""],
+};
+
+// What the right side of a violation is: the other row, the key that is meant, or words.
+function otherSide(violation, schema) {
+  if (violation.reason === "key") {
+    return groupsOf([otherBox(violation, schema)], schema);
+  }
+  if (violation.otherTable) {
+    return [keyGroup(violation, schema)];
+  }
+  const [, words] = REASONS[violation.reason] ?? ["", violation.reason];
+  const condition = schema.constraints.get(violation.constraint)?.condition;
+  const text = violation.reason === "condition" && condition ? `${condition} ${words}` : violation.reason === "null" ? `${violation.column} ${words}` : words;
+  // The empty head keeps the words beside the row that they are about.
+  return [{ head: " ", columns: [], rows: [{ label: text, kind: "absent", cells: [], title: text }] }];
+}
+
+function placeViolation(sheet, violation, x, y, room) {
+  const frame = sheet.box(x, y, 0, 0, "refusal");
+  const [word] = REASONS[violation.reason] ?? ["violates"];
+  const columns = [
+    { caption: "", before: [], beforeWidth: 0, groups: groupsOf([violatingBox(violation, sheet.schema)], sheet.schema) },
+    { caption: "", before: [], beforeWidth: 0, groups: otherSide(violation, sheet.schema) },
+  ];
+  const link = { words: [violation.constraint, word], name: "bad", from: [columns[0].groups[0].rows[0]], to: [columns[1].groups[0].rows[0]] };
+  const size = new Flow(sheet, columns, [[link]]).place(x + INDENT, y + INDENT, room - 2 * INDENT);
+  Object.assign(frame, { w: size.right + INDENT - x, h: size.bottom + INDENT - y });
+  return { bottom: y + frame.h, right: x + frame.w };
+}
+
+// What a refused COMMIT or a ROLLBACK took back.
+function placeBack(sheet, changes, x, y, room) {
+  const boxes = changes.map((change) => changeBox(change, change.after ? "back" : "gone"));
+  return new Flow(sheet, [{ caption: "What went back", before: [], beforeWidth: 0, groups: groupsOf(boxes, sheet.schema) }], []).place(x, y, room);
+}

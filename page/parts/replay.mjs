@@ -1,0 +1,131 @@
+// A script in a session of its own, run up to any of its statements, with the rows, violations and modes as they are then.
+
+import { linesOf } from "../account.mjs";
+import { statementsOf, tokensOf } from "./tokens.mjs";
+import { Modes } from "./modes.mjs";
+import { Journal } from "./journal.mjs";
+import { conditionsOf, Schema } from "./schema.mjs";
+
+const PENDING_UP_TO = 400;
+
+/** Where a byte of a text stands: its place, its line and its column, and the words there. */
+export function placeOfByte(text, byte) {
+  const before = new TextDecoder().decode(new TextEncoder().encode(text).subarray(0, byte));
+  const lines = before.split("\n");
+  const words = /^[^\u0000-\u0008\u000a-\u001f\u007f]*/.exec(text.slice(before.length))[0];
+  return { at: before.length, line: lines.length, column: [...lines.at(-1)].length + 1, words: [...words].slice(0, 60).join("") };
+}
+
+export class Replay {
+  /** @param {import("../sqlkeep.mjs").Engine} engine @param {string} script @param {{depth: number, changes: number}} limits */
+  constructor(engine, script, limits) {
+    this.engine = engine;
+    this.limits = limits;
+    this.script = script;
+    this.statements = statementsOf(tokensOf(script));
+    this.restart();
+    // The engine executes nothing of a text with a fault, so the statements before it are read alone.
+    if (this.fault) {
+      this.restart(script.slice(0, this.fault.at));
+    }
+  }
+
+  /** Begins again with a new session, before the first statement. */
+  restart(script = this.whole) {
+    this.session?.close();
+    this.session = this.engine.open({ ...this.limits, explain: true });
+    this.whole = script ?? this.script;
+    const { statements, faultAt } = this.session.read(this.whole);
+    this.fault ??= faultAt === null ? null : { ...placeOfByte(this.script, faultAt), byte: faultAt };
+    this.count = statements;
+    this.at = 0;
+    this.last = null;
+    this.isRead = true;
+    this.conditions = [];
+    this.modes = new Modes();
+    this.journal = new Journal();
+  }
+
+  /** Executes the next statement, and gives what a list of answers shows of it. */
+  step() {
+    if (!this.isRead) {
+      this.session.read(this.whole);
+      this.isRead = true;
+    }
+    const outcome = this.session.attempt(this.at);
+    const statement = this.statements[this.at];
+    const isOpen = this.session.inTransaction;
+    const account = this.session.account;
+    const changes = this.journal.follow({ statement, outcome, entries: outcome.kind === "changed" ? account : [], isOpen });
+    this.modes.follow({ statement, outcome, isOpen });
+    if (outcome.kind === "done" && statement) {
+      this.conditions.push(...conditionsOf(this.script, statement.tokens));
+    }
+    this.at += 1;
+    this.last = { outcome, account, changes, isOpen, work: this.session.work() };
+    return { line: linesOf(outcome.lines)[0], kind: outcome.kind, pending: this.count <= PENDING_UP_TO ? this.session.pending().length : null };
+  }
+
+  /** Goes to the moment after the statement with this number. */
+  goTo(number) {
+    if (number < this.at) {
+      this.restart();
+    }
+    while (this.at < number) {
+      this.step();
+    }
+  }
+
+  /** All that is to be seen after the statement with this number. */
+  view(number) {
+    this.goTo(number);
+    const { outcome, account, changes, isOpen, work } = this.last;
+    const { lines, ...answer } = outcome;
+    const texts = linesOf(lines), catalogue = this.session.catalogue(), schema = new Schema(catalogue, this.conditions);
+    return {
+      number, answer, line: texts[0], lines: outcome.kind === "rows" ? [] : texts.slice(1), account, changes, isOpen, work, catalogue, conditions: this.conditions,
+      tables: this.tables(catalogue), pending: this.pending(schema), modes: this.modes.list(catalogue.constraints), columns: this.columnsOf(outcome, number),
+    };
+  }
+
+  pending(schema) {
+    return this.session.pending().map((each) => {
+      const table = schema.constraints.get(each.constraint)?.table ?? null;
+      return { ...each, table, values: this.journal.rows(table).get(each.row) ?? null };
+    });
+  }
+
+  /** The rows of each table, from a SELECT. Row numbers are those of the accounts, where they tell the same rows. */
+  tables(catalogue) {
+    this.isRead = false;
+    return catalogue.tables.map(({ name }) => {
+      const values = this.session.query(`SELECT * FROM ${name};`);
+      const numbers = this.journal.numbers(name, values);
+      return { name, rows: values.map((row, at) => ({ row: numbers?.[at] ?? null, values: row })) };
+    });
+  }
+
+  // The heads of a query: the names of its columns, and the texts of its expressions.
+  columnsOf(outcome, number) {
+    if (outcome.kind !== "rows" || outcome.columns.every((name) => name !== "")) {
+      return outcome.columns ?? [];
+    }
+    const { tokens } = this.statements[number - 1];
+    const texts = listOf(this.script, tokens.slice(1, tokens.findIndex((token) => token.word === "FROM")));
+    return outcome.columns.map((name, at) => name || texts[at] || "");
+  }
+}
+
+// The texts between the commas outside of parentheses.
+function listOf(text, tokens) {
+  let depth = 0, from = tokens[0]?.at;
+  const texts = [];
+  for (const token of [...tokens, { word: ",", at: tokens.at(-1)?.end }]) {
+    depth += { "(": 1, ")": -1 }[token.word] ?? 0;
+    if (token.word === "," && depth === 0) {
+      texts.push(text.slice(from, token.at).trim());
+      from = token.end;
+    }
+  }
+  return texts;
+}

@@ -1,0 +1,43 @@
+// The pane of the chosen statement: its text, its answer, and the rows of a query.
+
+import { meaningOf } from "./causes.mjs";
+import { element } from "./elements.mjs";
+import { grid } from "./grid.mjs";
+
+const NOTES = /^ {2}(table|column|row variable|trigger|constraint|REFERENCING name) .*(isn't there|is there already|comes twice)$/;
+
+/** What a statement answered, as elements. */
+export function saidOf(detail, text) {
+  const { answer, line, lines } = detail;
+  const name = lines.find((each) => NOTES.test(each));
+  const why = answer.kind === "refused" ? meaningOf(answer) : null;
+  return [
+    element("pre", { class: "statement-text" }, text),
+    element("p", { class: `line-of-answer ${answer.kind}` }, line),
+    why ? element("p", { class: "why" }, name ? `${name.trim()[0].toUpperCase()}${name.trim().slice(1)}. ${why}` : why) : null,
+    answer.kind === "rows" ? rowsOf(detail) : null,
+    workOf(detail),
+  ].filter(Boolean);
+}
+
+function rowsOf({ answer, columns }) {
+  const heads = columns.length === (answer.rows[0]?.length ?? columns.length) ? columns : [];
+  const rows = answer.rows.map((values) => ({ row: null, values, change: null }));
+  return element("div", { class: "rows" }, grid({ heads, rows, keys: [], label: "Rows of the query", empty: "no rows" }));
+}
+
+function workOf({ work, isOpen, answer }) {
+  const changes = answer.kind === "changed" || work.changes > 0 ? `${count(work.changes, "row change")}, ${count(work.lookups, "look-up")} of keys. ` : "";
+  return element("p", { class: "why note" }, `${changes}${isOpen ? "A transaction is open." : "No transaction is open."}`);
+}
+
+export const count = (number, word) => `${number.toLocaleString("en")} ${word}${number === 1 ? "" : "s"}`;
+
+/** A place of the script at which no statement begins, as elements. */
+export function faultOf(fault, number) {
+  return [
+    element("p", { class: "line-of-answer fault" }, `${number} fault ${fault.byte}`),
+    element("p", { class: "why" }, `No statement begins at line ${fault.line}, column ${fault.column}${fault.words ? `: ${fault.words}` : "."}`),
+    element("p", { class: "why note" }, "The statements before it were executed, and nothing after it is. The mistake is in the statement that begins there; each statement ends with a semicolon."),
+  ];
+}
