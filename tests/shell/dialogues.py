@@ -7,7 +7,8 @@ PYTHON is one in which the package is installed. Each file here is a dialogue: t
 prompt is typed, a line of it with Enter; `^C` at its end is Ctrl-C, and a prompt with nothing behind it, at the end of the file, is
 Ctrl-D. Lines with `#` at the top of a file set something up:
 
-    # keys LINE      types this line in place of what stands behind the prompts, with <Tab>, <Up>, <Ctrl-A>, <Ctrl-C>, <Ctrl-D>, <Enter>, <Wait>
+    # keys LINE      types this line in place of what stands behind the prompts, with <Tab>, <Up>, <Ctrl-A>, <Ctrl-C>, <Ctrl-D>, <Enter>;
+                       <Wait> waits until the line is taken
     # env NAME=VALUE
     # args WORDS
     # file NAME TEXT
@@ -134,11 +135,20 @@ class Terminal:
 
     def type(self, keys):
         """Types keys one after the other: after a special one what it does is awaited."""
+        row = self.screen.row
         for part in re.split(r"(<[A-Z][A-Za-z-]*>)", keys):
             os.write(self.master, KEYS.get(part, part).encode())
+            if part == "<Wait>":
+                self.wait_for_line(row)
             # A terminal drops on Ctrl-C what wasn't read yet, so what was typed before it is awaited, too.
             while part not in ("", "<Enter>") and self.read(0.3 if part in KEYS else 0.1):
                 pass
+
+    def wait_for_line(self, row):
+        """Waits until the line that was typed in this row is taken, and a moment more."""
+        until = time.monotonic() + PATIENCE
+        while time.monotonic() < until and self.screen.row == row:
+            self.read(0.05)
 
     def close(self):
         try:
