@@ -51,6 +51,10 @@ class WithoutTerminal(unittest.TestCase):
             Path(folder, "c.sql").write_bytes(b"COMMIT; \xff")
             self.assertEqual(ran("", "c.sql", folder=folder), ("", "c.sql can't be read: it isn't UTF-8\n", 2))
 
+    def test_a_statement_of_many_lines(self):
+        rows = ",\n".join(f"({number})" for number in range(30_000))
+        self.assertEqual(ran(f"CREATE TABLE t (a INT);\nINSERT INTO t VALUES\n{rows};\nSELECT COUNT(*) FROM t;\n")[0], "ok\nok, 30000 rows inserted\nCOUNT\n-----\n30000\n(1 row)\n")
+
     def test_words(self):
         self.assertEqual(ran("", "--depth", "0")[2], 2)
         self.assertIn("depth is 1 to 64, and changes 1 to 65536", ran("", "--depth", "0")[1])

@@ -145,8 +145,10 @@ class Shell:
         if typed and (word in WORDS or word in COMMANDS) and not is_in_text(typed):
             self.complain("a statement is open: end it with a semicolon, or drop it with Ctrl-C")
             return typed
+        # A line without a semicolon ends no statement: so long ones needn't be looked through line by line.
+        may_end = not typed or ";" in line
         typed = f"{typed}\n{line}" if typed else line
-        if not is_whole(typed):
+        if not may_end or not is_whole(typed):
             return typed
         self.execute_text(typed)
         return ""
