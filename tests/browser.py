@@ -321,9 +321,9 @@ MIDDLES = [("text", "ground"), ("muted", "ground"), ("line", "ground"), ("accent
            ("bad", "bad-ground"), ("change", "change-ground")]
 
 
-def palette(page):
-    """A picture of the page's own colours, one pixel for each."""
-    middles = [[(one + other) // 2 for one, other in zip(page.colour(first), page.colour(second))] for first, second in MIDDLES]
+def palette(page, pairs):
+    """A picture of the page's own colours and of the middles of these pairs, one pixel for each."""
+    middles = [[(one + other) // 2 for one, other in zip(page.colour(first), page.colour(second))] for first, second in pairs]
     dots = bytes(part for colour in [page.colour(name) for name in COLOURS] + middles for part in colour)
 
     def chunk(kind, content):
@@ -335,15 +335,17 @@ def palette(page):
 
 def made_small(page, file):
     """Takes colours away until the picture has few enough bytes: 64 or 48 of its own, or else those of the page alone. How it was done."""
-    whole, own = file.read_bytes(), Path(page.browser.folder, "palette.png")
-    own.write_bytes(palette(page))
-    for how in (["64"], ["48"], ["--map", str(own)]):
+    whole = file.read_bytes()
+    palettes = [Path(page.browser.folder, f"palette-{count}.png") for count in (len(MIDDLES), 3, 1)]
+    for own, count in zip(palettes, (len(MIDDLES), 3, 1)):
+        own.write_bytes(palette(page, MIDDLES[:count]))
+    for how in [["64"], ["48"], *(["--map", str(own)] for own in palettes)]:
         done = subprocess.run(["pngquant", "--nofs", "--strip", "--speed", "1", *how, "-"], input=whole, capture_output=True, check=True)
         file.write_bytes(done.stdout)
-        if len(done.stdout) <= MOST_BYTES * 11 // 10:
+        if len(done.stdout) <= MOST_BYTES * 12 // 10:
             subprocess.run(["zopflipng", "-y", str(file), str(file)], stdout=subprocess.DEVNULL, check=True)
         if file.stat().st_size <= MOST_BYTES:
-            return f"{how[0]} colours" if len(how) == 1 else "the page's colours"
+            return f"{how[0]} colours" if len(how) == 1 else Path(how[1]).stem
     raise SystemExit(f"{file} has {file.stat().st_size:,} bytes with few colours")
 
 
