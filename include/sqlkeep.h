@@ -257,12 +257,61 @@ typedef struct sqlkeep_trigger_definition {
     uint64_t statements;
 } sqlkeep_trigger_definition;
 
+/* What an entry of an account tells. */
+enum sqlkeep_entry_kind {
+    /* A wave: its items are row changes that were made together, by rising row number. */
+    SQLKEEP_ENTRY_CHANGES = 0,
+    /* After the wave before it foreign keys act on rows: its items are the constraints, the rows and the actions. */
+    SQLKEEP_ENTRY_ACTIONS = 1,
+    /* A trigger runs. Its items are the row changes of its transition tables. */
+    SQLKEEP_ENTRY_TRIGGER = 2,
+    /* A data statement of the trigger's body begins: the entries up to its end are its own. A refused one has no end. */
+    SQLKEEP_ENTRY_STATEMENT = 3,
+    SQLKEEP_ENTRY_STATEMENT_END = 4,
+    /* A constraint and a row that the refusal is about. Its items are that row, and of a key the other row with the same one. */
+    SQLKEEP_ENTRY_VIOLATION = 5
+};
+
+/* An entry of an account. What its kind doesn't have is 0. */
+typedef struct sqlkeep_entry_shown {
+    /* One of enum sqlkeep_entry_kind. */
+    uint32_t kind;
+    /* The place of the statement in the trigger's body, from 1. */
+    uint32_t statement;
+    /* The place of the constraint that is violated. */
+    uint32_t constraint;
+    /* 1 where the trigger runs for a row that was there before, and after the change; otherwise 0. */
+    uint32_t has_old;
+    uint32_t has_new;
+    /* How many items it has. */
+    uint64_t items;
+    /* The number of the row that violates the constraint. */
+    uint64_t row;
+} sqlkeep_entry_shown;
+
+/* An item of an entry. What it doesn't have is 0. */
+typedef struct sqlkeep_item {
+    /* The place of the table. */
+    uint32_t table;
+    /* Of an action: the place of the foreign key, and one of enum sqlkeep_action. */
+    uint32_t constraint;
+    uint32_t action;
+    /* 1 where there are values before, and values after it; otherwise 0. */
+    uint32_t has_old;
+    uint32_t has_new;
+    /* The number of the row. */
+    uint64_t row;
+} sqlkeep_item;
+
+/* The side of a change: the row before it, and after it. */
+enum sqlkeep_side { SQLKEEP_OLD = 0, SQLKEEP_NEW = 1 };
+
 /* What the last statement or call did. */
 typedef struct sqlkeep_done {
     /* How many row changes it made, those of triggers and actions too, and how many it undid. */
     uint64_t changes;
     uint64_t undone;
-    /* How many keys it looked up. */
+    /* How many keys it looked up for constraints. What conditions look at is not counted. */
     uint64_t lookups;
 } sqlkeep_done;
 
@@ -333,7 +382,8 @@ uint32_t sqlkeep_execute(sqlkeep *handle, size_t at, sqlkeep_outcome *outcome);
 
 /* Writes the lines of the last outcome as the program does, with this number in front, then those of its account and the name
    that a refusal is about where accounts are asked for, and keeps them for sqlkeep_transcript. It is to be called before the next
-   statement is executed; the name is told up to the next sqlkeep_read. SQLKEEP_CLOSED, SQLKEEP_NO_MEMORY. */
+   statement is executed; the name is told up to the next sqlkeep_read. Before any statement was
+   executed the outcome is `ok`. SQLKEEP_CLOSED, SQLKEEP_NO_MEMORY. */
 uint32_t sqlkeep_lines(sqlkeep *handle, uint64_t number);
 
 /* ---- the rows of a query
@@ -412,6 +462,27 @@ uint32_t sqlkeep_trigger(sqlkeep *handle, size_t from, uint8_t *buffer, size_t s
 
 /* The text of the SIGNAL. */
 uint32_t sqlkeep_signal(sqlkeep *handle, size_t from, uint8_t *buffer, size_t size, size_t *copied);
+
+/* ---- the account of the last statement
+
+   These read it entry by entry, from 0, where one was asked for by sqlkeep_explain; otherwise there is no entry. Places of tables and
+   constraints are those of the catalogue. SQLKEEP_CLOSED; SQLKEEP_NOTHING: there is no such entry, item or value. */
+
+/* How many entries there are. SQLKEEP_CLOSED. */
+uint32_t sqlkeep_entries(sqlkeep *handle, size_t *count);
+
+/* An entry; and the name of the trigger that runs by it, copied as sqlkeep_transcript does. */
+uint32_t sqlkeep_entry(sqlkeep *handle, size_t at, sqlkeep_entry_shown *entry);
+uint32_t sqlkeep_entry_trigger(sqlkeep *handle, size_t at, size_t from, uint8_t *buffer, size_t size, size_t *copied);
+
+/* An item of an entry; a value of its row on one side, SQLKEEP_NEW for a row that a violation is about; and the bytes of a text. */
+uint32_t sqlkeep_entry_item(sqlkeep *handle, size_t at, size_t item, sqlkeep_item *shown);
+uint32_t sqlkeep_entry_value(sqlkeep *handle, size_t at, size_t item, uint32_t side, size_t column, sqlkeep_cell *value);
+uint32_t sqlkeep_entry_text(sqlkeep *handle, size_t at, size_t item, uint32_t side, size_t column, size_t from, uint8_t *buffer, size_t size, size_t *copied);
+
+/* A value of OLD or NEW of the trigger that runs by an entry; and the bytes of a text. */
+uint32_t sqlkeep_seen_value(sqlkeep *handle, size_t at, uint32_t side, size_t column, sqlkeep_cell *value);
+uint32_t sqlkeep_seen_text(sqlkeep *handle, size_t at, uint32_t side, size_t column, size_t from, uint8_t *buffer, size_t size, size_t *copied);
 
 /* ---- transactions */
 
@@ -575,6 +646,30 @@ static inline uint32_t sqlkeep_tested_trigger_name(sqlkeep *handle, size_t at, s
 static inline uint32_t sqlkeep_tested_trigger_column(sqlkeep *handle, size_t at, size_t place, uint32_t *column) {
     return handle == NULL ? (uint32_t)SQLKEEP_NO_HANDLE : sqlkeep_trigger_column(handle, at, place, column);
 }
+static inline uint32_t sqlkeep_tested_entries(sqlkeep *handle, size_t *count) {
+    return handle == NULL ? (uint32_t)SQLKEEP_NO_HANDLE : sqlkeep_entries(handle, count);
+}
+static inline uint32_t sqlkeep_tested_entry(sqlkeep *handle, size_t at, sqlkeep_entry_shown *entry) {
+    return handle == NULL ? (uint32_t)SQLKEEP_NO_HANDLE : sqlkeep_entry(handle, at, entry);
+}
+static inline uint32_t sqlkeep_tested_entry_trigger(sqlkeep *handle, size_t at, size_t from, uint8_t *buffer, size_t size, size_t *copied) {
+    return handle == NULL ? (uint32_t)SQLKEEP_NO_HANDLE : sqlkeep_entry_trigger(handle, at, from, buffer, size, copied);
+}
+static inline uint32_t sqlkeep_tested_entry_item(sqlkeep *handle, size_t at, size_t item, sqlkeep_item *shown) {
+    return handle == NULL ? (uint32_t)SQLKEEP_NO_HANDLE : sqlkeep_entry_item(handle, at, item, shown);
+}
+static inline uint32_t sqlkeep_tested_entry_value(sqlkeep *handle, size_t at, size_t item, uint32_t side, size_t column, sqlkeep_cell *value) {
+    return handle == NULL ? (uint32_t)SQLKEEP_NO_HANDLE : sqlkeep_entry_value(handle, at, item, side, column, value);
+}
+static inline uint32_t sqlkeep_tested_entry_text(sqlkeep *handle, size_t at, size_t item, uint32_t side, size_t column, size_t from, uint8_t *buffer, size_t size, size_t *copied) {
+    return handle == NULL ? (uint32_t)SQLKEEP_NO_HANDLE : sqlkeep_entry_text(handle, at, item, side, column, from, buffer, size, copied);
+}
+static inline uint32_t sqlkeep_tested_seen_value(sqlkeep *handle, size_t at, uint32_t side, size_t column, sqlkeep_cell *value) {
+    return handle == NULL ? (uint32_t)SQLKEEP_NO_HANDLE : sqlkeep_seen_value(handle, at, side, column, value);
+}
+static inline uint32_t sqlkeep_tested_seen_text(sqlkeep *handle, size_t at, uint32_t side, size_t column, size_t from, uint8_t *buffer, size_t size, size_t *copied) {
+    return handle == NULL ? (uint32_t)SQLKEEP_NO_HANDLE : sqlkeep_seen_text(handle, at, side, column, from, buffer, size, copied);
+}
 
 #define sqlkeep_open sqlkeep_tested_open
 #define sqlkeep_close sqlkeep_tested_close
@@ -619,6 +714,14 @@ static inline uint32_t sqlkeep_tested_trigger_column(sqlkeep *handle, size_t at,
 #define sqlkeep_trigger_at sqlkeep_tested_trigger_at
 #define sqlkeep_trigger_name sqlkeep_tested_trigger_name
 #define sqlkeep_trigger_column sqlkeep_tested_trigger_column
+#define sqlkeep_entries sqlkeep_tested_entries
+#define sqlkeep_entry sqlkeep_tested_entry
+#define sqlkeep_entry_trigger sqlkeep_tested_entry_trigger
+#define sqlkeep_entry_item sqlkeep_tested_entry_item
+#define sqlkeep_entry_value sqlkeep_tested_entry_value
+#define sqlkeep_entry_text sqlkeep_tested_entry_text
+#define sqlkeep_seen_value sqlkeep_tested_seen_value
+#define sqlkeep_seen_text sqlkeep_tested_seen_text
 
 /* ---- a template with its values
 

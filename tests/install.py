@@ -17,7 +17,8 @@ from pathlib import Path
 
 ROOT = Path(__file__).resolve().parent.parent
 FILES = {
-    "bin/sqlkeep", "lib/libsqlkeep.a", "lib/libsqlkeep.so", "lib/libsqlkeep.so.0", "include/sqlkeep.h", "lib/pkgconfig/sqlkeep.pc",
+    "bin/sqlkeep", "lib/libsqlkeep.a", "lib/libsqlkeep.so", "lib/libsqlkeep.so.0", "include/sqlkeep.h", "include/sqlkeep.hpp",
+    "lib/pkgconfig/sqlkeep.pc", "lib/cmake/sqlkeep/sqlkeepConfig.cmake", "lib/cmake/sqlkeep/sqlkeepConfigVersion.cmake",
     "share/man/man1/sqlkeep.1", "share/man/man3/sqlkeep.3", "share/bash-completion/completions/sqlkeep", "share/zsh/site-functions/_sqlkeep",
     "share/doc/sqlkeep/examples/authors.sql", "share/doc/sqlkeep/examples/c/first.c", "share/sqlkeep/installed",
 }

@@ -19,6 +19,7 @@ import time
 
 sys.path.insert(0, os.path.dirname(os.path.realpath(__file__)))
 import builds
+import wheel
 from libraries import library_over_gate, put_together
 from repository import LIBRARY, PROGRAM, ROOT, above, below, crates, folder, say
 from rooms import prove
@@ -67,7 +68,7 @@ def build_library():
     os.makedirs(to, exist_ok=True)
     put_together(archive, to)
     say(f"libsqlkeep.a, libsqlkeep.so and sqlkeep.h are in {to}: proved and built in {time.monotonic() - began:.0f} s")
-    return 0
+    return wheel.main([to])
 
 
 def build_page(words):
@@ -80,7 +81,8 @@ def build_page(words):
 
 def build_unproved(words):
     """Compiles the program or the library without proof, into out/unproved."""
-    return subprocess.run([sys.executable, os.path.join(ROOT, "tools", "unproved.py"), *words], check=False).returncode
+    status = subprocess.run([sys.executable, os.path.join(ROOT, "tools", "unproved.py"), *words], check=False).returncode
+    return status if status or "--library" not in words else wheel.main([os.path.join(ROOT, "out", "unproved")])
 
 
 def lay_out(crate):
@@ -139,7 +141,7 @@ def main(words):
     if words == ["library"]:
         os.makedirs(os.path.join(ROOT, "out"), exist_ok=True)
         builds.ready(os.path.join(folder(PROGRAM), "out", PROGRAM), os.path.join(ROOT, "out", PROGRAM), builds.commit())
-        return library_over_gate()
+        return library_over_gate() or wheel.main([os.path.join(ROOT, "out")])
     if words[:1] == ["check"]:
         return check(words[1:])
     say(__doc__)

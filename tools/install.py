@@ -24,6 +24,36 @@ Version: {version}
 Libs: -L${{libdir}} -lsqlkeep
 Cflags: -I${{includedir}}
 """
+CMAKE = """# find_package(sqlkeep) defines the targets sqlkeep::sqlkeep, the shared library, and sqlkeep::static.
+get_filename_component(_sqlkeep_prefix "${{CMAKE_CURRENT_LIST_DIR}}/../../.." ABSOLUTE)
+foreach(_sqlkeep_target sqlkeep static)
+  if(NOT TARGET sqlkeep::${{_sqlkeep_target}})
+    if(_sqlkeep_target STREQUAL "static")
+      add_library(sqlkeep::static STATIC IMPORTED)
+      set(_sqlkeep_file "libsqlkeep.a")
+    else()
+      add_library(sqlkeep::sqlkeep SHARED IMPORTED)
+      set_target_properties(sqlkeep::sqlkeep PROPERTIES IMPORTED_SONAME "{soname}")
+      set(_sqlkeep_file "{soname}")
+    endif()
+    set_target_properties(sqlkeep::${{_sqlkeep_target}} PROPERTIES
+      IMPORTED_LOCATION "${{_sqlkeep_prefix}}/lib/${{_sqlkeep_file}}"
+      INTERFACE_INCLUDE_DIRECTORIES "${{_sqlkeep_prefix}}/include")
+  endif()
+endforeach()
+unset(_sqlkeep_prefix)
+unset(_sqlkeep_file)
+"""
+CMAKE_VERSION = """set(PACKAGE_VERSION "{version}")
+if(PACKAGE_FIND_VERSION VERSION_GREATER PACKAGE_VERSION)
+  set(PACKAGE_VERSION_COMPATIBLE FALSE)
+else()
+  set(PACKAGE_VERSION_COMPATIBLE TRUE)
+  if(PACKAGE_FIND_VERSION VERSION_EQUAL PACKAGE_VERSION)
+    set(PACKAGE_VERSION_EXACT TRUE)
+  endif()
+endif()
+"""
 
 
 class Missing(Exception):
@@ -81,7 +111,10 @@ def install(target, unproved):
     target.link(f"libsqlkeep.so.{version}", f"lib/{SONAME}")
     target.link(SONAME, "lib/libsqlkeep.so")
     target.copy(Path(ROOT, "include", "sqlkeep.h"), "include/sqlkeep.h")
+    target.copy(Path(ROOT, "include", "sqlkeep.hpp"), "include/sqlkeep.hpp")
     target.write(PKG_CONFIG.format(prefix=target.prefix, version=version), "lib/pkgconfig/sqlkeep.pc")
+    target.write(CMAKE.format(soname=SONAME), "lib/cmake/sqlkeep/sqlkeepConfig.cmake")
+    target.write(CMAKE_VERSION.format(version=version), "lib/cmake/sqlkeep/sqlkeepConfigVersion.cmake")
     for section in ("1", "3"):
         target.copy(Path(ROOT, "man", f"sqlkeep.{section}"), f"share/man/man{section}/sqlkeep.{section}")
     target.copy(Path(ROOT, "completions", "sqlkeep.bash"), "share/bash-completion/completions/sqlkeep")

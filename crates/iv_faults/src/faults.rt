@@ -22,7 +22,7 @@ use crate::watching::take_up;
 use iv_catalogue::{Constraint, Fault};
 use iv_expr::{Change, Rows, TableId};
 use iv_following::{Reference, Sides, follow, give_back, make_room_and_follow};
-use iv_index::Groups;
+use iv_index::{CountedGroups, Groups};
 use iv_machine::Which;
 use iv_marks::ViolatingGroups;
 use iv_modes::Modes;
@@ -30,7 +30,8 @@ use std::alloc::{AllocError, Global};
 use std::marker::Model;
 
 /// The violations of the constraints that it watches, kept by groups of keys: a group violates its constraint whole or
-/// not at all. The groups are lent to each call, and no call is given a row. Contracts see the constraints, and for each
+/// not at all. The groups are lent to each call, and no call is given a row. What follows a change is lent the groups by
+/// the calls that are counted. Contracts see the constraints, and for each
 /// which of its groups are marked as violating.
 #[derive(Drop)]
 pub struct Faults {
@@ -82,9 +83,16 @@ fn keys_once(groups: &Groups)
     groups.are_kept();
 }
 
+// So of groups that are lent by the calls that are counted.
+fn counted_keys_once(groups: &CountedGroups)
+    ensures { KeysOnce (shown groups.now.groups) }
+{
+    groups.are_kept();
+}
+
 // Makes room for a change and follows it.
 fn moved(
-    groups: &mut Groups,
+    groups: &mut CountedGroups,
     marks: &mut ViolatingGroups,
     tables: &[TableConstraints],
     constraints: &[Constraint],
@@ -110,7 +118,7 @@ fn moved(
 
 // Follows the taking back of a change.
 fn moved_back(
-    groups: &mut Groups,
+    groups: &mut CountedGroups,
     marks: &mut ViolatingGroups,
     tables: &[TableConstraints],
     constraints: &[Constraint],
@@ -253,7 +261,7 @@ impl Faults {
     /// refused, what is kept shows the same rows as before. Its cost is that of at most seven look-ups for each
     /// constraint that the rows of the table meet, however many rows the tables and the groups have; a constraint
     /// whose key both sides have costs none.
-    pub fn moved(&mut self, groups: &mut Groups, change: &Change) -> Result<(), AllocError>
+    pub fn moved(&mut self, groups: &mut CountedGroups, change: &Change) -> Result<(), AllocError>
         requires watched { AreWatched self.old groups.old }
         requires present { IsPresent self.old.constraints (shown groups.old.groups) change.now }
         ensures ok { OnOk result ((rows : List StoredRow) → Holds rows change.now → IsShownBy rows self.old groups.old
@@ -276,13 +284,13 @@ impl Faults {
             self.references.as_slice(),
             change,
         )?;
-        keys_once(groups);
+        counted_keys_once(groups);
         Ok(())
     }
 
     /// Follows the taking back of a change that was made. It takes no memory, and six look-ups for each constraint that
     /// the rows of the table meet at most.
-    pub fn moved_back(&mut self, groups: &mut Groups, change: &Change)
+    pub fn moved_back(&mut self, groups: &mut CountedGroups, change: &Change)
         requires watched { AreWatched self.old groups.old }
         requires present { IsPresent self.old.constraints (shown groups.old.groups) (taken_back change.now) }
         requires room { HasRoomBack self.old.constraints groups.old.groups change.now }
@@ -304,7 +312,7 @@ impl Faults {
             self.references.as_slice(),
             change,
         );
-        keys_once(groups);
+        counted_keys_once(groups);
     }
 
     /// Gives groups without rows back, and the room of others, as many steps as are due since the last call (`take_due` of

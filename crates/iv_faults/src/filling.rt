@@ -19,14 +19,19 @@ use crate::naming::references_of;
 use iv_catalogue::Constraint;
 use iv_expr::Rows;
 use iv_following::{Reference, is_referenced, kept_key, make_room, put, reference_at, violate};
-use iv_index::Groups;
+use iv_index::{CountedGroups, Groups};
 use iv_key::Key;
 use iv_value::Value;
 use std::alloc::{AllocError, Global};
 use std::slice;
 
 // Adds a row under a key of a constraint.
-fn enter(groups: &mut Groups, id: usize, key: &Key<'_>, number: u64) -> Result<(), AllocError>
+fn enter(
+    groups: &mut CountedGroups,
+    id: usize,
+    key: &Key<'_>,
+    number: u64,
+) -> Result<(), AllocError>
     requires { id < length groups.old.groups }
     ensures rows { OnOk result ((other : List Value) → rows_in (shown_of groups.new.groups id) other
         ≡ come (all_same key.now other) number (rows_in (shown_of groups.old.groups id) other)) }
@@ -55,7 +60,7 @@ fn fill_row(
     ensures grows { groups.old.looked_up ≤ groups.new.looked_up }
 {
     match kept_key(&constraint.rule, row) {
-        Some(key) => enter(groups, id, &key, number),
+        Some(key) => enter(groups.counted(), id, &key, number),
         None => Ok(()),
     }
 }
@@ -93,7 +98,7 @@ fn refers(groups: &mut Groups, references: &[Option<Reference>], row: &[Value]) 
     ensures grows { groups.old.looked_up ≤ groups.new.looked_up }
 {
     match reference_at(references, 0) {
-        Some(r) => is_referenced(groups, r, row),
+        Some(r) => is_referenced(groups.counted(), r, row),
         None => false,
     }
 }

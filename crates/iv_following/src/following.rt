@@ -15,14 +15,14 @@ use crate::reference::Reference;
 use crate::sides::Sides;
 use crate::turns::{make_rooms, move_keys, move_references};
 use iv_catalogue::Constraint;
-use iv_index::Groups;
+use iv_index::CountedGroups;
 use iv_marks::ViolatingGroups;
 use std::alloc::AllocError;
 
 /// Follows a change for which there is room. `keys` and `foreign_keys` are the numbers of the constraints that the rows
 /// of the change's table meet. It takes no memory, and six look-ups for each of them at most.
 pub fn follow(
-    groups: &mut Groups,
+    groups: &mut CountedGroups,
     marks: &mut ViolatingGroups,
     keys: &[u32],
     foreign_keys: &[u32],
@@ -44,7 +44,7 @@ pub fn follow(
 
 // Room for a change in all constraints that it concerns.
 fn make_all_rooms(
-    groups: &mut Groups,
+    groups: &mut CountedGroups,
     marks: &mut ViolatingGroups,
     keys: &[u32],
     foreign_keys: &[u32],
@@ -67,7 +67,7 @@ fn make_all_rooms(
 /// Makes room for a change and follows it. Where memory is refused no row moves. At most seven look-ups for each
 /// constraint that the rows of the change's table meet.
 pub fn make_room_and_follow(
-    groups: &mut Groups,
+    groups: &mut CountedGroups,
     marks: &mut ViolatingGroups,
     keys: &[u32],
     foreign_keys: &[u32],

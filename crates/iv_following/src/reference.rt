@@ -11,11 +11,11 @@ ghost use Rattle.iv_following.specs.Sides.{stays_put};
 ghost use Rattle.iv_following.specs.Steps.{IsReady, IsWatched, OnlyOf, RowMoved};
 
 use crate::keys::{is_one_key, new_key, new_referenced_key, old_key, old_referenced_key};
-use crate::shown::{count_at, place};
+use crate::shown::find;
 use crate::sides::Sides;
 use crate::step::{move_row, refer};
 use iv_catalogue::{Constraint, ForeignKey};
-use iv_index::Groups;
+use iv_index::CountedGroups;
 use iv_key::Key;
 use iv_marks::ViolatingGroups;
 use iv_value::Value;
@@ -33,21 +33,21 @@ pub struct Reference {
 }
 
 // Whether some row is kept under a key of a constraint. One look-up.
-fn has_rows(groups: &mut Groups, id: usize, key: &Key<'_>) -> bool
+fn has_rows(groups: &mut CountedGroups, id: usize, key: &Key<'_>) -> bool
     requires known { id < length groups.old.groups }
     ensures has { result ≡ not (is_empty (rows_in (shown_of groups.old.groups id) key.now)) }
     ensures kept { groups.new.groups ≡ groups.old.groups }
     ensures grows { groups.old.looked_up ≤ groups.new.looked_up }
     ensures looked_up { groups.new.looked_up ≤ groups.old.looked_up + 1 }
 {
-    match place(groups, id, key) {
-        Some(place) => count_at(groups, id, place) > 0,
+    match find(groups, id, key) {
+        Some(found) => found.count > 0,
         None => false,
     }
 }
 
 // Whether rows are kept under the key of the old side of a change, in the columns of the named key. One look-up.
-fn old_is_referenced(groups: &mut Groups, r: &Reference, change: &Sides<'_>) -> bool
+fn old_is_referenced(groups: &mut CountedGroups, r: &Reference, change: &Sides<'_>) -> bool
     requires known { r.now.named < length groups.old.groups }
     ensures told { TellsOld r.now change.now (shown_of groups.old.groups r.now.named) result }
     ensures kept { groups.new.groups ≡ groups.old.groups }
@@ -65,7 +65,7 @@ fn old_is_referenced(groups: &mut Groups, r: &Reference, change: &Sides<'_>) -> 
 }
 
 /// Whether the key of a referencing row is referenced. One look-up.
-pub fn is_referenced(groups: &mut Groups, r: &Reference, row: &[Value]) -> bool
+pub fn is_referenced(groups: &mut CountedGroups, r: &Reference, row: &[Value]) -> bool
     requires known { r.now.named < length groups.old.groups }
     ensures told { TellsReferenced r.now row.now (shown_of groups.old.groups r.now.named) result }
     ensures kept { groups.new.groups ≡ groups.old.groups }
@@ -83,7 +83,7 @@ pub fn is_referenced(groups: &mut Groups, r: &Reference, row: &[Value]) -> bool
 }
 
 // Whether the key of the new side of a change is referenced. One look-up.
-fn new_is_referenced(groups: &mut Groups, r: &Reference, change: &Sides<'_>) -> bool
+fn new_is_referenced(groups: &mut CountedGroups, r: &Reference, change: &Sides<'_>) -> bool
     requires known { r.now.named < length groups.old.groups }
     ensures told { (row : List Value) → change.now.new ≡ Some row
         → TellsReferenced r.now row (shown_of groups.old.groups r.now.named) result }
@@ -99,7 +99,7 @@ fn new_is_referenced(groups: &mut Groups, r: &Reference, change: &Sides<'_>) -> 
 
 // Marks the groups anew whose keys are the referenced keys of the two sides; nothing is done where it is one key.
 fn refer_sides(
-    groups: &mut Groups,
+    groups: &mut CountedGroups,
     marks: &mut ViolatingGroups,
     id: usize,
     constraint: &Constraint,
@@ -126,7 +126,7 @@ fn refer_sides(
 
 // Whether the key of the new side of a change is referenced, where the row comes to it from another one. One look-up.
 fn moved_is_referenced(
-    groups: &mut Groups,
+    groups: &mut CountedGroups,
     constraint: &Constraint,
     r: &Reference,
     change: &Sides<'_>,
@@ -149,7 +149,7 @@ fn moved_is_referenced(
 
 // Moves a row of a foreign key's table; nothing is done where its key stays.
 fn move_child(
-    groups: &mut Groups,
+    groups: &mut CountedGroups,
     marks: &mut ViolatingGroups,
     id: usize,
     constraint: &Constraint,
@@ -174,7 +174,7 @@ fn move_child(
 /// A foreign key's part of a change, after the part of the key that it names. It takes no memory, and six look-ups at
 /// most.
 pub fn move_reference(
-    groups: &mut Groups,
+    groups: &mut CountedGroups,
     marks: &mut ViolatingGroups,
     id: usize,
     constraint: &Constraint,

@@ -1,5 +1,5 @@
 //! The groups of one constraint, told without the room that their keys have.
-ghost use Rattle.std.specs.Prelude.{◌≡◌, ◌≢◌, ℕ, ◌+◌, ◌<◌, ◌≤◌, List, length, Some, true, OnOk, OnErr};
+ghost use Rattle.std.specs.Prelude.{◌≡◌, ◌≢◌, ℕ, ◌+◌, ◌<◌, ◌≤◌, List, length, option_map, Some, true, IfSome, OnOk, OnErr};
 ghost use Rattle.iv_value.specs.declared.value.Value.{Value};
 ghost use Rattle.iv_index.specs.Groups.{groups_of, room_of};
 ghost use Rattle.iv_index.specs.Laws.{size_of};
@@ -9,40 +9,32 @@ ghost use Rattle.iv_laws_kept.specs.Numbers.{has, with_number, without, Rise};
 ghost use Rattle.iv_laws_kept.specs.Marks.{rows_at};
 ghost use Rattle.iv_following.specs.KeyGroups.{place_of, with_group, with_rows};
 
-use iv_index::Groups;
+use iv_index::{CountedGroups, FoundGroup};
 use iv_key::Key;
 use std::alloc::AllocError;
 
-/// The place of a key's group. One look-up.
-pub fn place(groups: &mut Groups, id: usize, key: &Key<'_>) -> Option<usize>
-    ensures place { result ≡ place_of (shown_of groups.old.groups id) key.now }
+/// The group of a key. One look-up.
+pub fn find(groups: &mut CountedGroups, id: usize, key: &Key<'_>) -> Option<FoundGroup>
+    ensures place { option_map (λ g. g.place) result ≡ place_of (shown_of groups.old.groups id) key.now }
+    ensures count { IfSome result (λ g. g.count ≡ length (rows_at (shown_of groups.old.groups id) g.place)) }
     ensures once { OneEach (shown_of groups.old.groups id) }
     ensures kept { groups.new.groups ≡ groups.old.groups }
     ensures grows { groups.old.looked_up ≤ groups.new.looked_up }
     ensures looked_up { groups.new.looked_up ≤ groups.old.looked_up + 1 }
 {
     groups.are_kept();
-    groups.place(id, key)
-}
-
-/// How many rows the group at a place has. It is no look-up.
-pub fn count_at(groups: &Groups, id: usize, place: usize) -> usize
-    requires known { id < length groups.now.groups }
-    requires place { place < length (shown_of groups.now.groups id) }
-    ensures { result ≡ length (rows_at (shown_of groups.now.groups id) place) }
-{
-    groups.rows_at(id, place).len()
+    groups.find(id, key)
 }
 
 /// Does nothing. Its contract says that the rows under each key rise.
-pub fn rows_rise(groups: &Groups)
+pub fn rows_rise(groups: &CountedGroups)
     ensures { (id : ℕ) (key : List Value) → Rise (rows_in (shown_of groups.now.groups id) key) }
 {
     groups.are_kept();
 }
 
 /// Sees that a key has room for one more row, in its group or in a new one behind the others. One look-up.
-pub fn make_room(groups: &mut Groups, id: usize, key: &Key<'_>) -> Result<(), AllocError>
+pub fn make_room(groups: &mut CountedGroups, id: usize, key: &Key<'_>) -> Result<(), AllocError>
     requires known { id < length groups.old.groups }
     ensures ok { OnOk result (shown_of groups.new.groups id ≡ with_group key.now (shown_of groups.old.groups id)) }
     ensures err { OnErr result (groups.new.groups ≡ groups.old.groups) }
@@ -57,14 +49,15 @@ pub fn make_room(groups: &mut Groups, id: usize, key: &Key<'_>) -> Result<(), Al
     Ok(())
 }
 
-/// Adds a row to the group of a key that has room, where it isn't in it, and tells its place. It takes no memory; one
+/// Adds a row to the group of a key that has room, where it isn't in it, and tells that group. It takes no memory; one
 /// look-up.
-pub fn put(groups: &mut Groups, id: usize, key: &Key<'_>, row: u64) -> usize
+pub fn put(groups: &mut CountedGroups, id: usize, key: &Key<'_>, row: u64) -> FoundGroup
     requires known { id < length groups.old.groups }
     requires room { 0 < room_of (groups_of groups.old.groups id) key.now }
-    ensures place { place_of (shown_of groups.old.groups id) key.now ≡ Some result }
+    ensures place { place_of (shown_of groups.old.groups id) key.now ≡ Some result.place }
+    ensures held { result.count ≡ length (rows_at (shown_of groups.new.groups id) result.place) }
     ensures rows { shown_of groups.new.groups id
-        ≡ with_rows (shown_of groups.old.groups id) result (with_number row (rows_at (shown_of groups.old.groups id) result)) }
+        ≡ with_rows (shown_of groups.old.groups id) result.place (with_number row (rows_at (shown_of groups.old.groups id) result.place)) }
     ensures others { (k : ℕ) → k ≢ id → groups_of groups.new.groups k ≡ groups_of groups.old.groups k }
     ensures count { length groups.new.groups ≡ length groups.old.groups }
     ensures sizes { (k : ℕ) (other : List Value) → size_of (groups_of groups.old.groups k) other ≤ size_of (groups_of groups.new.groups k) other }
@@ -75,13 +68,14 @@ pub fn put(groups: &mut Groups, id: usize, key: &Key<'_>, row: u64) -> usize
     groups.put_back(id, key, row)
 }
 
-/// Takes a row out of the group of a key, and tells its place. It takes no memory; one look-up.
-pub fn take(groups: &mut Groups, id: usize, key: &Key<'_>, row: u64) -> usize
+/// Takes a row out of the group of a key, and tells that group. It takes no memory; one look-up.
+pub fn take(groups: &mut CountedGroups, id: usize, key: &Key<'_>, row: u64) -> FoundGroup
     requires known { id < length groups.old.groups }
     requires present { has row (rows_in (shown_of groups.old.groups id) key.now) ≡ true }
-    ensures place { place_of (shown_of groups.old.groups id) key.now ≡ Some result }
+    ensures place { place_of (shown_of groups.old.groups id) key.now ≡ Some result.place }
+    ensures held { result.count ≡ length (rows_at (shown_of groups.new.groups id) result.place) }
     ensures rows { shown_of groups.new.groups id
-        ≡ with_rows (shown_of groups.old.groups id) result (without row (rows_at (shown_of groups.old.groups id) result)) }
+        ≡ with_rows (shown_of groups.old.groups id) result.place (without row (rows_at (shown_of groups.old.groups id) result.place)) }
     ensures room { (other : List Value) → room_of (groups_of groups.old.groups id) other ≤ room_of (groups_of groups.new.groups id) other }
     ensures others { (k : ℕ) → k ≢ id → groups_of groups.new.groups k ≡ groups_of groups.old.groups k }
     ensures count { length groups.new.groups ≡ length groups.old.groups }

@@ -14,10 +14,10 @@ ghost use Rattle.iv_following.specs.Sides.{come, is_key, side_key, stays_put};
 ghost use Rattle.iv_following.specs.Steps.{IsReady, IsWatched, OnlyOf, RowMoved, RowsStay};
 
 use crate::keys::{is_free, is_one_key, new_key, old_key};
-use crate::shown::{count_at, make_room, place, put, rows_rise, take};
+use crate::shown::{find, make_room, put, rows_rise, take};
 use crate::sides::Sides;
 use iv_catalogue::{Constraint, Rule};
-use iv_index::Groups;
+use iv_index::CountedGroups;
 use iv_key::Key;
 use iv_marks::ViolatingGroups;
 use iv_syntax::NullTreatment;
@@ -73,7 +73,7 @@ pub fn violate(rule: &Rule, key: &Key<'_>, count: usize, referenced: bool) -> bo
 // Adds a row under a key that has room, and marks the key's group where it violates the rule. Whether the key is
 // referenced matters for a foreign key alone.
 fn enter(
-    groups: &mut Groups,
+    groups: &mut CountedGroups,
     marks: &mut ViolatingGroups,
     id: usize,
     rule: &Rule,
@@ -93,14 +93,13 @@ fn enter(
     ensures only { OnlyOf id 1 groups.old groups.new marks.old marks.new }
     ensures watched { IsWatched id groups.new.groups marks.new }
 {
-    let place = put(groups, id, key, row);
-    let count = count_at(groups, id, place);
-    marks.set(id, place, violate(rule, key, count, referenced));
+    let found = put(groups, id, key, row);
+    marks.set(id, found.place, violate(rule, key, found.count, referenced));
 }
 
 // Takes a row out from under a key, and marks the key's group where it still violates the rule.
 fn leave(
-    groups: &mut Groups,
+    groups: &mut CountedGroups,
     marks: &mut ViolatingGroups,
     id: usize,
     rule: &Rule,
@@ -120,15 +119,14 @@ fn leave(
     ensures only { OnlyOf id 1 groups.old groups.new marks.old marks.new }
     ensures watched { IsWatched id groups.new.groups marks.new }
 {
-    let place = take(groups, id, key, row);
-    let count = count_at(groups, id, place);
-    let referenced = !marks.is_marked(id, place);
-    marks.set(id, place, violate(rule, key, count, referenced));
+    let found = take(groups, id, key, row);
+    let referenced = !marks.is_marked(id, found.place);
+    marks.set(id, found.place, violate(rule, key, found.count, referenced));
 }
 
 // Takes a row out from under the key of its old side, where it has one.
 fn leave_old(
-    groups: &mut Groups,
+    groups: &mut CountedGroups,
     marks: &mut ViolatingGroups,
     id: usize,
     rule: &Rule,
@@ -155,7 +153,7 @@ fn leave_old(
 
 // Adds a row under the key of its new side, where it has one.
 fn enter_new(
-    groups: &mut Groups,
+    groups: &mut CountedGroups,
     marks: &mut ViolatingGroups,
     id: usize,
     rule: &Rule,
@@ -183,7 +181,7 @@ fn enter_new(
 /// done where the key is the same, and no key is taken where the constraint has no group. Whether the new key is referenced matters for a foreign key alone. It takes no
 /// memory, and two look-ups at most.
 pub fn move_row(
-    groups: &mut Groups,
+    groups: &mut CountedGroups,
     marks: &mut ViolatingGroups,
     id: usize,
     constraint: &Constraint,
@@ -226,7 +224,7 @@ pub fn move_row(
 
 // Marks the group of a key of a foreign key anew.
 fn refer_to(
-    groups: &mut Groups,
+    groups: &mut CountedGroups,
     marks: &mut ViolatingGroups,
     id: usize,
     rule: &Rule,
@@ -242,16 +240,15 @@ fn refer_to(
     ensures only { OnlyOf id 1 groups.old groups.new marks.old marks.new }
     ensures watched { IsWatched id groups.new.groups marks.new }
 {
-    if let Some(place) = place(groups, id, key) {
-        let count = count_at(groups, id, place);
-        marks.set(id, place, violate(rule, key, count, referenced));
+    if let Some(found) = find(groups, id, key) {
+        marks.set(id, found.place, violate(rule, key, found.count, referenced));
     }
 }
 
 /// Marks the group of a key of a foreign key anew, after the key came to be referenced or no longer is. It takes no
 /// memory, and one look-up at most.
 pub fn refer(
-    groups: &mut Groups,
+    groups: &mut CountedGroups,
     marks: &mut ViolatingGroups,
     id: usize,
     rule: &Rule,
@@ -276,7 +273,7 @@ pub fn refer(
 /// Makes room for the new side of a change under its key, where it is another one than that of the old side. No row
 /// and no mark changes. One look-up at most.
 pub fn make_room_for(
-    groups: &mut Groups,
+    groups: &mut CountedGroups,
     marks: &mut ViolatingGroups,
     id: usize,
     constraint: &Constraint,
@@ -306,7 +303,7 @@ pub fn make_room_for(
 }
 
 fn make_room_under(
-    groups: &mut Groups,
+    groups: &mut CountedGroups,
     marks: &mut ViolatingGroups,
     id: usize,
     constraint: &Constraint,

@@ -17,7 +17,7 @@ use crate::reference::{Reference, move_reference};
 use crate::sides::Sides;
 use crate::step::{make_room_for, move_row};
 use iv_catalogue::Constraint;
-use iv_index::Groups;
+use iv_index::CountedGroups;
 use iv_marks::ViolatingGroups;
 use std::alloc::AllocError;
 
@@ -30,7 +30,7 @@ fn constraint_at(constraints: &[Constraint], id: usize) -> Option<&Constraint>
 
 // The part of a constraint that is no foreign key.
 fn move_key(
-    groups: &mut Groups,
+    groups: &mut CountedGroups,
     marks: &mut ViolatingGroups,
     id: usize,
     constraints: &[Constraint],
@@ -51,7 +51,7 @@ fn move_key(
 
 /// The parts of these constraints, none of which is a foreign key. It takes no memory.
 pub fn move_keys(
-    groups: &mut Groups,
+    groups: &mut CountedGroups,
     marks: &mut ViolatingGroups,
     places: &[u32],
     constraints: &[Constraint],
@@ -80,7 +80,7 @@ pub fn reference_at(references: &[Option<Reference>], id: usize) -> Option<&Refe
 
 // The part of a foreign key, by its reference.
 fn move_by(
-    groups: &mut Groups,
+    groups: &mut CountedGroups,
     marks: &mut ViolatingGroups,
     id: usize,
     constraints: &[Constraint],
@@ -106,7 +106,7 @@ fn move_by(
 
 // The part of a foreign key.
 fn move_at(
-    groups: &mut Groups,
+    groups: &mut CountedGroups,
     marks: &mut ViolatingGroups,
     id: usize,
     constraints: &[Constraint],
@@ -131,7 +131,7 @@ fn move_at(
 
 /// The parts of these foreign keys, after those of the keys that they name. It takes no memory.
 pub fn move_references(
-    groups: &mut Groups,
+    groups: &mut CountedGroups,
     marks: &mut ViolatingGroups,
     places: &[u32],
     constraints: &[Constraint],
@@ -161,7 +161,7 @@ pub fn move_references(
 
 // Room for one constraint's part of a change.
 fn make_room_at(
-    groups: &mut Groups,
+    groups: &mut CountedGroups,
     marks: &mut ViolatingGroups,
     id: usize,
     constraints: &[Constraint],
@@ -182,7 +182,7 @@ fn make_room_at(
 
 /// Room for a change in these constraints. No row moves, whether memory is refused or not.
 pub fn make_rooms(
-    groups: &mut Groups,
+    groups: &mut CountedGroups,
     marks: &mut ViolatingGroups,
     places: &[u32],
     constraints: &[Constraint],

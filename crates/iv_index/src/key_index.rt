@@ -417,6 +417,16 @@ impl KeyIndex {
         self.groups[place].rows()
     }
 
+    /// How many rows the group at a place has: none, where there is no such place.
+    pub fn count_at(&self, place: usize) -> usize
+        ensures { result ≡ length (rows_at self.now place) }
+    {
+        match self.groups.get(place) {
+            Some(group) => group.rows().len(),
+            None => 0,
+        }
+    }
+
     /// How many more rows a key takes without memory.
     pub fn room(&self, key: &Key<'_>) -> usize
         ensures { result ≡ room_of self.now key.now }

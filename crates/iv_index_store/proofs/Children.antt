@@ -1,20 +1,16 @@
 -- The rows that hold a key by a foreign key, as its groups show them.
-use Rattle.std.proofs.Common.{◌≡◌, refl, ℕ, ◌<◌, ◌≤◌, Bool, true, false, ◌&&◌, not, if◌then◌else◌, List, [], ◌∷◌, length, map, filter, Option, Some, None, Result, Ok, Err, IfOk, arith, sym, ap, subst, ◌∙◌}
+use Rattle.std.proofs.Common.{◌≡◌, refl, ℕ, ◌≤◌, Bool, true, false, ◌&&◌, not, if◌then◌else◌, List, [], ◌∷◌, filter, Option, Some, None, Result, Ok, Err, IfOk, arith, sym, ap, subst, ◌∙◌}
 use Rattle.std.specs.Bool.{◌==◌}
 use Rattle.iv_index_store.specs.Words.{Value, StoredRow, Constraint}
 use Rattle.iv_catalogue.specs.declared.constraint.ForeignKey.{ForeignKey}
 use Rattle.iv_catalogue.specs.declared.constraint.Rule.TheVariants as rule
 use Rattle.iv_value.specs.Values.{all_same}
 use Rattle.iv_expr.specs.Scopes.{Rises}
-use Rattle.iv_index.specs.Groups.{GroupOf, groups_of, place_in, rows_at, rows_of}
+use Rattle.iv_index.specs.Groups.{GroupOf, groups_of, rows_of}
 use Rattle.iv_key.specs.Keys.{holds_key, key_of, none_null}
 use Rattle.iv_laws_levels.proofs.Keys.{all_same_is, and_first, and_second, false_true, same_test}
 use Rattle.iv_machine.specs.ReferentialActions.{Reference, foreign_key, reference}
-use Rattle.iv_marks.specs.Shown.{shown, shown_group}
-use Rattle.iv_following.proofs.GroupsShown.{place_shown, rows_at_shown, rows_shown}
-use Rattle.iv_following.proofs.Placed.{rows_at_key, within}
-use Rattle.iv_following.proofs.Steps.{no_rows}
-use Rattle.std.proofs.lemmas.List.{length-map}
+use Rattle.iv_marks.specs.Shown.{shown}
 use Rattle.iv_marks.proofs.Shown.{rows_under_shown}
 use Rattle.iv_laws_kept.specs.Kept.{is_free, is_kept_under, kept_key, null_key, null_key_where, rows_under}
 use Rattle.iv_store.specs.Stores.{RisingNumbers, numbers_by, numbers_of}
@@ -107,20 +103,6 @@ pub if_ok : {A E : Type 0} (r : Result A E) (items : A → List ℕ) (rows : Lis
     → IfOk r (λ v. items v ≡ numbers_by rows key o) → IfOk r (λ v. RisingNumbers 0 (items v))
 if_ok (Ok a) items rows key o h e = subst (λ l. RisingNumbers 0 l) (sym e) (children_rise rows key o h)
 if_ok (Err x) items rows key o h e = e
-
--- ---- the group of a key
-
--- the rows at the place of a key are those of the key
-pub found_in : (groups : List GroupOf) (key : List Value) (place : ℕ) → place_in groups key ≡ Some place → rows_at groups place ≡ rows_of groups key
-found_in groups key place e =
-    rows_at_shown groups place ∙ rows_at_key (map shown_group groups) key place (sym (place_shown groups key) ∙ e) ∙ rows_shown groups key
-
-pub found_none : (groups : List GroupOf) (key : List Value) → place_in groups key ≡ None → rows_of groups key ≡ []
-found_none groups key e = sym (rows_shown groups key) ∙ no_rows (map shown_group groups) key (sym (place_shown groups key) ∙ e)
-
-pub found_within : (groups : List GroupOf) (key : List Value) (place : ℕ) → place_in groups key ≡ Some place → place < length groups
-found_within groups key place e =
-    subst (λ n. place < n) (length-map groups shown_group) (within (map shown_group groups) key place (sym (place_shown groups key) ∙ e))
 
 pub if_told : {A E : Type 0} (r : Result A E) (items : A → List ℕ) (own : List ℕ) (Q : List ℕ → Type 0) → Q own → IfOk r (λ v. items v ≡ own) → IfOk r (λ v. Q (items v))
 if_told (Ok a) items own Q q e = subst Q (sym e) q

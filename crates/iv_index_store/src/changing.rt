@@ -8,14 +8,14 @@ ghost use Rattle.iv_index_store.specs.Kept.{IsKept};
 
 use iv_expr::Change;
 use iv_faults::Faults;
-use iv_index::Groups;
+use iv_index::{CountedGroups, Groups};
 use iv_rows::Versions;
 use std::alloc::AllocError;
 
 /// Makes a change of one row. Where memory is refused, the rows are as before, and what is kept shows them.
 pub fn make(
     versions: &mut Versions,
-    groups: &mut Groups,
+    groups: &mut CountedGroups,
     faults: &mut Faults,
     change: &Change,
 ) -> Result<(), AllocError>
@@ -46,7 +46,7 @@ pub fn make(
 // Undoes the last change, where it was made since the mark of a place, and tells whether it was.
 fn step_back(
     versions: &mut Versions,
-    groups: &mut Groups,
+    groups: &mut CountedGroups,
     faults: &mut Faults,
     place: usize,
 ) -> bool
@@ -73,7 +73,12 @@ fn step_back(
 
 /// Goes back to the mark of a place. The mark stays, and later ones go. It takes no memory, and at most six look-ups
 /// for each constraint and each change that it undoes.
-pub fn go_back(versions: &mut Versions, groups: &mut Groups, faults: &mut Faults, place: usize)
+pub fn go_back(
+    versions: &mut Versions,
+    groups: &mut CountedGroups,
+    faults: &mut Faults,
+    place: usize,
+)
     requires there { place < length versions.old.marks }
     requires kept { IsKept versions.old faults.old groups.old }
     ensures marked { marked_of versions.new ≡ at_mark (marked_of versions.old) place }

@@ -11,14 +11,14 @@ ghost use Rattle.iv_store.specs.Lookups.{counted, counted_by};
 ghost use Rattle.iv_store.specs.Stores.{numbers_by, numbers_of, reference_at};
 
 use iv_catalogue::{Constraint, Rule};
-use iv_index::Groups;
+use iv_index::CountedGroups;
 use iv_key::Key;
 use std::alloc::{AllocError, Global};
 
 // The rows of a key of a constraint, where the key has no null.
 fn holders(
     alloc: Global,
-    groups: &mut Groups,
+    groups: &mut CountedGroups,
     id: usize,
     key: &Key<'_>,
 ) -> Result<Vec<u64>, AllocError>
@@ -33,16 +33,13 @@ fn holders(
     if !key.none_null() {
         return Ok(Vec::new(alloc));
     }
-    match groups.place(id, key) {
-        Some(place) => groups.rows_at(id, place).to_vec(alloc),
-        None => Ok(Vec::new(alloc)),
-    }
+    groups.list_rows(id, key)
 }
 
 // The numbers of the rows that hold a key by a constraint, where it is a foreign key.
 fn children_by(
     alloc: Global,
-    groups: &mut Groups,
+    groups: &mut CountedGroups,
     id: usize,
     constraint: &Constraint,
     key: &Key<'_>,
@@ -67,7 +64,7 @@ fn children_by(
 /// gives.
 pub fn children(
     alloc: Global,
-    groups: &mut Groups,
+    groups: &mut CountedGroups,
     constraints: &[Constraint],
     id: usize,
     key: &Key<'_>,

@@ -115,7 +115,7 @@ impl ReferencingRows for IndexStore {
         self.versions.known();
         children(
             self.alloc,
-            &mut self.groups,
+            self.groups.counted(),
             self.faults.constraints(),
             foreign_key.place() as usize,
             key,
@@ -144,7 +144,7 @@ impl ChangeableRows for IndexStore {
         note(&mut self.known, &change);
         make(
             &mut self.versions,
-            &mut self.groups,
+            self.groups.counted(),
             &mut self.faults,
             &change,
         )
@@ -208,7 +208,7 @@ impl Keeper for IndexStore {
     fn undo_to(&mut self, mark: Mark) -> Result<(), AllocError> {
         go_back(
             &mut self.versions,
-            &mut self.groups,
+            self.groups.counted(),
             &mut self.faults,
             mark.place(),
         );
@@ -218,7 +218,7 @@ impl Keeper for IndexStore {
     fn undo(&mut self, mark: Mark) {
         go_back(
             &mut self.versions,
-            &mut self.groups,
+            self.groups.counted(),
             &mut self.faults,
             mark.place(),
         );

@@ -128,7 +128,7 @@ symbol_lexes b k other ws s g e w l =
     subst (λ z. Lexes (b ∷ 32 ∷ other) (z ∷ ws) s) w (one_word (b ∷ []) other (k, 1) ws s g e refl l)
 
 null_token : (other : List ℕ) → token_at (codes "NULL" ++ 32 ∷ other) ≡ Some (kind.Null, 4)
-unfolding word_kind
+unfolding word_kind front
 null_token other = word_inside (codes "NULL") 32 other apart_space
 
 null_lexes : (other : List ℕ) (ws : List Word) (s : Option (List ℕ)) → Lexes (32 ∷ other) ws s → Lexes (codes "NULL" ++ 32 ∷ other) (plain kind.Null ∷ ws) s

@@ -1,3 +1,4 @@
+pub mod Accounts
 pub mod Behind
 pub mod Calls
 pub mod Catalogue

@@ -55,7 +55,8 @@ fn match_number(matching: MatchType) -> u32
     }
 }
 
-fn action_number(action: ReferentialAction) -> u32
+/// The number of an action.
+pub(crate) fn action_number(action: ReferentialAction) -> u32
     ensures { result ≡ action_number action }
 {
     match action {

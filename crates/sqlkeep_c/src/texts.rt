@@ -50,7 +50,8 @@ pub(crate) fn constraint_named(catalogue: &Catalogue, id: Option<ConstraintId>) 
     }
 }
 
-fn trigger_named(catalogue: &Catalogue, id: Option<TriggerId>) -> &[u8]
+/// The name of a trigger, empty where there is none.
+pub(crate) fn trigger_named(catalogue: &Catalogue, id: Option<TriggerId>) -> &[u8]
     ensures { result.now ≡ trigger_named catalogue.now id }
 {
     let Some(id) = id else {

@@ -18,7 +18,7 @@ use crate::schema::Cell::Int;
 use iv_catalogue::{Constraint, Rule};
 use iv_expr::{Change, Row, StoredRow, TableId};
 use iv_faults::Faults;
-use iv_index::Groups;
+use iv_index::{CountedGroups, Groups};
 use iv_key::Key;
 use iv_machine::{LAST_ROW_NUMBER, MOST_CHANGES_IN_A_TRANSACTION};
 use iv_rows::Versions;
@@ -103,7 +103,7 @@ pub fn change_to(
 fn make(
     rt: &impl Abort,
     versions: &mut Versions,
-    groups: &mut Groups,
+    groups: &mut CountedGroups,
     faults: &mut Faults,
     change: &Change,
 )
@@ -213,7 +213,7 @@ fn turned(rt: &impl Abort, change: &Change) -> Change
 fn make_back(
     rt: &impl Abort,
     versions: &mut Versions,
-    groups: &mut Groups,
+    groups: &mut CountedGroups,
     faults: &mut Faults,
     change: &Change,
     back: &Change,
@@ -260,7 +260,7 @@ fn change_back(
         has_room_back(groups, faults.constraints(), &change),
         "no room back",
     );
-    make_back(rt, versions, groups, faults, &change, back);
+    make_back(rt, versions, groups.counted(), faults, &change, back);
     drop(change);
 }
 
@@ -281,7 +281,7 @@ pub fn set(
     ensures watched { AreWatched faults.new groups.new }
 {
     let change = change_to(rt, alloc, versions, table, number, integer);
-    make(rt, versions, groups, faults, &change);
+    make(rt, versions, groups.counted(), faults, &change);
     drop(change);
 }
 

@@ -1,0 +1,150 @@
+/* The catalogue of a session, and the columns of a query, as tuples and lists. */
+#include "shared.h"
+
+/* What reads a name: of a table, a constraint or a trigger, or of a column. */
+typedef uint32_t read_name(sqlkeep *handle, size_t at, size_t from, uint8_t *buffer, size_t size, size_t *copied);
+
+/* A name. The longest is one that was made for a constraint: its table's, of 128 characters, and a number. */
+static PyObject *name_of(sqlkeep *handle, size_t at, read_name *read) {
+    char name[512];
+    size_t copied = 0;
+    uint32_t status = read(handle, at, 0, (uint8_t *)name, sizeof name, &copied);
+    return status == SQLKEEP_OK ? PyUnicode_DecodeUTF8(name, (Py_ssize_t)copied, "strict") : failed(status);
+}
+
+/* A list of `count` items, each made by `item`. */
+typedef PyObject *make_item(sqlkeep *handle, size_t outer, size_t at);
+
+static PyObject *list_of(sqlkeep *handle, size_t outer, size_t count, make_item *item) {
+    PyObject *list = PyList_New((Py_ssize_t)count);
+    for (size_t at = 0; list != NULL && at < count; at++) {
+        PyObject *made = item(handle, outer, at);
+        if (made == NULL || PyList_SetItem(list, (Py_ssize_t)at, made) != 0) {
+            Py_DECREF(list);
+            return NULL;
+        }
+    }
+    return list;
+}
+
+static uint32_t default_text(sqlkeep *handle, size_t table, size_t column, size_t from, uint8_t *buffer, size_t size, size_t *copied) {
+    return sqlkeep_default_text(handle, table, column, from, buffer, size, copied);
+}
+
+/* (name, kind, longest, default) */
+static PyObject *column_at(sqlkeep *handle, size_t table, size_t at) {
+    char name[512];
+    size_t copied = 0;
+    sqlkeep_column_type type = {0, 0};
+    sqlkeep_cell cell = {SQLKEEP_NULL, 0, 0};
+    uint32_t status = sqlkeep_column(handle, table, at, &type);
+    status = status != SQLKEEP_OK ? status : sqlkeep_column_name(handle, table, at, 0, (uint8_t *)name, sizeof name, &copied);
+    status = status != SQLKEEP_OK ? status : sqlkeep_default(handle, table, at, &cell);
+    if (status != SQLKEEP_OK) {
+        return failed(status);
+    }
+    PyObject *given = value_of(handle, &cell, table, at, default_text);
+    return given == NULL ? NULL : Py_BuildValue("s#KKN", name, (Py_ssize_t)copied, (unsigned long long)type.kind, (unsigned long long)type.longest, given);
+}
+
+/* (name, columns) */
+static PyObject *table_at(sqlkeep *handle, size_t unused, size_t at) {
+    size_t columns = 0;
+    (void)unused;
+    uint32_t status = sqlkeep_table(handle, at, &columns);
+    if (status != SQLKEEP_OK) {
+        return failed(status);
+    }
+    PyObject *name = name_of(handle, at, sqlkeep_table_name);
+    PyObject *list = name == NULL ? NULL : list_of(handle, at, columns, column_at);
+    if (list == NULL) {
+        Py_XDECREF(name);
+        return NULL;
+    }
+    return Py_BuildValue("NN", name, list);
+}
+
+static PyObject *constraint_column(sqlkeep *handle, size_t constraint, size_t at) {
+    uint32_t column = 0;
+    uint32_t status = sqlkeep_constraint_column(handle, constraint, at, &column);
+    return status == SQLKEEP_OK ? PyLong_FromUnsignedLong(column) : failed(status);
+}
+
+static PyObject *referenced_column(sqlkeep *handle, size_t constraint, size_t at) {
+    uint32_t column = 0;
+    uint32_t status = sqlkeep_referenced_column(handle, constraint, at, &column);
+    return status == SQLKEEP_OK ? PyLong_FromUnsignedLong(column) : failed(status);
+}
+
+/* (name, kind, table, columns, deferrable, initially deferred, nulls not distinct, referenced, its columns, match full, on delete,
+   on update) */
+static PyObject *constraint_at(sqlkeep *handle, size_t unused, size_t at) {
+    sqlkeep_constraint_definition found = {0};
+    (void)unused;
+    uint32_t status = sqlkeep_constraint_at(handle, at, &found);
+    if (status != SQLKEEP_OK) {
+        return failed(status);
+    }
+    PyObject *name = name_of(handle, at, sqlkeep_constraint_name);
+    PyObject *columns = name == NULL ? NULL : list_of(handle, at, (size_t)found.columns, constraint_column);
+    size_t count = found.kind == SQLKEEP_FOREIGN_KEY ? (size_t)found.columns : 0;
+    PyObject *referenced = columns == NULL ? NULL : list_of(handle, at, count, referenced_column);
+    if (referenced == NULL) {
+        Py_XDECREF(name);
+        Py_XDECREF(columns);
+        return NULL;
+    }
+    return Py_BuildValue("NIINIIIINIII", name, found.kind, found.table, columns, found.deferrable, found.initially_deferred, found.nulls_not_distinct,
+                         found.referenced, referenced, found.match_full, found.on_delete, found.on_update);
+}
+
+static PyObject *trigger_column(sqlkeep *handle, size_t trigger, size_t at) {
+    uint32_t column = 0;
+    uint32_t status = sqlkeep_trigger_column(handle, trigger, at, &column);
+    return status == SQLKEEP_OK ? PyLong_FromUnsignedLong(column) : failed(status);
+}
+
+/* (name, table, time, event, granularity, columns, statements) */
+static PyObject *trigger_at(sqlkeep *handle, size_t unused, size_t at) {
+    sqlkeep_trigger_definition found = {0};
+    (void)unused;
+    uint32_t status = sqlkeep_trigger_at(handle, at, &found);
+    if (status != SQLKEEP_OK) {
+        return failed(status);
+    }
+    PyObject *name = name_of(handle, at, sqlkeep_trigger_name);
+    PyObject *columns = name == NULL ? NULL : list_of(handle, at, (size_t)found.columns, trigger_column);
+    if (columns == NULL) {
+        Py_XDECREF(name);
+        return NULL;
+    }
+    return Py_BuildValue("NIIIINK", name, found.table, found.time, found.event, found.granularity, columns, (unsigned long long)found.statements);
+}
+
+PyObject *catalogue_of(sqlkeep *handle) {
+    sqlkeep_sizes sizes = {0, 0, 0};
+    uint32_t status = sqlkeep_catalogue(handle, &sizes);
+    if (status != SQLKEEP_OK) {
+        return failed(status);
+    }
+    PyObject *tables = list_of(handle, 0, (size_t)sizes.tables, table_at);
+    PyObject *constraints = tables == NULL ? NULL : list_of(handle, 0, (size_t)sizes.constraints, constraint_at);
+    PyObject *triggers = constraints == NULL ? NULL : list_of(handle, 0, (size_t)sizes.triggers, trigger_at);
+    if (triggers == NULL) {
+        Py_XDECREF(tables);
+        Py_XDECREF(constraints);
+        return NULL;
+    }
+    return Py_BuildValue("NNN", tables, constraints, triggers);
+}
+
+static PyObject *query_column(sqlkeep *handle, size_t unused, size_t at) {
+    (void)unused;
+    return name_of(handle, at, sqlkeep_query_column);
+}
+
+PyObject *query_columns(sqlkeep *handle) {
+    size_t count = 0;
+    uint32_t status = sqlkeep_query(handle, &count);
+    return status == SQLKEEP_OK ? list_of(handle, 0, count, query_column) : failed(status);
+}

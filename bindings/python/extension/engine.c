@@ -1,0 +1,472 @@
+/* sqlkeep._engine: a session of the library as an object of Python, over the library for C that is linked into it.
+
+   All calls for a session are made on the thread that opened it. One whose object ends on another thread is put on a list, and
+   its thread closes it when it next opens a session. */
+#include "engine.h"
+
+#include <stdlib.h>
+#include <string.h>
+
+/* A session that ended on another thread than its own. */
+typedef struct left {
+    sqlkeep handle;
+    unsigned long thread;
+    struct left *next;
+} left;
+
+static left *all_left;
+
+error_classes errors;
+
+int bytes_push(bytes *to, const void *from, size_t length) {
+    size_t room = to->room < 256 ? 256 : to->room;
+    while (room - to->length < length) {
+        room *= 2;
+    }
+    uint8_t *at = room == to->room ? to->at : realloc(to->at, room);
+    if (at == NULL) {
+        failed(SQLKEEP_NO_MEMORY);
+        return -1;
+    }
+    to->at = at;
+    to->room = room;
+    memcpy(to->at + to->length, from, length);
+    to->length += length;
+    return 0;
+}
+
+void bytes_free(bytes *of) {
+    free(of->at);
+    memset(of, 0, sizeof *of);
+}
+
+/* Closes the sessions that other threads left to this one. */
+static void close_left(unsigned long thread) {
+    left **at = &all_left;
+    while (*at != NULL) {
+        left *each = *at;
+        if (each->thread == thread) {
+            *at = each->next;
+            sqlkeep_close(&each->handle);
+            free(each);
+        } else {
+            at = &each->next;
+        }
+    }
+}
+
+/* Ends a session on whichever thread this is. */
+static void end_session(engine *self) {
+    if (!self->handle.is_open) {
+        return;
+    }
+    left *kept = self->thread == PyThread_get_thread_ident() ? NULL : malloc(sizeof *kept);
+    if (kept != NULL) {
+        kept->handle = self->handle;
+        kept->thread = self->thread;
+        kept->next = all_left;
+        all_left = kept;
+    } else if (self->thread == PyThread_get_thread_ident()) {
+        sqlkeep_close(&self->handle);
+    }
+    memset(&self->handle, 0, sizeof self->handle);
+}
+
+PyObject *failed(uint32_t status) {
+    switch (status) {
+    case SQLKEEP_CLOSED:
+        PyErr_SetString(errors.programming, "the connection is closed");
+        break;
+    case SQLKEEP_LIMITS:
+        PyErr_SetString(errors.programming, "depth is 1 to 64, and changes 1 to 65536");
+        break;
+    case SQLKEEP_NOT_UTF8:
+        PyErr_SetString(errors.programming, "the text isn't UTF-8");
+        break;
+    case SQLKEEP_TOO_LONG:
+        PyErr_SetString(errors.operational, "the script is longer than 1048576 bytes");
+        break;
+    case SQLKEEP_NO_MEMORY:
+        PyErr_SetString(errors.operational, "OutOfMemory: memory was refused");
+        break;
+    case SQLKEEP_NOTHING:
+        PyErr_SetString(PyExc_IndexError, "there is nothing at this place");
+        break;
+    default:
+        PyErr_Format(errors.operational, "the library answered status %u", status);
+    }
+    return NULL;
+}
+
+int engine_ready(engine *self) {
+    if (!self->handle.is_open) {
+        failed(SQLKEEP_CLOSED);
+        return -1;
+    }
+    if (self->thread != PyThread_get_thread_ident()) {
+        PyErr_Format(errors.programming, "the connection was opened on thread %lu and is used on thread %lu; each thread opens its own",
+                     self->thread, PyThread_get_thread_ident());
+        return -1;
+    }
+    if (self->untold != NULL) {
+        engine_tell(self);
+    }
+    return 0;
+}
+
+static PyObject *nothing(void) {
+    Py_INCREF(Py_None);
+    return Py_None;
+}
+
+static PyObject *done_or_failed(uint32_t status) {
+    return status == SQLKEEP_OK ? nothing() : failed(status);
+}
+
+/* ---- the object */
+
+static PyObject *engine_new(PyTypeObject *type, PyObject *arguments, PyObject *keywords) {
+    long long depth, changes;
+    (void)keywords;
+    if (!PyArg_ParseTuple(arguments, "LL:Engine", &depth, &changes)) {
+        return NULL;
+    }
+    if (errors.by_cause == NULL) {
+        PyErr_SetString(PyExc_ImportError, "import sqlkeep, and not its engine alone");
+        return NULL;
+    }
+    allocfunc allocate = (allocfunc)PyType_GetSlot(type, Py_tp_alloc);
+    engine *self = (engine *)allocate(type, 0);
+    if (self == NULL) {
+        return NULL;
+    }
+    self->thread = PyThread_get_thread_ident();
+    self->accounts = true;
+    close_left(self->thread);
+    bool fits = depth >= 0 && depth <= UINT8_MAX && changes >= 0 && changes <= UINT32_MAX;
+    uint32_t status = fits ? sqlkeep_open(&self->handle, (uint8_t)depth, (uint32_t)changes) : (uint32_t)SQLKEEP_LIMITS;
+    if (status != SQLKEEP_OK) {
+        Py_DECREF(self);
+        return failed(status);
+    }
+    return (PyObject *)self;
+}
+
+static void engine_dealloc(PyObject *object) {
+    engine *self = (engine *)object;
+    PyTypeObject *type = Py_TYPE(object);
+    freefunc release = (freefunc)PyType_GetSlot(type, Py_tp_free);
+    end_session(self);
+    bytes_free(&self->text);
+    Py_CLEAR(self->held);
+    Py_CLEAR(self->untold);
+    release(object);
+    Py_DECREF(type);
+}
+
+static PyObject *engine_close(engine *self, PyObject *unused) {
+    (void)unused;
+    if (self->handle.is_open && engine_ready(self) != 0) {
+        return NULL;
+    }
+    end_session(self);
+    Py_CLEAR(self->held);
+    return nothing();
+}
+
+static PyObject *engine_is_open(engine *self, PyObject *unused) {
+    (void)unused;
+    return PyBool_FromLong(self->handle.is_open);
+}
+
+/* Raises where the session is closed, or of another thread. */
+static PyObject *engine_check(engine *self, PyObject *unused) {
+    (void)unused;
+    return engine_ready(self) != 0 ? NULL : nothing();
+}
+
+/* ---- texts of the library */
+
+/* The transcript that the library keeps, as bytes. */
+static PyObject *transcript_of(engine *self) {
+    bytes whole = {NULL, 0, 0};
+    uint8_t piece[4096];
+    size_t copied = sizeof piece;
+    while (copied == sizeof piece) {
+        uint32_t status = sqlkeep_transcript(&self->handle, whole.length, piece, sizeof piece, &copied);
+        if (status != SQLKEEP_OK || bytes_push(&whole, piece, copied) != 0) {
+            free(whole.at);
+            return status != SQLKEEP_OK ? failed(status) : NULL;
+        }
+    }
+    PyObject *text = PyBytes_FromStringAndSize((const char *)whole.at, (Py_ssize_t)whole.length);
+    free(whole.at);
+    return text;
+}
+
+PyObject *engine_lines(engine *self, uint64_t number) {
+    uint32_t status = sqlkeep_lines(&self->handle, number);
+    return status == SQLKEEP_OK ? transcript_of(self) : failed(status);
+}
+
+static PyObject *engine_told_lines(engine *self, PyObject *arguments) {
+    unsigned long long number;
+    if (!PyArg_ParseTuple(arguments, "K:lines", &number) || engine_ready(self) != 0) {
+        return NULL;
+    }
+    return engine_lines(self, number);
+}
+
+/* run(bytes): the transcript, how many were accepted, refused, and refused memory, and the byte of the fault or None. */
+static PyObject *engine_run(engine *self, PyObject *arguments) {
+    const char *text;
+    Py_ssize_t length;
+    sqlkeep_summary summary = {0, 0, 0, 0, 0};
+    uint32_t status;
+    if (!PyArg_ParseTuple(arguments, "y#:run", &text, &length) || engine_ready(self) != 0) {
+        return NULL;
+    }
+    Py_BEGIN_ALLOW_THREADS
+    status = sqlkeep_run(&self->handle, (const uint8_t *)text, (size_t)length, &summary);
+    Py_END_ALLOW_THREADS
+    PyObject *lines = status == SQLKEEP_OK ? transcript_of(self) : failed(status);
+    PyObject *fault = lines == NULL ? NULL : summary.has_fault ? PyLong_FromUnsignedLongLong(summary.fault_at) : nothing();
+    if (fault == NULL) {
+        Py_XDECREF(lines);
+        return NULL;
+    }
+    return Py_BuildValue("NKKKN", lines, (unsigned long long)summary.accepted, (unsigned long long)summary.refused,
+                         (unsigned long long)summary.memory_refused, fault);
+}
+
+/* ---- scripts */
+
+/* read(bytes): how many statements there are, and the byte of the fault or None. */
+static PyObject *engine_read(engine *self, PyObject *arguments) {
+    const char *text;
+    Py_ssize_t length;
+    sqlkeep_script script = {0, 0, 0};
+    if (!PyArg_ParseTuple(arguments, "y#:read", &text, &length) || engine_ready(self) != 0) {
+        return NULL;
+    }
+    Py_CLEAR(self->held);
+    uint32_t status = sqlkeep_read(&self->handle, (const uint8_t *)text, (size_t)length, &script);
+    if (status != SQLKEEP_OK) {
+        return failed(status);
+    }
+    PyObject *fault = script.has_fault ? PyLong_FromUnsignedLongLong(script.fault_at) : nothing();
+    return fault == NULL ? NULL : Py_BuildValue("KN", (unsigned long long)script.statements, fault);
+}
+
+/* execute_at(place, is_told): the answer of a statement of those that were read. */
+static PyObject *engine_execute_at(engine *self, PyObject *arguments) {
+    unsigned long long place;
+    int is_told;
+    uint32_t status;
+    sqlkeep_outcome outcome = {SQLKEEP_DONE, 0, 0, 0};
+    if (!PyArg_ParseTuple(arguments, "Kp:execute_at", &place, &is_told) || engine_ready(self) != 0) {
+        return NULL;
+    }
+    self->has_work = false;
+    if (is_told) {
+        sqlkeep_explain(&self->handle, 1);
+    }
+    Py_BEGIN_ALLOW_THREADS
+    status = sqlkeep_execute(&self->handle, (size_t)place, &outcome);
+    Py_END_ALLOW_THREADS
+    PyObject *answer = status == SQLKEEP_OK ? engine_answer(self, (size_t)place, &outcome, is_told) : failed(status);
+    sqlkeep_explain(&self->handle, self->explains);
+    return answer;
+}
+
+/* ---- transactions, and what the library tells */
+
+/* commit(): the answer of COMMIT. A refused one rolls back, so its account is asked for at once. */
+static PyObject *engine_commit(engine *self, PyObject *unused) {
+    sqlkeep_outcome outcome = {SQLKEEP_DONE, 0, 0, 0};
+    (void)unused;
+    if (engine_ready(self) != 0) {
+        return NULL;
+    }
+    self->has_work = false;
+    sqlkeep_explain(&self->handle, 1);
+    uint32_t status = sqlkeep_commit(&self->handle, &outcome);
+    PyObject *answer = status == SQLKEEP_OK ? engine_answer(self, 0, &outcome, true) : failed(status);
+    sqlkeep_explain(&self->handle, self->explains);
+    return answer;
+}
+
+static PyObject *engine_rollback(engine *self, PyObject *unused) {
+    (void)unused;
+    self->has_work = false;
+    return engine_ready(self) != 0 ? NULL : done_or_failed(sqlkeep_rollback(&self->handle));
+}
+
+static PyObject *engine_rollback_to(engine *self, PyObject *arguments) {
+    const char *name;
+    Py_ssize_t length;
+    sqlkeep_outcome outcome = {SQLKEEP_DONE, 0, 0, 0};
+    if (!PyArg_ParseTuple(arguments, "y#:rollback_to", &name, &length) || engine_ready(self) != 0) {
+        return NULL;
+    }
+    self->has_work = false;
+    uint32_t status = sqlkeep_rollback_to(&self->handle, (const uint8_t *)name, (size_t)length, &outcome);
+    return status == SQLKEEP_OK ? engine_answer(self, 0, &outcome, true) : failed(status);
+}
+
+static PyObject *engine_in_transaction(engine *self, PyObject *unused) {
+    bool is_open = false;
+    (void)unused;
+    if (engine_ready(self) != 0) {
+        return NULL;
+    }
+    uint32_t status = sqlkeep_in_transaction(&self->handle, &is_open);
+    return status == SQLKEEP_OK ? PyBool_FromLong(is_open) : failed(status);
+}
+
+static PyObject *engine_work(engine *self, PyObject *unused) {
+    sqlkeep_done work = {0, 0, 0};
+    (void)unused;
+    if (engine_ready(self) != 0) {
+        return NULL;
+    }
+    uint32_t status = sqlkeep_work(&self->handle, &work);
+    /* That of a statement that was executed once more is the one of the first time. */
+    work = self->has_work ? self->work : work;
+    if (status != SQLKEEP_OK) {
+        return failed(status);
+    }
+    return Py_BuildValue("KKK", (unsigned long long)work.changes, (unsigned long long)work.undone, (unsigned long long)work.lookups);
+}
+
+/* The violation at this place, as (constraint, row). */
+static PyObject *violation_at(engine *self, size_t place) {
+    /* A name has 128 characters at most; that of a constraint without one is made of its table's, and longer. */
+    char name[1024];
+    uint64_t row = 0;
+    size_t copied = 0;
+    uint32_t status = sqlkeep_violation(&self->handle, place, &row, (uint8_t *)name, sizeof name, &copied);
+    if (status != SQLKEEP_OK) {
+        return failed(status);
+    }
+    return Py_BuildValue("s#K", name, (Py_ssize_t)copied, (unsigned long long)row);
+}
+
+static PyObject *engine_pending(engine *self, PyObject *unused) {
+    size_t count = 0;
+    (void)unused;
+    if (engine_ready(self) != 0) {
+        return NULL;
+    }
+    uint32_t status = sqlkeep_pending(&self->handle, &count);
+    PyObject *list = status == SQLKEEP_OK ? PyList_New((Py_ssize_t)count) : failed(status);
+    for (size_t place = 0; list != NULL && place < count; place++) {
+        PyObject *violation = violation_at(self, place);
+        if (violation == NULL || PyList_SetItem(list, (Py_ssize_t)place, violation) != 0) {
+            Py_DECREF(list);
+            return NULL;
+        }
+    }
+    return list;
+}
+
+/* progress(): how many statements the last `execute_many` went through. */
+static PyObject *engine_progress(engine *self, PyObject *unused) {
+    (void)unused;
+    return PyLong_FromSsize_t(self->progress);
+}
+
+static PyObject *engine_catalogue(engine *self, PyObject *unused) {
+    (void)unused;
+    return engine_ready(self) != 0 ? NULL : catalogue_of(&self->handle);
+}
+
+static PyObject *engine_explain(engine *self, PyObject *arguments) {
+    int asked;
+    if (!PyArg_ParseTuple(arguments, "p:explain", &asked) || engine_ready(self) != 0) {
+        return NULL;
+    }
+    self->explains = asked != 0;
+    return done_or_failed(sqlkeep_explain(&self->handle, self->explains));
+}
+
+/* account(is_wanted): whether a statement that is refused for a row is executed once more for its account. */
+static PyObject *engine_account(engine *self, PyObject *arguments) {
+    int is_wanted;
+    if (!PyArg_ParseTuple(arguments, "p:account", &is_wanted) || engine_ready(self) != 0) {
+        return NULL;
+    }
+    self->accounts = is_wanted != 0;
+    return nothing();
+}
+
+/* ---- the module */
+
+static PyMethodDef methods[] = {
+    {"close", (PyCFunction)engine_close, METH_NOARGS, NULL},
+    {"is_open", (PyCFunction)engine_is_open, METH_NOARGS, NULL},
+    {"check", (PyCFunction)engine_check, METH_NOARGS, NULL},
+    {"execute", (PyCFunction)engine_execute, METH_VARARGS, NULL},
+    {"execute_many", (PyCFunction)engine_execute_many, METH_VARARGS, NULL},
+    {"read", (PyCFunction)engine_read, METH_VARARGS, NULL},
+    {"execute_at", (PyCFunction)engine_execute_at, METH_VARARGS, NULL},
+    {"lines", (PyCFunction)engine_told_lines, METH_VARARGS, NULL},
+    {"run", (PyCFunction)engine_run, METH_VARARGS, NULL},
+    {"commit", (PyCFunction)engine_commit, METH_NOARGS, NULL},
+    {"rollback", (PyCFunction)engine_rollback, METH_NOARGS, NULL},
+    {"rollback_to", (PyCFunction)engine_rollback_to, METH_VARARGS, NULL},
+    {"in_transaction", (PyCFunction)engine_in_transaction, METH_NOARGS, NULL},
+    {"work", (PyCFunction)engine_work, METH_NOARGS, NULL},
+    {"pending", (PyCFunction)engine_pending, METH_NOARGS, NULL},
+    {"catalogue", (PyCFunction)engine_catalogue, METH_NOARGS, NULL},
+    {"progress", (PyCFunction)engine_progress, METH_NOARGS, NULL},
+    {"explain", (PyCFunction)engine_explain, METH_VARARGS, NULL},
+    {"account", (PyCFunction)engine_account, METH_VARARGS, NULL},
+    {NULL, NULL, 0, NULL},
+};
+
+static PyType_Slot slots[] = {
+    {Py_tp_new, engine_new},
+    {Py_tp_dealloc, engine_dealloc},
+    {Py_tp_methods, methods},
+    {Py_tp_doc, "A session of the library: Engine(depth, changes)."},
+    {0, NULL},
+};
+
+static PyType_Spec spec = {"sqlkeep._engine.Engine", sizeof(engine), 0, Py_TPFLAGS_DEFAULT, slots};
+
+/* set_errors(programming, data, operational, by_cause, main_thread): the classes of the exceptions, and the main thread. */
+static PyObject *set_errors(PyObject *module, PyObject *arguments) {
+    error_classes given = {NULL, NULL, NULL, NULL, 0};
+    (void)module;
+    if (!PyArg_ParseTuple(arguments, "OOOO!k:set_errors", &given.programming, &given.data, &given.operational, &PyTuple_Type, &given.by_cause,
+                          &given.main_thread)) {
+        return NULL;
+    }
+    Py_INCREF(given.programming);
+    Py_INCREF(given.data);
+    Py_INCREF(given.operational);
+    Py_INCREF(given.by_cause);
+    errors = given;
+    return nothing();
+}
+
+static PyMethodDef functions[] = {
+    {"set_errors", set_errors, METH_VARARGS, NULL},
+    {NULL, NULL, 0, NULL},
+};
+
+static struct PyModuleDef definition = {
+    PyModuleDef_HEAD_INIT, "sqlkeep._engine", "The engine that the package is made over.", -1, functions, NULL, NULL, NULL, NULL,
+};
+
+PyMODINIT_FUNC PyInit__engine(void) {
+    PyObject *module = PyModule_Create(&definition);
+    PyObject *type = module == NULL ? NULL : PyType_FromSpec(&spec);
+    if (type == NULL || PyModule_AddObject(module, "Engine", type) != 0) {
+        Py_XDECREF(type);
+        Py_XDECREF(module);
+        return NULL;
+    }
+    return module;
+}

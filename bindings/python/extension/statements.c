@@ -1,0 +1,453 @@
+/* Statements: a text is read with its values and executed, and its outcome is told.
+
+   An account of a statement costs time that those that are accepted needn't pay. So a statement is executed without one, and a
+   refused one is executed once more with it, when its error is asked for the reason, or else before the next call for the session
+   if the error is still there. That is sound: a refusal leaves everything as it was, row numbers too, and a statement answers by what there is alone,
+   so the second run is refused as the first. Two causes are never executed again: 19, where COMMIT has rolled back, so COMMIT is
+   executed with its account asked for at once; and 22, where memory was refused. */
+#include "engine.h"
+
+#include <string.h>
+
+/* Restrict, Violation, ActionConflict and Signal: their accounts tell the rows. */
+#define TOLD_BY_ACCOUNT \
+    ((1UL << SQLKEEP_CAUSE_RESTRICT) | (1UL << SQLKEEP_CAUSE_VIOLATION) | (1UL << SQLKEEP_CAUSE_ACTION_CONFLICT) | (1UL << SQLKEEP_CAUSE_SIGNAL))
+
+/* How many statements are read at once for `executemany`, and how long their text may get. */
+enum { MOST_AT_ONCE = 64, LONGEST_AT_ONCE = 65536 };
+
+/* What stands behind a text: a line feed, which ends a comment, with or without a semicolon. */
+typedef enum ending { AS_IT_IS = 1, WITH_SEMICOLON = 2 } ending;
+
+static const char end_of_text[] = "\n;";
+
+static uint32_t run_at(engine *self, size_t place, sqlkeep_outcome *outcome) {
+    uint32_t status;
+    Py_BEGIN_ALLOW_THREADS
+    status = sqlkeep_execute(&self->handle, place, outcome);
+    Py_END_ALLOW_THREADS
+    return status;
+}
+
+/* Executes a refused statement once more with its account. Where that is answered otherwise, which only refused memory can
+   do, it is executed without one, so that the last outcome is the first again. */
+static void run_again(engine *self, size_t place, const sqlkeep_outcome *first) {
+    sqlkeep_outcome again = {SQLKEEP_DONE, 0, 0, 0};
+    self->has_work = sqlkeep_work(&self->handle, &self->work) == SQLKEEP_OK;
+    sqlkeep_explain(&self->handle, 1);
+    run_at(self, place, &again);
+    if (again.kind != SQLKEEP_REFUSED || again.cause != first->cause || again.row != first->row) {
+        sqlkeep_explain(&self->handle, 0);
+        run_at(self, place, &again);
+    }
+}
+
+/* Puts the lines of the last outcome into the error. Where memory is refused for them, it has none. */
+static void put_lines(engine *self, PyObject *error) {
+    PyObject *lines = engine_lines(self, 1);
+    if (lines == NULL || PyObject_SetAttrString(error, "_lines", lines) != 0 || PyObject_SetAttrString(error, "_engine", Py_None) != 0) {
+        PyErr_Clear();
+    }
+    Py_XDECREF(lines);
+}
+
+void engine_tell(engine *self) {
+    PyObject *reference = self->untold;
+    self->untold = NULL;
+    PyObject *error = PyWeakref_GetObject(reference);
+    if (error != NULL && error != Py_None) {
+        Py_INCREF(error);
+        bool is_again = self->accounts && (TOLD_BY_ACCOUNT & (1UL << self->refused.cause)) != 0;
+        if (is_again) {
+            run_again(self, self->refused_place, &self->refused);
+        } else {
+            sqlkeep_explain(&self->handle, 1);
+        }
+        put_lines(self, error);
+        sqlkeep_explain(&self->handle, self->explains);
+        Py_DECREF(error);
+    }
+    Py_DECREF(reference);
+}
+
+/* Notes that the error of the last outcome is still to be told. */
+static int tell_later(engine *self, PyObject *error, size_t place, const sqlkeep_outcome *outcome) {
+    self->untold = PyWeakref_NewRef(error, NULL);
+    self->refused = *outcome;
+    self->refused_place = place;
+    return self->untold == NULL ? -1 : PyObject_SetAttrString(error, "_engine", (PyObject *)self);
+}
+
+/* Raises the error of a refusal; NULL. It is told later, where that can be: an error of another thread than the main one may be
+   read on yet another, where the session can't be asked. */
+static PyObject *refusal(engine *self, size_t place, const sqlkeep_outcome *outcome, bool is_told) {
+    PyObject *error = PyObject_CallObject(PyTuple_GetItem(errors.by_cause, (Py_ssize_t)outcome->cause), NULL);
+    PyObject *cause = error == NULL ? NULL : PyLong_FromUnsignedLong(outcome->cause);
+    PyObject *row = cause == NULL ? NULL : PyLong_FromUnsignedLongLong(outcome->row);
+    bool is_made = row != NULL && PyObject_SetAttrString(error, "cause", cause) == 0 && PyObject_SetAttrString(error, "_row", row) == 0;
+    Py_XDECREF(cause);
+    Py_XDECREF(row);
+    bool is_last = outcome->cause == SQLKEEP_CAUSE_COMMIT_REFUSED || outcome->cause == SQLKEEP_CAUSE_OUT_OF_MEMORY;
+    if (is_made && (is_told || is_last || self->explains)) {
+        put_lines(self, error);
+    } else if (is_made) {
+        is_made = tell_later(self, error, place, outcome) == 0;
+        if (is_made && self->thread != errors.main_thread) {
+            engine_tell(self);
+        }
+    }
+    if (is_made) {
+        PyErr_SetObject((PyObject *)Py_TYPE(error), error);
+    }
+    Py_XDECREF(error);
+    return NULL;
+}
+
+static PyObject *query(engine *self, const sqlkeep_outcome *outcome) {
+    PyObject *rows = rows_of(&self->handle, (size_t)outcome->count);
+    PyObject *names = rows == NULL ? NULL : query_columns(&self->handle);
+    if (names == NULL) {
+        Py_XDECREF(rows);
+        return NULL;
+    }
+    return Py_BuildValue("INN", outcome->kind, rows, names);
+}
+
+PyObject *engine_answer(engine *self, size_t place, const sqlkeep_outcome *outcome, bool is_told) {
+    switch (outcome->kind) {
+    case SQLKEEP_REFUSED:
+        return refusal(self, place, outcome, is_told);
+    case SQLKEEP_ROWS:
+        return query(self, outcome);
+    default:
+        return Py_BuildValue("IK", outcome->kind, (unsigned long long)outcome->count);
+    }
+}
+
+/* ---- reading */
+
+/* A text, with the values for its question marks or NULL. */
+typedef struct template {
+    const char *text;
+    size_t length;
+    PyObject *values;
+} template;
+
+/* Whether the last character that isn't white space is a semicolon. */
+static bool ends_statement(const char *text, size_t length) {
+    while (length > 0 && (text[length - 1] == ' ' || text[length - 1] == '\t' || text[length - 1] == '\r' || text[length - 1] == '\n')) {
+        length--;
+    }
+    return length > 0 && text[length - 1] == ';';
+}
+
+/* Why a text couldn't be read with its values. */
+static PyObject *not_read(uint32_t status) {
+    if (status == SQLKEEP_WRONG_COUNT) {
+        return Py_BuildValue("IK", ANSWER_COUNT, 0ULL);
+    }
+    if (status == SQLKEEP_NO_TEMPLATE) {
+        return Py_BuildValue("IK", ANSWER_FAULT, 0ULL);
+    }
+    return failed(status);
+}
+
+/* Reads a text with the values that are bound. */
+static uint32_t read_bound(engine *self, const uint8_t *text, size_t length, sqlkeep_script *script) {
+    Py_CLEAR(self->held);
+    uint32_t status = sqlkeep_read_bound(&self->handle, text, length, script);
+    if (status != SQLKEEP_OK) {
+        sqlkeep_unbind(&self->handle);
+    }
+    return status;
+}
+
+/* Reads a text with its values and this ending. NULL where it was read, or with an exception, and otherwise why it wasn't. */
+static PyObject *read_with(engine *self, const template *given, ending with, sqlkeep_script *script) {
+    self->text.length = 0;
+    if (bytes_push(&self->text, given->text, given->length) != 0 || bytes_push(&self->text, end_of_text, (size_t)with) != 0) {
+        return NULL;
+    }
+    if (given->values != NULL && bind_values(&self->handle, given->values) != 0) {
+        return NULL;
+    }
+    uint32_t status = read_bound(self, self->text.at, self->text.length, script);
+    return status == SQLKEEP_OK ? NULL : not_read(status);
+}
+
+static bool is_one(const sqlkeep_script *script) {
+    return script->statements == 1 && script->has_fault == 0;
+}
+
+/* Why the text isn't one statement: with the number of its whole statements. */
+static PyObject *not_one(const sqlkeep_script *script) {
+    enum answer why = script->has_fault != 0 ? ANSWER_FAULT : script->statements == 0 ? ANSWER_EMPTY : ANSWER_MANY;
+    return Py_BuildValue("IK", why, (unsigned long long)script->statements);
+}
+
+/* Reads one statement of a text, which may lack its semicolon, and says which ending it was read with. NULL where there is one,
+   or with an exception, and otherwise why it isn't one. */
+static PyObject *read_one(engine *self, const template *given, ending *with) {
+    sqlkeep_script first = {0, 0, 0}, second = {0, 0, 0};
+    *with = ends_statement(given->text, given->length) ? AS_IT_IS : WITH_SEMICOLON;
+    PyObject *why = read_with(self, given, *with, &first);
+    if (why != NULL || PyErr_Occurred() || is_one(&first)) {
+        return why;
+    }
+    if (first.has_fault == 0) {
+        return not_one(&first);
+    }
+    *with = *with == AS_IT_IS ? WITH_SEMICOLON : AS_IT_IS;
+    why = read_with(self, given, *with, &second);
+    if (why != NULL || PyErr_Occurred() || is_one(&second)) {
+        return why;
+    }
+    /* A semicolon that was put behind a text is no fault of its own. */
+    return not_one(second.has_fault == 0 ? &second : &first);
+}
+
+/* ---- one statement */
+
+/* Executes the statement that was read, with its account at once if `is_told`. */
+static PyObject *execute_read(engine *self, bool is_told) {
+    sqlkeep_outcome outcome = {SQLKEEP_DONE, 0, 0, 0};
+    self->has_work = false;
+    if (is_told) {
+        sqlkeep_explain(&self->handle, 1);
+    }
+    uint32_t status = run_at(self, 0, &outcome);
+    PyObject *answer = status == SQLKEEP_OK ? engine_answer(self, 0, &outcome, is_told) : failed(status);
+    if (is_told) {
+        sqlkeep_explain(&self->handle, self->explains);
+    }
+    return answer;
+}
+
+/* Reads and executes one statement. */
+static PyObject *execute_template(engine *self, const template *given, bool is_told, ending *with) {
+    PyObject *why = read_one(self, given, with);
+    return why != NULL || PyErr_Occurred() ? why : execute_read(self, is_told);
+}
+
+/* The bytes of a text: a new reference to them, and where they are. */
+static PyObject *encoded(PyObject *text, template *given) {
+    char *at;
+    Py_ssize_t length;
+    PyObject *held = PyUnicode_AsUTF8String(text);
+    if (held == NULL) {
+        PyErr_Clear();
+        PyErr_SetString(errors.programming, "the text has a surrogate, which UTF-8 can't hold");
+        return NULL;
+    }
+    if (PyBytes_AsStringAndSize(held, &at, &length) != 0) {
+        Py_DECREF(held);
+        return NULL;
+    }
+    given->text = at;
+    given->length = (size_t)length;
+    return held;
+}
+
+/* Keeps a text whose statement was read without values and accepted, so that it needn't be read again. */
+static void hold(engine *self, PyObject *text, PyObject *answer) {
+    if (PyLong_AsUnsignedLong(PyTuple_GetItem(answer, 0)) < SQLKEEP_REFUSED) {
+        Py_INCREF(text);
+        self->held = text;
+    }
+}
+
+/* execute(text, values, is_told): values is a tuple. */
+PyObject *engine_execute(engine *self, PyObject *arguments) {
+    PyObject *text, *values;
+    int is_told;
+    ending with;
+    template given = {NULL, 0, NULL};
+    if (!PyArg_ParseTuple(arguments, "UO!p:execute", &text, &PyTuple_Type, &values, &is_told) || engine_ready(self) != 0) {
+        return NULL;
+    }
+    bool is_plain = PyTuple_Size(values) == 0;
+    if (is_plain && self->held == text) {
+        return execute_read(self, is_told);
+    }
+    PyObject *bytes_of_text = encoded(text, &given);
+    if (bytes_of_text == NULL) {
+        return NULL;
+    }
+    given.values = values;
+    PyObject *answer = execute_template(self, &given, is_told, &with);
+    Py_DECREF(bytes_of_text);
+    if (answer != NULL && is_plain) {
+        hold(self, text, answer);
+    }
+    return answer;
+}
+
+/* ---- many statements of one template */
+
+/* What `executemany` goes through. */
+typedef struct many {
+    template given;
+    ending with;
+    /* A list whose items are tuples or lists. */
+    PyObject *list;
+    Py_ssize_t at, size;
+    unsigned long long changed;
+    /* Copies of the template, each with its ending, and how many they are. The buffer of the session isn't used for them: a signal
+       that comes in between may run a handler that executes something else. */
+    bytes text;
+    size_t copies;
+} many;
+
+/* Item `at` of the list as a tuple; a new reference. */
+static PyObject *values_at(const many *work, Py_ssize_t at) {
+    PyObject *item = PyList_GetItem(work->list, at);
+    if (item == NULL) {
+        return NULL;
+    }
+    if (PyTuple_Check(item)) {
+        Py_INCREF(item);
+        return item;
+    }
+    if (PyList_Check(item)) {
+        return PyList_AsTuple(item);
+    }
+    PyErr_SetString(errors.programming, "a set of parameters is a tuple or a list");
+    return NULL;
+}
+
+static size_t length_of_copy(const many *work) {
+    return work->given.length + (size_t)work->with;
+}
+
+/* Makes as many copies of the template as are read at once. */
+static int copy_template(many *work) {
+    size_t most = LONGEST_AT_ONCE / length_of_copy(work);
+    work->text.length = 0;
+    for (work->copies = 0; work->copies < MOST_AT_ONCE && work->copies < most; work->copies++) {
+        if (bytes_push(&work->text, work->given.text, work->given.length) != 0 || bytes_push(&work->text, end_of_text, (size_t)work->with) != 0) {
+            return -1;
+        }
+    }
+    return 0;
+}
+
+/* Binds the values of as many statements as there are copies; how many, or 0 where some can't be bound: they are then executed
+   one by one, and the one says why. */
+static size_t bind_many(engine *self, const many *work, Py_ssize_t wanted) {
+    size_t count = 0;
+    while (count < work->copies && work->at + (Py_ssize_t)count < work->size) {
+        PyObject *values = values_at(work, work->at + (Py_ssize_t)count);
+        bool is_bound = values != NULL && PyTuple_Size(values) == wanted && bind_values(&self->handle, values) == 0;
+        Py_XDECREF(values);
+        if (!is_bound) {
+            PyErr_Clear();
+            sqlkeep_unbind(&self->handle);
+            return 0;
+        }
+        count++;
+    }
+    return count;
+}
+
+/* Executes the statements that were read until one isn't accepted; how many were. */
+static size_t execute_read_many(engine *self, size_t count, sqlkeep_outcome *last, unsigned long long *changed) {
+    size_t place = 0;
+    Py_BEGIN_ALLOW_THREADS
+    while (place < count && sqlkeep_execute(&self->handle, place, last) == SQLKEEP_OK && last->kind == SQLKEEP_CHANGED) {
+        *changed += last->count;
+        place++;
+    }
+    Py_END_ALLOW_THREADS
+    return place;
+}
+
+/* Executes some statements at once. NULL where they were accepted, otherwise the answer of the last; `was_read` says whether they
+   could be read at once. */
+static PyObject *execute_some(engine *self, many *work, Py_ssize_t wanted, bool *was_read) {
+    sqlkeep_script script = {0, 0, 0};
+    sqlkeep_outcome last = {SQLKEEP_DONE, 0, 0, 0};
+    size_t count = bind_many(self, work, wanted);
+    *was_read = count > 0 && read_bound(self, work->text.at, count * length_of_copy(work), &script) == SQLKEEP_OK;
+    *was_read = *was_read && script.statements == count && script.has_fault == 0;
+    if (!*was_read) {
+        sqlkeep_unbind(&self->handle);
+        return NULL;
+    }
+    self->has_work = false;
+    size_t done = execute_read_many(self, count, &last, &work->changed);
+    work->at += (Py_ssize_t)done;
+    return done == count ? NULL : engine_answer(self, done, &last, false);
+}
+
+/* Executes one statement. NULL where it was accepted or with an exception, otherwise its answer. */
+static PyObject *execute_next(engine *self, many *work) {
+    PyObject *values = values_at(work, work->at);
+    if (values == NULL) {
+        return NULL;
+    }
+    work->given.values = values;
+    PyObject *answer = execute_template(self, &work->given, false, &work->with);
+    Py_DECREF(values);
+    work->copies = 0;
+    if (answer != NULL && PyLong_AsUnsignedLong(PyTuple_GetItem(answer, 0)) == SQLKEEP_CHANGED) {
+        work->changed += PyLong_AsUnsignedLongLong(PyTuple_GetItem(answer, 1));
+        work->at++;
+        Py_CLEAR(answer);
+    }
+    return answer;
+}
+
+/* Executes the next statements: several at once where that can be, otherwise one. */
+static PyObject *execute_step(engine *self, many *work) {
+    bool was_read = false;
+    bool is_alone = work->at == 0 || self->explains || work->size - work->at == 1;
+    if (!is_alone && work->copies == 0 && copy_template(work) != 0) {
+        return NULL;
+    }
+    if (!is_alone) {
+        PyObject *first = values_at(work, 0);
+        Py_ssize_t wanted = first == NULL ? -1 : PyTuple_Size(first);
+        Py_XDECREF(first);
+        PyObject *answer = execute_some(self, work, wanted, &was_read);
+        if (was_read || answer != NULL) {
+            return answer;
+        }
+        PyErr_Clear();
+    }
+    return execute_next(self, work);
+}
+
+/* Goes through the list: NULL where all were accepted or with an exception, otherwise the answer of the one that wasn't. */
+static PyObject *execute_list(engine *self, many *work) {
+    PyObject *answer = NULL;
+    while (work->at < work->size && answer == NULL && !PyErr_Occurred() && PyErr_CheckSignals() == 0) {
+        answer = execute_step(self, work);
+    }
+    return answer;
+}
+
+/* execute_many(text, list): (how many were accepted, how many rows they changed, None or the answer of the next). */
+PyObject *engine_execute_many(engine *self, PyObject *arguments) {
+    PyObject *text;
+    many work = {{NULL, 0, NULL}, AS_IT_IS, NULL, 0, 0, 0, {NULL, 0, 0}, 0};
+    if (!PyArg_ParseTuple(arguments, "UO!:execute_many", &text, &PyList_Type, &work.list) || engine_ready(self) != 0) {
+        return NULL;
+    }
+    PyObject *bytes_of_text = encoded(text, &work.given);
+    if (bytes_of_text == NULL) {
+        return NULL;
+    }
+    work.size = PyList_Size(work.list);
+    PyObject *answer = execute_list(self, &work);
+    bytes_free(&work.text);
+    Py_DECREF(bytes_of_text);
+    self->progress = work.at;
+    if (answer == NULL && PyErr_Occurred()) {
+        return NULL;
+    }
+    if (answer == NULL) {
+        Py_INCREF(Py_None);
+        answer = Py_None;
+    }
+    return Py_BuildValue("nKN", work.at, work.changed, answer);
+}

@@ -1,0 +1,127 @@
+/* Values: those that are bound to a template, and those of rows. */
+#include "shared.h"
+
+static int bind_text(sqlkeep *handle, PyObject *value, size_t number) {
+    char *text;
+    Py_ssize_t length;
+    PyObject *encoded = PyUnicode_AsUTF8String(value);
+    if (encoded == NULL) {
+        PyErr_Clear();
+        PyErr_Format(errors.data, "parameter %zu is a text with a surrogate, which UTF-8 can't hold", number);
+        return -1;
+    }
+    uint32_t status = SQLKEEP_NO_MEMORY;
+    if (PyBytes_AsStringAndSize(encoded, &text, &length) == 0) {
+        status = sqlkeep_bind_text(handle, (const uint8_t *)text, (size_t)length);
+    }
+    Py_DECREF(encoded);
+    if (status != SQLKEEP_OK && !PyErr_Occurred()) {
+        failed(status);
+    }
+    return status == SQLKEEP_OK ? 0 : -1;
+}
+
+static int bind_integer(sqlkeep *handle, PyObject *value, size_t number) {
+    int beyond;
+    long long integer = PyLong_AsLongLongAndOverflow(value, &beyond);
+    if (beyond != 0) {
+        PyErr_Format(errors.data, "parameter %zu is an integer of more than 64 bits", number);
+        return -1;
+    }
+    if (integer == -1 && PyErr_Occurred()) {
+        return -1;
+    }
+    uint32_t status = sqlkeep_bind_integer(handle, integer);
+    return status == SQLKEEP_OK ? 0 : (failed(status), -1);
+}
+
+/* Binds a value; `number` counts the parameters from 1. */
+static int bind_value(sqlkeep *handle, PyObject *value, size_t number) {
+    if (PyLong_Check(value)) {
+        return bind_integer(handle, value, number);
+    }
+    if (PyUnicode_Check(value)) {
+        return bind_text(handle, value, number);
+    }
+    if (value == Py_None) {
+        uint32_t status = sqlkeep_bind_null(handle);
+        return status == SQLKEEP_OK ? 0 : (failed(status), -1);
+    }
+    PyObject *name = PyObject_GetAttrString((PyObject *)Py_TYPE(value), "__name__");
+    if (name != NULL) {
+        PyErr_Format(errors.programming, "parameter %zu is of type %U; a value is an int, a str or None", number, name);
+        Py_DECREF(name);
+    }
+    return -1;
+}
+
+int bind_values(sqlkeep *handle, PyObject *values) {
+    Py_ssize_t count = PyTuple_Size(values);
+    for (Py_ssize_t at = 0; at < count; at++) {
+        if (bind_value(handle, PyTuple_GetItem(values, at), (size_t)at + 1) != 0) {
+            sqlkeep_unbind(handle);
+            return -1;
+        }
+    }
+    return 0;
+}
+
+static PyObject *long_text(sqlkeep *handle, size_t row, size_t column, size_t length, read_text *read) {
+    size_t copied = 0;
+    PyObject *held = PyBytes_FromStringAndSize(NULL, (Py_ssize_t)length);
+    if (held == NULL) {
+        return NULL;
+    }
+    char *to = PyBytes_AsString(held);
+    read(handle, row, column, 0, (uint8_t *)to, length, &copied);
+    PyObject *text = PyUnicode_DecodeUTF8(to, (Py_ssize_t)copied, "strict");
+    Py_DECREF(held);
+    return text;
+}
+
+PyObject *value_of(sqlkeep *handle, const sqlkeep_cell *cell, size_t row, size_t column, read_text *read) {
+    char to[256];
+    size_t copied = 0;
+    if (cell->kind == SQLKEEP_INTEGER) {
+        return PyLong_FromLongLong(cell->integer);
+    }
+    if (cell->kind != SQLKEEP_TEXT) {
+        Py_INCREF(Py_None);
+        return Py_None;
+    }
+    if (cell->length > sizeof to) {
+        return long_text(handle, row, column, (size_t)cell->length, read);
+    }
+    read(handle, row, column, 0, (uint8_t *)to, sizeof to, &copied);
+    return PyUnicode_DecodeUTF8(to, (Py_ssize_t)copied, "strict");
+}
+
+static PyObject *row_of(sqlkeep *handle, size_t row, size_t columns) {
+    PyObject *tuple = PyTuple_New((Py_ssize_t)columns);
+    for (size_t column = 0; tuple != NULL && column < columns; column++) {
+        sqlkeep_cell cell = {SQLKEEP_NULL, 0, 0};
+        sqlkeep_value(handle, row, column, &cell);
+        PyObject *value = value_of(handle, &cell, row, column, sqlkeep_value_text);
+        if (value == NULL || PyTuple_SetItem(tuple, (Py_ssize_t)column, value) != 0) {
+            Py_DECREF(tuple);
+            return NULL;
+        }
+    }
+    return tuple;
+}
+
+PyObject *rows_of(sqlkeep *handle, size_t count) {
+    size_t columns = 0;
+    PyObject *list = PyList_New((Py_ssize_t)count);
+    if (list != NULL && count > 0) {
+        sqlkeep_columns(handle, 0, &columns);
+    }
+    for (size_t row = 0; list != NULL && row < count; row++) {
+        PyObject *tuple = row_of(handle, row, columns);
+        if (tuple == NULL || PyList_SetItem(list, (Py_ssize_t)row, tuple) != 0) {
+            Py_DECREF(list);
+            return NULL;
+        }
+    }
+    return list;
+}

@@ -1,0 +1,308 @@
+"""Accounts: what happened in a statement, parsed from the lines that the engine writes.
+
+`parse_account` reads the lines below a statement, and `str()` of what it gives writes them again, byte for byte.
+"""
+import re
+from dataclasses import dataclass, field
+from typing import Dict, Iterator, List, Optional, Tuple, Union
+
+from .values import Value, parse_values, write_values
+
+__all__ = ["Account", "Action", "Change", "Event", "NameFault", "Nested", "Trigger", "Violation", "parse_account"]
+
+Row = Tuple[Value, ...]
+
+
+@dataclass(frozen=True)
+class Change:
+    """A row that was inserted, updated or deleted: its table, its number, its values before and after."""
+
+    kind: str
+    table: str
+    row: int
+    before: Optional[Row]
+    after: Optional[Row]
+
+    def __str__(self) -> str:
+        rows = [write_values(row) for row in (self.before, self.after) if row is not None]
+        return f"{self.kind} {self.table} row {self.row} {' to '.join(rows)}"
+
+
+@dataclass(frozen=True)
+class Action:
+    """A foreign key that acts on a row: `action` is CASCADE, SET NULL or SET DEFAULT."""
+
+    constraint: str
+    action: str
+    table: str
+    row: int
+
+    def __str__(self) -> str:
+        return f"{self.constraint} {self.action} on {self.table} row {self.row}"
+
+
+@dataclass(frozen=True)
+class Violation:
+    """A constraint and a row that a refusal is about, and why.
+
+    `why` is one of `condition`, `null`, `same key`, `null in key`, `missing`, `some nulls`, `restrict` and `conflict`. `column` is
+    that of NOT NULL; `other_row` and `other_values` are the row with the same key; `refers_to` and `key` are the table and the key
+    that a foreign key refers to.
+    """
+
+    constraint: str
+    table: str
+    row: int
+    values: Row
+    why: str
+    column: Optional[str] = None
+    other_row: Optional[int] = None
+    other_values: Optional[Row] = None
+    refers_to: Optional[str] = None
+    key: Optional[Row] = None
+
+    @property
+    def reason(self) -> str:
+        """The row and what is the matter with it."""
+        return f"{self.table} row {self.row} {write_values(self.values)} {self._matter()}"
+
+    def _matter(self) -> str:
+        if self.key is not None:
+            return f"refers to {self.refers_to} {write_values(self.key)}, {BY_REFERENCE[self.why]}"
+        if self.other_values is not None:
+            return f"has the key of row {self.other_row} {write_values(self.other_values)}"
+        return {"condition": "makes its condition false", "null": f"has NULL in {self.column}"}.get(self.why) or BY_NULLS[self.why]
+
+    def __str__(self) -> str:
+        return f"{self.constraint}: {self.reason}"
+
+
+@dataclass(frozen=True)
+class NameFault:
+    """The name that a refusal is about: its kind, the name, and what is the matter with it."""
+
+    kind: str
+    name: str
+    problem: str
+
+    def __str__(self) -> str:
+        return f"{self.kind} {self.name} {self.problem}"
+
+
+@dataclass(frozen=True)
+class Nested:
+    """The statement at this place of a trigger's body, with what happened in it."""
+
+    place: int
+    events: "Tuple[Event, ...]"
+
+
+@dataclass(frozen=True)
+class Trigger:
+    """A trigger whose body ran: the row before and after for one FOR EACH ROW, the rows that one for the whole statement saw,
+    and the statements of its body."""
+
+    name: str
+    old: Optional[Row] = None
+    new: Optional[Row] = None
+    saw: Tuple[Change, ...] = ()
+    statements: Tuple[Nested, ...] = ()
+
+    def __str__(self) -> str:
+        rows = [f" {word} {write_values(row)}" for word, row in (("OLD", self.old), ("NEW", self.new)) if row is not None]
+        return f"trigger {self.name}{''.join(rows)}"
+
+
+Event = Union[Change, Action, Trigger, Violation, NameFault]
+
+BY_REFERENCE = {"missing": "which isn't there", "restrict": "which RESTRICT protects", "conflict": "and another foreign key sets a column otherwise"}
+BY_NULLS = {"null in key": "has a null in its key", "some nulls": "has some nulls in its key"}
+
+
+@dataclass(frozen=True)
+class Account:
+    """What happened in a statement, in its order. An account is false where nothing is told."""
+
+    events: Tuple[Event, ...] = field(default=())
+
+    def __bool__(self) -> bool:
+        return bool(self.events)
+
+    def __str__(self) -> str:
+        return "".join(line + "\n" for line in written(self.events, "  "))
+
+    @property
+    def violations(self) -> List[Violation]:
+        """The constraints and rows that a refusal is about, at whichever depth."""
+        return [event for event in self.walk() if isinstance(event, Violation)]
+
+    @property
+    def name(self) -> Optional[NameFault]:
+        """The name that a refusal is about."""
+        return next((event for event in self.events if isinstance(event, NameFault)), None)
+
+    def walk(self) -> Iterator[Event]:
+        """All events in their order, also those in triggers."""
+        return walked(self.events)
+
+    def changes(self) -> List[Change]:
+        """All row changes in their order, also those of triggers."""
+        return [event for event in self.walk() if isinstance(event, Change)]
+
+    def triggers(self) -> List[str]:
+        """The names of the triggers that ran, in their order."""
+        return [event.name for event in self.walk() if isinstance(event, Trigger)]
+
+    def touched(self) -> Dict[str, Dict[str, int]]:
+        """How many rows of each table were inserted, updated and deleted: `{"BOOK": {"delete": 2}}`."""
+        counts: Dict[str, Dict[str, int]] = {}
+        for change in self.changes():
+            of_table = counts.setdefault(change.table, {})
+            of_table[change.kind] = of_table.get(change.kind, 0) + 1
+        return counts
+
+
+def walked(events: Tuple[Event, ...]) -> Iterator[Event]:
+    for event in events:
+        yield event
+        if isinstance(event, Trigger):
+            yield from walked(tuple(inner for statement in event.statements for inner in statement.events))
+
+
+def written(events: Tuple[Event, ...], indent: str) -> Iterator[str]:
+    for event in events:
+        yield f"{indent}{event}"
+        if isinstance(event, Trigger):
+            yield from written_trigger(event, indent)
+
+
+def written_trigger(trigger: Trigger, indent: str) -> Iterator[str]:
+    yield from (f"{indent}  saw {change}" for change in trigger.saw)
+    for statement in trigger.statements:
+        yield f"{indent}statement {statement.place}"
+        yield from written(statement.events, indent + "  ")
+
+
+# ---- reading
+
+# The values of a row may hold anything between their quotes, a line feed too.
+ROW = r"\(((?:[^()']|'[^']*')*)\)"
+CHANGE = re.compile(rf"(insert|delete) (\w+) row (\d+) {ROW}\n")
+UPDATE = re.compile(rf"update (\w+) row (\d+) {ROW} to {ROW}\n")
+TRIGGER = re.compile(rf"trigger (\w+)(?: OLD {ROW})?(?: NEW {ROW})?\n")
+ACTION = re.compile(r"(\w+) (CASCADE|SET NULL|SET DEFAULT) on (\w+) row (\d+)\n")
+VIOLATION = re.compile(rf"(\w+): (\w+) row (\d+) {ROW} ")
+NAME = re.compile(r"(table|column|row variable|trigger|constraint|REFERENCING name) (\w+(?:\.\w+)?) (isn't there|is there already|comes twice)\n")
+STATEMENT = re.compile(r"statement (\d+)\n")
+MATTERS = [
+    ("condition", re.compile(r"makes its condition false\n")),
+    ("null", re.compile(r"has NULL in (?P<column>\w+)\n")),
+    ("same key", re.compile(rf"has the key of row (?P<other_row>\d+) {ROW}\n")),
+    ("null in key", re.compile(r"has a null in its key\n")),
+    ("some nulls", re.compile(r"has some nulls in its key\n")),
+    ("missing", re.compile(rf"refers to (?P<refers_to>\w+) {ROW}, which isn't there\n")),
+    ("restrict", re.compile(rf"refers to (?P<refers_to>\w+) {ROW}, which RESTRICT protects\n")),
+    ("conflict", re.compile(rf"refers to (?P<refers_to>\w+) {ROW}, and another foreign key sets a column otherwise\n")),
+]
+
+
+def parse_account(text: str) -> Account:
+    """The account of these lines; a ValueError where they are none."""
+    reader = Reader(text, 0)
+    account = reader.account()
+    if reader.at != len(text):
+        raise ValueError(f"no line of an account: {text[reader.at:reader.at + 80]!r}")
+    return account
+
+
+def row_of(values: Optional[str]) -> Optional[Row]:
+    return None if values is None else parse_values(values)
+
+
+class Reader:
+    """Reads the lines of a text one after the other. `at` is the place that it has come to."""
+
+    def __init__(self, text: str, at: int) -> None:
+        self.text = text
+        self.at = at
+
+    def take(self, pattern: "re.Pattern[str]", indent: str = "") -> "Optional[re.Match[str]]":
+        """What the pattern matches behind the indentation; it is then read."""
+        found = pattern.match(self.text, self.at + len(indent)) if self.text.startswith(indent, self.at) else None
+        if found is not None:
+            self.at = found.end()
+        return found
+
+    def account(self) -> Account:
+        """The lines from here on that are indented."""
+        return Account(self.events("  "))
+
+    def events(self, indent: str) -> Tuple[Event, ...]:
+        found: List[Event] = []
+        event = self.event(indent)
+        while event is not None:
+            found.append(event)
+            event = self.event(indent)
+        return tuple(found)
+
+    def event(self, indent: str) -> Optional[Event]:
+        """The event at this indentation; None where there is none."""
+        if not self.text.startswith(indent, self.at) or self.text.startswith(" ", self.at + len(indent)):
+            return None
+        return self.change(indent) or self.action(indent) or self.trigger(indent) or self.violation(indent) or self.name(indent)
+
+    def change(self, indent: str) -> Optional[Change]:
+        found = self.take(CHANGE, indent)
+        if found is not None:
+            values = parse_values(found[4])
+            is_insert = found[1] == "insert"
+            return Change(found[1], found[2], int(found[3]), None if is_insert else values, values if is_insert else None)
+        found = self.take(UPDATE, indent)
+        return None if found is None else Change("update", found[1], int(found[2]), parse_values(found[3]), parse_values(found[4]))
+
+    def action(self, indent: str) -> Optional[Action]:
+        found = self.take(ACTION, indent)
+        return None if found is None else Action(found[1], found[2], found[3], int(found[4]))
+
+    def trigger(self, indent: str) -> Optional[Trigger]:
+        found = self.take(TRIGGER, indent)
+        if found is None:
+            return None
+        saw = tuple(self.saw(indent + "  saw "))
+        return Trigger(found[1], row_of(found[2]), row_of(found[3]), saw, tuple(self.statements(indent)))
+
+    def saw(self, indent: str) -> Iterator[Change]:
+        change = self.change(indent)
+        while change is not None:
+            yield change
+            change = self.change(indent)
+
+    def statements(self, indent: str) -> Iterator[Nested]:
+        found = self.take(STATEMENT, indent)
+        while found is not None:
+            yield Nested(int(found[1]), self.events(indent + "  "))
+            found = self.take(STATEMENT, indent)
+
+    def violation(self, indent: str) -> Optional[Violation]:
+        began = self.at
+        head = self.take(VIOLATION, indent)
+        for why, pattern in MATTERS if head is not None else []:
+            found = self.take(pattern)
+            if head is not None and found is not None:
+                return violation_of(head, why, found)
+        self.at = began
+        return None
+
+    def name(self, indent: str) -> Optional[NameFault]:
+        found = self.take(NAME, indent)
+        return None if found is None else NameFault(found[1], found[2], found[3])
+
+
+def violation_of(head: "re.Match[str]", why: str, found: "re.Match[str]") -> Violation:
+    told = found.groupdict()
+    values = parse_values(found.groups()[-1]) if why in ("same key", "missing", "restrict", "conflict") else None
+    return Violation(
+        constraint=head[1], table=head[2], row=int(head[3]), values=parse_values(head[4]), why=why, column=told.get("column"),
+        other_row=int(told["other_row"]) if "other_row" in told else None, other_values=values if why == "same key" else None,
+        refers_to=told.get("refers_to"), key=values if why != "same key" else None,
+    )

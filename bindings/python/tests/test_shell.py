@@ -1,0 +1,137 @@
+"""The shell without a terminal: what goes to standard output and to standard error, and the status."""
+import os
+import subprocess
+import sys
+import tempfile
+import unittest
+from pathlib import Path
+
+from sqlkeep.shell.complete import candidates
+from sqlkeep.shell.show import as_csv, as_json, as_table, caret, visible, width_of
+from sqlkeep import Session
+
+
+def ran(given, *words, folder=None):
+    env = {"PATH": os.environ["PATH"], "HOME": "/nonexistent", "LANG": "C.UTF-8", "PYTHONUTF8": "1"}
+    done = subprocess.run([sys.executable, "-m", "sqlkeep", *words], input=given, capture_output=True, text=True, cwd=folder, env=env, timeout=60, check=False)
+    return done.stdout, done.stderr, done.returncode
+
+
+class WithoutTerminal(unittest.TestCase):
+    def test_all_accepted(self):
+        self.assertEqual(ran("CREATE TABLE t (a INT);\nINSERT INTO t VALUES (1);\n"), ("ok\nok, 1 row inserted\n", "", 0))
+
+    def test_the_last_semicolon_may_be_missing(self):
+        self.assertEqual(ran("CREATE TABLE t (a INT);\nSELECT a\nFROM t"), ("ok\nA\n-\n(0 rows)\n", "", 0))
+
+    def test_a_refusal(self):
+        self.assertEqual(ran("SELECT * FROM t;\nCOMMIT;\n"), ("ok\n", "Refused: Unknown: table T isn't there\n", 1))
+
+    def test_a_fault(self):
+        self.assertEqual(ran("SELEKT;\nCOMMIT;\n"), ("ok\n", "No statement at line 1, column 1: did you mean SELECT?\n  SELEKT;\n  ^\n", 1))
+
+    def test_nothing(self):
+        self.assertEqual(ran(""), ("", "", 0))
+        self.assertEqual(ran("\n-- a comment\n"), ("", "", 0))
+
+    def test_commands(self):
+        self.assertEqual(ran(".mode csv\nCREATE TABLE t (a INT);\nINSERT INTO t VALUES (5);\nSELECT a FROM t;\n.quit\nSELECT a FROM t;\n"), ("A\n5\n", "", 0))
+        self.assertEqual(ran(".xyzzy\n"), ("", "there is no command .xyzzy; .help lists them\n", 1))
+
+    def test_timer(self):
+        output, errors, status = ran(".timer on\nCOMMIT;\n")
+        self.assertRegex(output, r"^ok\n\d\.\d\d\d s\n$")
+        self.assertEqual((errors, status), ("", 0))
+
+    def test_a_file(self):
+        with tempfile.TemporaryDirectory() as folder:
+            Path(folder, "a.sql").write_text("CREATE TABLE t (a INT);\n")
+            self.assertEqual(ran("SELECT a FROM t;\n", "a.sql", folder=folder), ("ok\nA\n-\n(0 rows)\n", "", 0))
+            self.assertEqual(ran("", "b.sql", folder=folder), ("", "b.sql can't be read: no such file or directory\n", 2))
+            Path(folder, "c.sql").write_bytes(b"COMMIT; \xff")
+            self.assertEqual(ran("", "c.sql", folder=folder), ("", "c.sql can't be read: it isn't UTF-8\n", 2))
+
+    def test_words(self):
+        self.assertEqual(ran("", "--depth", "0")[2], 2)
+        self.assertIn("depth is 1 to 64, and changes 1 to 65536", ran("", "--depth", "0")[1])
+        self.assertEqual(ran("CREATE TABLE t (a INT);\nINSERT INTO t VALUES (1), (2);\n", "--changes", "2"),
+                         ("ok\n", "Refused: TooManyChanges: the statement, with all that follows from it, changes too many rows\n", 1))
+
+    def test_bytes_that_are_no_text(self):
+        done = subprocess.run([sys.executable, "-m", "sqlkeep"], input=b"SELECT '\xff';\nCOMMIT;\n", capture_output=True, env={"PATH": os.environ["PATH"], "LANG": "C.UTF-8"}, timeout=60, check=False)
+        self.assertEqual((done.stdout, done.stderr, done.returncode), (b"ok\n", b"the text has a surrogate, which UTF-8 can't hold\n", 1))
+
+    def test_nobody_reads(self):
+        command = f"yes 'COMMIT;' | head -n 20000 | {sys.executable} -m sqlkeep | head -n 1"
+        done = subprocess.run(["sh", "-c", command], capture_output=True, text=True, timeout=60, check=False)
+        self.assertEqual((done.stdout, done.stderr), ("ok\n", ""))
+
+    def test_the_stored_example(self):
+        """In transcript mode with accounts the shell writes what the program does."""
+        root = Path(os.environ.get("SQLKEEP_ROOT", Path(__file__).resolve().parents[3]))
+        for path in sorted((root / "examples").glob("*.account")):
+            wanted = path.read_text("utf-8").replace("end rolled back\n", "")
+            output, _, _ = ran(".mode transcript\n.explain on\n" + path.with_suffix(".sql").read_text("utf-8"))
+            self.assertEqual(output, wanted, path.name)
+
+
+class Saved(unittest.TestCase):
+    def test_what_is_saved_leads_to_the_same(self):
+        root = Path(os.environ.get("SQLKEEP_ROOT", Path(__file__).resolve().parents[3]))
+        for path in sorted((root / "examples").glob("*.sql")):
+            with self.subTest(path.name), tempfile.TemporaryDirectory() as folder:
+                ran(path.read_text("utf-8") + "\n.save kept.sql\n", folder=folder)
+                kept = Path(folder, "kept.sql").read_text("utf-8")
+                with Session() as first, Session() as second:
+                    for part in first.parts(path.read_text("utf-8")):
+                        first.execute(part)
+                    for outcome in second.script(kept):
+                        outcome.check()
+                    tables = list(first.catalogue.tables)
+                    self.assertEqual([first.execute(f"SELECT * FROM {table}").rows for table in tables], [second.execute(f"SELECT * FROM {table}").rows for table in tables])
+                    self.assertEqual((first.catalogue, first.in_transaction, first.pending()), (second.catalogue, second.in_transaction, second.pending()))
+
+
+class Showing(unittest.TestCase):
+    def test_tables(self):
+        plain = lambda kind, text: text
+        self.assertEqual(as_table(["A", "LONG"], [(1, "x"), (None, None)], plain), "   A | LONG\n-----+-----\n   1 | x\nNULL | NULL\n(2 rows)\n")
+        self.assertEqual(as_table(["A"], [], plain), "A\n-\n(0 rows)\n")
+        self.assertEqual(as_table(["A"], [(None,)], plain), "A\n----\nNULL\n(1 row)\n")
+
+    def test_nothing_moves_the_cursor(self):
+        self.assertEqual(visible("a\x1b[2Jb\r\n\t\x00\u202e"), "a\\x1b[2Jb\\r\\n\\t\\x00\\u202e")
+
+    def test_widths(self):
+        self.assertEqual([width_of(text) for text in ("abc", "日本", "é", "e\u0301")], [3, 4, 1, 1])
+
+    def test_csv(self):
+        self.assertEqual(as_csv(["A", "B"], [(1, 'x,"y"'), (None, ""), (2, "a\nb")]), 'A,B\n1,"x,""y"""\n,""\n2,"a\nb"\n')
+
+    def test_json(self):
+        self.assertEqual(as_json(["A", "A"], [(1, "é\n"), (None, "")]), '[{"A": 1, "A:1": "é\\n"},\n {"A": null, "A:1": ""}]\n')
+        self.assertEqual(as_json(["A"], []), "[]\n")
+
+    def test_caret(self):
+        self.assertEqual(caret("x\n\tab c\n", 2, 4), "  \tab c\n  \t  ^\n")
+        self.assertEqual(caret("日本 x", 1, 4), "  日本 x\n       ^\n")
+
+
+class Completing(unittest.TestCase):
+    def setUp(self):
+        self.session = Session()
+        self.session.script("CREATE TABLE book (title VARCHAR(9), shelf INT); CREATE TABLE box (a INT CONSTRAINT c_1 CHECK (a > 0) DEFERRABLE); CREATE TRIGGER r AFTER INSERT ON box DELETE FROM book;")
+
+    def test_each(self):
+        for line, word, wanted in [
+            ("SEL", "SEL", ["SELECT "]), ("sel", "sel", ["select "]), ("SELECT * FROM b", "b", ["book", "box"]), ("SELECT * FROM boo", "boo", ["book "]), ("INSERT INTO BOX", "BOX", ["BOX "]),
+            ("SELECT ti", "ti", ["title "]), ("DROP TRIGGER ", "", ["R "]), ("SET CONSTRAINTS c", "c", ["c_1 "]), ("SELECT 'sel", "sel", []), ("SELECT ", "", []),
+            (".ta", ".ta", [".tables "]), (".s", ".s", [".save", ".schema"]), (".mode c", "c", ["csv "]), (".explain o", "o", ["on", "off"]), (".schema bo", "bo", ["BOOK", "BOX"]),
+            ("SELECT zzz", "zzz", []),
+        ]:
+            with self.subTest(line):
+                self.assertEqual(candidates(self.session, [".save", ".schema", ".tables"], line, word), wanted)
+
+
+if __name__ == "__main__":
+    unittest.main()

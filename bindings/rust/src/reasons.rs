@@ -1,0 +1,25 @@
+//! What a refusal is about, taken from the account of its statement.
+use crate::error::Cause;
+
+// What begins a line about something that happened, and not about the refusal.
+const EVENTS: [&str; 6] = ["insert ", "update ", "delete ", "trigger ", "statement ", "saw "];
+
+fn is_event(line: &str) -> bool {
+    EVENTS.iter().any(|word| line.starts_with(word))
+}
+
+fn is_action(line: &str) -> bool {
+    [" CASCADE on ", " SET NULL on ", " SET DEFAULT on "].iter().any(|words| line.contains(words)) && !line.contains(": ")
+}
+
+/// The lines at the end of an account that say what the refusal is about.
+pub fn reasons(account: &[String], cause: Cause) -> Vec<String> {
+    let is_told = |line: &&str| match cause {
+        Cause::Unknown => line.ends_with(" isn't there"),
+        Cause::Duplicate => line.ends_with(" is there already") || line.ends_with(" comes twice"),
+        _ => line.contains(": ") && !is_event(line) && !is_action(line),
+    };
+    let mut found: Vec<String> = account.iter().rev().map(|line| line.trim_start()).take_while(is_told).map(str::to_owned).collect();
+    found.reverse();
+    found
+}

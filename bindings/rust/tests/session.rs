@@ -1,0 +1,153 @@
+//! Statements, values, refusals and transactions through the crate.
+use sqlkeep::{Cause, Error, Place, Session, Value, Violation};
+
+fn books() -> Session {
+    let mut session = Session::open().unwrap();
+    session
+        .execute_batch(
+            "CREATE TABLE author (name VARCHAR(20) PRIMARY KEY, born INT);
+             CREATE TABLE book (title VARCHAR(20), author VARCHAR(20)
+                 CONSTRAINT written_by REFERENCES author ON DELETE CASCADE INITIALLY DEFERRED, pages INT CONSTRAINT some CHECK (pages > 0));
+             INSERT INTO author VALUES ('Austen', 1775); COMMIT;",
+        )
+        .unwrap();
+    session
+}
+
+fn refused(error: Error) -> sqlkeep::Refusal {
+    match error {
+        Error::Refused(refusal) => *refusal,
+        other => panic!("{other}"),
+    }
+}
+
+#[test]
+fn values_come_back_as_they_were() {
+    let mut session = Session::open().unwrap();
+    session.execute_batch("CREATE TABLE t (a INT, b VARCHAR(60)); COMMIT;").unwrap();
+    let texts = ["'; DROP TABLE t; --", "?", "", "it''s", "x'); INSERT INTO t VALUES (9, 'y", "\u{e9}\u{20ac}", "a\nb", "-- no comment"];
+    for (at, text) in texts.iter().enumerate() {
+        assert_eq!(session.execute("INSERT INTO t VALUES (?, ?)", (at as i32, text)), Ok(1));
+        let found: String = session.query_one::<(String,)>("SELECT b FROM t WHERE a = ? AND b = ?", (at as u32, text)).unwrap().0;
+        assert_eq!(&found, text);
+    }
+    for number in [i64::MIN, i64::MAX, -1, 0] {
+        session.execute("DELETE FROM t", ()).unwrap();
+        session.execute("INSERT INTO t (a) VALUES (?)", [number]).unwrap();
+        assert_eq!(session.query::<(i64, Option<String>)>("SELECT a, b FROM t;", ()), Ok(vec![(number, None)]));
+    }
+}
+
+#[test]
+fn rows_become_what_is_asked_for() {
+    let mut session = books();
+    session.execute("INSERT INTO book VALUES ('Emma', 'Austen', NULL)", ()).unwrap();
+    let rows: Vec<Vec<Value>> = session.query("SELECT * FROM book", ()).unwrap();
+    assert_eq!(rows, [[Value::Text("Emma".into()), Value::Text("Austen".into()), Value::Null]]);
+    assert_eq!(session.columns(), ["TITLE", "AUTHOR", "PAGES"]);
+    let wrong = session.query::<(String, i64, Option<i64>)>("SELECT * FROM book", ());
+    assert_eq!(wrong, Err(Error::Type { column: 1, wanted: "i64" }));
+    assert_eq!(session.query::<(String,)>("SELECT title, pages FROM book", ()), Err(Error::Type { column: 1, wanted: "column of a shorter row" }));
+    assert_eq!(session.query::<(String, i64)>("SELECT title FROM book", ()), Err(Error::Type { column: 1, wanted: "i64" }));
+    assert_eq!(session.query_one::<(u8,)>("SELECT born FROM author", ()), Err(Error::Type { column: 0, wanted: "u8" }));
+    assert_eq!(session.query_one::<(i64,)>("SELECT born FROM author WHERE born = 0", ()), Err(Error::RowCount(0)));
+    assert_eq!(session.query_one::<(i64,)>("SELECT COUNT(*) FROM author", ()), Ok((1,)));
+    session.execute("INSERT INTO author (name) VALUES ('Bront\u{eb}')", ()).unwrap();
+    assert_eq!(session.query_one::<(String,)>("SELECT name FROM author", ()), Err(Error::RowCount(2)));
+}
+
+#[test]
+fn a_refusal_says_what_it_is_about() {
+    let mut session = books();
+    let refusal = refused(session.execute("INSERT INTO book VALUES ('Emma', 'Austen', 0)", ()).unwrap_err());
+    assert_eq!((refusal.cause, refusal.constraint.as_deref(), refusal.row), (Cause::Violation, Some("SOME"), Some(2)));
+    assert_eq!(refusal.reasons, ["SOME: BOOK row 2 ('Emma', 'Austen', 0) makes its condition false"]);
+    let refusal = refused(session.execute("INSERT INTO boook VALUES (1)", ()).unwrap_err());
+    assert_eq!((refusal.cause, &refusal.reasons[..]), (Cause::Unknown, &["table BOOOK isn't there".to_string()][..]));
+    session.execute("INSERT INTO book VALUES ('Dracula', 'Stoker', 1), ('Frankenstein', 'Shelley', 2)", ()).unwrap();
+    let wanted = |row| Violation { constraint: "WRITTEN_BY".into(), row };
+    assert_eq!(session.pending(), Ok(vec![wanted(2), wanted(3)]));
+    let refusal = refused(session.commit().unwrap_err());
+    assert_eq!((refusal.cause, refusal.row, refusal.reasons.len()), (Cause::CommitRefused, Some(2), 2));
+    assert_eq!(refusal.reasons[1], "WRITTEN_BY: BOOK row 3 ('Frankenstein', 'Shelley', 2) refers to AUTHOR ('Shelley'), which isn't there");
+    assert!(!session.in_transaction());
+    assert_eq!(session.query::<(String,)>("SELECT title FROM book", ()), Ok(vec![]));
+}
+
+#[test]
+fn a_commit_by_its_text_is_executed_once() {
+    let mut session = books();
+    session.execute("INSERT INTO book VALUES ('Dracula', 'Stoker', 1)", ()).unwrap();
+    let refusal = refused(session.execute("-- now\n commit", ()).unwrap_err());
+    assert_eq!((refusal.cause, refusal.reasons.len()), (Cause::CommitRefused, 1));
+    assert!(!session.in_transaction());
+}
+
+#[test]
+fn a_signal_and_its_trigger_are_told() {
+    let mut session = Session::open().unwrap();
+    session
+        .execute_batch("CREATE TABLE t (a INT); CREATE TRIGGER kept BEFORE DELETE ON t SIGNAL 'rows stay'; INSERT INTO t VALUES (1); COMMIT;")
+        .unwrap();
+    let error = session.execute("DELETE FROM t", ()).unwrap_err();
+    assert_eq!(error.to_string(), "Signal: rows stay");
+    let refusal = refused(error);
+    assert_eq!((refusal.trigger.as_deref(), refusal.signal.as_deref()), (Some("KEPT"), Some("rows stay")));
+}
+
+#[test]
+fn texts_that_are_no_statement() {
+    let mut session = Session::open().unwrap();
+    let place = Place { byte: 9, line: 2, column: 2 };
+    assert_eq!(session.execute_batch("COMMIT;\n COMIT;"), Err(Error::Syntax(place)));
+    assert_eq!(session.execute("COMMIT; COMMIT;", ()), Err(Error::StatementCount(2)));
+    assert_eq!(session.execute("", ()), Err(Error::StatementCount(0)));
+    assert_eq!(session.execute("SELECT a FROM t WHERE a = ?", ()), Err(Error::ParameterCount(0)));
+    assert_eq!(session.execute("SELECT a FROM t WHERE a = '?'", (1,)), Err(Error::ParameterCount(1)));
+    assert_eq!(session.execute("SELECT # FROM t WHERE a = ?", (1,)), Err(Error::NoTemplate));
+    assert_eq!(session.execute("SELECT # FROM t", ()), Err(Error::Syntax(Place { byte: 0, line: 1, column: 1 })));
+    session.execute_batch("CREATE TABLE t (a INT); COMMIT;").unwrap();
+    assert_eq!(session.execute("SELECT a FROM t", ()), Err(Error::Rows { wanted: false }));
+    assert_eq!(session.query::<(i64,)>("DELETE FROM t", ()), Err(Error::Rows { wanted: true }));
+    assert_eq!(session.execute("INSERT INTO t VALUES (1) -- no end", ()), Ok(1));
+}
+
+#[test]
+fn a_batch_ends_at_the_first_refusal() {
+    let mut session = Session::open().unwrap();
+    let refusal = refused(session.execute_batch("CREATE TABLE t (a INT PRIMARY KEY); INSERT INTO t VALUES (1); INSERT INTO t VALUES (1); COMMIT;").unwrap_err());
+    assert_eq!((refusal.statement, refusal.cause), (2, Cause::Violation));
+    assert_eq!(refusal.to_string(), "Violation: T_C1: T row 1 (1) has the key of row 2 (1) (statement 3)");
+    assert!(session.in_transaction());
+    session.rollback();
+    assert_eq!(session.query_one::<(u64,)>("SELECT COUNT(*) FROM t", ()), Ok((0,)));
+}
+
+#[test]
+fn savepoints_and_accounts() {
+    let mut session = books();
+    session.explain(true);
+    session.execute_batch("START TRANSACTION; SAVEPOINT s;").unwrap();
+    session.execute("INSERT INTO book VALUES ('Emma', 'Austen', 1)", ()).unwrap();
+    assert_eq!(session.account(), Ok(vec!["  insert BOOK row 2 ('Emma', 'Austen', 1)".to_string()]));
+    session.execute("DELETE FROM author", ()).unwrap();
+    assert_eq!(session.work().changes, 2);
+    assert_eq!(session.account().unwrap()[1], "  WRITTEN_BY CASCADE on BOOK row 2");
+    session.rollback_to("s").unwrap();
+    assert_eq!(session.work().undone, 3);
+    assert_eq!(refused(session.rollback_to("nosuch").unwrap_err()).cause, Cause::UnknownSavepoint);
+    session.commit().unwrap();
+    session.explain(false);
+    session.execute("DELETE FROM author", ()).unwrap();
+    assert_eq!(session.account(), Ok(vec![]));
+}
+
+#[test]
+fn scripts_are_run_as_by_the_program() {
+    let mut session = Session::with_limits(1, 2).unwrap();
+    let ran = session.run("CREATE TABLE t (a INT); INSERT INTO t VALUES (1), (2); COMMIT; COMIT;").unwrap();
+    assert_eq!(ran.text, "1 ok\n2 refused 17 TooManyChanges\n3 ok\n4 fault 63\n");
+    assert_eq!((ran.accepted, ran.refused, ran.fault), (2, 1, Some(63)));
+    assert_eq!(session.run(&" ".repeat(1_048_577)), Err(Error::TooLong));
+    assert_eq!(Session::with_limits(65, 1).err(), Some(Error::Limits));
+}

@@ -1,0 +1,145 @@
+/* The account of a statement, entry by entry; see README.md beside this file. The program ends with the number of the first line
+   that isn't as it should be. */
+#include "sqlkeep.h"
+
+#include <string.h>
+
+#define WANT(condition) do { if (!(condition)) return __LINE__ % 251 + 1; } while (0)
+
+/* The places of tables: customer 0, orders 1, note 2, log 3. Of constraints: the keys 0 and 1, ORDERED_BY 2, ABOUT 3. */
+static const char SCHEMA[] =
+    "CREATE TABLE customer (id INT PRIMARY KEY, name VARCHAR(20));"
+    "CREATE TABLE orders (id INT PRIMARY KEY, customer INT CONSTRAINT ordered_by REFERENCES customer ON DELETE CASCADE);"
+    "CREATE TABLE note (customer INT CONSTRAINT about REFERENCES customer ON DELETE SET NULL, words VARCHAR(20));"
+    "CREATE TABLE log (words VARCHAR(20), id INT);"
+    "CREATE TRIGGER cancelled AFTER DELETE ON orders REFERENCING OLD AS o FOR EACH ROW INSERT INTO log VALUES ('cancelled', o.id);"
+    "CREATE TRIGGER counted AFTER DELETE ON note SIGNAL 'notes stay';"
+    "INSERT INTO customer VALUES (1, 'Ann'); INSERT INTO orders VALUES (10, 1); INSERT INTO note VALUES (1, 'pays late'); COMMIT;";
+
+/* Reads a statement and executes it; the kind of its outcome. */
+static uint32_t executed(sqlkeep *session, const char *text, sqlkeep_outcome *outcome) {
+    sqlkeep_script script;
+    if (sqlkeep_read(session, (const uint8_t *)text, strlen(text), &script) != SQLKEEP_OK || script.statements == 0) return 77;
+    for (size_t at = 0; at < script.statements; at++) {
+        if (sqlkeep_execute(session, at, outcome) != SQLKEEP_OK) return 77;
+    }
+    return outcome->kind;
+}
+
+static bool is_entry(sqlkeep *session, size_t at, uint32_t kind, uint64_t items) {
+    sqlkeep_entry_shown entry;
+    return sqlkeep_entry(session, at, &entry) == SQLKEEP_OK && entry.kind == kind && entry.items == items;
+}
+
+static bool is_integer(sqlkeep *session, size_t at, size_t item, uint32_t side, size_t column, int64_t want) {
+    sqlkeep_cell cell;
+    return sqlkeep_entry_value(session, at, item, side, column, &cell) == SQLKEEP_OK && cell.kind == SQLKEEP_INTEGER && cell.integer == want;
+}
+
+static bool is_text(sqlkeep *session, size_t at, size_t item, uint32_t side, size_t column, const char *want) {
+    uint8_t bytes[50];
+    size_t copied = 0;
+    return sqlkeep_entry_text(session, at, item, side, column, 0, bytes, sizeof bytes, &copied) == SQLKEEP_OK
+        && copied == strlen(want) && memcmp(bytes, want, copied) == 0;
+}
+
+/* delete CUSTOMER 1; ORDERED_BY CASCADE on ORDERS 2, ABOUT SET NULL on NOTE 3; delete ORDERS 2, update NOTE 3; trigger CANCELLED OLD (10,
+   1); statement 1: insert LOG 4. */
+static int cascade(sqlkeep *session) {
+    sqlkeep_outcome outcome;
+    sqlkeep_entry_shown entry;
+    sqlkeep_item item;
+    sqlkeep_cell cell;
+    uint8_t bytes[20];
+    size_t count = 77;
+    WANT(executed(session, "DELETE FROM customer WHERE id = 1;", &outcome) == SQLKEEP_CHANGED);
+    WANT(sqlkeep_entries(session, &count) == SQLKEEP_OK && count == 7);
+    WANT(is_entry(session, 0, SQLKEEP_ENTRY_CHANGES, 1) && sqlkeep_entry_item(session, 0, 0, &item) == SQLKEEP_OK);
+    WANT(item.table == 0 && item.row == 1 && item.has_old == 1 && item.has_new == 0);
+    WANT(is_integer(session, 0, 0, SQLKEEP_OLD, 0, 1) && is_text(session, 0, 0, SQLKEEP_OLD, 1, "Ann"));
+    WANT(sqlkeep_entry_value(session, 0, 0, SQLKEEP_NEW, 0, &cell) == SQLKEEP_NOTHING);
+    WANT(is_entry(session, 1, SQLKEEP_ENTRY_ACTIONS, 2) && sqlkeep_entry_item(session, 1, 0, &item) == SQLKEEP_OK);
+    WANT(item.constraint == 2 && item.action == SQLKEEP_CASCADE && item.table == 1 && item.row == 2 && item.has_old == 0 && item.has_new == 0);
+    WANT(sqlkeep_entry_item(session, 1, 1, &item) == SQLKEEP_OK && item.constraint == 3 && item.action == SQLKEEP_SET_NULL && item.table == 2 && item.row == 3);
+    WANT(sqlkeep_entry_value(session, 1, 0, SQLKEEP_OLD, 0, &cell) == SQLKEEP_NOTHING);
+    WANT(is_entry(session, 2, SQLKEEP_ENTRY_CHANGES, 2) && sqlkeep_entry_item(session, 2, 1, &item) == SQLKEEP_OK && item.has_old == 1 && item.has_new == 1);
+    WANT(is_text(session, 2, 1, SQLKEEP_NEW, 1, "pays late") && sqlkeep_entry_value(session, 2, 1, SQLKEEP_NEW, 0, &cell) == SQLKEEP_OK && cell.kind == SQLKEEP_NULL);
+    WANT(sqlkeep_entry_value(session, 2, 1, 2, 0, &cell) == SQLKEEP_NOTHING && sqlkeep_entry_value(session, 2, 1, SQLKEEP_NEW, 2, &cell) == SQLKEEP_NOTHING);
+    WANT(is_entry(session, 3, SQLKEEP_ENTRY_TRIGGER, 0) && sqlkeep_entry(session, 3, &entry) == SQLKEEP_OK && entry.has_old == 1 && entry.has_new == 0);
+    WANT(sqlkeep_entry_trigger(session, 3, 0, bytes, sizeof bytes, &count) == SQLKEEP_OK && count == 9 && memcmp(bytes, "CANCELLED", 9) == 0);
+    WANT(sqlkeep_entry_trigger(session, 2, 0, bytes, sizeof bytes, &count) == SQLKEEP_NOTHING);
+    WANT(sqlkeep_seen_value(session, 3, SQLKEEP_OLD, 0, &cell) == SQLKEEP_OK && cell.integer == 10);
+    WANT(sqlkeep_seen_value(session, 3, SQLKEEP_NEW, 0, &cell) == SQLKEEP_NOTHING && sqlkeep_seen_value(session, 2, SQLKEEP_OLD, 0, &cell) == SQLKEEP_NOTHING);
+    WANT(is_entry(session, 4, SQLKEEP_ENTRY_STATEMENT, 0) && sqlkeep_entry(session, 4, &entry) == SQLKEEP_OK && entry.statement == 1);
+    WANT(is_entry(session, 5, SQLKEEP_ENTRY_CHANGES, 1) && is_text(session, 5, 0, SQLKEEP_NEW, 0, "cancelled") && is_integer(session, 5, 0, SQLKEEP_NEW, 1, 10));
+    WANT(is_entry(session, 6, SQLKEEP_ENTRY_STATEMENT_END, 0));
+    WANT(sqlkeep_entry(session, 7, &entry) == SQLKEEP_NOTHING && sqlkeep_entry_item(session, 6, 0, &item) == SQLKEEP_NOTHING);
+    WANT(sqlkeep_entry_item(session, 0, 1, &item) == SQLKEEP_NOTHING);
+    WANT(sqlkeep_rollback(session) == SQLKEEP_OK);
+    return 0;
+}
+
+/* insert CUSTOMER 4 (1, NULL); the first row with its key is row 1. */
+static int violation(sqlkeep *session) {
+    sqlkeep_outcome outcome;
+    sqlkeep_entry_shown entry;
+    sqlkeep_item item;
+    sqlkeep_cell cell;
+    size_t count = 0;
+    WANT(executed(session, "INSERT INTO customer (id) VALUES (1);", &outcome) == SQLKEEP_REFUSED && outcome.row == 1);
+    WANT(sqlkeep_entries(session, &count) == SQLKEEP_OK && count == 2);
+    WANT(sqlkeep_entry(session, 1, &entry) == SQLKEEP_OK && entry.kind == SQLKEEP_ENTRY_VIOLATION && entry.constraint == 0 && entry.row == 1 && entry.items == 2);
+    WANT(sqlkeep_entry_item(session, 1, 0, &item) == SQLKEEP_OK && item.table == 0 && item.row == 1 && item.has_old == 0 && item.has_new == 1);
+    WANT(sqlkeep_entry_item(session, 1, 1, &item) == SQLKEEP_OK && item.row == 4);
+    WANT(is_text(session, 1, 0, SQLKEEP_NEW, 1, "Ann") && sqlkeep_entry_value(session, 1, 1, SQLKEEP_NEW, 1, &cell) == SQLKEEP_OK && cell.kind == SQLKEEP_NULL);
+    WANT(sqlkeep_entry_value(session, 1, 0, SQLKEEP_OLD, 0, &cell) == SQLKEEP_NOTHING);
+    WANT(sqlkeep_rollback(session) == SQLKEEP_OK);
+    return 0;
+}
+
+/* A trigger for the whole statement has the changes of its transition tables. */
+static int transition(sqlkeep *session) {
+    sqlkeep_outcome outcome;
+    sqlkeep_item item;
+    size_t count = 0;
+    WANT(executed(session, "DELETE FROM note;", &outcome) == SQLKEEP_REFUSED && outcome.cause == SQLKEEP_CAUSE_SIGNAL);
+    WANT(sqlkeep_entries(session, &count) == SQLKEEP_OK && count == 2);
+    WANT(is_entry(session, 1, SQLKEEP_ENTRY_TRIGGER, 1) && sqlkeep_entry_item(session, 1, 0, &item) == SQLKEEP_OK && item.table == 2 && item.row == 3 && item.has_old == 1);
+    WANT(is_text(session, 1, 0, SQLKEEP_OLD, 1, "pays late"));
+    WANT(sqlkeep_explain(session, 0) == SQLKEEP_OK);
+    WANT(executed(session, "DELETE FROM note;", &outcome) == SQLKEEP_REFUSED);
+    WANT(sqlkeep_entries(session, &count) == SQLKEEP_OK && count == 0);
+    return 0;
+}
+
+/* Each function with an empty handle, and with none. */
+static int closed(void) {
+    sqlkeep empty = SQLKEEP_EMPTY;
+    sqlkeep *handles[] = {&empty, NULL};
+    for (size_t i = 0; i < 2; i++) {
+        const uint32_t want = i == 0 ? SQLKEEP_CLOSED : SQLKEEP_NO_HANDLE;
+        sqlkeep *it = handles[i];
+        sqlkeep_entry_shown entry;
+        sqlkeep_item item;
+        sqlkeep_cell cell;
+        uint8_t bytes[1];
+        size_t count;
+        WANT(sqlkeep_entries(it, &count) == want && sqlkeep_entry(it, 0, &entry) == want && sqlkeep_entry_item(it, 0, 0, &item) == want);
+        WANT(sqlkeep_entry_trigger(it, 0, 0, bytes, 1, &count) == want && sqlkeep_entry_value(it, 0, 0, 0, 0, &cell) == want);
+        WANT(sqlkeep_entry_text(it, 0, 0, 0, 0, 0, bytes, 1, &count) == want && sqlkeep_seen_value(it, 0, 0, 0, &cell) == want);
+        WANT(sqlkeep_seen_text(it, 0, 0, 0, 0, bytes, 1, &count) == want);
+    }
+    return 0;
+}
+
+int main(void) {
+    sqlkeep session = SQLKEEP_EMPTY;
+    sqlkeep_outcome outcome;
+    WANT(sqlkeep_open(&session, 16, 65536) == SQLKEEP_OK);
+    WANT(executed(&session, SCHEMA, &outcome) == SQLKEEP_DONE && sqlkeep_explain(&session, 1) == SQLKEEP_OK);
+    int failed = cascade(&session);
+    failed = failed ? failed : violation(&session);
+    failed = failed ? failed : transition(&session);
+    WANT(sqlkeep_close(&session) == SQLKEEP_OK);
+    return failed ? failed : closed();
+}

@@ -1,0 +1,132 @@
+// The header for C++: values, refusals and transactions; see README.md beside this file. The program ends with 0 where all is as it should be.
+#include "sqlkeep.hpp"
+
+#include <cstdlib>
+#include <iostream>
+#include <limits>
+
+#define WANT(condition) do { if (!(condition)) { std::cerr << "line " << __LINE__ << ": " #condition "\n"; std::exit(1); } } while (false)
+
+template <typename Error, typename Call> Error thrown(Call call) {
+    try {
+        call();
+    } catch (const Error &error) {
+        return error;
+    } catch (const std::exception &other) {
+        std::cerr << "another exception: " << other.what() << '\n';
+        std::exit(1);
+    }
+    std::cerr << "nothing was thrown\n";
+    std::exit(1);
+}
+
+static keep::session books() {
+    keep::session session;
+    session.execute_batch(
+        "CREATE TABLE author (name VARCHAR(20) PRIMARY KEY, born INT);"
+        "CREATE TABLE book (title VARCHAR(20), author VARCHAR(20) CONSTRAINT written_by REFERENCES author ON DELETE CASCADE INITIALLY DEFERRED,"
+        " pages INT CONSTRAINT some CHECK (pages > 0));"
+        "INSERT INTO author VALUES ('Austen', 1775); COMMIT;");
+    return session;
+}
+
+static void values() {
+    keep::session session;
+    session.execute_batch("CREATE TABLE t (a INT, b VARCHAR(60)); COMMIT;");
+    const std::string texts[] = {"'; DROP TABLE t; --", "?", "", "it''s", "x'); INSERT INTO t VALUES (9, 'y", "\xc3\xa9", "a\nb"};
+    int at = 0;
+    for (const std::string &text : texts) {
+        WANT(session.execute("INSERT INTO t VALUES (?, ?)", at, text) == 1);
+        const keep::rows found = session.query("SELECT b FROM t WHERE a = ? AND b = ?;", at++, text);
+        WANT(found.size() == 1 && found[0].get<std::string>(0) == text);
+    }
+    for (const std::int64_t number : {std::numeric_limits<std::int64_t>::min(), std::numeric_limits<std::int64_t>::max(), std::int64_t{-1}}) {
+        session.execute("DELETE FROM t");
+        session.execute("INSERT INTO t VALUES (?, ?)", number, nullptr);
+        const keep::rows found = session.query("SELECT * FROM t");
+        WANT(found[0].get<std::int64_t>(0) == number && !found[0].get<std::optional<std::string>>(1));
+        WANT((found.columns == std::vector<std::string>{"A", "B"}));
+        WANT(found[0][1] == keep::value());
+    }
+    session.execute("UPDATE t SET a = ?, b = ?", std::optional<int>(300), keep::value("x"));
+    const keep::rows found = session.query("SELECT a, b, a + 1 FROM t");
+    WANT(found[0].get<int>(0) == 300 && found[0].get<keep::value>(1) == keep::value("x") && found.columns[2].empty());
+    thrown<keep::usage_error>([&] { found[0].get<std::int8_t>(0); });
+    thrown<keep::usage_error>([&] { found[0].get<int>(1); });
+    thrown<keep::usage_error>([&] { found[0].get<std::string>(0); });
+    thrown<keep::usage_error>([&] { found[0].get<int>(3); });
+}
+
+static void refusals() {
+    keep::session session = books();
+    auto refused = thrown<keep::refused>([&] { session.execute("INSERT INTO book VALUES ('Emma', 'Austen', 0)"); });
+    WANT(refused.why().cause == SQLKEEP_CAUSE_VIOLATION && refused.why().constraint == "SOME" && refused.why().row == 2U);
+    WANT(refused.what() == std::string("Violation: SOME: BOOK row 2 ('Emma', 'Austen', 0) makes its condition false"));
+    refused = thrown<keep::refused>([&] { session.execute("INSERT INTO boook VALUES (1)"); });
+    WANT(refused.what() == std::string("Unknown: table BOOOK isn't there"));
+    session.execute("INSERT INTO book VALUES (?, ?, 1), (?, ?, 2)", "Dracula", "Stoker", "Frankenstein", "Shelley");
+    const std::vector<keep::violation> pending = session.pending();
+    WANT(pending.size() == 2 && pending[1].constraint == "WRITTEN_BY" && pending[1].row == 3);
+    refused = thrown<keep::refused>([&] { session.commit(); });
+    WANT(refused.why().cause == SQLKEEP_CAUSE_COMMIT_REFUSED && refused.why().reasons.size() == 2 && !session.in_transaction());
+    session.execute("INSERT INTO book VALUES ('Dracula', 'Stoker', 1)");
+    refused = thrown<keep::refused>([&] { session.execute(" -- now\n commit;"); });
+    WANT(refused.why().reasons.size() == 1 && !session.in_transaction());
+    refused = thrown<keep::refused>([&] { session.execute_batch("INSERT INTO author VALUES ('Austen', 1); COMMIT;"); });
+    WANT(refused.why().statement == 0);
+    session.rollback();
+    session.execute_batch("CREATE TRIGGER kept BEFORE DELETE ON author SIGNAL 'authors stay'; COMMIT;");
+    refused = thrown<keep::refused>([&] { session.execute("DELETE FROM author"); });
+    WANT(refused.what() == std::string("Signal: authors stay") && refused.why().trigger == "KEPT");
+}
+
+static void usage() {
+    keep::session session;
+    auto fault = thrown<keep::syntax_error>([&] { session.execute_batch("COMMIT;\n '\xc3\xa9' COMIT;"); });
+    WANT(fault.byte() == 9 && fault.line() == 2 && fault.column() == 2);
+    thrown<keep::usage_error>([&] { session.execute("COMMIT; COMMIT;"); });
+    thrown<keep::usage_error>([&] { session.execute("SELECT a FROM t WHERE a = ?"); });
+    thrown<keep::usage_error>([&] { session.execute("SELECT # FROM t WHERE a = ?", 1); });
+    fault = thrown<keep::syntax_error>([&] { session.execute("SELECT # FROM t"); });
+    thrown<keep::usage_error>([&] { session.execute("SELECT ? FROM t", "\xff"); });
+    thrown<keep::usage_error>([] { keep::session(65, 1); });
+    session.execute("CREATE TABLE t (a INT)");
+    thrown<keep::usage_error>([&] { session.execute("SELECT a FROM t"); });
+    thrown<keep::usage_error>([&] { session.query("DELETE FROM t"); });
+    WANT(session.run("CREATE TABLE t (a INT); COMIT;") == "1 ok\n2 fault 24\n");
+}
+
+static void transactions() {
+    keep::session session = books();
+    {
+        const keep::transaction open(session);
+        session.execute("INSERT INTO book VALUES ('Emma', 'Austen', 1)");
+    }
+    WANT(session.query("SELECT title FROM book").empty());
+    {
+        keep::transaction open(session);
+        session.execute("INSERT INTO book VALUES ('Emma', 'Austen', 1)");
+        open.commit();
+    }
+    WANT(session.query("SELECT title FROM book").size() == 1);
+    session.rollback();
+    session.explain(true);
+    session.execute_batch("START TRANSACTION; SAVEPOINT s;");
+    WANT(session.execute("DELETE FROM author") == 1 && session.work().changes == 2);
+    WANT(session.account().size() == 3 && session.account()[1] == "  WRITTEN_BY CASCADE on BOOK row 2");
+    session.rollback_to("s");
+    WANT(session.work().undone == 2);
+    const auto refused = thrown<keep::refused>([&] { session.rollback_to("nosuch"); });
+    WANT(refused.why().cause == SQLKEEP_CAUSE_UNKNOWN_SAVEPOINT);
+    keep::session other = std::move(session);
+    WANT(other.in_transaction());
+    thrown<keep::usage_error>([&] { session.execute("COMMIT"); });
+}
+
+int main() {
+    values();
+    refusals();
+    usage();
+    transactions();
+    return 0;
+}
