@@ -107,7 +107,7 @@ function actionOf(line) {
 }
 
 function triggerOf(line) {
-  const found = /^trigger (\w+)/.exec(line);
+  const found = /^trigger (\w+)(?= (?:OLD|NEW) \(|$)/.exec(line);
   if (!found) {
     return null;
   }

@@ -12,9 +12,11 @@ import base64
 import gzip
 import os
 import shutil
+import struct
 import subprocess
 import sys
 import tempfile
+import zlib
 from pathlib import Path
 
 HERE = Path(__file__).resolve().parent
@@ -313,16 +315,37 @@ def account_shot(page, name, scheme):
     return found
 
 
-def made_small(file):
-    """Takes colours away until the picture has few enough bytes; how many are left."""
+# The colours of areas and of texts, and the pairs of which a picture needs the middle too, for the edges of letters and lines.
+COLOURS = ["ground", "panel", "text", "muted", "line", "edge", "accent", "chosen", "good", "good-ground", "bad", "bad-ground", "change", "change-ground", "keyword", "literal-text", "number"]
+MIDDLES = [("text", "ground"), ("muted", "ground"), ("line", "ground"), ("accent", "ground"), ("keyword", "ground"), ("literal-text", "ground"), ("number", "ground"), ("text", "chosen"), ("good", "good-ground"),
+           ("bad", "bad-ground"), ("change", "change-ground")]
+
+
+def palette(page, pairs):
+    """A picture of the page's own colours and of the middles of these pairs, one pixel for each."""
+    middles = [[(one + other) // 2 for one, other in zip(page.colour(first), page.colour(second))] for first, second in pairs]
+    dots = bytes(part for colour in [page.colour(name) for name in COLOURS] + middles for part in colour)
+
+    def chunk(kind, content):
+        return struct.pack(">I", len(content)) + kind + content + struct.pack(">I", zlib.crc32(kind + content))
+
+    head = struct.pack(">IIBBBBB", len(dots) // 3, 1, 8, 2, 0, 0, 0)
+    return b"\x89PNG\r\n\x1a\n" + chunk(b"IHDR", head) + chunk(b"IDAT", zlib.compress(b"\0" + dots)) + chunk(b"IEND", b"")
+
+
+def made_small(page, file):
+    """Takes colours away until the picture has few enough bytes: 64 or 48 of its own, or else those of the page alone. How it was done."""
     whole = file.read_bytes()
-    for colours in (64, 48, 40, 32, 28, 24, 20, 16):
-        done = subprocess.run(["pngquant", "--nofs", "--strip", "--speed", "1", str(colours), "-"], input=whole, capture_output=True, check=True)
+    palettes = [Path(page.browser.folder, f"palette-{count}.png") for count in (len(MIDDLES), 3, 1)]
+    for own, count in zip(palettes, (len(MIDDLES), 3, 1)):
+        own.write_bytes(palette(page, MIDDLES[:count]))
+    for how in [["64"], ["48"], *(["--map", str(own)] for own in palettes)]:
+        done = subprocess.run(["pngquant", "--nofs", "--strip", "--speed", "1", *how, "-"], input=whole, capture_output=True, check=True)
         file.write_bytes(done.stdout)
-        if len(done.stdout) <= MOST_BYTES * 11 // 10:
+        if len(done.stdout) <= MOST_BYTES * 12 // 10:
             subprocess.run(["zopflipng", "-y", str(file), str(file)], stdout=subprocess.DEVNULL, check=True)
         if file.stat().st_size <= MOST_BYTES:
-            return colours
+            return f"{how[0]} colours" if len(how) == 1 else Path(how[1]).stem
     raise SystemExit(f"{file} has {file.stat().st_size:,} bytes with few colours")
 
 
@@ -336,8 +359,8 @@ def pictures(page):
     for name, make in shots:
         file = PICTURES / f"{name}.png"
         file.write_bytes(make())
-        colours = made_small(file)
-        print(f"{file.relative_to(ROOT)}: {file.stat().st_size:,} bytes, {colours} colours")
+        how = made_small(page, file)
+        print(f"{file.relative_to(ROOT)}: {file.stat().st_size:,} bytes, {how}")
     return 0
 
 

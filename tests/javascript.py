@@ -1,6 +1,6 @@
 #!/usr/bin/env python3
 """Tries the engine in JavaScript: every script of tests/scripts and examples that has no other words than limits, with accounts where they are
-there, and the calls of a session (javascript.mjs).
+there; the accounts of all of them, read into objects and written again; and the calls of a session (javascript.mjs).
 
   tests/javascript.py --library FOLDER
 
@@ -52,6 +52,17 @@ def answers(folder, wanted):
     return {answer["name"]: answer for answer in map(json.loads, done.stdout.splitlines())}
 
 
+def read_again(wanted, folder):
+    """Why accounts that are read into objects and written again have other lines, by script; and how many accounts there were."""
+    all_explained = [(name, script, {**options, "explain": True}, want) for name, script, options, want in wanted if not options.get("explain")]
+    found = answers(folder, all_explained)
+    return [f"{name}: {found.get(name, {}).get('unlike', found.get(name))}" for name, _, _, _ in all_explained if is_unlike(found.get(name))], sum(each.get("accounts", 0) for each in found.values()), len(all_explained)
+
+
+def is_unlike(answer):
+    return answer is None or answer.get("unlike") is not None or ("accounts" not in answer and answer.get("status") not in STOPS)
+
+
 def said(answer):
     if answer is None:
         return b"no answer"
@@ -72,6 +83,9 @@ def main():
         passed, failed = passed + (not why), failed + bool(why)
         if why:
             print("FAILED", why[0][:300])
+    unlike, accounts, scripts = read_again(wanted, folder)
+    print("".join(f"FAILED account of {why[:600]}\n" for why in unlike) + f"{accounts} accounts of {scripts} scripts read into objects and written again")
+    passed, failed = passed + scripts - len(unlike), failed + len(unlike)
     calls = subprocess.run(["node", os.path.join(HERE, "javascript.mjs"), folder], capture_output=True, text=True, timeout=300, check=False)
     for line in calls.stdout.splitlines():
         passed, failed = passed + line.startswith("ok "), failed + line.startswith("FAILED ")
