@@ -191,8 +191,11 @@ def note_ended(crate, ended, its_mark, shown):
         shown.say(output)
         shown.say(f"{crate}: not proved")
         return False
-    with open(os.path.join(folder(crate), PROVED), "w", encoding="utf-8") as file:
+    # A new file: a clone whose kept work is linked to this one keeps its own mark.
+    marked = os.path.join(folder(crate), PROVED)
+    with open(marked + ".new", "w", encoding="utf-8") as file:
         file.write(its_mark)
+    os.replace(marked + ".new", marked)
     shown.ended(crate, seconds, used)
     return True
 
