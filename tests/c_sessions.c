@@ -287,7 +287,7 @@ static int names(void) {
 /* Each status but that for want of memory. */
 static int statuses(void) {
     sqlkeep session = SQLKEEP_EMPTY;
-    sqlkeep_summary summary = {7, 7, 7, 7, 7};
+    sqlkeep_summary summary = {7, 7, 7, 7, 7, 7};
     uint8_t byte = 0;
     size_t copied = 7;
     WANT(sqlkeep_close(&session) == SQLKEEP_CLOSED);

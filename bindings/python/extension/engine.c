@@ -245,7 +245,7 @@ static PyObject *engine_told_lines(engine *self, PyObject *arguments) {
 }
 
 static PyObject *run_text(engine *self, const char *text, Py_ssize_t length) {
-    sqlkeep_summary summary = {0, 0, 0, 0, 0};
+    sqlkeep_summary summary = {0, 0, 0, 0, 0, 0};
     uint32_t status;
     Py_BEGIN_ALLOW_THREADS
     status = sqlkeep_run(&self->handle, (const uint8_t *)text, (size_t)length, &summary);
