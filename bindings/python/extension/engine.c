@@ -256,11 +256,12 @@ static PyObject *run_text(engine *self, const char *text, Py_ssize_t length) {
         Py_XDECREF(lines);
         return NULL;
     }
-    return Py_BuildValue("NKKKN", lines, (unsigned long long)summary.accepted, (unsigned long long)summary.refused,
-                         (unsigned long long)summary.memory_refused, fault);
+    return Py_BuildValue("NKKKNK", lines, (unsigned long long)summary.accepted, (unsigned long long)summary.refused,
+                         (unsigned long long)summary.memory_refused, fault, (unsigned long long)summary.untold);
 }
 
-/* run(bytes): the transcript, how many were accepted, refused, and refused memory, and the byte of the fault or None. */
+/* run(bytes): the transcript, how many were accepted, refused, and refused memory, the byte of the fault or None, and how many COMMITs
+   have no account for lack of memory. */
 static PyObject *engine_run(engine *self, PyObject *arguments) {
     const char *text;
     Py_ssize_t length;

@@ -71,7 +71,7 @@ class Scripts(unittest.TestCase):
 
     def test_run_counts(self):
         run = sqlkeep.Session().run("CREATE TABLE t (a INT CHECK (a > 0)); INSERT INTO t VALUES (0); INSERT INTO t VALUES (1); SELEKT")
-        self.assertEqual((run.accepted, run.refused, run.memory_refused, run.fault), (2, 1, 0, 90))
+        self.assertEqual((run.accepted, run.refused, run.memory_refused, run.fault, run.untold), (2, 1, 0, 90, 0))
         self.assertEqual(run.transcript, "1 ok\n2 refused 13 Violation T_C1 row 1\n3 ok 1\n4 fault 90\nend rolled back\n")
         self.assertEqual(run.parsed().answers[1].refusal.constraint, "T_C1")
 

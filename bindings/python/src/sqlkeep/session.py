@@ -41,13 +41,14 @@ class Pending(NamedTuple):
 @dataclass(frozen=True)
 class Run:
     """What a script did: its transcript, how many statements were accepted and refused, how many of the refused had no memory,
-    and the byte where something is left that is no statement."""
+    the byte where something is left that is no statement, and how many refused COMMITs have an empty account for lack of memory."""
 
     transcript: str
     accepted: int
     refused: int
     memory_refused: int
     fault: int | None
+    untold: int
 
     def parsed(self) -> Transcript:
         """The transcript as dataclasses."""
@@ -135,8 +136,8 @@ class Session:
     def run(self, script: str | bytes) -> Run:
         """Runs a whole script in a database of its own, as the program does, and gives its transcript. The database of this
         session is neither read nor changed."""
-        lines, accepted, refusals, memory_refused, fault = self._engine.run(script if isinstance(script, bytes) else encoded(script))
-        return Run(lines.decode(), accepted, refusals, memory_refused, fault)
+        lines, accepted, refusals, memory_refused, fault, untold = self._engine.run(script if isinstance(script, bytes) else encoded(script))
+        return Run(lines.decode(), accepted, refusals, memory_refused, fault, untold)
 
     def execute(self, text: str, parameters: Sequence[Value] = ()) -> Outcome:
         """Executes one statement, with a value for each `?` in it. A refusal is an outcome and raises nothing; a text that is no
