@@ -11,16 +11,16 @@ pub told_twice : (account : Account) (xs ys : List Entry) → and_told (and_told
 told_twice account xs ys = by_asked account.asked
   where
     by_asked : (b : Bool)
-        → ◌≡◌ {A = Account} (record { asked = b; entries = if b then (if b then account.entries ++ xs else account.entries) ++ ys else (if b then account.entries ++ xs else account.entries) })
-        (record { asked = b; entries = if b then account.entries ++ (xs ++ ys) else account.entries })
-    by_asked true = ap (λ l. record { asked = true; entries = l }) (append_assoc account.entries xs ys)
+        → ◌≡◌ {A = Account} (record account { asked = b; entries = if b then (if b then account.entries ++ xs else account.entries) ++ ys else (if b then account.entries ++ xs else account.entries) })
+        (record account { asked = b; entries = if b then account.entries ++ (xs ++ ys) else account.entries })
+    by_asked true = ap (λ l. record account { asked = true; entries = l }) (append_assoc account.entries xs ys)
     by_asked false = refl
 
 pub told_none : (account : Account) → and_told account [] ≡ account
 told_none account = by_asked account.asked
   where
-    by_asked : (b : Bool) → ◌≡◌ {A = Account} (record { asked = b; entries = if b then account.entries ++ [] else account.entries }) (record { asked = b; entries = account.entries })
-    by_asked true = ap (λ l. record { asked = true; entries = l }) (append-nil account.entries)
+    by_asked : (b : Bool) → ◌≡◌ {A = Account} (record account { asked = b; entries = if b then account.entries ++ [] else account.entries }) (record account { asked = b; entries = account.entries })
+    by_asked true = ap (λ l. record account { asked = true; entries = l }) (append-nil account.entries)
     by_asked false = refl
 
 pub then_tell : (old mid new : Account) (xs ys : List Entry) → mid ≡ and_told old xs → new ≡ and_told mid ys → new ≡ and_told old (xs ++ ys)

@@ -2,10 +2,11 @@
 use Rattle.std.specs.Prelude.{◌≡◌, Bool, true, false, if◌then◌else◌, List, [], ◌++◌, ◌⊎◌}
 use Rattle.iv_account.specs.declared.entry.Entry.{Entry}
 
--- Whether an account is asked for, and what was told so far.
+-- Whether an account is asked for, what was told so far, and whether memory for it was refused, so that nothing is told.
 pub record Account : Type 0 where
   pub asked : Bool
   pub entries : List Entry
+  pub untold : Bool
 
 -- with these entries more, where it is asked for
 abbrev pub and_told : Account → List Entry → Account
@@ -13,9 +14,14 @@ and_told account entries = record account { entries = if account.asked then acco
 
 -- nothing told so far
 abbrev pub no_account : Bool → Account
-no_account asked = record { asked = asked; entries = [] }
+no_account asked = record { asked = asked; entries = []; untold = false }
 
--- These entries are told; or, where that may be, memory for them was refused, and nothing is told.
+-- an account that is asked for, and for which memory was refused
+abbrev pub untold_account : Account
+untold_account = record { asked = true; entries = []; untold = true }
+
+-- These entries are told; or, where that may be and an account is asked for, memory for them was refused: nothing is told, and the
+-- account says so.
 abbrev pub MayTell : Bool → Account → Account → List Entry → Type 0
 MayTell false old new entries = new ≡ and_told old entries
-MayTell true old new entries = (new ≡ and_told old entries) ⊎ (new ≡ no_account old.asked)
+MayTell true old new entries = (new ≡ and_told old entries) ⊎ ((old.asked ≡ true) × (new ≡ untold_account))

@@ -2,7 +2,7 @@
 ghost use Rattle.std.specs.Prelude.{◌≡◌, [], ◌∷◌, false, Ok, IfOk, OnOk};
 ghost use Rattle.std.specs.Option.{option_copied};
 ghost use Rattle.iv_account.specs.Accounts.{ran, seen};
-ghost use Rattle.iv_account.specs.Telling.{and_told, no_account};
+ghost use Rattle.iv_account.specs.Telling.{and_told, no_account, untold_account};
 ghost use Rattle.iv_account.specs.declared.entry.Entry.TheVariants as entry;
 
 use crate::entry::{Entry, RowAction, Seen};
@@ -62,11 +62,16 @@ fn seen(alloc: Global, trigger: &Trigger, frame: &Frame<'_>) -> Result<Seen, All
 pub struct Account {
     asked: bool,
     entries: Vec<Entry>,
+    untold: bool,
 }
 
 impl Drop for Account {
     fn drop(self) {
-        let Account { asked: _, entries } = self;
+        let Account {
+            asked: _,
+            entries,
+            untold: _,
+        } = self;
         drop(entries);
     }
 }
@@ -76,7 +81,7 @@ impl Model for Account {
 
     ghost Value = { Told };
 
-    ghost view = { λ a. record { asked = a.asked; entries = a.entries.items } };
+    ghost view = { λ a. record { asked = a.asked; entries = a.entries.items; untold = a.untold } };
 }
 
 impl Account {
@@ -87,6 +92,18 @@ impl Account {
         Account {
             asked,
             entries: Vec::new(alloc),
+            untold: false,
+        }
+    }
+
+    /// An account that is asked for, and for which memory was refused. It takes none.
+    pub fn untold(alloc: Global) -> Account
+        ensures { result ≡ untold_account }
+    {
+        Account {
+            asked: true,
+            entries: Vec::new(alloc),
+            untold: true,
         }
     }
 
@@ -95,6 +112,13 @@ impl Account {
         ensures { result ≡ self.now.asked }
     {
         self.asked
+    }
+
+    /// Whether memory was refused for it, so that it is empty.
+    pub fn is_untold(&self) -> bool
+        ensures { result ≡ self.now.untold }
+    {
+        self.untold
     }
 
     /// What was told, in its order.

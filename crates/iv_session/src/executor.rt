@@ -28,6 +28,10 @@ impl<K: Keeper + Drop> Executor for Session<K> {
         self.account()
     }
 
+    fn is_untold(&self) -> bool {
+        self.is_untold()
+    }
+
     fn catalogue(&self) -> &Catalogue {
         self.catalogue()
     }

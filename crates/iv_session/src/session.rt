@@ -94,6 +94,14 @@ impl<K: Keeper + Drop> Session<K> {
         self.account.entries()
     }
 
+    /// Whether the last statement that was executed, or the last call, was a COMMIT with an account that memory was
+    /// refused for. That account is then empty; otherwise it tells all that it is refused for.
+    pub fn is_untold(&self) -> bool
+        ensures { result ≡ self.now.account.untold }
+    {
+        self.account.is_untold()
+    }
+
     /// The tables, constraints and triggers.
     pub fn catalogue(&self) -> &Catalogue
         ensures { result.now ≡ self.now.state.schema }
@@ -155,7 +163,7 @@ impl<K: Keeper + Drop> Session<K> {
 
     /// Ends the transaction: the database stays where no constraint is violated, and is otherwise the one
     /// at the transaction's start. Outside a transaction it does nothing. It can't be refused memory: an account that is
-    /// asked for is empty if memory is refused for it.
+    /// asked for is empty if memory is refused for it, and `is_untold` says so.
     pub fn commit(&mut self) -> Result<(), Fault>
         ensures answer { commit_answer result ≡ (commit_outcome self.old.state).answer }
         ensures state { self.new.state ≡ (commit_outcome self.old.state).state }

@@ -68,24 +68,27 @@ impl<K: Keeper + Drop> SessionState<K> {
         )
     }
 
-    // Tells all violations, where a transaction is open and an account is asked for.
+    // Tells all violations, where a transaction is open.
     fn tell_violations(&self, account: &mut Account) -> Result<(), AllocError>
         ensures { OnOk result (account.new ≡ and_told account.old (commit_told self.now.state)) }
     {
-        if !account.is_asked() || !self.in_transaction() {
+        if !self.in_transaction() {
             return Ok(());
         }
         let faults = self.store.list_faults(self.modes(), Which::All)?;
         tell_faults(&self.store, &self.catalogue, faults.as_slice(), account)
     }
 
-    /// Tells what COMMIT is refused for. Where memory is refused, the account is empty.
+    /// Tells what COMMIT is refused for, where an account is asked for. Where memory is refused, the account is empty and
+    /// says so.
     pub fn tell_commit(&self, account: &mut Account)
         ensures { MayTell true account.old account.new (commit_told self.now.state) }
     {
-        let asked = account.is_asked();
+        if !account.is_asked() {
+            return;
+        }
         if self.tell_violations(account).is_err() {
-            *account = Account::new(self.allocator(), asked);
+            *account = Account::untold(self.allocator());
         }
     }
 }

@@ -1,5 +1,5 @@
 -- Whether an account is asked for stays.
-use Rattle.std.proofs.Common.{◌≡◌, inl, inr, Bool, true, false, List, Result, MatchBool, ap}
+use Rattle.std.proofs.Common.{◌≡◌, inl, inr, Bool, true, false, List, Result, MatchBool, ap, sym, ◌∙◌}
 use Rattle.iv_syntax.specs.declared.statement.Statement.{Statement}
 use Rattle.iv_catalogue.specs.declared.cause.Refusal.{Refusal}
 use Rattle.iv_catalogue.specs.Refusals.{is_memory}
@@ -13,7 +13,7 @@ use Rattle.iv_step.specs.Telling.{Tells, commits, statement_told}
 may_tell_asked : (may asked : Bool) (account : Account) (entries : List Entry) → MayTell may (no_account asked) account entries → account.asked ≡ asked
 may_tell_asked false asked account entries told = ap (λ (x : Account). x.asked) told
 may_tell_asked true asked account entries (inl told) = ap (λ (x : Account). x.asked) told
-may_tell_asked true asked account entries (inr none) = ap (λ (x : Account). x.asked) none
+may_tell_asked true asked account entries (inr none) = ap (λ (x : Account). x.asked) none.1 ∙ sym none.0
 
 -- so after each statement
 pub asked_stays : (asked : Bool) (s : State) (st : Statement) (r : Result Answer Refusal) (account : Account) → Tells asked s st r account → account.asked ≡ asked

@@ -53,6 +53,10 @@ pub trait Executor {
     fn account(&self) -> &[Entry]
         ensures { result.now ≡ (told self.now).entries };
 
+    /// Whether memory was refused for the account of the last statement, a COMMIT, so that it is empty.
+    fn is_untold(&self) -> bool
+        ensures { result ≡ (told self.now).untold };
+
     /// The tables, constraints and triggers.
     fn catalogue(&self) -> &Catalogue
         ensures { result.now ≡ (state self.now).schema };
