@@ -47,6 +47,10 @@ impl<X: Executor + Drop> Executor for Lasting<X> {
         self.database.account()
     }
 
+    fn is_untold(&self) -> bool {
+        self.database.is_untold()
+    }
+
     fn catalogue(&self) -> &Catalogue {
         self.database.catalogue()
     }

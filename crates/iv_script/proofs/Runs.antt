@@ -23,7 +23,7 @@ use Rattle.iv_print.specs.Sinks.{SinkState, FailsNever}
 use Rattle.iv_print.specs.Writing.{Writes}
 use Rattle.iv_print.proofs.WriteLemmas.{never_then}
 use Rattle.iv_script.specs.declared.statements.Tally.{Tally}
-use Rattle.iv_script.specs.Transcript.{Memory, IsDue, AreDue, granted, denied, untold, Ran, following, outcome, lines, accepted_of, refused_of, run_from, told_with, memory_refusals}
+use Rattle.iv_script.specs.Transcript.{Memory, IsDue, AreDue, granted, denied, untold, Ran, following, outcome, lines, accepted_of, refused_of, run_from, told_with, memory_refusals, untold_accounts}
 use Rattle.iv_script.specs.Names.{name_line}
 use Rattle.iv_script.specs.Running.{RanOne, RanAll}
 
@@ -32,25 +32,26 @@ use Rattle.iv_script.specs.Running.{RanOne, RanAll}
 -- the answer, the state and the account are those of the machine, with the memory that this says
 pub record Did (sure_back asked : Bool) (old new : State) (st : Statement) (r : Result Answer Refusal) (account : Account) : Type 0 where
   pub memory : Memory
-  pub due : IsDue sure_back memory old st
+  pub due : IsDue sure_back asked memory old st
   pub counted : (if is_memory r then 1 else 0) ≡ memory_refusals (memory ∷ [])
+  pub untold_counted : (if account.untold then 1 else 0) ≡ untold_accounts (memory ∷ [])
   pub answer_is : r ≡ (outcome memory old st).answer
   pub state_is : new ≡ (outcome memory old st).state
-  pub told_is : account ≡ record { asked = asked; entries = told_with asked memory old st }
+  pub told_is : account.entries ≡ told_with asked memory old st
 
 -- what is told after nothing was
 abbrev told_alone : Bool → List Entry → Account
-told_alone asked entries = record { asked = asked; entries = if asked then entries else [] }
+told_alone asked entries = record { asked = asked; entries = if asked then entries else []; untold = false }
 
-alone : (asked : Bool) (old : State) (st : Statement) → told_alone asked (statement_told old st) ≡ record { asked = asked; entries = told_with asked granted old st }
+alone : (asked : Bool) (old : State) (st : Statement) → (told_alone asked (statement_told old st)).entries ≡ told_with asked granted old st
 alone true old st = refl
 alone false old st = refl
 
-none_denied : (asked : Bool) (old : State) (st : Statement) (t : Option ℕ) → no_account asked ≡ record { asked = asked; entries = told_with asked (denied t) old st }
+none_denied : (asked : Bool) (old : State) (st : Statement) (t : Option ℕ) → ◌≡◌ {A = List Entry} [] (told_with asked (denied t) old st)
 none_denied true old st t = refl
 none_denied false old st t = refl
 
-none_told : (asked : Bool) (old : State) (st : Statement) → no_account asked ≡ record { asked = asked; entries = told_with asked untold old st }
+none_told : (asked : Bool) (old : State) (st : Statement) → ◌≡◌ {A = List Entry} [] (told_with asked untold old st)
 none_told true old st = refl
 none_told false old st = refl
 
@@ -63,9 +64,10 @@ did_plain sure_back asked old new st r account m e told = by (commits (resolutio
     memory = granted;
     due = tt;
     counted = ap (λ b. if b then 1 else 0) m;
+    untold_counted = ap (λ (x : Account). if x.untold then 1 else 0) told;
     answer_is = e.0;
     state_is = e.1;
-    told_is = told ∙ alone asked old st;
+    told_is = ap (λ (x : Account). x.entries) told ∙ alone asked old st;
   }
 
   by : (b : Bool) → commits (resolution old.schema st) ≡ b → MayTell b (no_account asked) account (statement_told old st) → Did sure_back asked old new st r account
@@ -73,11 +75,12 @@ did_plain sure_back asked old new st r account m e told = by (commits (resolutio
   by true c (inl told) = as_told told
   by true c (inr none) = record {
     memory = untold;
-    due = c;
+    due = (none.0, c);
     counted = ap (λ b. if b then 1 else 0) m;
+    untold_counted = ap (λ (x : Account). if x.untold then 1 else 0) none.1;
     answer_is = e.0;
     state_is = e.1;
-    told_is = none ∙ none_told asked old st;
+    told_is = ap (λ (x : Account). x.entries) none.1 ∙ none_told asked old st;
   }
 
 abbrev told_by : Result Answer Refusal → Option ℕ
@@ -105,9 +108,10 @@ did_denied sure_back asked old new st t account e sure none = record {
   memory = denied t;
   due = is_due (never_refused sure_back old st) sure;
   counted = refl;
+  untold_counted = ap (λ (x : Account). if x.untold then 1 else 0) none;
   answer_is = denied_is (changes_rows st) old.schema t e.1;
   state_is = e.0;
-  told_is = none ∙ none_denied asked old st t;
+  told_is = ap (λ (x : Account). x.entries) none ∙ none_denied asked old st t;
 }
 
 did_refused : (sure_back asked : Bool) (old new : State) (st : Statement) (c : Cause) (t : Option ℕ) (account : Account) → Executes old st (Err (record { cause = c; trigger = t })) new
@@ -157,8 +161,9 @@ pub ran_one : (sure_back asked : Bool) (n : ℕ) (old new : State) (st : Stateme
     → Executes old st r new → (never_refused sure_back old st ≡ true → is_memory r ≡ false) → Tells asked old st r account
     → Writes before after (Ok tt) (line n r new.schema ++ (account_text new.schema r account.entries ++ name_line asked new.schema st r))
     → tally_then.accepted ≡ tally.accepted + accepted_of r → tally_then.refused ≡ tally.refused + refused_of r → tally_then.memory_refused ≡ tally.memory_refused + (if is_memory r then 1 else 0)
+    → tally_then.untold ≡ tally.untold + (if account.untold then 1 else 0)
     → RanOne sure_back asked n old new st tally tally_then before after
-ran_one sure_back asked n old new st r account tally tally_then before after e sure told w a f s =
+ran_one sure_back asked n old new st r account tally tally_then before after e sure told w a f s u =
     let d : Did sure_back asked old new st r account = did sure_back asked old new st r account e sure told in
     record {
       memory = d.memory;
@@ -167,8 +172,9 @@ ran_one sure_back asked n old new st r account tally tally_then before after e s
       accepted_is = a ∙ ap (λ x. tally.accepted + accepted_of x) d.answer_is;
       refused_is = f ∙ ap (λ x. tally.refused + refused_of x) d.answer_is;
       memory_refusals_are = s ∙ ap (λ k. tally.memory_refused + k) d.counted;
+      untold_are = u ∙ ap (λ k. tally.untold + k) d.untold_counted;
       appended = subst (Appends before.contents after.contents)
-          (λ i. line n (d.answer_is i) (d.state_is i).schema ++ (account_text (d.state_is i).schema (d.answer_is i) (d.told_is i).entries ++ name_line asked (d.state_is i).schema st (d.answer_is i))) w.0;
+          (λ i. line n (d.answer_is i) (d.state_is i).schema ++ (account_text (d.state_is i).schema (d.answer_is i) (d.told_is i) ++ name_line asked (d.state_is i).schema st (d.answer_is i))) w.0;
       works = w.1;
     }
 
@@ -202,24 +208,34 @@ counted_more (denied t ∷ ms) m = omega (arith, counted_more ms m)
 counted_more (granted ∷ ms) m = counted_more ms m
 counted_more (untold ∷ ms) m = counted_more ms m
 
+untold_more : (ms : List Memory) (m : Memory) → untold_accounts (ms ++ m ∷ []) ≡ untold_accounts ms + untold_accounts (m ∷ [])
+untold_more [] (denied t) = refl
+untold_more [] granted = refl
+untold_more [] untold = refl
+untold_more (denied t ∷ ms) m = untold_more ms m
+untold_more (granted ∷ ms) m = untold_more ms m
+untold_more (untold ∷ ms) m = omega (arith, untold_more ms m)
+
 -- these ran, and the rest is left
 pub record Onward (sure_back asked : Bool) (old now : State) (all rest : List Statement) (n : ℕ) (tally : Tally) (before after : SinkState) : Type 0 where
   pub memory : List Memory
   pub written : List ℕ
   pub each : length memory ≡ n
-  pub due : (more : List Memory) → AreDue sure_back now rest more → AreDue sure_back old all (memory ++ more)
+  pub due : (more : List Memory) → AreDue sure_back asked now rest more → AreDue sure_back asked old all (memory ++ more)
   pub memory_refusals_are : memory_refusals memory ≡ tally.memory_refused
+  pub untold_are : untold_accounts memory ≡ tally.untold
   pub appended : Appends before.contents after.contents written
   pub onward : (more : List Memory) → run_from asked old 0 all (memory ++ more) ≡ following written tally.accepted tally.refused (run_from asked now n rest more)
   pub works : FailsNever before after
 
-pub onward_start : (sure_back asked : Bool) (s : State) (all : List Statement) (tally : Tally) (a : SinkState) → tally.accepted ≡ 0 → tally.refused ≡ 0 → tally.memory_refused ≡ 0 → Onward sure_back asked s s all all 0 tally a a
-onward_start sure_back asked s all tally a p q z = record {
+pub onward_start : (sure_back asked : Bool) (s : State) (all : List Statement) (tally : Tally) (a : SinkState) → tally.accepted ≡ 0 → tally.refused ≡ 0 → tally.memory_refused ≡ 0 → tally.untold ≡ 0 → Onward sure_back asked s s all all 0 tally a a
+onward_start sure_back asked s all tally a p q z u = record {
   memory = [];
   written = [];
   each = refl;
   due = λ more left. left;
   memory_refusals_are = sym z;
+  untold_are = sym u;
   appended = Appends-nil a.contents;
   onward = λ more. rw (p, q) (following_none (run_from asked s 0 all more));
   works = (refl, refl);
@@ -235,9 +251,10 @@ onward_more sure_back asked old now new all left rest st n t u a before after w 
       written = w.written ++ lines asked (n + 1) st o told;
       each = omega (arith, length-append w.memory (r.memory ∷ []), w.each);
       due = λ more left.
-          subst (AreDue sure_back old all) (sym (append_assoc w.memory (r.memory ∷ []) more))
-          (w.due (r.memory ∷ more) (subst (λ l. AreDue sure_back now l (r.memory ∷ more)) (sym e) (r.due, subst (λ s. AreDue sure_back s rest more) r.state_is left)));
+          subst (AreDue sure_back asked old all) (sym (append_assoc w.memory (r.memory ∷ []) more))
+          (w.due (r.memory ∷ more) (subst (λ l. AreDue sure_back asked now l (r.memory ∷ more)) (sym e) (r.due, subst (λ s. AreDue sure_back asked s rest more) r.state_is left)));
       memory_refusals_are = counted_more w.memory r.memory ∙ ap (λ z. z + memory_refusals (r.memory ∷ [])) w.memory_refusals_are ∙ sym r.memory_refusals_are;
+      untold_are = untold_more w.memory r.memory ∙ ap (λ z. z + untold_accounts (r.memory ∷ [])) w.untold_are ∙ sym r.untold_are;
       appended = Appends-trans a.contents before.contents after.contents w.written (lines asked (n + 1) st o told) w.appended r.appended;
       onward = λ more.
           ap (λ l. run_from asked old 0 all l) (append_assoc w.memory (r.memory ∷ []) more)
@@ -257,8 +274,9 @@ onward_end sure_back asked old now all rest n t a b w e q =
     record {
       memory = w.memory;
       each = w.each ∙ q;
-      due = subst (AreDue sure_back old all) (append-nil w.memory) (w.due [] (subst (λ l. AreDue sure_back now l []) (sym e) tt));
+      due = subst (AreDue sure_back asked old all) (append-nil w.memory) (w.due [] (subst (λ l. AreDue sure_back asked now l []) (sym e) tt));
       memory_refusals_are = w.memory_refusals_are;
+      untold_are = w.untold_are;
       accepted_is = ap (λ r. r.accepted) done ∙ none_more t.accepted;
       refused_is = ap (λ r. r.refused) done ∙ none_more t.refused;
       state_is = sym (ap (λ r. r.state) done);
@@ -279,11 +297,17 @@ one_memory_refusal (denied t) = omega arith
 one_memory_refusal granted = omega arith
 one_memory_refusal untold = omega arith
 
+one_untold : (m : Memory) → untold_accounts (m ∷ []) ≤ 1
+one_untold (denied t) = omega arith
+one_untold granted = omega arith
+one_untold untold = omega arith
+
 -- a statement is counted once
 pub few_more : (sure_back asked : Bool) (n k : ℕ) (now new : State) (st : Statement) (t u : Tally) (before after : SinkState) → RanOne sure_back asked n now new st t u before after
-    → t.accepted ≤ k → t.refused ≤ k → t.memory_refused ≤ k → (u.accepted ≤ k + 1) × (u.refused ≤ k + 1) × (u.memory_refused ≤ k + 1)
-few_more sure_back asked n k now new st t u before after r a f s = (
+    → t.accepted ≤ k → t.refused ≤ k → t.memory_refused ≤ k → t.untold ≤ k → (u.accepted ≤ k + 1) × (u.refused ≤ k + 1) × (u.memory_refused ≤ k + 1) × (u.untold ≤ k + 1)
+few_more sure_back asked n k now new st t u before after r a f s z = (
   omega (arith, r.accepted_is, one_accepted (outcome r.memory now st).answer, a),
   omega (arith, r.refused_is, one_refused (outcome r.memory now st).answer, f),
   omega (arith, r.memory_refusals_are, one_memory_refusal r.memory, s),
+  omega (arith, r.untold_are, one_untold r.memory, z),
 )

@@ -1,5 +1,6 @@
 -- A whole script.
-use Rattle.std.proofs.Common.{◌≡◌, ℕ, ◌+◌, Bool, false, List, [], ◌∷◌, ◌++◌, Option, ◌∙◌, ap, subst, refl, length, arith, is_some, Ok, option_map}
+use Rattle.std.proofs.Common.{◌≡◌, ℕ, ◌+◌, Bool, false, List, [], ◌∷◌, ◌++◌, Option, ◌∙◌, ap, sym, subst, refl, length, arith, is_some, Result, Ok, Err, Some, None, IfOk, IfSome, option_map}
+use Rattle.std.proofs.lemmas.Bool.{false≢true}
 use Rattle.std.specs.Io.KnownBytes.{Appends}
 use Rattle.std.proofs.KnownBytes.{Appends-trans}
 use Rattle.iv_syntax.specs.declared.statement.Statement.{Statement}
@@ -13,7 +14,7 @@ use Rattle.iv_print.proofs.WriteLemmas.{never_then}
 use Rattle.iv_parse.specs.declared.parser.SyntaxFault.{SyntaxFault}
 use Rattle.iv_script.specs.declared.statements.Tally.{Tally}
 use Rattle.iv_script.specs.declared.summary.Summary.{Summary}
-use Rattle.iv_script.specs.Transcript.{Memory, granted, denied, untold, Ran, following, outcome, lines, accepted_of, refused_of, run_from, memory_refusals, fault_line, end_line, closing_lines, fault_place, RanScript, RanWithMemory}
+use Rattle.iv_script.specs.Transcript.{Memory, granted, denied, untold, Ran, following, outcome, lines, accepted_of, refused_of, run_from, told_with, AreDue, memory_refusals, untold_accounts, fault_line, end_line, closing_lines, fault_place, RanScript, RanWithMemory}
 use Rattle.iv_script.specs.Places.{place_line}
 use Rattle.iv_script.specs.Running.{RanAll, RanParsed}
 
@@ -26,6 +27,7 @@ ran_parsed sure_back asked old new text sts fault tally b0 b1 b2 b3 b4 r p l q =
   each = r.each;
   due = r.due;
   memory_refusals_are = r.memory_refusals_are;
+  untold_are = r.untold_are;
   accepted_is = r.accepted_is;
   refused_is = r.refused_is;
   appended = Appends-trans b0.contents b1.contents b4.contents _ _ r.appended
@@ -37,7 +39,7 @@ ran_parsed sure_back asked old new text sts fault tally b0 b1 b2 b3 b4 r p l q =
 
 -- the summary of a run with this tally, over a script with this fault
 abbrev pub summary_of : Tally → Option SyntaxFault → Summary
-summary_of tally fault = record { accepted = tally.accepted; refused = tally.refused; memory_refused = tally.memory_refused; fault = fault }
+summary_of tally fault = record { accepted = tally.accepted; refused = tally.refused; memory_refused = tally.memory_refused; fault = fault; untold = tally.untold }
 
 pub ran_script : (sure_back : Bool) (bytes : List ℕ) (limits : Bounds) (asked : Bool) (sts : List Statement) (fault : Option SyntaxFault) (tally : Tally) (a b : SinkState)
     → IsScript bytes sts (option_map (λ f. f.at) fault) → RanParsed sure_back asked (empty_state limits) bytes sts (option_map (λ f. f.at) fault) tally a b
@@ -49,26 +51,47 @@ ran_script sure_back bytes limits asked sts fault tally a b s r = record {
   each = r.each;
   due = r.due;
   memory_refusals_are = r.memory_refusals_are;
+  untold_are = r.untold_are;
   accepted_is = r.accepted_is;
   refused_is = r.refused_is;
   appended = r.appended;
 }
 
--- where no account is asked for and no statement wants memory, the run is the machine's
-run_with_memory : (s : State) (n : ℕ) (sts : List Statement) (memory : List Memory) → memory_refusals memory ≡ 0 → run_from false s n sts memory ≡ run_from false s n sts []
-run_with_memory s n [] memory h = refl
-run_with_memory s n (st ∷ sts) [] h = refl
-run_with_memory s n (st ∷ sts) (denied t ∷ ms) h = absurd (omega (arith, h))
-run_with_memory s n (st ∷ sts) (granted ∷ ms) h =
-    ap (following (lines false (n + 1) st (outcome granted s st) []) (accepted_of (step s st).answer) (refused_of (step s st).answer)) (run_with_memory (step s st).state (n + 1) sts ms h)
-run_with_memory s n (st ∷ sts) (untold ∷ ms) h =
-    ap (following (lines false (n + 1) st (outcome untold s st) []) (accepted_of (step s st).answer) (refused_of (step s st).answer)) (run_with_memory (step s st).state (n + 1) sts ms h)
+-- where memory is refused neither to a statement nor to an account, the run is the machine's
+run_with_memory : (asked : Bool) (s : State) (n : ℕ) (sts : List Statement) (memory : List Memory) → memory_refusals memory ≡ 0 → untold_accounts memory ≡ 0
+    → run_from asked s n sts memory ≡ run_from asked s n sts []
+run_with_memory asked s n [] memory h u = refl
+run_with_memory asked s n (st ∷ sts) [] h u = refl
+run_with_memory asked s n (st ∷ sts) (denied t ∷ ms) h u = absurd (omega (arith, h))
+run_with_memory asked s n (st ∷ sts) (untold ∷ ms) h u = absurd (omega (arith, u))
+run_with_memory asked s n (st ∷ sts) (granted ∷ ms) h u =
+    ap (following (lines asked (n + 1) st (outcome granted s st) (told_with asked granted s st)) (accepted_of (step s st).answer) (refused_of (step s st).answer))
+    (run_with_memory asked (step s st).state (n + 1) sts ms h u)
 
-pub ran_with_memory : (sure_back : Bool) (bytes : List ℕ) (limits : Bounds) (summary : Summary) (a b : SinkState)
-    → RanScript sure_back bytes limits false summary a b → summary.memory_refused ≡ 0 → RanWithMemory bytes limits (fault_place summary) a b
-ran_with_memory sure_back bytes limits summary a b r z = record {
+pub ran_with_memory : (sure_back asked : Bool) (bytes : List ℕ) (limits : Bounds) (summary : Summary) (a b : SinkState)
+    → RanScript sure_back bytes limits asked summary a b → summary.memory_refused ≡ 0 → summary.untold ≡ 0 → RanWithMemory bytes limits asked (fault_place summary) a b
+ran_with_memory sure_back asked bytes limits summary a b r z u = record {
   statements = r.statements;
   is_script = r.is_script;
-  appended = subst (λ (q : Ran). Appends a.contents b.contents (q.text ++ closing_lines false bytes (length r.statements) (fault_place summary) q.state))
-      (run_with_memory (empty_state limits) 0 r.statements r.memory (r.memory_refusals_are ∙ z)) r.appended;
+  appended = subst (λ (q : Ran). Appends a.contents b.contents (q.text ++ closing_lines asked bytes (length r.statements) (fault_place summary) q.state))
+      (run_with_memory asked (empty_state limits) 0 r.statements r.memory (r.memory_refusals_are ∙ z) (r.untold_are ∙ u)) r.appended;
 }
+
+-- where no account is asked for, memory is refused to none
+none_untold : (sure_back : Bool) (s : State) (sts : List Statement) (memory : List Memory) → length memory ≡ length sts → AreDue sure_back false s sts memory → untold_accounts memory ≡ 0
+none_untold sure_back s [] [] h due = refl
+none_untold sure_back s [] (m ∷ ms) h due = absurd (omega (arith, h))
+none_untold sure_back s (st ∷ sts) [] h due = refl
+none_untold sure_back s (st ∷ sts) (granted ∷ ms) h due = none_untold sure_back (outcome granted s st).state sts ms (omega (arith, h)) due.1
+none_untold sure_back s (st ∷ sts) (denied t ∷ ms) h due = none_untold sure_back (outcome (denied t) s st).state sts ms (omega (arith, h)) due.1
+none_untold sure_back s (st ∷ sts) (untold ∷ ms) h due = absurd (false≢true due.0.0)
+
+pub unasked_told : (sure_back : Bool) (bytes : List ℕ) (limits : Bounds) (summary : Summary) (a b : SinkState) → RanScript sure_back bytes limits false summary a b → summary.untold ≡ 0
+unasked_told sure_back bytes limits summary a b r = sym r.untold_are ∙ none_untold sure_back (empty_state limits) r.statements r.memory r.each r.due
+
+-- so of the bytes that a reader had, where they are known
+pub of_read : {E : Type 0} (r : Result Summary E) (found : Option (List ℕ)) (text : List ℕ) (P : List ℕ → Summary → Type 0) → IfSome found (λ bytes. text ≡ bytes)
+    → IfOk r (λ s. s.memory_refused ≡ 0 → s.untold ≡ 0 → P text s) → IfOk r (λ s. s.memory_refused ≡ 0 → s.untold ≡ 0 → IfSome found (λ bytes. P bytes s))
+of_read (Err e) found text P h k = k
+of_read (Ok s) None text P h k = λ m u. tt
+of_read (Ok s) (Some bytes) text P h k = λ m u. subst (λ b. P b s) h (k m u)

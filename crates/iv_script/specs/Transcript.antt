@@ -67,11 +67,12 @@ outcome (denied trigger) s st = memory_refused_outcome s st trigger
 outcome untold s st = step s st
 
 -- Memory is refused only to a statement that takes some: not to COMMIT or ROLLBACK, nor to one that is refused for the transaction
--- that is open or isn't, nor to ROLLBACK TO SAVEPOINT, where that is sure to take none. It is refused to the account of a COMMIT alone.
-abbrev pub IsDue : Bool → Memory → State → Statement → Type 0
-IsDue sure_back granted s st = Unit {0}
-IsDue sure_back (denied trigger) s st = never_refused sure_back s st ≡ false
-IsDue sure_back untold s st = commits (resolution s.schema st) ≡ true
+-- that is open or isn't, nor to ROLLBACK TO SAVEPOINT, where that is sure to take none. It is refused to an account alone only where the
+-- account is of a COMMIT, and is asked for.
+abbrev pub IsDue : Bool → Bool → Memory → State → Statement → Type 0
+IsDue sure_back asked granted s st = Unit {0}
+IsDue sure_back asked (denied trigger) s st = never_refused sure_back s st ≡ false
+IsDue sure_back asked untold s st = (asked ≡ true) × (commits (resolution s.schema st) ≡ true)
 
 -- what is told of a statement, where an account is asked for
 abbrev pub told_with : Bool → Memory → State → Statement → List Entry
@@ -102,10 +103,10 @@ run_from asked s n (st ∷ sts) memory =
     (run_from asked o.state (n + 1) sts (later_memory memory))
 
 -- so for each of the statements that run from this state
-abbrev pub AreDue : Bool → State → List Statement → List Memory → Type 0
-AreDue sure_back s [] memory = Unit {0}
-AreDue sure_back s (st ∷ sts) memory =
-    IsDue sure_back (first_memory memory) s st × AreDue sure_back (outcome (first_memory memory) s st).state sts (later_memory memory)
+abbrev pub AreDue : Bool → Bool → State → List Statement → List Memory → Type 0
+AreDue sure_back asked s [] memory = Unit {0}
+AreDue sure_back asked s (st ∷ sts) memory =
+    IsDue sure_back asked (first_memory memory) s st × AreDue sure_back asked (outcome (first_memory memory) s st).state sts (later_memory memory)
 
 -- the line of a fault after so many statements
 abbrev pub fault_line : ℕ → Option ℕ → List ℕ
@@ -135,29 +136,38 @@ memory_refusals (denied trigger ∷ ms) = 1 + memory_refusals ms
 memory_refusals (granted ∷ ms) = memory_refusals ms
 memory_refusals (untold ∷ ms) = memory_refusals ms
 
+-- how many accounts of COMMITs are refused memory
+abbrev pub untold_accounts : List Memory → ℕ
+untold_accounts [] = 0
+untold_accounts (untold ∷ ms) = 1 + untold_accounts ms
+untold_accounts (granted ∷ ms) = untold_accounts ms
+untold_accounts (denied trigger ∷ ms) = untold_accounts ms
+
 -- the place of the script's fault, where it has one
 abbrev pub fault_place : Summary → Option ℕ
 fault_place summary = option_map (λ f. f.at) summary.fault
 
 -- The transcript of these bytes was appended, and the summary says how many statements were
 -- accepted and refused, and the fault. For each statement that takes memory it is chosen whether it
--- is refused it, and as many are as the summary says.
+-- is refused it, and as many are as the summary says; so for each account of a COMMIT.
 pub record RanScript (sure_back : Bool) (bytes : List ℕ) (limits : Bounds) (asked : Bool) (summary : Summary)
     (before after : SinkState) : Type 0 where
   pub statements : List Statement
   pub memory : List Memory
   pub is_script : IsScript bytes statements (fault_place summary)
   pub each : length memory ≡ length statements
-  pub due : AreDue sure_back (empty_state limits) statements memory
+  pub due : AreDue sure_back asked (empty_state limits) statements memory
   pub memory_refusals_are : memory_refusals memory ≡ summary.memory_refused
+  pub untold_are : untold_accounts memory ≡ summary.untold
   pub accepted_is : (run_from asked (empty_state limits) 0 statements memory).accepted ≡ summary.accepted
   pub refused_is : (run_from asked (empty_state limits) 0 statements memory).refused ≡ summary.refused
   pub appended : Appends before.contents after.contents
       (transcript asked bytes limits statements (fault_place summary) memory)
 
--- The transcript of these bytes without accounts was appended, and no statement was refused memory.
-pub record RanWithMemory (bytes : List ℕ) (limits : Bounds) (fault : Option ℕ)
+-- The transcript of these bytes was appended, with accounts where they are asked for, and memory was refused neither to a statement
+-- nor to an account.
+pub record RanWithMemory (bytes : List ℕ) (limits : Bounds) (asked : Bool) (fault : Option ℕ)
     (before after : SinkState) : Type 0 where
   pub statements : List Statement
   pub is_script : IsScript bytes statements fault
-  pub appended : Appends before.contents after.contents (transcript false bytes limits statements fault [])
+  pub appended : Appends before.contents after.contents (transcript asked bytes limits statements fault [])

@@ -110,8 +110,9 @@ fn run_text<S: Executor + Drop, W: Sink>(
     requires { length text.now ≤ LONGEST }
     ensures transcript { IfOk result (λ s.
         RanScript S.sure_store text.now limits explain s (W.state writer.old) (W.state writer.new)) }
-    ensures with_memory { IfOk result (λ s. explain ≡ false → s.memory_refused ≡ 0
-        → RanWithMemory text.now limits (fault_place s) (W.state writer.old) (W.state writer.new)) }
+    ensures with_memory { IfOk result (λ s. s.memory_refused ≡ 0 → s.untold ≡ 0
+        → RanWithMemory text.now limits explain (fault_place s) (W.state writer.old) (W.state writer.new)) }
+    ensures told { IfOk result (λ s. explain ≡ false → s.untold ≡ 0) }
     ensures kinds { IfErr result (λ e.
         (e ≢ RunFault.Read) × (e ≢ RunFault.TooLong) × (e ≢ RunFault.NotUtf8)) }
     ensures write { IsErrOf result RunFault.Write
@@ -143,6 +144,7 @@ fn run_text<S: Executor + Drop, W: Sink>(
             refused: tally.refused,
             memory_refused: tally.memory_refused,
             fault,
+            untold: tally.untold,
         }),
         Err(_) => Err(RunFault::Write),
     }
@@ -159,8 +161,9 @@ fn run_bytes<S: Executor + Drop, W: Sink>(
     requires { length bytes.now ≤ LONGEST }
     ensures transcript { IfOk result (λ s.
         RanScript S.sure_store bytes.now limits explain s (W.state writer.old) (W.state writer.new)) }
-    ensures with_memory { IfOk result (λ s. explain ≡ false → s.memory_refused ≡ 0
-        → RanWithMemory bytes.now limits (fault_place s) (W.state writer.old) (W.state writer.new)) }
+    ensures with_memory { IfOk result (λ s. s.memory_refused ≡ 0 → s.untold ≡ 0
+        → RanWithMemory bytes.now limits explain (fault_place s) (W.state writer.old) (W.state writer.new)) }
+    ensures told { IfOk result (λ s. explain ≡ false → s.untold ≡ 0) }
     ensures utf8 { OnOk result (IsUtf8 bytes.now) }
     ensures write_utf8 { IsErrOf result RunFault.Write → IsUtf8 bytes.now }
     ensures not_utf8 { IsErrOf result RunFault.NotUtf8 → ¬ (IsUtf8 bytes.now) }
@@ -186,7 +189,8 @@ fn run_bytes<S: Executor + Drop, W: Sink>(
 /// every 8,192 bytes of the transcript, and one at the end for the rest.
 ///
 /// A statement that is refused memory has an outcome of its own, with cause 22; the
-/// summary's `memory_refused` counts these, and `refused` counts them too. After `RunFault::Write` nothing
+/// summary's `memory_refused` counts these, and `refused` counts them too. A COMMIT is never refused memory: where memory is
+/// refused for its account, that is empty, and `untold` counts it. After `RunFault::Write` nothing
 /// is said of how much was written.
 pub fn run<S: Executor + Drop, R: Source, W: Sink>(
     alloc: Global,
@@ -195,12 +199,15 @@ pub fn run<S: Executor + Drop, R: Source, W: Sink>(
     limits: Limits,
     explain: bool,
 ) -> Result<Summary, RunFault>
-    // What was written is the transcript, for some choice of the `memory_refused` statements.
+    // What was written is the transcript, for some choice of the `memory_refused` statements and of the `untold`
+    // accounts.
     ensures transcript { IfOk result (λ s. IfSome (R.remaining reader.old) (λ bytes.
         RanScript S.sure_store bytes limits explain s (W.state writer.old) (W.state writer.new))) }
-    // Where no account is asked for and `memory_refused` is 0, it is the transcript of the machine.
-    ensures with_memory { IfOk result (λ s. explain ≡ false → s.memory_refused ≡ 0 → IfSome (R.remaining reader.old) (λ bytes.
-        RanWithMemory bytes limits (fault_place s) (W.state writer.old) (W.state writer.new))) }
+    // Where both of these are 0, it is the transcript of the machine.
+    ensures with_memory { IfOk result (λ s. s.memory_refused ≡ 0 → s.untold ≡ 0 → IfSome (R.remaining reader.old) (λ bytes.
+        RanWithMemory bytes limits explain (fault_place s) (W.state writer.old) (W.state writer.new))) }
+    // Where no account is asked for, none is untold.
+    ensures told { IfOk result (λ s. explain ≡ false → s.untold ≡ 0) }
     // A script that ran is short enough and UTF-8, and so is one whose transcript couldn't be
     // written.
     ensures fits { OnOk result (IfSome (R.remaining reader.old) (λ bytes. Fits LONGEST bytes)) }

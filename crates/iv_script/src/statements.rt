@@ -1,5 +1,5 @@
 //! The statements of a script, run one after the other, with the lines of their outcomes.
-ghost use Rattle.std.specs.Prelude.{◌≡◌, ◌+◌, ◌++◌, ◌<◌, ◌^◌, MatchResult, if◌then◌else◌};
+ghost use Rattle.std.specs.Prelude.{◌≡◌, ◌+◌, ◌++◌, ◌<◌, ◌≤◌, ◌^◌, MatchResult, if◌then◌else◌};
 ghost use Rattle.iv_catalogue.specs.Refusals.{is_memory};
 ghost use Rattle.iv_print.specs.AccountLines.{account_text};
 ghost use Rattle.iv_print.specs.Lines.{line};
@@ -14,34 +14,49 @@ use iv_print::{DeviceFault, Sink, write_account, write_outcome};
 use iv_step::{Executor, Outcome, is_memory_refused};
 use iv_syntax::Statement;
 
-/// How many statements were accepted and refused, and how many of the refused had cause 22.
+/// How many statements were accepted and refused, how many of the refused had cause 22, and for how many accounts of
+/// COMMITs memory was refused.
 #[derive(Clone, Copy, Debug, PartialEq, Eq)]
 pub struct Tally {
     pub accepted: u64,
     pub refused: u64,
     pub memory_refused: u64,
+    pub untold: u64,
 }
 
-// The tally with an outcome more.
-fn with(tally: Tally, outcome: &Outcome) -> Tally
+// One or none.
+fn one_if(condition: bool) -> u64
+    ensures is { result ≡ (if condition then 1 else 0) }
+    ensures small { result ≤ 1 }
+{
+    if condition { 1 } else { 0 }
+}
+
+// The tally with an outcome more, whose account is empty or isn't since memory was refused for it.
+fn with(tally: Tally, outcome: &Outcome, untold: bool) -> Tally
     requires accepted { tally.accepted < 2 ^ 63 }
     requires refused { tally.refused < 2 ^ 63 }
     requires memory_refused { tally.memory_refused < 2 ^ 63 }
+    requires untold { tally.untold < 2 ^ 63 }
     ensures accepted { result.accepted ≡ tally.accepted + accepted_of outcome.now }
     ensures refused { result.refused ≡ tally.refused + refused_of outcome.now }
     ensures memory_refused { result.memory_refused ≡ tally.memory_refused + (if is_memory outcome.now then 1 else 0) }
+    ensures untold { result.untold ≡ tally.untold + (if untold then 1 else 0) }
 {
-    let memory_refused = if is_memory_refused(outcome) { 1 } else { 0 };
+    let memory_refused = one_if(is_memory_refused(outcome));
+    let untold = one_if(untold);
     match outcome {
         Ok(_) => Tally {
             accepted: tally.accepted + 1,
             refused: tally.refused,
             memory_refused: tally.memory_refused + memory_refused,
+            untold: tally.untold + untold,
         },
         Err(_) => Tally {
             accepted: tally.accepted,
             refused: tally.refused + 1,
             memory_refused: tally.memory_refused + memory_refused,
+            untold: tally.untold + untold,
         },
     }
 }
@@ -79,6 +94,7 @@ fn run_one<S: Executor, W: Sink>(
     requires accepted { tally.accepted < 2 ^ 63 }
     requires refused { tally.refused < 2 ^ 63 }
     requires memory_refused { tally.memory_refused < 2 ^ 63 }
+    requires untold { tally.untold < 2 ^ 63 }
     ensures ran { MatchResult result
         (λ t. RanOne S.sure_store explained.asked number
         (S.state session.old) (S.state session.new) statement.now tally t
@@ -88,7 +104,7 @@ fn run_one<S: Executor, W: Sink>(
 {
     let outcome = session.execute(statement);
     let written = write_lines(writer, number, statement, &outcome, &*session, explained);
-    let counted = with(tally, &outcome);
+    let counted = with(tally, &outcome, session.is_untold());
     drop(outcome);
     written?;
     Ok(counted)
@@ -113,6 +129,7 @@ pub fn run_statements<S: Executor, W: Sink>(
         accepted: 0,
         refused: 0,
         memory_refused: 0,
+        untold: 0,
     };
     while let Some((statement, others)) = rest.split_first() {
         number += 1;

@@ -6,14 +6,15 @@ use iv_parse::SyntaxFault;
 use std::alloc::AllocError;
 use thiserror::Error;
 
-/// How many statements were accepted and refused, how many of the refused had cause 22, and the fault of
-/// the script where it has one.
+/// How many statements were accepted and refused, how many of the refused had cause 22, the fault of the script where it
+/// has one, and how many refused COMMITs have an empty account, since memory was refused for it.
 #[derive(Clone, Copy, Debug, PartialEq, Eq)]
 pub struct Summary {
     pub accepted: u64,
     pub refused: u64,
     pub memory_refused: u64,
     pub fault: Option<SyntaxFault>,
+    pub untold: u64,
 }
 
 /// Why a script was not run to its end.

@@ -193,6 +193,7 @@ fn counts_what_it_ran(rt: HostRuntime) {
         refused: 0,
         memory_refused: 0,
         fault: None,
+        untold: 0,
     };
     let text = sink.into_inner();
     assert!(rt; done == Ok(wanted));

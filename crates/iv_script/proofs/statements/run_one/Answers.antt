@@ -1,4 +1,4 @@
-use Rattle.std.proofs.Common.{Bool, subst, sym}
+use Rattle.std.proofs.Common.{Bool, ◌+◌, if◌then◌else◌, ap, subst, sym, ◌∙◌}
 use Rattle.iv_step.specs.Telling.{Tells}
 use Rattle.iv_step.proofs.Asked.{asked_stays}
 use Rattle.iv_script.proofs.Runs.{ran_one, sure_of}
@@ -16,6 +16,7 @@ returns-clause-ran g c =
     (sure_of g.S.Executor.sure_store (g.S.Executor.state c.args.session.now) c.args.statement.now c.execute-outcome.result c.execute-outcome.ensures.sure c.execute-outcome.ensures.sure_store)
     told c.in_ok-written.ensures
     c.with-counted.ensures.accepted c.with-counted.ensures.refused c.with-counted.ensures.memory_refused
+    (c.with-counted.ensures.untold ∙ ap (λ b. c.args.tally.untold + (if b then 1 else 0)) c.is_untold.ensures)
 
 pub returns-clause-asked : goal.returns-clause-asked
 returns-clause-asked g c =

@@ -9,8 +9,9 @@ loop-statement-init g c = record {
   accepted_few = omega arith;
   refused_few = omega arith;
   memory_refusals_few = omega arith;
+  untold_few = omega arith;
   asked = c.requires;
-  onward = onward_start g.S.Executor.sure_store c.args.explained.asked (g.S.Executor.state c.args.session.now) c.args.statements.now _ (g.W.Sink.state c.args.writer.now) refl refl refl;
+  onward = onward_start g.S.Executor.sure_store c.args.explained.asked (g.S.Executor.state c.args.session.now) c.args.statements.now _ (g.W.Sink.state c.args.writer.now) refl refl refl refl;
 }
 
 pub loop-statement-preserved : goal.loop-statement-preserved
@@ -21,12 +22,13 @@ loop-statement-preserved g c =
     let ran = c.in_ok-tally.ensures.ran in
     let few = few_more g.S.Executor.sure_store asked (c.loop-statement.number + 1) c.loop-statement.number (g.S.Executor.state c.loop-statement.session) (g.S.Executor.state c.run_one.new.session) c.in-Some.statement.now c.loop-statement.tally c.in_ok-tally.tally
     (g.W.Sink.state c.loop-statement.writer) (g.W.Sink.state c.run_one.new.writer)
-    ran c.loop-statement.invariant.accepted_few c.loop-statement.invariant.refused_few c.loop-statement.invariant.memory_refusals_few in
+    ran c.loop-statement.invariant.accepted_few c.loop-statement.invariant.refused_few c.loop-statement.invariant.memory_refusals_few c.loop-statement.invariant.untold_few in
     record {
       counted = omega (arith, n, c.loop-statement.invariant.counted);
       accepted_few = few.0;
       refused_few = few.1;
       memory_refusals_few = few.2;
+      untold_few = few.3;
       asked = c.loop-statement.invariant.asked ∙ sym c.in_ok-tally.ensures.asked;
       onward = onward_more g.S.Executor.sure_store asked (g.S.Executor.state c.args.session.now) (g.S.Executor.state c.loop-statement.session) (g.S.Executor.state c.run_one.new.session) c.args.statements.now c.loop-statement.rest.now c.in-Some.others.now c.in-Some.statement.now
           c.loop-statement.number c.loop-statement.tally c.in_ok-tally.tally
