@@ -22,7 +22,7 @@ class Handle(Structure):
 
 
 class Summary(Structure):
-    _fields_ = [("accepted", c_uint64), ("refused", c_uint64), ("memory_refused", c_uint64), ("has_fault", c_uint64), ("fault_at", c_uint64)]
+    _fields_ = [("accepted", c_uint64), ("refused", c_uint64), ("memory_refused", c_uint64), ("has_fault", c_uint64), ("fault_at", c_uint64), ("untold", c_uint64)]
 
 
 class Script(Structure):

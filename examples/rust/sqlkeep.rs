@@ -28,6 +28,7 @@ mod c {
         pub memory_refused: u64,
         pub has_fault: u64,
         pub fault_at: u64,
+        pub untold: u64,
     }
 
     #[repr(C)]

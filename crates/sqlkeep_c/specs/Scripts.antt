@@ -16,9 +16,9 @@ written bytes = sink_state (Some bytes) 0
 abbrev pub IsTranscript : List ℕ → Bounds → Bool → Summary → List ℕ → Type 0
 IsTranscript script limits asked summary bytes = RanScript true script limits asked summary (written []) (written bytes)
 
--- the same without accounts, and no statement was refused memory
-abbrev pub IsWithMemory : List ℕ → Bounds → Summary → List ℕ → Type 0
-IsWithMemory script limits summary bytes = RanWithMemory script limits (fault_place summary) (written []) (written bytes)
+-- the same where memory was refused neither to a statement nor to an account
+abbrev pub IsWithMemory : List ℕ → Bounds → Bool → Summary → List ℕ → Type 0
+IsWithMemory script limits asked summary bytes = RanWithMemory script limits asked (fault_place summary) (written []) (written bytes)
 
 abbrev pub fault_shown : Option SyntaxFault → RunSummary → Type 0
 fault_shown None shown = (shown.has_fault ≡ 0) × (shown.fault_at ≡ 0)
@@ -30,3 +30,4 @@ pub record Shows (summary : Summary) (shown : RunSummary) : Type 0 where
   pub refused : shown.refused ≡ summary.refused
   pub memory_refused : shown.memory_refused ≡ summary.memory_refused
   pub fault : fault_shown summary.fault shown
+  pub untold : shown.untold ≡ summary.untold

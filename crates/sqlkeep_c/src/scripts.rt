@@ -26,8 +26,9 @@ fn transcript(
     explain: bool,
 ) -> Result<(Summary, Vec<u8>), RunFault>
     ensures transcript { IfOk result (λ r. IsTranscript text.now limits explain r.0 r.1.items) }
-    ensures with_memory { IfOk result (λ r. explain ≡ false → r.0.memory_refused ≡ 0
-        → IsWithMemory text.now limits r.0 r.1.items) }
+    ensures with_memory { IfOk result (λ r. r.0.memory_refused ≡ 0 → r.0.untold ≡ 0
+        → IsWithMemory text.now limits explain r.0 r.1.items) }
+    ensures told { IfOk result (λ r. explain ≡ false → r.0.untold ≡ 0) }
     ensures fits { OnOk result (Fits LONGEST text.now) }
     ensures too_long { IsErrOf result RunFault.TooLong → LONGEST < length text.now }
     ensures not_utf8 { IsErrOf result RunFault.NotUtf8
@@ -57,8 +58,9 @@ fn status_of(fault: &RunFault) -> u32
 fn run_kept(alloc: Global, opened: &mut Opened, text: &[u8]) -> Result<Summary, RunFault>
     ensures transcript { IfOk result (λ s. IsTranscript text.now opened.old.limits
         opened.old.session.account.asked s opened.new.transcript.items) }
-    ensures with_memory { IfOk result (λ s. opened.old.session.account.asked ≡ false → s.memory_refused ≡ 0
-        → IsWithMemory text.now opened.old.limits s opened.new.transcript.items) }
+    ensures with_memory { IfOk result (λ s. s.memory_refused ≡ 0 → s.untold ≡ 0
+        → IsWithMemory text.now opened.old.limits opened.old.session.account.asked s opened.new.transcript.items) }
+    ensures told { IfOk result (λ s. opened.old.session.account.asked ≡ false → s.untold ≡ 0) }
     ensures rest { opened.new ≡ record opened.old { transcript = opened.new.transcript } }
     ensures others { OnErr result (opened.new ≡ opened.old) }
     ensures fits { OnOk result (Fits LONGEST text.now) }
@@ -80,12 +82,14 @@ pub extern "C" fn sqlkeep_run(
     text: &[u8],
     summary: &mut RunSummary,
 ) -> u32
-    // What is kept is the transcript, for some choice of the statements that were refused memory; where there is none and
-    // no account is asked for it is that of the machine.
+    // What is kept is the transcript, for some choice of the statements and of the accounts that were refused memory; where
+    // there are none it is that of the machine. Where no account is asked for, memory is refused for none.
     ensures transcript { Called handle.old.kept.behind handle.new.kept.behind (λ old new. result ≡ OK
         → (counts : Counts) × Shows counts summary.new
         × IsTranscript text.now old.limits old.session.account.asked counts new.transcript.items
-        × (old.session.account.asked ≡ false → counts.memory_refused ≡ 0 → IsWithMemory text.now old.limits counts new.transcript.items)) }
+        × (counts.memory_refused ≡ 0 → counts.untold ≡ 0
+        → IsWithMemory text.now old.limits old.session.account.asked counts new.transcript.items)
+        × (old.session.account.asked ≡ false → counts.untold ≡ 0)) }
     ensures rest { Called handle.old.kept.behind handle.new.kept.behind (λ old new.
         new ≡ record old { transcript = new.transcript }) }
     ensures others { result ≢ OK → (handle.new.kept.behind ≡ handle.old.kept.behind)

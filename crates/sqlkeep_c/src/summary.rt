@@ -3,8 +3,8 @@ ghost use Rattle.sqlkeep_c.specs.Scripts.{Shows};
 
 use iv_script::Summary;
 
-/// How many statements a run accepted and refused, how many of the refused had cause 22, and where the script has its
-/// fault.
+/// How many statements a run accepted and refused, how many of the refused had cause 22, where the script has its fault,
+/// and how many refused COMMITs have an empty account, since memory was refused for it.
 #[repr(C)]
 #[derive(Drop)]
 pub struct RunSummary {
@@ -14,6 +14,7 @@ pub struct RunSummary {
     /// 1 where the script has a fault, and otherwise 0.
     pub has_fault: u64,
     pub fault_at: u64,
+    pub untold: u64,
 }
 
 /// The numbers of a summary.
@@ -30,5 +31,6 @@ pub(crate) fn shown(summary: &Summary) -> RunSummary
         memory_refused: summary.memory_refused,
         has_fault,
         fault_at,
+        untold: summary.untold,
     }
 }
