@@ -1,5 +1,5 @@
 -- A whole script.
-use Rattle.std.proofs.Common.{◌≡◌, ℕ, ◌+◌, Bool, false, List, [], ◌∷◌, ◌++◌, Option, ◌∙◌, ap, sym, subst, refl, length, arith, is_some, Ok, option_map}
+use Rattle.std.proofs.Common.{◌≡◌, ℕ, ◌+◌, Bool, false, List, [], ◌∷◌, ◌++◌, Option, ◌∙◌, ap, sym, subst, refl, length, arith, is_some, Result, Ok, Err, Some, None, IfOk, IfSome, option_map}
 use Rattle.std.proofs.lemmas.Bool.{false≢true}
 use Rattle.std.specs.Io.KnownBytes.{Appends}
 use Rattle.std.proofs.KnownBytes.{Appends-trans}
@@ -88,3 +88,10 @@ none_untold sure_back s (st ∷ sts) (untold ∷ ms) h due = absurd (false≢tru
 
 pub unasked_told : (sure_back : Bool) (bytes : List ℕ) (limits : Bounds) (summary : Summary) (a b : SinkState) → RanScript sure_back bytes limits false summary a b → summary.untold ≡ 0
 unasked_told sure_back bytes limits summary a b r = sym r.untold_are ∙ none_untold sure_back (empty_state limits) r.statements r.memory r.each r.due
+
+-- so of the bytes that a reader had, where they are known
+pub of_read : {E : Type 0} (r : Result Summary E) (found : Option (List ℕ)) (text : List ℕ) (P : List ℕ → Summary → Type 0) → IfSome found (λ bytes. text ≡ bytes)
+    → IfOk r (λ s. s.memory_refused ≡ 0 → s.untold ≡ 0 → P text s) → IfOk r (λ s. s.memory_refused ≡ 0 → s.untold ≡ 0 → IfSome found (λ bytes. P bytes s))
+of_read (Err e) found text P h k = k
+of_read (Ok s) None text P h k = λ m u. tt
+of_read (Ok s) (Some bytes) text P h k = λ m u. subst (λ b. P b s) h (k m u)
