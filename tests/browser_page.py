@@ -300,6 +300,19 @@ def arrows_cross_no_text(page):
             page.open(f"#e={name}&n={number}")
             equal([name, number, width, page.browser.script(CROSSINGS)], [name, number, width, []])
     page.browser.size(1280, 900)
+    for place in (3, 5):
+        page.run_script(TWO_KEYS)
+        page.click(f"#answer-{place}")
+        equal([place, page.browser.script(CROSSINGS)], [place, []])
+
+
+# Two foreign keys with names of different lengths, whose rows cross.
+TWO_KEYS = """CREATE TABLE p (k INT PRIMARY KEY, l INT UNIQUE);
+CREATE TABLE c (x INT CONSTRAINT a_rather_long_name_of_a_foreign_key REFERENCES p ON DELETE CASCADE, y INT CONSTRAINT brief REFERENCES p (l) ON DELETE SET NULL);
+INSERT INTO p VALUES (1, 11), (2, 12), (3, 13), (4, 14), (5, 15), (6, 16), (7, 17);
+INSERT INTO c VALUES (1, 12), (2, 11), (3, 17), (4, NULL), (5, 14), (6, 16), (7, 13);
+DELETE FROM p;
+"""
 
 
 # The texts that a point of an arrow lies in.
