@@ -16,6 +16,7 @@ const ACTION = /^(\w+) (CASCADE|SET NULL|SET DEFAULT) on (\w+) row (\d+)$/;
 const CHANGE = /^(insert|delete|update) (\w+) row (\d+) /;
 const VIOLATION = /^(\w+): (\w+) row (\d+) /;
 const VALUE = /NULL|-?\d+|'[^']*(?:''[^']*)*'/y;
+/** @type {[string, RegExp][]} */
 const REASONS = [
   ["condition", / makes its condition false$/y],
   ["null", / has NULL in (\w+)$/y],

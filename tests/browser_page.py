@@ -198,6 +198,26 @@ def a_change_in_the_middle_keeps_the_other_lines(page):
 
 
 @test
+def coloured_lines_lie_under_the_text(page):
+    for width in (1280, 400):
+        page.browser.size(width, 900)
+        for file in sorted((ROOT / "examples").glob("*.sql")):
+            page.open(f"#{file.stem}")
+            heights = page.browser.script("""const area = document.getElementById('script'), lines = document.querySelector('.lines'), height = lines.scrollHeight;
+                lines.style.display = 'none'; area.style.height = '0'; const own = area.scrollHeight; lines.style.display = ''; area.style.height = ''; return [own, height]""")
+            equal([file.stem, width, heights[0]], [file.stem, width, heights[1]])
+
+
+@test
+def a_script_that_is_too_long_is_not_run(page):
+    page.put("COMMIT;\n" + " " * 1048569)
+    page.click("#run")
+    equal([page.text("#status"), page.lines()], ["The script is longer than 1,048,576 bytes: it has 1,048,577.", []])
+    page.run_script("COMMIT;\n" + " " * 1048568)
+    equal(page.lines(), ["1 ok"])
+
+
+@test
 def an_own_script_is_kept_beside_the_examples(page):
     page.open()
     page.type("COMMIT; -- mine")
@@ -280,6 +300,19 @@ def arrows_cross_no_text(page):
             page.open(f"#e={name}&n={number}")
             equal([name, number, width, page.browser.script(CROSSINGS)], [name, number, width, []])
     page.browser.size(1280, 900)
+    for place in (3, 5):
+        page.run_script(TWO_KEYS)
+        page.click(f"#answer-{place}")
+        equal([place, page.browser.script(CROSSINGS)], [place, []])
+
+
+# Two foreign keys with names of different lengths, whose rows cross.
+TWO_KEYS = """CREATE TABLE p (k INT PRIMARY KEY, l INT UNIQUE);
+CREATE TABLE c (x INT CONSTRAINT a_rather_long_name_of_a_foreign_key REFERENCES p ON DELETE CASCADE, y INT CONSTRAINT brief REFERENCES p (l) ON DELETE SET NULL);
+INSERT INTO p VALUES (1, 11), (2, 12), (3, 13), (4, 14), (5, 15), (6, 16), (7, 17);
+INSERT INTO c VALUES (1, 12), (2, 11), (3, 17), (4, NULL), (5, 14), (6, 16), (7, 13);
+DELETE FROM p;
+"""
 
 
 # The texts that a point of an arrow lies in.

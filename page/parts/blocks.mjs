@@ -42,7 +42,7 @@ function waveFor(blocks) {
   return blocks.waves.at(-1);
 }
 
-const MANY = 8;
+const MANY = 5;
 
 /**
  * From which changes of a wave a foreign key reached which rows: one link for each changed row that lost a key, or one for the foreign key

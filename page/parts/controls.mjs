@@ -116,6 +116,7 @@ export class Controls {
     return true;
   }
 
+  /** @param {{example?: string, number: number}} found */
   async #openNamed({ example, number }) {
     if (!this.examples.find(example)) {
       throw new Error(`there is none of the name ${example}`);

@@ -26,7 +26,8 @@ export function drawing(tag, attributes = {}, ...children) {
   return filledElement(document.createElementNS(SVG, tag), attributes, children);
 }
 
-/** The element with this id. */
+/** The element with this id.
+ * @type {(id: string) => any} */
 export const byId = (id) => document.getElementById(id);
 
 /** A text with `code` between backquotes, as nodes. */

@@ -15,7 +15,7 @@ export class Examples {
   constructor(list, groups) {
     this.list = list;
     this.groups = groups;
-    /** @type {{name: string, title: string, script: string}[]} */
+    /** @type {{name: string, title: string, script: string, limits?: object}[]} */
     this.own = [];
     this.#fill();
   }

@@ -3,7 +3,9 @@
 import { units } from "./groups.mjs";
 
 const CELL = 11, PAD = 8, HEAD = 20, ROW = 24, ROW_GAP = 4, GROUP_GAP = 12, CAPTION = 22;
-const ARM = 21, PILL = 36, PILL_GAP = 8, PILL_LINE = 24, MARGIN = 22, TIP = 7;
+// The room for lines beside pills: more where there are more lines.
+const ARM = 18, ARM_FOR_EACH = 1.5, MOST_ARM = 30;
+const PILL = 36, PILL_GAP = 8, PILL_LINE = 24, MARGIN = 22, TIP = 7;
 
 const textOf = (cell) => cell.map((piece) => piece.text).join("");
 
@@ -24,7 +26,11 @@ export class Flow {
   constructor(sheet, columns, links) {
     this.sheet = sheet;
     this.columns = columns.map((column) => this.#measured(column));
-    this.links = links.map((between) => between.map((link) => ({ ...link, w: Math.max(...link.words.map((word) => sheet.width(word))) + 2 * PAD })));
+    // All pills between two columns are as wide as the widest, so that no line goes past the side of another one.
+    this.links = links.map((between) => {
+      const w = Math.max(0, ...between.flatMap((link) => link.words).map((word) => sheet.width(word))) + 2 * PAD;
+      return between.map((link) => ({ ...link, w }));
+    });
   }
 
   #measured(column) {
@@ -38,7 +44,7 @@ export class Flow {
 
   #gap(at) {
     const links = this.links[at] ?? [];
-    return links.length > 0 ? 2 * ARM + Math.max(...links.map((link) => link.w)) : ARM;
+    return links.length > 0 ? 2 * (ARM + Math.min(MOST_ARM, links.length * ARM_FOR_EACH)) + links[0].w : ARM;
   }
 
   /** How wide the columns are side by side. */

@@ -8,8 +8,8 @@ const PAD = 12, LINE = 20, INDENT = 12, BETWEEN = 14;
 
 /**
  * The picture of what happened in a statement.
- * @param {{account: object[], changes: object[], answer: object}} detail
- * @param {Sheet} sheet
+ * @param {{account: object[], answer: {kind: string}, wentBack?: object[]}} detail
+ * @param {import("./sheet.mjs").Sheet} sheet
  * @param {number} room how wide the picture may be
  */
 export function layout(detail, sheet, room) {

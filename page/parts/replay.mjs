@@ -17,6 +17,9 @@ export function placeOfByte(text, byte) {
 }
 
 export class Replay {
+  /** @type {{at: number, line: number, column: number, words: string, byte: number} | null} the place at which no statement begins */
+  fault = null;
+
   /** @param {import("../sqlkeep.mjs").Engine} engine @param {string} script @param {{depth: number, changes: number}} limits */
   constructor(engine, script, limits) {
     this.engine = engine;

@@ -5,6 +5,10 @@ import { element } from "./elements.mjs";
 const MARGIN = 8;
 
 export class Rolling {
+  // The rows that are in the page.
+  first = 0;
+  last = 0;
+
   /**
    * @param {HTMLElement} box the element that scrolls
    * @param {number} rowHeight in pixels

@@ -8,6 +8,8 @@ export class Run {
   fault = null;
   isOpen = false;
   #busyCalls = 0;
+  /** @type {((isBusy: boolean) => void) | null} is called when work begins and when it ends */
+  onBusy = null;
   #isLoaded = false;
 
   /** @param {import("./client.mjs").Client} client @param {() => {depth: number, changes: number}} limits */

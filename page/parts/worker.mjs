@@ -3,7 +3,7 @@
 import { Engine, Trap } from "../sqlkeep.mjs";
 import { Replay } from "./replay.mjs";
 
-const BATCH = 500, BATCH_MS = 100;
+const BATCH = 500, BATCH_MS = 100, MOST_BYTES = 1 << 20;
 let engine = null, replay = null, ran = 0;
 
 const calls = {
@@ -17,6 +17,10 @@ const calls = {
     replay?.session.close();
     replay = null;
     ran = 0;
+    const bytes = new TextEncoder().encode(script).length;
+    if (bytes > MOST_BYTES) {
+      throw new Error(`The script is longer than 1,048,576 bytes: it has ${bytes.toLocaleString("en")}.`);
+    }
     replay = new Replay(engine, script, limits);
     return { count: replay.count, fault: replay.fault, whole: replay.statements.filter((statement) => statement.isWhole).length };
   },
