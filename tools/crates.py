@@ -5,7 +5,7 @@
     crates.py build --library                proves the library for C and all below it, and puts it into out/ with its header
     crates.py build --unproved [--library] [--optimise]
                                              compiles the program or the library without proof, into out/unproved
-    crates.py build --page [--unproved]      makes sqlkeep.wasm and sqlkeep.mjs of the library, for browsers and for node
+    crates.py build --page [--unproved]      makes sqlkeep.html, sqlkeep.wasm and sqlkeep.mjs of the library, for browsers and for node
     crates.py library                        makes out/ of what `rt ci` left: the program, and the library for C in the time of its own proof
     crates.py check CRATE.. [--above] [--edits] [--jobs N]
                                              proves these crates, and with --above those that depend on them
