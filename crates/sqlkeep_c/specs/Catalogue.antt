@@ -1,6 +1,6 @@
 -- What C reads of the catalogue: tables, constraints and triggers by their places in the order of creation, columns by their places in
 -- their table. Places count from 0.
-use Rattle.std.specs.Prelude.{ℕ, Bool, List, [], length, slice_get, Option, Some, None, option_and_then, option_map, if◌then◌else◌, get_or}
+use Rattle.std.specs.Prelude.{ℕ, Bool, List, [], ◌∷◌, length, slice_get, Option, Some, None, option_and_then, option_map, if◌then◌else◌, get_or}
 use Rattle.iv_catalogue.specs.Catalogues.{Schema}
 use Rattle.iv_catalogue.specs.declared.catalogue.Column.{Column}
 use Rattle.iv_catalogue.specs.declared.constraint.Constraint.{Constraint}

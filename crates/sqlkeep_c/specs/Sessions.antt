@@ -14,7 +14,7 @@ pub record IsNew (limits : Bounds) (opened : Behind) : Type 0 where
   pub lookups : opened.session.lookups ≡ 0
   pub limits_are : opened.limits ≡ limits
   pub statements : opened.statements ≡ []
-  pub values : opened.values.items ≡ []
+  pub values : opened.values ≡ []
   pub outcome : opened.outcome ≡ Ok Done
   pub executed : opened.executed ≡ None
   pub pending : opened.pending.items ≡ []

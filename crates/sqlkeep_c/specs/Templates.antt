@@ -39,4 +39,4 @@ pub record WhyNotRead (template : List ℕ) (values : List Value) (status : ℕ)
 -- of a call with a template, and with the values that are bound
 abbrev pub IsStatusOfTemplate : Option Behind → List ℕ → ℕ → Type 0
 IsStatusOfTemplate None template result = result ≡ CLOSED
-IsStatusOfTemplate (Some opened) template result = result ≢ OK → WhyNotRead template opened.values.items result
+IsStatusOfTemplate (Some opened) template result = result ≢ OK → WhyNotRead template opened.values result

@@ -296,12 +296,12 @@ fn trigger_at(opened: &Opened, at: usize) -> Option<&[u8]>
 }
 
 // Writes a value, where there is one.
-fn write_value(found: Option<&Value>, value: &mut ShownValue) -> u32
-    ensures value { IfSome (option_copied found.entry) (λ it. value.new ≡ value_shown it) }
+fn write_value(there: Option<&Value>, value: &mut ShownValue) -> u32
+    ensures value { IfSome (option_copied there.entry) (λ it. value.new ≡ value_shown it) }
     ensures others { result ≢ OK → value.new ≡ value.old }
-    ensures status { result ≡ found (option_copied found.entry) }
+    ensures status { result ≡ found (option_copied there.entry) }
 {
-    match found {
+    match there {
         Some(it) => {
             *value = shown(it);
             OK
@@ -311,13 +311,13 @@ fn write_value(found: Option<&Value>, value: &mut ShownValue) -> u32
 }
 
 // Copies bytes of a value's text, where there is a value.
-fn copy_text(found: Option<&Value>, from: usize, buffer: &mut [u8], count: &mut usize) -> u32
-    ensures bytes { IfSome (option_copied found.entry) (λ it.
+fn copy_text(there: Option<&Value>, from: usize, buffer: &mut [u8], count: &mut usize) -> u32
+    ensures bytes { IfSome (option_copied there.entry) (λ it.
         Copies from (text_of it) buffer.old buffer.new count.new) }
     ensures others { result ≢ OK → (buffer.new ≡ buffer.old) × (count.new ≡ count.old) }
-    ensures status { result ≡ found (option_copied found.entry) }
+    ensures status { result ≡ found (option_copied there.entry) }
 {
-    match found {
+    match there {
         Some(it) => {
             *count = copied(text_of(it), from, buffer);
             OK

@@ -8,12 +8,13 @@ use crate::handle::{Handle, put, take};
 use crate::opened::Opened;
 use crate::status::{CLOSED, NO_MEMORY, NOT_UTF8, OK};
 use iv_value::{Value, text};
+use sqlite_items::Items;
 use std::alloc::Global;
 use std::str::from_utf8;
 
 // Binds this value after those that are bound.
 fn bind(opened: &mut Opened, value: Value) -> u32
-    ensures bound { result ≡ OK → opened.new.values.items ≡ opened.old.values.items ++ value ∷ [] }
+    ensures bound { result ≡ OK → opened.new.values ≡ opened.old.values ++ value ∷ [] }
     ensures rest { opened.new ≡ record opened.old { values = opened.new.values } }
     ensures others { result ≢ OK → opened.new ≡ opened.old }
     ensures status { MayWantMemory result }
@@ -28,7 +29,7 @@ fn bind(opened: &mut Opened, value: Value) -> u32
 #[unsafe(no_mangle)]
 pub extern "C" fn sqlkeep_unbind(alloc: Global, handle: &mut Handle) -> u32
     ensures values { Called handle.old.kept.behind handle.new.kept.behind (λ old new.
-        new.values.items ≡ []) }
+        new.values ≡ []) }
     ensures rest { Called handle.old.kept.behind handle.new.kept.behind (λ old new.
         new ≡ record old { values = new.values }) }
     ensures status { result ≡ status_if_open handle.old.kept.behind }
@@ -36,7 +37,7 @@ pub extern "C" fn sqlkeep_unbind(alloc: Global, handle: &mut Handle) -> u32
     let Some(mut opened) = take(handle, alloc) else {
         return CLOSED;
     };
-    opened.values.clear();
+    opened.values = Items::new(alloc);
     put(handle, opened);
     OK
 }
@@ -45,7 +46,7 @@ pub extern "C" fn sqlkeep_unbind(alloc: Global, handle: &mut Handle) -> u32
 #[unsafe(no_mangle)]
 pub extern "C" fn sqlkeep_bind_null(alloc: Global, handle: &mut Handle) -> u32
     ensures values { Called handle.old.kept.behind handle.new.kept.behind (λ old new.
-        result ≡ OK → new.values.items ≡ old.values.items ++ value.Null ∷ []) }
+        result ≡ OK → new.values ≡ old.values ++ value.Null ∷ []) }
     ensures rest { Called handle.old.kept.behind handle.new.kept.behind (λ old new.
         new ≡ record old { values = new.values }) }
     ensures others { result ≢ OK → handle.new.kept.behind ≡ handle.old.kept.behind }
@@ -63,7 +64,7 @@ pub extern "C" fn sqlkeep_bind_null(alloc: Global, handle: &mut Handle) -> u32
 #[unsafe(no_mangle)]
 pub extern "C" fn sqlkeep_bind_integer(alloc: Global, handle: &mut Handle, integer: i64) -> u32
     ensures values { Called handle.old.kept.behind handle.new.kept.behind (λ old new.
-        result ≡ OK → new.values.items ≡ old.values.items ++ value.Int integer ∷ []) }
+        result ≡ OK → new.values ≡ old.values ++ value.Int integer ∷ []) }
     ensures rest { Called handle.old.kept.behind handle.new.kept.behind (λ old new.
         new ≡ record old { values = new.values }) }
     ensures others { result ≢ OK → handle.new.kept.behind ≡ handle.old.kept.behind }
@@ -79,7 +80,7 @@ pub extern "C" fn sqlkeep_bind_integer(alloc: Global, handle: &mut Handle, integ
 
 // Binds this text after the values that are bound.
 fn bind_text(alloc: Global, opened: &mut Opened, characters: &str) -> u32
-    ensures bound { result ≡ OK → opened.new.values.items ≡ opened.old.values.items ++ value.Text characters.now ∷ [] }
+    ensures bound { result ≡ OK → opened.new.values ≡ opened.old.values ++ value.Text characters.now ∷ [] }
     ensures rest { opened.new ≡ record opened.old { values = opened.new.values } }
     ensures others { result ≢ OK → opened.new ≡ opened.old }
     ensures status { MayWantMemory result }
@@ -94,7 +95,7 @@ fn bind_text(alloc: Global, opened: &mut Opened, characters: &str) -> u32
 #[unsafe(no_mangle)]
 pub extern "C" fn sqlkeep_bind_text(alloc: Global, handle: &mut Handle, text: &[u8]) -> u32
     ensures values { Called handle.old.kept.behind handle.new.kept.behind (λ old new.
-        result ≡ OK → new.values.items ≡ old.values.items ++ value.Text text.now ∷ []) }
+        result ≡ OK → new.values ≡ old.values ++ value.Text text.now ∷ []) }
     ensures rest { Called handle.old.kept.behind handle.new.kept.behind (λ old new.
         new ≡ record old { values = new.values }) }
     ensures others { result ≢ OK → handle.new.kept.behind ≡ handle.old.kept.behind }

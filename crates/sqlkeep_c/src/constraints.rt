@@ -98,7 +98,10 @@ fn column_of(rule: &Rule, place: usize) -> Option<u32>
     ensures { result ≡ slice_get (columns_of rule.now) place }
 {
     match rule {
-        Rule::NotNull(column) => { if place == 0 { Some(*column) } else { None } }
+        Rule::NotNull(column) => {
+            let columns = [*column];
+            columns.as_slice().get(place).copied()
+        }
         Rule::Check(_) => None,
         Rule::Unique(_, columns) => columns.as_slice().get(place).copied(),
         Rule::PrimaryKey(columns) => columns.as_slice().get(place).copied(),
@@ -199,12 +202,12 @@ fn referenced_column(opened: &Opened, at: usize, place: usize) -> Option<u32>
 }
 
 // Writes a place, where there is one.
-pub(crate) fn write_place(found: Option<u32>, place: &mut u32) -> u32
-    ensures place { IfSome found (λ it. place.new ≡ it) }
+pub(crate) fn write_place(there: Option<u32>, place: &mut u32) -> u32
+    ensures place { IfSome there (λ it. place.new ≡ it) }
     ensures others { result ≢ OK → place.new ≡ place.old }
-    ensures status { result ≡ found found }
+    ensures status { result ≡ found there }
 {
-    match found {
+    match there {
         Some(it) => {
             *place = it;
             OK

@@ -18,7 +18,7 @@ pub struct Opened {
     /// The statements that were read last.
     pub statements: Items<Statement>,
     /// The values for the question marks of the next template.
-    pub values: Vec<Value>,
+    pub values: Items<Value>,
     /// What the last statement or call answered.
     pub outcome: Outcome,
     /// The place among the statements of the one that answered it; none where another call did, or others were read since.

@@ -23,7 +23,7 @@ fn boxed(alloc: Global, limits: Limits) -> Result<Box<Opened>, AllocError>
         limits,
         session,
         statements: Items::new(alloc),
-        values: Vec::new(alloc),
+        values: Items::new(alloc),
         outcome: Ok(Answer::Done),
         executed: None,
         pending: Vec::new(alloc),

@@ -19,6 +19,7 @@ use iv_print::{DeviceFault, Sink, Std, write_account, write_all, write_outcome};
 use iv_script::{Explained, write_name};
 use iv_session::Outcome;
 use iv_syntax::Statement;
+use sqlite_items::Items;
 use std::alloc::Global;
 use std::str::from_utf8;
 
@@ -67,6 +68,18 @@ fn parsed(alloc: Global, text: &[u8]) -> Result<Parsed, u32>
     }
 }
 
+// The statements of a text with what C reads of them, or the status of the call that wanted them.
+fn read(alloc: Global, text: &[u8]) -> Result<(Items<Statement>, ReadScript), u32>
+    ensures script { IfOk result (λ r. IsRead text.now r.0 r.1) }
+    ensures utf8 { OnOk result (IsUtf8 text.now) }
+    ensures not_utf8 { IfErr result (λ e. e ≡ NOT_UTF8 → ¬ (IsUtf8 text.now)) }
+    ensures kinds { IfErr result (λ e. (e ≢ OK) × (e ≢ NOT_UTF8 → (e ≡ NO_MEMORY) × IsUtf8 text.now)) }
+{
+    let parsed = parsed(alloc, text)?;
+    let script = shown(parsed.statements.len(), parsed.fault);
+    Ok((parsed.into_statements(), script))
+}
+
 /// Reads the statements of a text, and keeps them.
 #[unsafe(no_mangle)]
 pub extern "C" fn sqlkeep_read(
@@ -86,10 +99,10 @@ pub extern "C" fn sqlkeep_read(
     let Some(mut opened) = take(handle, alloc) else {
         return CLOSED;
     };
-    match parsed(alloc, text) {
-        Ok(parsed) => {
-            *script = shown(parsed.statements.len(), parsed.fault);
-            opened.statements = parsed.into_statements();
+    match read(alloc, text) {
+        Ok((statements, read)) => {
+            *script = read;
+            opened.statements = statements;
             opened.executed = None;
             put(handle, opened);
             OK

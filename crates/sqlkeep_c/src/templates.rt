@@ -12,6 +12,7 @@ use crate::status::{CLOSED, NO_MEMORY, NO_TEMPLATE, NOT_UTF8, OK, WRONG_COUNT};
 use iv_parse::{Parsed, script};
 use iv_template::{FillFault, filled};
 use iv_value::Value;
+use sqlite_items::Items;
 use std::alloc::Global;
 use std::str::from_utf8;
 
@@ -61,9 +62,9 @@ pub extern "C" fn sqlkeep_read_bound(
     script: &mut ReadScript,
 ) -> u32
     ensures script { Called handle.old.kept.behind handle.new.kept.behind (λ old new.
-        result ≡ OK → IsReadOfTemplate template.now old.values.items new.statements script.new) }
+        result ≡ OK → IsReadOfTemplate template.now old.values new.statements script.new) }
     ensures values { Called handle.old.kept.behind handle.new.kept.behind (λ old new.
-        result ≡ OK → new.values.items ≡ []) }
+        result ≡ OK → new.values ≡ []) }
     ensures rest { Called handle.old.kept.behind handle.new.kept.behind (λ old new. result ≡ OK
         → new ≡ record old { statements = new.statements; executed = None; values = new.values }) }
     ensures others { result ≢ OK → (handle.new.kept.behind ≡ handle.old.kept.behind)
@@ -78,7 +79,7 @@ pub extern "C" fn sqlkeep_read_bound(
             *script = shown(parsed.statements.len(), parsed.fault);
             opened.statements = parsed.into_statements();
             opened.executed = None;
-            opened.values.clear();
+            opened.values = Items::new(alloc);
             put(handle, opened);
             OK
         }
