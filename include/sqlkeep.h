@@ -183,6 +183,24 @@ typedef struct sqlkeep_cell {
     uint64_t length;
 } sqlkeep_cell;
 
+/* How many rows were copied, and how many bytes their texts have. */
+typedef struct sqlkeep_taken {
+    uint64_t rows;
+    uint64_t bytes;
+} sqlkeep_taken;
+
+/* The kind of a statement. */
+enum sqlkeep_statement_kinds {
+    /* CREATE, ALTER, DROP */
+    SQLKEEP_SCHEMA = 0,
+    /* INSERT, UPDATE, DELETE */
+    SQLKEEP_DATA = 1,
+    /* SELECT */
+    SQLKEEP_QUERY = 2,
+    /* START TRANSACTION, COMMIT, ROLLBACK, SAVEPOINT, RELEASE, SET CONSTRAINTS */
+    SQLKEEP_TRANSACTION = 3
+};
+
 /* How many tables, constraints and triggers there are. */
 typedef struct sqlkeep_sizes {
     uint64_t tables;
@@ -382,11 +400,18 @@ uint32_t sqlkeep_read_bound(sqlkeep *handle, const uint8_t *text, size_t length,
    SQLKEEP_CLOSED; SQLKEEP_NOTHING: there are fewer statements. */
 uint32_t sqlkeep_execute(sqlkeep *handle, size_t at, sqlkeep_outcome *outcome);
 
+/* The kind of a statement of those that were read: one of enum sqlkeep_statement_kinds.
+   SQLKEEP_CLOSED; SQLKEEP_NOTHING: there are fewer statements. */
+uint32_t sqlkeep_statement_kind(sqlkeep *handle, size_t at, uint32_t *kind);
+
 /* Writes the lines of the last outcome as the program does, with this number in front, then those of its account and the name
    that a refusal is about where accounts are asked for, and keeps them for sqlkeep_transcript. It is to be called before the next
    statement is executed; the name is told up to the next sqlkeep_read. Before any statement was
    executed the outcome is `ok`. SQLKEEP_CLOSED, SQLKEEP_NO_MEMORY. */
 uint32_t sqlkeep_lines(sqlkeep *handle, uint64_t number);
+
+/* The same as one line of JSON, as `sqlkeep --json` writes it (docs/json). SQLKEEP_CLOSED, SQLKEEP_NO_MEMORY. */
+uint32_t sqlkeep_lines_json(sqlkeep *handle, uint64_t number);
 
 /* ---- the rows of a query
 
@@ -401,6 +426,12 @@ uint32_t sqlkeep_value(sqlkeep *handle, size_t row, size_t column, sqlkeep_cell 
 /* Copies bytes of a text to the buffer, from byte `from` on, as sqlkeep_transcript does.
    SQLKEEP_CLOSED; SQLKEEP_NOTHING: there is no such value. */
 uint32_t sqlkeep_value_text(sqlkeep *handle, size_t row, size_t column, size_t from, uint8_t *buffer, size_t size, size_t *copied);
+
+/* Copies rows from this one on, as many as have room: a cell for each value, row by row, and the bytes of the texts, one
+   after the other with nothing between them. `count` is how many cells the one buffer has, `size` how many bytes the other.
+   What of them isn't written stays as it was. If no row is copied though there is one, a buffer is too small for it.
+   SQLKEEP_CLOSED. */
+uint32_t sqlkeep_rows(sqlkeep *handle, size_t from, sqlkeep_cell *cells, size_t count, uint8_t *texts, size_t size, sqlkeep_taken *taken);
 
 /* ---- the columns of a query
 
@@ -543,6 +574,15 @@ static inline uint32_t sqlkeep_tested_execute(sqlkeep *handle, size_t at, sqlkee
 static inline uint32_t sqlkeep_tested_lines(sqlkeep *handle, uint64_t number) {
     return handle == NULL ? (uint32_t)SQLKEEP_NO_HANDLE : sqlkeep_lines(handle, number);
 }
+static inline uint32_t sqlkeep_tested_statement_kind(sqlkeep *handle, size_t at, uint32_t *kind) {
+    return handle == NULL ? (uint32_t)SQLKEEP_NO_HANDLE : sqlkeep_statement_kind(handle, at, kind);
+}
+static inline uint32_t sqlkeep_tested_lines_json(sqlkeep *handle, uint64_t number) {
+    return handle == NULL ? (uint32_t)SQLKEEP_NO_HANDLE : sqlkeep_lines_json(handle, number);
+}
+static inline uint32_t sqlkeep_tested_rows(sqlkeep *handle, size_t from, sqlkeep_cell *cells, size_t count, uint8_t *texts, size_t size, sqlkeep_taken *taken) {
+    return handle == NULL ? (uint32_t)SQLKEEP_NO_HANDLE : sqlkeep_rows(handle, from, cells, count, texts, size, taken);
+}
 static inline uint32_t sqlkeep_tested_columns(sqlkeep *handle, size_t row, size_t *count) {
     return handle == NULL ? (uint32_t)SQLKEEP_NO_HANDLE : sqlkeep_columns(handle, row, count);
 }
@@ -681,6 +721,9 @@ static inline uint32_t sqlkeep_tested_seen_text(sqlkeep *handle, size_t at, uint
 #define sqlkeep_read sqlkeep_tested_read
 #define sqlkeep_execute sqlkeep_tested_execute
 #define sqlkeep_lines sqlkeep_tested_lines
+#define sqlkeep_statement_kind sqlkeep_tested_statement_kind
+#define sqlkeep_lines_json sqlkeep_tested_lines_json
+#define sqlkeep_rows sqlkeep_tested_rows
 #define sqlkeep_columns sqlkeep_tested_columns
 #define sqlkeep_value sqlkeep_tested_value
 #define sqlkeep_value_text sqlkeep_tested_value_text

@@ -470,27 +470,39 @@ private:
             found.columns.push_back(detail::copied([&](auto... where) { return sqlkeep_query_column(&handle_, column, where...); }).value_or(""));
         }
         found.reserve(count);
-        for (std::size_t at = 0; at < count; at++) {
-            found.push_back(row_at(at, columns));
-        }
+        append_rows(found, count, columns);
         return found;
     }
 
-    row row_at(std::size_t at, std::size_t columns) {
+    // The rows of the last query, copied many at a time.
+    void append_rows(rows &found, std::size_t count, std::size_t columns) {
+        std::vector<sqlkeep_cell> cells(columns > 2048 ? columns : 2048);
+        std::vector<std::uint8_t> texts(32768);
+        while (found.size() < count) {
+            sqlkeep_taken taken = {0, 0};
+            detail::check(sqlkeep_rows(&handle_, found.size(), cells.data(), cells.size(), texts.data(), texts.size(), &taken));
+            if (taken.rows == 0) texts.resize(2 * texts.size());
+            auto text = texts.cbegin();
+            for (std::size_t at = 0; at < taken.rows; at++) found.push_back(row_of(&cells[at * columns], columns, text));
+        }
+    }
+
+    static row row_of(const sqlkeep_cell *cells, std::size_t columns, std::vector<std::uint8_t>::const_iterator &text) {
         std::vector<value> values;
         values.reserve(columns);
         for (std::size_t column = 0; column < columns; column++) {
-            values.push_back(value_at(at, column));
+            values.push_back(value_of(cells[column], text));
         }
         return row(std::move(values));
     }
 
-    value value_at(std::size_t at, std::size_t column) {
-        sqlkeep_cell cell;
-        detail::check(sqlkeep_value(&handle_, at, column, &cell));
+    // The value of a cell, whose text begins here; that of the next one begins behind it.
+    static value value_of(const sqlkeep_cell &cell, std::vector<std::uint8_t>::const_iterator &text) {
         if (cell.kind == SQLKEEP_INTEGER) return cell.integer;
         if (cell.kind == SQLKEEP_NULL) return std::monostate();
-        return detail::copied([&](auto... where) { return sqlkeep_value_text(&handle_, at, column, where...); }).value_or("");
+        const auto from = text;
+        text += static_cast<std::ptrdiff_t>(cell.length);
+        return std::string(from, text);
     }
 
     ::sqlkeep handle_ = SQLKEEP_EMPTY;

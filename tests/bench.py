@@ -152,6 +152,17 @@ def session_driver(library, folder):
     return [driver]
 
 
+def filled(words, folder):
+    """The seconds of 300,000 INSERTs with two values, each from its text, in the library and in SQLite by prepare, bind and step."""
+    source, compiler = os.path.join(ROOT, 'tests', 'bench_filled.c'), os.environ.get('CC', 'cc')
+    made = {'ours': ['-I', words.library, source, os.path.join(words.library, 'libsqlkeep.a')], 'SQLite': ['-DSQLITE', source, '-lsqlite3']}
+    for name, given in made.items():
+        program = os.path.join(folder, 'filled-' + name)
+        subprocess.run([compiler, '-O1', *given, '-o', program], check=True)
+        seconds = min(timed([program, '300000'], b'')[0] for _ in range(words.runs))
+        print('%s: %.3f s' % (name, seconds), flush=True)
+
+
 def of_commit(commit, folder):
     """The program of a commit, without proof but optimised, and its library: both are made in a checkout of its own in out/, which stays."""
     name = subprocess.run(['git', '-C', ROOT, 'rev-parse', '--short=12', commit], capture_output=True, text=True, check=True).stdout.strip()
@@ -250,10 +261,14 @@ def main():
     parser.add_argument('--save', action='store_true')
     parser.add_argument('--compare', metavar='COMMIT')
     parser.add_argument('--instructions', action='store_true')
+    parser.add_argument('--filled', action='store_true', help='an INSERT with values, 300,000 times, beside SQLite by prepare, bind and step')
     words = parser.parse_args()
     with tempfile.TemporaryDirectory(prefix='bench-') as folder:
         if words.compare:
             beside_commit(words, folder)
+            return
+        if words.filled:
+            filled(words, folder)
             return
         if not os.path.exists(words.program):
             raise SystemExit('there is no %s: ./build makes it' % words.program)

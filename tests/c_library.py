@@ -200,7 +200,8 @@ def tried(room):
             if what == 'C':
                 yield from by_c(room, program)
     yield from firsts(room)
-    for what, name in (('sessions side by side', 'c_sessions'), ('templates and the catalogue', 'c_catalogue'), ('accounts entry by entry', 'c_accounts')):
+    for what, name in (('sessions side by side', 'c_sessions'), ('templates and the catalogue', 'c_catalogue'), ('accounts entry by entry', 'c_accounts'),
+                       ('rows many at a time', 'c_rows')):
         program, why = room.c_program(os.path.join(HERE, name + '.c'), name)
         yield what, why or told([program])
         if shutil.which('valgrind'):

@@ -23,7 +23,7 @@ import tempfile
 import time
 from concurrent.futures import ThreadPoolExecutor
 
-from edits import bare, libraries, read, repository, rooms, write
+from edits import bare, libraries, read, repository, sandboxes, write
 
 HERE = os.path.dirname(os.path.abspath(__file__))
 CRATES = os.path.join(HERE, '..', 'crates')
@@ -131,11 +131,11 @@ def copy_definitions(crates, name):
     write(crate + '/src/lib.rt', '\n'.join(items) + '\n')
 
 
-def copied(room, over_gate=False):
+def copied(sandbox, over_gate=False):
     """The repository as far as the worked scripts, where the crates that are changed have their definitions alone; those below them are left
     out over the libraries that `rt ci` left."""
-    crates = os.path.join(room, 'crates')
-    write(os.path.join(room, 'crates.txt'), listed(BELOW + DEFINED + WORKED))
+    crates = os.path.join(sandbox, 'crates')
+    write(os.path.join(sandbox, 'crates.txt'), listed(BELOW + DEFINED + WORKED))
     for name in [] if over_gate else BELOW:
         shutil.copytree(os.path.join(CRATES, name), os.path.join(crates, name), symlinks=True)
     for name in DEFINED:
@@ -167,7 +167,7 @@ def checked(crates, target, over_gate=False, until=None):
     """Whether a crate's worked scripts are proved, and the scripts that are refused."""
     crate = os.path.join(crates, target)
     for words, place in steps(crates, target, over_gate):
-        status, output, _ = rooms.timed(words, place, until or time.monotonic() + 1200)
+        status, output, _ = sandboxes.timed(words, place, until or time.monotonic() + 1200)
         if status != 0:
             break
     places = sorted({(file, int(n)) for file, n in re.findall(r'proofs/(\w+)\.antt:(\d+):', output) if os.path.exists('%s/proofs/%s.antt' % (crate, file))})
@@ -218,16 +218,16 @@ def all_tried(chosen, jobs, over_gate=False, until=None):
     with contextlib.ExitStack() as stack, ThreadPoolExecutor(jobs) as pool:
         free = queue.Queue()
         targets = sorted({NOTICES[pairs[0][0].split('/')[0]] for pairs in chosen.values()})
-        for room in pool.map(lambda _: prepared(stack, targets, over_gate, until), range(min(jobs, len(chosen)))):
-            free.put(room)
+        for sandbox in pool.map(lambda _: prepared(stack, targets, over_gate, until), range(min(jobs, len(chosen)))):
+            free.put(sandbox)
 
         def one(pairs):
-            room = free.get()
+            sandbox = free.get()
             try:
                 is_below = over_gate and any(path.split('/')[0] in BELOW for path, _, _ in pairs)
-                return None if room is None or is_below or is_late(until) else tried(room, pairs, over_gate, until)
+                return None if sandbox is None or is_below or is_late(until) else tried(sandbox, pairs, over_gate, until)
             finally:
-                free.put(room)
+                free.put(sandbox)
 
         yield from zip(chosen, pool.map(one, chosen.values()))
 

@@ -37,7 +37,7 @@ ROOT = os.path.dirname(HERE)
 sys.path.insert(0, os.path.join(ROOT, "tools"))
 import libraries
 import repository
-import rooms
+import sandboxes
 
 FUNCTION = re.compile(r"^( *)(?:pub(?:\([a-z]+\))? )?(?:const )?(?:extern \"C\" )?fn (\w+)", re.M)
 # A public function that has clauses: the layout has its braces on lines of their own.
@@ -301,9 +301,9 @@ def remember(crates):
     write(os.path.join(HERE, "edits", "DIGESTS"), "".join(f"{crate} {known[crate]}\n" for crate in sorted(known)))
 
 
-def copied(crate, room):
+def copied(crate, sandbox):
     """A copy of the crate and of those below it, with the work that checks kept."""
-    copy = rooms.furnish(room, crate, below(crate))
+    copy = sandboxes.furnish(sandbox, crate, below(crate))
     shutil.copytree(os.path.join(ROOT, "crates", crate, "out"), os.path.join(copy, "out"))
     return copy
 
@@ -337,7 +337,7 @@ def tried(crate, copy, edits, words=("rt", "check", "--jobs", "1"), until=None):
     """The edits of a round that were not refused, what the check said, and the processor seconds that it took; nothing where it was
     stopped at that time."""
     files = make(crate, copy, edits)
-    status, output, used = rooms.timed(words, copy, until)
+    status, output, used = sandboxes.timed(words, copy, until)
     for file in files:
         shutil.copy2(os.path.join(ROOT, "crates", crate, file), os.path.join(copy, file))
     if until is not None and time.monotonic() >= until:
@@ -347,20 +347,20 @@ def tried(crate, copy, edits, words=("rt", "check", "--jobs", "1"), until=None):
     return [edit for edit in edits if not refused(crate, edit, output)], output, used
 
 
-def tried_apart(crate, edits, room):
-    """The same for a round in a room of its own."""
-    said = tried(crate, copied(crate, room), edits)
-    shutil.rmtree(room)
+def tried_apart(crate, edits, sandbox):
+    """The same for a round in a sandbox of its own."""
+    said = tried(crate, copied(crate, sandbox), edits)
+    shutil.rmtree(sandbox)
     return said
 
 
-def tried_in_turn(crate, rounds, room, until):
+def tried_in_turn(crate, rounds, sandbox, until):
     """What each round of a crate came to over the libraries that `rt ci` left, as far as it was tried until that time. The first check
     proves the crate but for the edits; the others go on from it."""
     said, rlibs = {}, libraries.left_by_gate(crate)
     if rlibs is None:
         return said
-    copy = os.path.join(room, crate)
+    copy = os.path.join(sandbox, crate)
     shutil.copytree(os.path.join(ROOT, "crates", crate), copy, ignore=shutil.ignore_patterns("out"))
     os.makedirs(os.path.join(copy, "out", "incremental"))
     words = [*libraries.words("check", crate, rlibs), "--jobs", "1"]
@@ -415,14 +415,14 @@ def stale(crates, known):
 
 
 def try_all(rounds, jobs, keep):
-    """Tries all rounds, each in a room of its own over the work that a check kept; the number of edits that were refused and of those
+    """Tries all rounds, each in a sandbox of its own over the work that a check kept; the number of edits that were refused and of those
     that were not."""
     passed = failed = 0
-    if not rooms.prove(repository.below(rounds, repository.crates()), repository.crates(), jobs):
+    if not sandboxes.prove(repository.below(rounds, repository.crates()), repository.crates(), jobs):
         return 0, 1
-    with tempfile.TemporaryDirectory(prefix="edits-", dir=rooms.place()) as room, ThreadPoolExecutor(jobs) as pool:
+    with tempfile.TemporaryDirectory(prefix="edits-", dir=sandboxes.place()) as sandbox, ThreadPoolExecutor(jobs) as pool:
         longest_first = sorted(rounds, key=lambda crate: -sum(map(len, rounds[crate])))
-        begun = {pool.submit(tried_apart, crate, one, os.path.join(room, f"{crate}-{number}")): (crate, number) for crate in longest_first for number, one in enumerate(rounds[crate])}
+        begun = {pool.submit(tried_apart, crate, one, os.path.join(sandbox, f"{crate}-{number}")): (crate, number) for crate in longest_first for number, one in enumerate(rounds[crate])}
         said = {crate: {} for crate in rounds}
         for done in as_completed(begun):
             crate, number = begun[done]
@@ -442,8 +442,8 @@ def try_some(rounds, jobs, keep, minutes):
     until, last = time.monotonic() + 60 * minutes, changed_last()
     order = list(repository.crates())
     first = sorted(rounds, key=lambda crate: (crate not in last, order.index(crate)))
-    with tempfile.TemporaryDirectory(prefix="edits-", dir=rooms.place()) as room, ThreadPoolExecutor(jobs) as pool:
-        begun = {pool.submit(tried_in_turn, crate, rounds[crate], room, until): crate for crate in first}
+    with tempfile.TemporaryDirectory(prefix="edits-", dir=sandboxes.place()) as sandbox, ThreadPoolExecutor(jobs) as pool:
+        begun = {pool.submit(tried_in_turn, crate, rounds[crate], sandbox, until): crate for crate in first}
         for done in as_completed(begun):
             crate = begun[done]
             refused_now, kept_now = report(crate, rounds[crate], done.result(), keep)

@@ -14,8 +14,9 @@ CRATES = os.path.join(os.path.dirname(os.path.abspath(__file__)), '..', 'crates'
 
 # The file, the function, the word, and why it is there.
 EXCEPTIONS = [
-    ('iv_index/src/hash_index.rt', 'push', 'AllocError', 'more groups of one constraint than numbers of 32 bits would take 300 GB at least'),
+    ('iv_store_groups/src/hash_index.rt', 'push', 'AllocError', 'more groups of one constraint than numbers of 32 bits would take 300 GB at least'),
     ('iv_expr/src/expression.rt', 'copy', 'NoMemory', 'the copy of a text, which answers an AllocError or none'),
+    ('iv_parse/src/parser.rt', 'run', 'AllocError', 'a rule of the grammar was refused memory, which is a variant of Stop'),
     ('iv_catalogue/src/cause.rt', 'from', 'OutOfMemory', 'the evaluation was refused memory, which is a fault of its own'),
     ('iv_state/src/schema.rt', 'adding_refusal', 'AllocError', 'the store was refused memory, which is a fault of its own'),
     ('iv_program/src/program.rt', 'words', 'NoMemory', 'std tells by a kind of its error that memory for the words was refused'),

@@ -56,7 +56,8 @@ def run(program, script, words=()):
 
 
 def status_of(transcript):
-    return int(re.search(rb'^\d+ (refused|fault) ', transcript, re.M) is not None)
+    """The status of a run with this transcript, in words or as JSON."""
+    return int(re.search(rb'^(\d+ |\{"number":\d+,"kind":")(refused|fault)[ "]', transcript, re.M) is not None)
 
 
 def compare(what, want, got):
@@ -94,7 +95,7 @@ def scripts(program):
 def options(program):
     """The text of --help, which names every option, and the line of --version, and nothing else."""
     out, status, err = run(program, b'SELECT * FROM t;', ['--help'])
-    words = (b'--depth', b'--changes', b'--explain', b'--version', b'FILE', b'Limits:', b'Examples:')
+    words = (b'--depth', b'--changes', b'--explain', b'--json', b'--version', b'FILE', b'Limits:', b'Examples:')
     good = status == 0 and err == b'' and out.endswith(b'\n') and all(word in out for word in words)
     yield 'options: --help', [] if good else ['status %d, got %r, standard error %r' % (status, out[:200], err[:200])]
     for word in ('--version', '-V'):
@@ -104,11 +105,11 @@ def options(program):
 
 
 def pages(program):
-    """Scripts on the pages of the language, each with its transcript directly after it."""
-    for file in files('../docs/language'):
-        found = re.findall(rb'```sql([^\n]*)\n(.*?)```\n+```text\n(.*?)```', read('../docs/language', file), re.S)
+    """Scripts on the pages of the language and of JSON, each with its transcript directly after it."""
+    for page in [os.path.join('docs', folder, file) for folder in ('language', 'json') for file in files('../docs/' + folder)]:
+        found = re.findall(rb'```sql([^\n]*)\n(.*?)```\n+```text\n(.*?)```', read('..', page), re.S)
         for place, (words, script, want) in enumerate(found, 1):
-            yield 'docs/language/%s, script %d' % (file, place), judge(program, script, want, words=shlex.split(words.decode()))
+            yield '%s, script %d' % (page, place), judge(program, script, want, words=shlex.split(words.decode()))
 
 
 def statements(program):

@@ -4,7 +4,7 @@
   tools/carry.py COMMIT NAMES
 
 NAMES is a file with a line `OLD NEW` for each word that was renamed: crates, files, types and functions. A line `OLD NEW
-PLACE..` holds in the files and folders whose paths have one of these places, as `iv_lex` or `iv_waves/src`, and before a
+PLACE..` holds in the files and folders whose paths have one of these places, as `iv_lex` or `iv_exec_waves/src`, and before a
 line without places. A line with one word alone is the path of a file that was taken away because no other file used it;
 it is taken out of the tree of the commit too. The tree of the commit is laid out in a folder of its own, each old word is replaced there by its
 new one, in code, in paths and where comments and pages name it between backticks, and the files are laid out anew. Where what a crate's digest is made of is then the same as in this checkout, and the digest

@@ -22,7 +22,7 @@ import builds
 import wheel
 from libraries import library_over_gate, put_together
 from repository import LIBRARY, PROGRAM, ROOT, above, below, crates, folder, say
-from rooms import prove
+from sandboxes import prove
 
 
 def run(crate, words):

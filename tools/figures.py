@@ -17,7 +17,7 @@ import sys
 import tempfile
 
 import repository
-import rooms
+import sandboxes
 
 ROOT = repository.ROOT
 
@@ -26,16 +26,16 @@ class Failed(Exception):
     """A step that did not succeed, with its output."""
 
 
-def copied(room):
+def copied(sandbox):
     """A copy of the repository without its history and without kept work."""
-    copy = os.path.join(room, "repository")
+    copy = os.path.join(sandbox, "repository")
     shutil.copytree(ROOT, copy, ignore=shutil.ignore_patterns(".git", "out", "__pycache__"))
     return copy
 
 
 def measured(folder, *words):
     """The processor seconds of a command."""
-    status, output, used = rooms.timed(words, folder)
+    status, output, used = sandboxes.timed(words, folder)
     if status != 0:
         raise Failed(f"{' '.join(words)} in {folder}:\n{output}")
     return used
@@ -105,8 +105,8 @@ def main(words):
     wanted = words or list(named)
     needed = repository.below(wanted, named)
     rows = []
-    with tempfile.TemporaryDirectory(prefix="figures-") as room:
-        copy = copied(room)
+    with tempfile.TemporaryDirectory(prefix="figures-") as sandbox:
+        copy = copied(sandbox)
         try:
             for crate in (crate for crate in named if crate in needed):
                 if crate in wanted:

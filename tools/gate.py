@@ -1,5 +1,5 @@
 #!/usr/bin/env python3
-"""Runs `rt ci` from nothing, and prints the minutes that each crate took in it, as a table for docs/proving.
+"""Runs `rt ci` from nothing, and prints the minutes that each crate took in it, as a table for docs/proving and tools/minutes.txt.
 
   tools/gate.py [COMMAND WORD..]
 

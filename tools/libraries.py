@@ -14,14 +14,14 @@ FILES = ("libsqlkeep.a", "libsqlkeep.so")
 def put_together(archive, to):
     """Makes libsqlkeep.a and libsqlkeep.so in a folder of the archive that rt built and the kit's, with the header."""
     compiler = os.environ.get("CC", "cc")
-    with tempfile.TemporaryDirectory() as room:
+    with tempfile.TemporaryDirectory() as sandbox:
         for each in (archive, kit("c", "liblibc_c.a")):
-            subprocess.run(["ar", "x", each], cwd=room, check=True)
-        objects = sorted(file for file in os.listdir(room) if file.endswith(".o"))
-        subprocess.run(["ar", "rcs", "libsqlkeep.a", *objects], cwd=room, check=True)
-        subprocess.run([compiler, "-shared", "-o", "libsqlkeep.so", f"-Wl,-soname,{SONAME}", *objects], cwd=room, check=True)
+            subprocess.run(["ar", "x", each], cwd=sandbox, check=True)
+        objects = sorted(file for file in os.listdir(sandbox) if file.endswith(".o"))
+        subprocess.run(["ar", "rcs", "libsqlkeep.a", *objects], cwd=sandbox, check=True)
+        subprocess.run([compiler, "-shared", "-o", "libsqlkeep.so", f"-Wl,-soname,{SONAME}", *objects], cwd=sandbox, check=True)
         for file in FILES:
-            shutil.copy2(os.path.join(room, file), to)
+            shutil.copy2(os.path.join(sandbox, file), to)
     # A program that is linked with the library looks for it by this name when it starts.
     link = os.path.join(to, SONAME)
     if not os.path.islink(link):

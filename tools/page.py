@@ -32,45 +32,45 @@ PARTS = Path(ROOT, "page", "wasm")
 STACK = 8 << 20
 FEATURES = ["memory64", "bulk-memory", "sign-ext", "mutable-globals", "nontrapping-float-to-int", "multivalue"]
 KEEPER = """#!/bin/bash
-[ -f module.bc ] && cp module.bc {room}/module.bc
+[ -f module.bc ] && cp module.bc {sandbox}/module.bc
 exec -a "$0" {clang} "$@"
 """
 # The number of the section of tables, and the length of the head of a module.
 TABLES, HEAD = 4, 8
 
 
-def keep_proved_module(room):
+def keep_proved_module(sandbox):
     """Puts the module of the proved library into the folder; whether it is proved."""
     crate, rlibs = repository.LIBRARY, libraries.left_by_gate(repository.LIBRARY)
     if rlibs is None:
         say("the crates below the library aren't proved here; ./build --library proves them")
         return False
-    (room / "kit" / "bin").mkdir(parents=True)
+    (sandbox / "kit" / "bin").mkdir(parents=True)
     for file in ("lib", "bin/ld.lld", "bin/llvm-ar", "bin/rattle-x64"):
-        (room / "kit" / file).symlink_to(kit("toolchain", file))
-    keeper = room / "kit" / "bin" / "clang"
-    keeper.write_text(KEEPER.format(room=shlex.quote(str(room)), clang=shlex.quote(kit("toolchain", "bin", "clang"))), "utf-8")
+        (sandbox / "kit" / file).symlink_to(kit("toolchain", file))
+    keeper = sandbox / "kit" / "bin" / "clang"
+    keeper.write_text(KEEPER.format(sandbox=shlex.quote(str(sandbox)), clang=shlex.quote(kit("toolchain", "bin", "clang"))), "utf-8")
     keeper.chmod(0o755)
-    words = [*libraries.words("build", crate, rlibs), "--crate-type", "staticlib", "--toolchain", str(room / "kit"), "--backend", "llvm", "--jobs", "2", "-o", str(room / "library.a")]
+    words = [*libraries.words("build", crate, rlibs), "--crate-type", "staticlib", "--toolchain", str(sandbox / "kit"), "--backend", "llvm", "--jobs", "2", "-o", str(sandbox / "library.a")]
     done = subprocess.run(words, cwd=repository.folder(crate), stdin=subprocess.DEVNULL, stdout=subprocess.PIPE, stderr=subprocess.STDOUT, text=True, check=False)
-    if not (room / "module.bc").exists():
+    if not (sandbox / "module.bc").exists():
         say(done.stdout)
-    return (room / "module.bc").exists()
+    return (sandbox / "module.bc").exists()
 
 
-def keep_unproved_module(room):
+def keep_unproved_module(sandbox):
     """Puts the module of the sources into the folder, whose exports have their own names; whether it compiles."""
     try:
-        unproved.keep_module(repository.LIBRARY, room)
+        unproved.keep_module(repository.LIBRARY, sandbox)
     except unproved.NotCompiled as why:
         say(str(why))
         return False
-    unproved.export(room)
+    unproved.export(sandbox)
     return True
 
 
-def run(room, *words):
-    subprocess.run([str(word) for word in words], cwd=room, check=True)
+def run(sandbox, *words):
+    subprocess.run([str(word) for word in words], cwd=sandbox, check=True)
 
 
 def retarget(text):
@@ -99,28 +99,28 @@ def without_tables(code):
     return bytes(kept)
 
 
-def link(room):
+def link(sandbox):
     """Compiles module.bc and the parts beside it for wasm64, and links them."""
     clang = kit("toolchain", "bin", "clang")
-    run(room, clang, "--target=x86_64-unknown-linux-gnu", "-emit-llvm", "-Xclang", "-disable-llvm-passes", "-x", "ir", "-S", "module.bc", "-o", "module.ll")
-    text = retarget((room / "module.ll").read_text("utf-8"))
-    (room / "wasm.ll").write_text(text, "utf-8")
+    run(sandbox, clang, "--target=x86_64-unknown-linux-gnu", "-emit-llvm", "-Xclang", "-disable-llvm-passes", "-x", "ir", "-S", "module.bc", "-o", "module.ll")
+    text = retarget((sandbox / "module.ll").read_text("utf-8"))
+    (sandbox / "wasm.ll").write_text(text, "utf-8")
     exports = sorted(set(re.findall(r"^define (?!internal)[^@\n]*@(sqlkeep_\w+)\(", text, re.M)))
     shared = [clang, f"--target={TARGET}", "-mcpu=lime1", "-O3", "-c", "-Wno-override-module"]
-    run(room, *shared, "-x", "ir", "wasm.ll", "-o", "module.o")
-    run(room, *shared, "-x", "ir", PARTS / "heap.ll", "-o", "glue.o")
+    run(sandbox, *shared, "-x", "ir", "wasm.ll", "-o", "module.o")
+    run(sandbox, *shared, "-x", "ir", PARTS / "heap.ll", "-o", "glue.o")
     for name in ("heap", "wide"):
-        run(room, *shared, "-ffreestanding", "-fno-builtin", PARTS / f"{name}.c", "-o", f"{name}.o")
+        run(sandbox, *shared, "-ffreestanding", "-fno-builtin", PARTS / f"{name}.c", "-o", f"{name}.o")
     words = [kit("toolchain", "bin", "ld.lld"), "-flavor", "wasm", "-mwasm64", "--no-entry", "--stack-first", "-z", f"stack-size={STACK}", "--gc-sections", "--strip-all"]
-    run(room, *words, *(f"--export={name}" for name in exports), "module.o", "glue.o", "heap.o", "wide.o", "-o", "wide.wasm")
-    (room / "wide.wasm").write_bytes(without_tables((room / "wide.wasm").read_bytes()))
+    run(sandbox, *words, *(f"--export={name}" for name in exports), "module.o", "glue.o", "heap.o", "wide.o", "-o", "wide.wasm")
+    (sandbox / "wide.wasm").write_bytes(without_tables((sandbox / "wide.wasm").read_bytes()))
 
 
-def lower(room, to):
+def lower(sandbox, to):
     """Gives the module addresses of 32 bits."""
-    run(room, "wasm-opt", *(f"--enable-{feature}" for feature in FEATURES), "--memory64-lowering", "wide.wasm", "-o", "low.wasm")
+    run(sandbox, "wasm-opt", *(f"--enable-{feature}" for feature in FEATURES), "--memory64-lowering", "wide.wasm", "-o", "low.wasm")
     to.mkdir(parents=True, exist_ok=True)
-    shutil.copyfile(room / "low.wasm", to / "sqlkeep.wasm")
+    shutil.copyfile(sandbox / "low.wasm", to / "sqlkeep.wasm")
     for file in ("sqlkeep.mjs", "account.mjs", "catalogue.mjs", "sqlkeep.d.ts", "package.json"):
         shutil.copyfile(Path(ROOT, "page", file), to / file)
 
@@ -133,11 +133,11 @@ def main(words):
     to = Path(ROOT, "out", "unproved") if is_unproved else Path(ROOT, "out")
     to.mkdir(parents=True, exist_ok=True)
     with tempfile.TemporaryDirectory(prefix="making-", dir=to) as folder:
-        room = Path(folder)
-        if not (keep_unproved_module(room) if is_unproved else keep_proved_module(room)):
+        sandbox = Path(folder)
+        if not (keep_unproved_module(sandbox) if is_unproved else keep_proved_module(sandbox)):
             return 1
-        link(room)
-        lower(room, to)
+        link(sandbox)
+        lower(sandbox, to)
     bundle.write(to, not is_unproved)
     say(f"sqlkeep.wasm, sqlkeep.mjs and sqlkeep.html are in {os.path.relpath(to, ROOT)}")
     return 0

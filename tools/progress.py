@@ -1,7 +1,7 @@
 """Says how far a proof of many crates is: in one line that is written over on a terminal, and in a line for each crate elsewhere.
 
 The minutes that are left are reckoned from what each crate took when it was proved last. That is kept in out/minutes; for a crate that was
-never proved here it is taken from the table of docs/proving, and is a third of a minute for one that isn't in it.
+never proved here it is taken from tools/minutes.txt, and is a third of a minute for one that isn't in it.
 """
 import math
 import os
@@ -13,16 +13,13 @@ from pathlib import Path
 from repository import ROOT
 
 KEPT = Path(ROOT, "out", "minutes")
-TABLE = Path(ROOT, "docs", "proving", "README.md")
+MEASURED = Path(ROOT, "tools", "minutes.txt")
 USUAL = 1 / 3
 
 
 def minutes():
     """The processor minutes of each crate's last proof."""
-    found = {crate: float(taken) for crate, taken in re.findall(r"`(\w+)` \| ([0-9]+\.[0-9]+) \|", TABLE.read_text("utf-8"))}
-    if KEPT.exists():
-        found.update((crate, float(taken)) for crate, taken in (line.split() for line in KEPT.read_text("utf-8").splitlines()))
-    return found
+    return {crate: float(taken) for file in (MEASURED, KEPT) if file.exists() for crate, taken in re.findall(r"^(\w+) ([0-9.]+)$", file.read_text("utf-8"), re.M)}
 
 
 class Progress:

@@ -490,6 +490,18 @@ def explained_keys(rows):
     return ';'.join(texts) + ';', '\n'.join(lines) + '\n'
 
 
+def explained_nulls(rows):
+    """So many rows that each have the key of another, with a null that is equal to a null, for which COMMIT is refused; with accounts."""
+    half = rows // 2
+    texts = ['CREATE TABLE t (a INT, b INT, CONSTRAINT k UNIQUE NULLS NOT DISTINCT (a, b) INITIALLY DEFERRED)']
+    texts += ['INSERT INTO t VALUES ' + ','.join(numbered('({n},NULL)', half)), 'INSERT INTO t SELECT * FROM t', 'COMMIT']
+    lines = ['1 ok', '2 ok %d' % half, *numbered('  insert T row {n} ({n}, NULL)', half)]
+    lines += ['3 ok %d' % half, *['  insert T row %d (%d, NULL)' % (n + half, n) for n in range(1, half + 1)], '4 refused 19 CommitRefused K row 1']
+    lines += ['  K: T row %d (%d, NULL) has the key of row %d (%d, NULL)' % (n, n, n + half, n) for n in range(1, half + 1)]
+    lines += ['  K: T row %d (%d, NULL) has the key of row %d (%d, NULL)' % (n + half, n, n, n) for n in range(1, half + 1)]
+    return ';'.join(texts) + ';', '\n'.join(lines) + '\n'
+
+
 def few_left(rows):
     """So many rows, of which all but each 4,000th are deleted; statements that look through those that are left, in the same transaction; then all come
     back."""
@@ -593,6 +605,7 @@ def cases():
     yield Case('10,000 children of one parent', lambda: one_parent(10_000))
     yield Case('an account of a cascade over 60,000 rows', lambda: explained_cascade(60_000), words=['--explain'])
     yield Case('an account of 20,000 rows with the key of another, and 20,000 without one', lambda: explained_keys(20_000), words=['--explain'])
+    yield Case('an account of 60,000 rows with the key of another, in which nulls are equal', lambda: explained_nulls(60_000), words=['--explain'])
     yield Case('60,000 rows of which 15 are left, looked through 24,000 times', lambda: few_left(60_000))
     yield Case('30,000 rows that violate one constraint, the later half mended', lambda: mended(30_000))
     yield Case('4,096 constraints', many_constraints)

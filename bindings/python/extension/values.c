@@ -96,12 +96,44 @@ PyObject *value_of(sqlkeep *handle, const sqlkeep_cell *cell, size_t row, size_t
     return PyUnicode_DecodeUTF8(to, (Py_ssize_t)copied, "strict");
 }
 
-static PyObject *row_of(sqlkeep *handle, size_t row, size_t columns) {
+/* Buffers for rows: cells, and the bytes of texts. */
+struct room {
+    sqlkeep_cell *cells;
+    uint8_t *texts;
+    size_t count;
+    size_t size;
+};
+
+/* Twice as many bytes for texts; what is in the buffer goes. */
+static int enlarge(struct room *room) {
+    PyMem_Free(room->texts);
+    room->size *= 2;
+    room->texts = PyMem_Malloc(room->size);
+    if (room->texts == NULL) {
+        PyErr_NoMemory();
+        return -1;
+    }
+    return 0;
+}
+
+/* The value of a cell, whose text begins here; the text of the next one begins behind it. */
+static PyObject *cell_value(const sqlkeep_cell *cell, const uint8_t **text) {
+    if (cell->kind == SQLKEEP_INTEGER) {
+        return PyLong_FromLongLong(cell->integer);
+    }
+    if (cell->kind != SQLKEEP_TEXT) {
+        Py_INCREF(Py_None);
+        return Py_None;
+    }
+    const char *from = (const char *)*text;
+    *text += cell->length;
+    return PyUnicode_DecodeUTF8(from, (Py_ssize_t)cell->length, "strict");
+}
+
+static PyObject *row_of(const sqlkeep_cell *cells, size_t columns, const uint8_t **text) {
     PyObject *tuple = PyTuple_New((Py_ssize_t)columns);
     for (size_t column = 0; tuple != NULL && column < columns; column++) {
-        sqlkeep_cell cell = {SQLKEEP_NULL, 0, 0};
-        sqlkeep_value(handle, row, column, &cell);
-        PyObject *value = value_of(handle, &cell, row, column, sqlkeep_value_text);
+        PyObject *value = cell_value(&cells[column], text);
         if (value == NULL || PyTuple_SetItem(tuple, (Py_ssize_t)column, value) != 0) {
             Py_DECREF(tuple);
             return NULL;
@@ -110,18 +142,59 @@ static PyObject *row_of(sqlkeep *handle, size_t row, size_t columns) {
     return tuple;
 }
 
+/* Puts rows that were copied into the list, from this place on. */
+static int put_rows(PyObject *list, size_t from, size_t rows, size_t columns, const struct room *room) {
+    const uint8_t *text = room->texts;
+    for (size_t row = 0; row < rows; row++) {
+        PyObject *tuple = row_of(room->cells + row * columns, columns, &text);
+        if (tuple == NULL || PyList_SetItem(list, (Py_ssize_t)(from + row), tuple) != 0) {
+            return -1;
+        }
+    }
+    return 0;
+}
+
+/* Copies all rows, as many at a time as there is room for. */
+static int copy_rows(sqlkeep *handle, PyObject *list, size_t count, size_t columns, struct room *room) {
+    sqlkeep_taken taken = {0, 0};
+    for (size_t from = 0; from < count; from += (size_t)taken.rows) {
+        sqlkeep_rows(handle, from, room->cells, room->count, room->texts, room->size, &taken);
+        if (taken.rows == 0 && enlarge(room) != 0) {
+            return -1;
+        }
+        if (put_rows(list, from, (size_t)taken.rows, columns, room) != 0) {
+            return -1;
+        }
+    }
+    return 0;
+}
+
+/* So with buffers of its own; there is room for one row at least, but for its texts. */
+static int copy_all(sqlkeep *handle, PyObject *list, size_t count, size_t columns) {
+    struct room room = {NULL, NULL, columns > 2048 ? columns : 2048, 32768};
+    int failed = -1;
+    room.cells = PyMem_Malloc(room.count * sizeof *room.cells);
+    room.texts = PyMem_Malloc(room.size);
+    if (room.cells == NULL || room.texts == NULL) {
+        PyErr_NoMemory();
+    } else {
+        failed = copy_rows(handle, list, count, columns, &room);
+    }
+    PyMem_Free(room.cells);
+    PyMem_Free(room.texts);
+    return failed;
+}
+
 PyObject *rows_of(sqlkeep *handle, size_t count) {
     size_t columns = 0;
     PyObject *list = PyList_New((Py_ssize_t)count);
-    if (list != NULL && count > 0) {
-        sqlkeep_columns(handle, 0, &columns);
+    if (list == NULL || count == 0) {
+        return list;
     }
-    for (size_t row = 0; list != NULL && row < count; row++) {
-        PyObject *tuple = row_of(handle, row, columns);
-        if (tuple == NULL || PyList_SetItem(list, (Py_ssize_t)row, tuple) != 0) {
-            Py_DECREF(list);
-            return NULL;
-        }
+    sqlkeep_columns(handle, 0, &columns);
+    if (copy_all(handle, list, count, columns) != 0) {
+        Py_DECREF(list);
+        return NULL;
     }
     return list;
 }

@@ -50,11 +50,18 @@ pub struct Outcome {
 }
 
 #[repr(C)]
-#[derive(Default)]
+#[derive(Clone, Default)]
 pub struct Cell {
     pub kind: u64,
     pub integer: i64,
     pub length: u64,
+}
+
+#[repr(C)]
+#[derive(Default)]
+pub struct Taken {
+    pub rows: u64,
+    pub bytes: u64,
 }
 
 #[repr(C)]
@@ -121,8 +128,7 @@ extern "C" {
     pub fn sqlkeep_read_bound(handle: *mut Handle, text: *const u8, length: usize, script: *mut Script) -> u32;
     pub fn sqlkeep_execute(handle: *mut Handle, at: usize, outcome: *mut Outcome) -> u32;
     pub fn sqlkeep_lines(handle: *mut Handle, number: u64) -> u32;
-    pub fn sqlkeep_value(handle: *mut Handle, row: usize, column: usize, value: *mut Cell) -> u32;
-    pub fn sqlkeep_value_text(handle: *mut Handle, row: usize, column: usize, from: usize, buffer: *mut u8, size: usize, copied: *mut usize) -> u32;
+    pub fn sqlkeep_rows(handle: *mut Handle, from: usize, cells: *mut Cell, count: usize, texts: *mut u8, size: usize, taken: *mut Taken) -> u32;
     pub fn sqlkeep_query(handle: *mut Handle, columns: *mut usize) -> u32;
     pub fn sqlkeep_query_column(handle: *mut Handle, column: usize, from: usize, buffer: *mut u8, size: usize, copied: *mut usize) -> u32;
     pub fn sqlkeep_constraint(handle: *mut Handle, from: usize, buffer: *mut u8, size: usize, copied: *mut usize) -> u32;

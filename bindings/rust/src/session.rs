@@ -83,6 +83,19 @@ fn checked(status: u32) -> Result<()> {
     if status == ffi::OK { Ok(()) } else { Err(failed(status)) }
 }
 
+// The value of a cell, whose text is at the front of those that are left.
+fn value(cell: &ffi::Cell, left: &mut &[u8]) -> Value {
+    match cell.kind {
+        ffi::INTEGER => Value::Integer(cell.integer),
+        ffi::TEXT => {
+            let (text, rest) = left.split_at(cell.length as usize);
+            *left = rest;
+            Value::Text(String::from_utf8_lossy(text).into_owned())
+        }
+        _ => Value::Null,
+    }
+}
+
 // Whether a text begins with the word COMMIT. Spaces and comments before it are passed over.
 fn begins_with_commit(text: &str) -> bool {
     let mut rest = text.trim_start();
@@ -271,7 +284,7 @@ impl Session {
             return Err(Error::Rows { wanted: true });
         }
         let columns = self.column_count();
-        (0..outcome.count as usize).map(|row| R::from_row(self.row(row, columns))).collect()
+        self.rows(outcome.count as usize, columns).into_iter().map(R::from_row).collect()
     }
 
     /// Executes a query that has to give one row.
@@ -293,21 +306,23 @@ impl Session {
         columns
     }
 
-    fn row(&mut self, row: usize, columns: usize) -> Vec<Value> {
-        (0..columns).map(|column| self.value(row, column)).collect()
-    }
-
-    fn value(&mut self, row: usize, column: usize) -> Value {
-        let mut cell = ffi::Cell::default();
-        let status = unsafe { ffi::sqlkeep_value(&mut self.handle, row, column, &mut cell) };
-        debug_assert_eq!(status, ffi::OK);
-        match cell.kind {
-            ffi::INTEGER => Value::Integer(cell.integer),
-            ffi::TEXT => Value::Text(
-                copied(|from, buffer, size, count| unsafe { ffi::sqlkeep_value_text(&mut self.handle, row, column, from, buffer, size, count) }).unwrap_or_default(),
-            ),
-            _ => Value::Null,
+    // The rows of the last query, copied many at a time.
+    fn rows(&mut self, count: usize, columns: usize) -> Vec<Vec<Value>> {
+        let mut rows = Vec::with_capacity(count);
+        let mut cells = vec![ffi::Cell::default(); columns.max(2048)];
+        let mut texts = vec![0; 32 * 1024];
+        while rows.len() < count {
+            let mut taken = ffi::Taken::default();
+            let (to, room) = (texts.as_mut_ptr(), texts.len());
+            let status = unsafe { ffi::sqlkeep_rows(&mut self.handle, rows.len(), cells.as_mut_ptr(), cells.len(), to, room, &mut taken) };
+            debug_assert_eq!(status, ffi::OK);
+            if taken.rows == 0 {
+                texts.resize(2 * room, 0);
+            }
+            let mut left = &texts[..];
+            rows.extend(cells.chunks(columns).take(taken.rows as usize).map(|row| row.iter().map(|cell| value(cell, &mut left)).collect()));
         }
+        rows
     }
 
     /// The names of the columns of the last query; a column that is an expression has an empty one.

@@ -6,7 +6,7 @@ use Rattle.iv_expr.specs.declared.row.StoredRow.{StoredRow}
 use Rattle.iv_value.specs.declared.value.Value.{Value}
 use Rattle.iv_expr.specs.Found.{AreThere, searched}
 use Rattle.iv_expr.specs.Scopes.{Rises, row_above, numbered, table_rows}
-use Rattle.iv_expr.specs.Searches.{AreHolders, has_all, is_among, numbers_of, rows_among}
+use Rattle.iv_expr.specs.Searches.{AreAmong, AreHolders, has_all, is_among, numbers_of, rows_among}
 use Rattle.iv_expr.proofs.Scan.{rows_above, above_next, found_row, found_none, above_none}
 use Rattle.iv_expr.proofs.Sought.{among_is}
 
@@ -97,22 +97,28 @@ find_kept test p (r ∷ rows) h = by (p r) refl (find_kept test p rows h)
     by true e rest = ap (λ (o : Option StoredRow). if test r then Some r else o) rest
     by false e rest = rest ∙ fails e (test r) refl
 
-among_kept : (asked : List Value) (rows : List StoredRow) (numbers : List ℕ) → Rises 0 rows → (held : AreHolders asked rows numbers)
+among_kept : (Has : List Value → Type 0) (rows : List StoredRow) (numbers : List ℕ) → Rises 0 rows → (held : AreAmong Has rows numbers)
     → rows_among numbers rows ≡ filter (λ r. held.0 r.values) rows
-among_kept asked rows numbers up held =
+among_kept Has rows numbers up held =
     ap (λ (l : List ℕ). rows_among l rows) held.1 ∙ among_is 0 (λ r. held.0 r.values) rows up
 
-pub are_there : (asked : List Value) (rows : List StoredRow) (found : Option (List ℕ)) → Rises 0 rows → IfSome found (λ h. AreHolders asked rows h) → AreThere found rows
-are_there asked rows None up held = tt
-are_there asked rows (Some numbers) up held = held.1 ∙ sym (ap numbers_of (among_kept asked rows numbers up held))
+pub are_there : (Has : List Value → Type 0) (rows : List StoredRow) (found : Option (List ℕ)) → Rises 0 rows → IfSome found (λ h. AreAmong Has rows h) → AreThere found rows
+are_there Has rows None up held = tt
+are_there Has rows (Some numbers) up held = held.1 ∙ sym (ap numbers_of (among_kept Has rows numbers up held))
 
-pub first_of_all : (test : StoredRow → Bool) (asked : List Value) (rows : List StoredRow) (found : Option (List ℕ)) → Rises 0 rows
-    → IfSome found (λ h. AreHolders asked rows h) → ((r : StoredRow) → test r ≡ true → has_all asked r.values ≡ true)
+pub first_of_all : (test : StoredRow → Bool) (Has : List Value → Type 0) (rows : List StoredRow) (found : Option (List ℕ)) → Rises 0 rows
+    → IfSome found (λ h. AreAmong Has rows h) → ((r : StoredRow) → test r ≡ true → Has r.values)
     → find test (searched found rows) ≡ find test rows
-first_of_all test asked rows None up held has = refl
-first_of_all test asked rows (Some numbers) up held has =
-    ap (find test) (among_kept asked rows numbers up held)
+first_of_all test Has rows None up held has = refl
+first_of_all test Has rows (Some numbers) up held has =
+    ap (find test) (among_kept Has rows numbers up held)
     ∙ find_kept test (λ r. held.0 r.values) rows (λ r e. held.2 r.values (has r e))
+
+-- rows with the values asked for are among those with something, if what has it has these values
+pub holders_among : (asked : List Value) (Has : List Value → Type 0) (rows : List StoredRow) (found : Option (List ℕ))
+    → ((other : List Value) → Has other → has_all asked other ≡ true) → IfSome found (λ h. AreHolders asked rows h) → IfSome found (λ h. AreAmong Has rows h)
+holders_among asked Has rows None has held = tt
+holders_among asked Has rows (Some numbers) has held = (held.0, held.1, λ row h. held.2 row (has row h))
 
 pub none_found : (test : StoredRow → Bool) (rows : List StoredRow) → ((r : StoredRow) → test r ≡ false) → None ≡ find test rows
 none_found test [] h = refl

@@ -12,8 +12,8 @@ use Rattle.iv_key.specs.Keys.{key_of, none_null, value_at}
 use Rattle.iv_expr.specs.declared.row.StoredRow.{StoredRow}
 use Rattle.iv_expr.specs.Searches.{has_all}
 use Rattle.iv_expr.proofs.Outside.{both_of}
-use Rattle.iv_machine.specs.Words.{NullTreatment}
-use Rattle.iv_machine.specs.Words.nulls.{Distinct, NotDistinct}
+use Rattle.iv_machine.specs.Types.{NullTreatment}
+use Rattle.iv_machine.specs.Types.nulls.{Distinct, NotDistinct}
 use Rattle.iv_machine.specs.Databases.{holds_key_with, shares_key}
 
 -- ---- one column more
@@ -100,7 +100,7 @@ shares_same nulls columns row other e =
     holds_same nulls columns (key_of columns row.values) other.values
     (both_of (not (other.number == row.number)) (holds_key_with nulls columns (key_of columns row.values) other.values) e).1
 
--- a row whose key has a null shares it with none, where nulls are distinct
+-- a row whose key has a null shares it with none, if nulls are distinct
 pub distinct_shares : (columns : List ℕ) (row : StoredRow) → not (none_null (key_of columns row.values)) ≡ true → (other : StoredRow) → shares_key Distinct columns row other ≡ false
 distinct_shares columns row h other = by (shares_key Distinct columns row other) refl
   where

@@ -1,14 +1,14 @@
 -- The account of a data statement: the waves as they were applied, with the foreign keys that act after each; the triggers that ran,
 -- with what they saw; the same of the data statements of their bodies; and the rows that a refusal is about.
 use Rattle.std.specs.Prelude.{ℕ, zero, suc, ◌+◌, ◌-◌, Bool, true, false, if◌then◌else◌, nat_lt, List, [], ◌∷◌, ◌++◌, filter, flat_map, find, slice_get, Option, Some, None, Result, Ok, Err}
-use Rattle.iv_machine.specs.Words.{StoredRow, Change, TableColumn, ReferentialAction, BodyStatement, DataStatement, Trigger, NullTreatment, Constraint, Rule, Cause, Fault}
+use Rattle.iv_machine.specs.Types.{StoredRow, Change, TableColumn, ReferentialAction, BodyStatement, DataStatement, Trigger, NullTreatment, Constraint, Rule, Cause, Fault}
 use Rattle.iv_machine.specs.declared.database.Database.{Database}
-use Rattle.iv_machine.specs.Words.referential_action as action
-use Rattle.iv_machine.specs.Words.rule
-use Rattle.iv_machine.specs.Words.nulls.{Distinct}
-use Rattle.iv_machine.specs.Words.body
+use Rattle.iv_machine.specs.Types.referential_action as action
+use Rattle.iv_machine.specs.Types.rule
+use Rattle.iv_machine.specs.Types.nulls.{Distinct}
+use Rattle.iv_machine.specs.Types.body
 use Rattle.iv_machine.specs.declared.database.Which.TheVariants.{Immediate}
-use Rattle.iv_machine.specs.Words.cause.{Restrict, ActionConflict}
+use Rattle.iv_machine.specs.Types.cause.{Restrict, ActionConflict}
 use Rattle.iv_expr.specs.Changes.{Wave}
 use Rattle.iv_expr.specs.Scopes.{Frame, no_frame, scope_of, table_rows}
 use Rattle.iv_catalogue.specs.Catalogues.{Schema}
@@ -21,7 +21,7 @@ use Rattle.iv_machine.specs.ReferentialActions.{Reference, references, Loss, Los
 use Rattle.iv_machine.specs.Waves.{numbered_wave, is_beyond_last_row, wave_as_applied, is_empty, one_wave, settled_waves, net_wave}
 use Rattle.iv_machine.specs.Levels.{Firing, Progress, Runs, statement_run, firing_run, firings, level_columns, immediate_check, nested_level}
 use Rattle.iv_account.specs.declared.entry.RowAction.{RowAction}
-use Rattle.iv_account.specs.declared.entry.Seen.{Seen}
+use Rattle.iv_account.specs.declared.entry.TriggerView.{TriggerView}
 use Rattle.iv_account.specs.declared.entry.Entry.{Entry}
 use Rattle.iv_account.specs.declared.entry.Entry.TheVariants.{Changed, Acted, Ran, Began, Ended, Faulted}
 
@@ -51,13 +51,13 @@ if_some (Some a) = a ∷ []
 abbrev pub equal_row : List StoredRow → ℕ → NullTreatment → List ℕ → StoredRow → List StoredRow
 equal_row rows table nulls columns row = if_some (find (shares_key nulls columns row) (table_rows rows table))
 
--- so where a rule is about a key
+-- that row, if a rule is about a key
 abbrev pub equal_row_by : List StoredRow → ℕ → Rule → StoredRow → List StoredRow
 equal_row_by rows table (rule.Unique nulls columns) row = equal_row rows table nulls columns row
 equal_row_by rows table (rule.PrimaryKey columns) row = equal_row rows table Distinct columns row
 equal_row_by rows table _ row = []
 
--- a row that violates a constraint, and the one whose key it has, where it is about a key
+-- a row that violates a constraint, and the one whose key it has, if it is about a key
 abbrev pub with_equal_row : List StoredRow → Option Constraint → StoredRow → List StoredRow
 with_equal_row rows None row = row ∷ []
 with_equal_row rows (Some constraint) row = row ∷ equal_row_by rows constraint.table constraint.rule row
@@ -83,29 +83,29 @@ action_fault_told rows _ = []
 
 -- ---- BEFORE triggers
 
--- What a trigger saw. One for each row is told its two sides alone, so that all of them together are no longer than the transitions.
-abbrev pub seen : Firing → Seen
+-- What a trigger saw. One for each row is told only its two sides, so that all of them together are no longer than the transitions.
+abbrev pub seen : Firing → TriggerView
 seen x = record { old = x.frame.old; new = x.frame.new; transition = if for_each_row x.trigger then [] else x.frame.transition }
 
 -- a trigger runs on this
 abbrev pub ran : Trigger → Frame → Entry
 ran t frame = Ran t.id (seen (record { trigger = t; frame = frame }))
 
--- so where its WHEN is true
+-- a trigger runs on this, if its WHEN is true
 abbrev pub ran_where_true : List StoredRow → Trigger → Frame → List Entry
 ran_where_true rows t frame = unless_refused (holds (scope_of frame rows) t.when) (λ fires. if fires then ran t frame ∷ [] else [])
 
--- The BEFORE statement triggers of a statement, by creation.
+-- The BEFORE statement triggers of a statement, in creation order.
 abbrev pub before_statement_told : Context → List StoredRow → DataStatement → List Entry
 before_statement_told context rows statement =
     told_in_turn (λ t _. while_running t.id (before_statement_run rows t)) (λ t _. ran_where_true rows t no_frame)
     (filter (is_before_this statement) context.schema.triggers) tt
 
--- a BEFORE row trigger on a change, where it is on the change's table and event
+-- a BEFORE row trigger on a change, if it is on the change's table and event
 abbrev pub before_row_told : List StoredRow → Trigger → Change → List Entry
 before_row_told rows t c = if is_on c.table (event_of_change c) t then ran_where_true rows t (change_frame c) else []
 
--- so on each of these changes
+-- a BEFORE row trigger on each of these changes
 abbrev pub before_each_told : Context → List StoredRow → Trigger → List Change → List Entry
 before_each_told context rows t changes = told_each (change_after_trigger context rows t) (before_row_told rows t) changes
 
@@ -114,7 +114,7 @@ abbrev pub before_triggers_told : Context → List StoredRow → List Trigger �
 before_triggers_told context rows triggers changes =
     told_in_turn (λ t. each (change_after_trigger context rows t)) (before_each_told context rows) triggers changes
 
--- The BEFORE row triggers of a wave with these columns and changes, by creation.
+-- The BEFORE row triggers of a wave with these columns and changes, in creation order.
 abbrev pub before_rows_told : Context → List StoredRow → List TableColumn → List Change → List Entry
 before_rows_told context rows columns changes =
     before_triggers_told context rows (filter (is_before_row_on columns) context.schema.triggers) changes
@@ -129,7 +129,7 @@ entered_told context db budget wave =
     else (if is_beyond_last_row (numbered_wave db.next wave).changes then []
     else before_rows_told context db.rows wave.columns (numbered_wave db.next wave).changes))
 
--- all actions but NO ACTION do something to the row
+-- every action except NO ACTION does something to the row
 abbrev pub acts : ReferentialAction → Bool
 acts action.NoAction = false
 acts _ = true
@@ -140,13 +140,13 @@ action_for_loss k row None = []
 action_for_loss k row (Some loss) =
     if acts (action_on k.key loss) then record { constraint = k.id; action = action_on k.key loss; table = k.table; row = row } ∷ [] else []
 
--- the foreign keys that act on a row: those of its table whose lost key it holds before and after, by creation
+-- the foreign keys that act on a row: those of its table whose lost key it holds before and after, in creation order
 abbrev pub actions_on : Schema → LostKeys → StoredRow → StoredRow → List RowAction
 actions_on schema lost before after =
     flat_map (λ k. action_for_loss k before.number (lost_reference lost k.key before))
     (filter (keeps_reference before after) (references schema.constraints))
 
--- so on the row of this number, from one database to the next
+-- the foreign keys that act on the row of this number, from one database to the next
 abbrev pub actions_at : Schema → List StoredRow → List StoredRow → ℕ → List RowAction
 actions_at schema rows later number = elim (row_at rows number) [
   | Some before ↦ elim (row_at later number) [ Some after ↦ actions_on schema (lost_keys rows later) before after | None ↦ [] ]
@@ -177,7 +177,7 @@ one_wave_told context db budget wave =
 abbrev pub TellsWaves : Type 0
 TellsWaves = Database → ℕ → Wave → List Entry
 
--- An empty wave ends. Of another, it is told itself, and then the rest, as `settled_by` settles them.
+-- An empty wave ends. Otherwise the wave itself is told, and then the rest, as `settled_by` settles them.
 abbrev pub waves_told_by : TellsWaves → Context → TellsWaves
 waves_told_by others context db budget wave =
     if is_empty wave.changes then []
@@ -187,7 +187,7 @@ waves_told_by others context db budget wave =
 abbrev pub no_waves_told : TellsWaves
 no_waves_told db budget wave = []
 
--- so with at most so many waves
+-- the waves that are told, at most so many
 abbrev pub waves_told_within : ℕ → Context → TellsWaves
 waves_told_within zero context db budget wave = waves_told_by no_waves_told context db budget wave
 waves_told_within (suc most) context db budget wave = waves_told_by (waves_told_within most context) context db budget wave
@@ -216,7 +216,7 @@ abbrev pub body_told : Runs → Tells → Firing → List (ℕ × BodyStatement)
 body_told run tell x statements at =
     told_in_turn (λ s. statement_run run x s.0 s.1) (λ s. statement_told run tell x s.0 s.1) statements at
 
--- a trigger that fires: itself and its body, where WHEN is true
+-- a trigger that fires: itself and its body, if WHEN is true
 abbrev pub firing_told : Runs → Tells → Firing → Progress → List Entry
 firing_told run tell x at =
     unless_refused (holds (scope_of x.frame at.database.rows) x.trigger.when) (λ fires.
@@ -228,7 +228,7 @@ firings_told run tell xs at = told_in_turn (firing_run run) (firing_told run tel
 
 -- ---- a level
 
--- the first violation of an immediate constraint, where there is one
+-- the first violation of an immediate constraint, if there is one
 abbrev pub check_told : Context → Database → List Entry
 check_told context db = elim (first (scan db.rows context.schema.constraints (is_chosen context.modes Immediate))) [
   | Some fault ↦ fault_told context.schema db.rows fault ∷ []
@@ -262,13 +262,13 @@ abbrev pub level_told : Runs → Tells → Context → DataStatement → Frame �
 level_told run tell context statement frame db zero = []
 level_told run tell context statement frame db (suc budget) = level_steps_told run tell context statement frame db budget
 
--- Of a data statement of a trigger's body, where so many levels may be nested from here on.
+-- Of a data statement of a trigger's body, if so many levels may be nested from here on.
 abbrev pub nested_told : ℕ → Context → Tells
 nested_told zero context trigger statement frame db budget = []
 nested_told (suc depth) context trigger statement frame db budget =
     level_told (nested_level depth context) (nested_told depth context) context statement frame db budget
 
--- The account of a data statement of a script, where so many levels may be nested in it.
+-- The account of a data statement of a script, if so many levels may be nested in it.
 abbrev pub account : ℕ → Context → DataStatement → Frame → Database → ℕ → List Entry
 account deeper context statement frame db budget =
     level_told (nested_level deeper context) (nested_told deeper context) context statement frame db budget

@@ -1,8 +1,8 @@
 -- What is told of a resolved statement: of a data statement, and of the violations for which COMMIT and SET CONSTRAINTS are refused.
 use Rattle.std.specs.Prelude.{ℕ, ◌-◌, Bool, true, false, ◌&&◌, not, if◌then◌else◌, List, [], find, Some, None}
-use Rattle.iv_machine.specs.Words.{ConstraintMode, DataStatement, Plan, TransactionPlan}
-use Rattle.iv_machine.specs.Words.plan
-use Rattle.iv_machine.specs.Words.transaction
+use Rattle.iv_machine.specs.Types.{ConstraintMode, DataStatement, Plan, TransactionPlan}
+use Rattle.iv_machine.specs.Types.plan
+use Rattle.iv_machine.specs.Types.transaction
 use Rattle.iv_machine.specs.declared.database.Which.TheVariants.{All}
 use Rattle.iv_expr.specs.Scopes.{no_frame}
 use Rattle.iv_machine.specs.Databases.{scan, is_chosen, is_deferred}
@@ -25,7 +25,7 @@ modes_told s modes =
     faults_told s.schema s.database.rows
     (scan s.database.rows s.schema.constraints (λ id. is_deferred s.modes id && not (is_deferred modes id)))
 
--- so of SET CONSTRAINTS, where each of the constraints is deferrable
+-- what SET CONSTRAINTS tells, if each of the constraints is deferrable
 abbrev pub set_constraints_told : State → List ℕ → ConstraintMode → List Entry
 set_constraints_told s ids m = elim (find (λ id. not (is_deferrable s.schema id)) ids) [
   | Some id ↦ []

@@ -1,11 +1,11 @@
-//! The list that is told of a statement.
+//! The list that records the account of a statement.
 ghost use Rattle.std.specs.Prelude.{◌≡◌, [], ◌∷◌, false, Ok, IfOk, OnOk};
 ghost use Rattle.std.specs.Option.{option_copied};
 ghost use Rattle.iv_account.specs.Accounts.{ran, seen};
 ghost use Rattle.iv_account.specs.Telling.{and_told, no_account, untold_account};
 ghost use Rattle.iv_account.specs.declared.entry.Entry.TheVariants as entry;
 
-use crate::entry::{Entry, RowAction, Seen};
+use crate::entry::{Entry, RowAction, TriggerView};
 use iv_catalogue::{Fault, Trigger};
 use iv_expr::{Change, Frame, Row, StoredRow};
 use iv_syntax::Granularity;
@@ -40,7 +40,7 @@ fn changes_of(alloc: Global, changes: &[Change]) -> Result<Items<Change>, AllocE
 }
 
 // What a trigger that runs saw.
-fn seen(alloc: Global, trigger: &Trigger, frame: &Frame<'_>) -> Result<Seen, AllocError>
+fn seen(alloc: Global, trigger: &Trigger, frame: &Frame<'_>) -> Result<TriggerView, AllocError>
     ensures { IfOk result (λ s. s ≡ seen (record { trigger = trigger.now; frame = frame.now })) }
 {
     let old = side_of(alloc, frame.old)?;
@@ -50,15 +50,15 @@ fn seen(alloc: Global, trigger: &Trigger, frame: &Frame<'_>) -> Result<Seen, All
     } else {
         changes_of(alloc, frame.transition)?
     };
-    Ok(Seen {
+    Ok(TriggerView {
         old,
         new,
         transition,
     })
 }
 
-/// What was told so far, where an account is asked for, and otherwise nothing. Where none is asked for, no call takes
-/// memory. Where memory is refused, nothing is said of the entries.
+/// The entries so far if an account is asked for, and otherwise nothing. Without an account no call allocates. If an
+/// allocation fails, nothing is said of the entries.
 pub struct Account {
     asked: bool,
     entries: Vec<Entry>,
@@ -85,7 +85,7 @@ impl Model for Account {
 }
 
 impl Account {
-    /// An account of nothing. It takes no memory.
+    /// An empty account. It allocates nothing.
     pub fn new(alloc: Global, asked: bool) -> Account
         ensures { result ≡ no_account asked }
     {
@@ -96,7 +96,7 @@ impl Account {
         }
     }
 
-    /// An account that is asked for, and for which memory was refused. It takes none.
+    /// An account that was asked for and could not be allocated. It allocates nothing.
     pub fn untold(alloc: Global) -> Account
         ensures { result ≡ untold_account }
     {
@@ -107,28 +107,28 @@ impl Account {
         }
     }
 
-    /// Whether one is asked for.
+    /// Whether an account is asked for.
     pub fn is_asked(&self) -> bool
         ensures { result ≡ self.now.asked }
     {
         self.asked
     }
 
-    /// Whether memory was refused for it, so that it is empty.
+    /// Whether the account could not be allocated, so that it is empty.
     pub fn is_untold(&self) -> bool
         ensures { result ≡ self.now.untold }
     {
         self.untold
     }
 
-    /// What was told, in its order.
+    /// The entries, in order.
     pub fn entries(&self) -> &[Entry]
         ensures { result.now ≡ self.now.entries }
     {
         self.entries.as_slice()
     }
 
-    // Adds an entry, where an account is asked for.
+    // Adds an entry, if an account is asked for.
     fn add(&mut self, entry: Entry) -> Result<(), AllocError>
         ensures told { OnOk result (self.new ≡ and_told self.old (entry ∷ [])) }
         ensures unasked { self.old.asked ≡ false → result ≡ Ok tt }
@@ -139,7 +139,7 @@ impl Account {
         Ok(())
     }
 
-    /// Tells that a wave of these changes was applied.
+    /// Records that a wave of these changes was applied.
     pub fn changed(&mut self, changes: &[Change]) -> Result<(), AllocError>
         ensures told { OnOk result (self.new ≡ and_told self.old (entry.Changed changes.now ∷ [])) }
         ensures unasked { self.old.asked ≡ false → result ≡ Ok tt }
@@ -151,7 +151,7 @@ impl Account {
         self.add(Entry::Changed(copies))
     }
 
-    /// Tells that these foreign keys act on these rows.
+    /// Records that these foreign keys act on these rows.
     pub fn acted(&mut self, actions: Vec<RowAction>) -> Result<(), AllocError>
         ensures told { OnOk result (self.new ≡ and_told self.old (entry.Acted actions.items ∷ [])) }
         ensures unasked { self.old.asked ≡ false → result ≡ Ok tt }
@@ -159,7 +159,7 @@ impl Account {
         self.add(Entry::Acted(Items::from_vec(actions)))
     }
 
-    /// Tells that a trigger runs on what it sees.
+    /// Records that a trigger runs on what it sees.
     pub fn ran(&mut self, trigger: &Trigger, frame: &Frame<'_>) -> Result<(), AllocError>
         ensures told { OnOk result (self.new ≡ and_told self.old (ran trigger.now frame.now ∷ [])) }
         ensures unasked { self.old.asked ≡ false → result ≡ Ok tt }
@@ -171,7 +171,7 @@ impl Account {
         self.add(Entry::Ran(trigger.id, seen))
     }
 
-    /// Tells that the data statement at this place of a trigger's body begins.
+    /// Records that the data statement at this place of a trigger's body begins.
     pub fn began(&mut self, place: u32) -> Result<(), AllocError>
         ensures told { OnOk result (self.new ≡ and_told self.old (entry.Began place ∷ [])) }
         ensures unasked { self.old.asked ≡ false → result ≡ Ok tt }
@@ -179,7 +179,7 @@ impl Account {
         self.add(Entry::Began(place))
     }
 
-    /// Tells that the data statement that began last ends.
+    /// Records that the data statement that began last ends.
     pub fn ended(&mut self) -> Result<(), AllocError>
         ensures told { OnOk result (self.new ≡ and_told self.old (entry.Ended ∷ [])) }
         ensures unasked { self.old.asked ≡ false → result ≡ Ok tt }
@@ -187,7 +187,7 @@ impl Account {
         self.add(Entry::Ended)
     }
 
-    /// Tells the constraint and the row of a refusal, with these rows.
+    /// Records the constraint and the row of a refusal, with these rows.
     pub fn faulted(&mut self, fault: Fault, rows: Vec<StoredRow>) -> Result<(), AllocError>
         ensures told { OnOk result (self.new ≡ and_told self.old (entry.Faulted fault rows.items ∷ [])) }
         ensures unasked { self.old.asked ≡ false → result ≡ Ok tt }

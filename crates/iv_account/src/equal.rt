@@ -1,10 +1,10 @@
-//! The first other row that has the key of a row.
-ghost use Rattle.std.specs.Prelude.{◌≡◌, ℕ, List, true, false, not, find, option_map, IfOk};
+//! The first other row with the key of a row.
+ghost use Rattle.std.specs.Prelude.{◌≡◌, ℕ, List, true, false, not, find, option_map, IfOk, IfSome};
 ghost use Rattle.iv_value.specs.declared.value.Value.{Value as Cell};
 ghost use Rattle.iv_key.specs.Keys.{key_of, none_null, value_at};
 ghost use Rattle.iv_expr.specs.Found.{AreThere, searched};
 ghost use Rattle.iv_expr.specs.Scopes.{numbered, row_above, table_rows};
-ghost use Rattle.iv_expr.specs.Searches.{has_all};
+ghost use Rattle.iv_expr.specs.Searches.{AreSharing, has_all};
 ghost use Rattle.iv_expr.specs.declared.row.StoredRow.{StoredRow as Stored};
 ghost use Rattle.iv_machine.specs.Databases.{shares_key};
 
@@ -16,7 +16,7 @@ use iv_syntax::NullTreatment;
 use iv_value::Value;
 use std::alloc::{AllocError, Global};
 
-// So many nulls, which ask for nothing.
+// A list of as many nulls, which ask for nothing.
 fn nothing_asked(alloc: Global, count: usize) -> Result<Vec<Value>, AllocError>
     ensures { IfOk result (λ v. (row : List Cell) → has_all v.items row ≡ true) }
 {
@@ -39,7 +39,7 @@ fn ask(asked: &mut Vec<Value>, column: u32, value: Value)
 }
 
 // What a search asks for to find the rows with the key of a row: its values in the columns of the key, and null, which
-// asks for nothing, in the others. So where the key has a null, rows with other keys may be found too.
+// asks for nothing, in the others. If the key has a null, rows with other keys may be found too.
 fn key_asked(alloc: Global, columns: &[u32], row: &[Value]) -> Result<Vec<Value>, AllocError>
     ensures { IfOk result (λ asked. (other : List Cell)
         → key_of columns.now other ≡ key_of columns.now row.now → has_all asked.items other ≡ true) }
@@ -52,7 +52,7 @@ fn key_asked(alloc: Global, columns: &[u32], row: &[Value]) -> Result<Vec<Value>
     Ok(asked)
 }
 
-// The next row of a table above a number: of the rows of a key where they are given, and otherwise of all.
+// The next row of a table above a number: of the rows of a key if they are given, and otherwise of all.
 fn next_row<'a, R: Rows>(
     rows: &'a R,
     table: TableId,
@@ -118,8 +118,31 @@ fn find_among<'a, R: Rows>(
     None
 }
 
-// The first other row of the table with the key of a row. Where the store keeps the rows that have the values asked for, it
-// looks at those alone, and otherwise at each row.
+// The rows of a table among which are all that have the key of a row, if the store keeps rows by it. If nulls are equal, a
+// key with a null has rows too.
+fn rows_of_key<'a, R: Rows>(
+    rows: &'a R,
+    table: TableId,
+    asked: &[Value],
+    nulls: NullTreatment,
+    columns: &[u32],
+    row: &[Value],
+) -> Option<HeldRows<'a>>
+    requires { (other : List Cell) → key_of columns.now other ≡ key_of columns.now row.now
+        → has_all asked.now other ≡ true }
+    ensures { IfSome result (λ numbers. AreSharing columns.now row.now (table_rows (R.rows rows.entry.now) table) numbers) }
+{
+    match nulls {
+        NullTreatment::Distinct => rows.holders(table, asked),
+        NullTreatment::NotDistinct => match rows.sharing(table, columns, row) {
+            Some(found) => Some(found),
+            None => rows.holders(table, asked),
+        },
+    }
+}
+
+// The first other row of the table with the key of a row. If the store keeps rows by the key, it looks only at those, and
+// otherwise at each row.
 fn find_equal<'a, R: Rows>(
     rows: &'a R,
     table: TableId,
@@ -134,7 +157,7 @@ fn find_equal<'a, R: Rows>(
         ≡ find (shares_key nulls columns.now row.now) (table_rows (R.rows rows.entry.now) table) }
 {
     rows.known();
-    let found = rows.holders(table, asked);
+    let found = rows_of_key(rows, table, asked, nulls, columns, row.values.values());
     find_among(rows, table, &found, nulls, columns, row)
 }
 
@@ -154,9 +177,9 @@ fn is_distinct(nulls: NullTreatment, columns: &[u32], row: &StoredRow) -> bool
     }
 }
 
-/// The first other row of the table with the key of a row, as a row of its own. Where the store keeps rows by the key, it
-/// looks at the rows that have it, up to the first other one; otherwise, and where the key has a null, at each row of the
-/// table up to that one. The values that it asks for take memory for as many values as a row has.
+/// The first other row of the table with the key of a row, as a row of its own. The call looks at the rows of the key
+/// if the store keeps them, and otherwise at each row of the table, up to the first other one. It allocates as many
+/// values as a row has.
 pub fn equal_row<R: Rows>(
     alloc: Global,
     rows: &R,

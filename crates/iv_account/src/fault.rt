@@ -12,7 +12,7 @@ use iv_store::{ChangeableRows, ReferencingRows};
 use iv_syntax::NullTreatment;
 use std::alloc::{AllocError, Global};
 
-// The first other row with the key of a row, where a constraint is about a key.
+// The first other row with the key of a row, if a constraint is about a key.
 fn equal_row_by<R: Rows>(
     alloc: Global,
     rows: &R,
@@ -80,8 +80,8 @@ fn rows_of_fault<K: ChangeableRows>(
 }
 
 impl Account {
-    /// Tells a violation in a store, with its rows. Where it is of a key, it looks at the rows that have the same, up to
-    /// the first other one, if the store keeps rows by that key, and otherwise at each row of the table up to that one.
+    /// Records a violation in a store, with its rows. For a key it looks at the rows of the key if the store keeps
+    /// them, and otherwise at each row of the table, up to the first other one.
     pub fn violated<K: ChangeableRows>(
         &mut self,
         store: &K,

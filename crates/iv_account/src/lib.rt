@@ -1,4 +1,4 @@
-//! Accounts: what is told of a statement, and the list that it is told in.
+//! Accounts: what a statement tells of its run, and the list that records it.
 #![tactic(auto)]
 
 mod account;
@@ -7,4 +7,4 @@ mod equal;
 mod fault;
 
 pub use account::Account;
-pub use entry::{Entry, RowAction, Seen};
+pub use entry::{Entry, RowAction, TriggerView};

@@ -10,7 +10,7 @@ use Rattle.indexmap.specs.IndexMap.{IndexMap, keys, get, insert_entry}
 use Rattle.indexmap.proofs.CallerLemmas.{insert_entry-new}
 use Rattle.iv_catalogue.proofs.NamedLists.{any_map}
 
--- a key that passes is found where some mapped key passes
+-- a key that passes is found if some mapped key passes
 pub found_among : {K X S Y : Type 0} (f : K → Y) (p : Y → Bool) (m : IndexMap K X S) → is_some (get_by (λ k. p (f k)) m) ≡ list_any p (map f (keys m))
 found_among f p m = is_some-lookup (λ k. p (f k)) m.entries ∙ any_map p f (keys m)
 

@@ -9,8 +9,8 @@ use Rattle.iv_catalogue.specs.declared.plan.SchemaPlan.{SchemaPlan}
 use Rattle.iv_catalogue.specs.declared.plan.SchemaPlan.TheVariants.{CreateTable, AddConstraint, CreateTrigger, DropTrigger}
 use Rattle.iv_catalogue.specs.declared.plan.Trigger.{Trigger}
 
--- The tables and the constraints have their places as numbers. A trigger has a number of its own, which isn't given again where
--- the trigger is dropped; so the catalogue keeps how many triggers were ever created.
+-- The tables and the constraints have their places as numbers. A trigger has a number of its own, which isn't given again if the trigger is
+-- dropped; so the catalogue keeps how many triggers were ever created.
 pub record Schema : Type 0 where
   pub tables : List Table
   pub constraints : List Constraint

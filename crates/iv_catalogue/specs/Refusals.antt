@@ -1,4 +1,4 @@
--- Refusals outside any trigger, the refusal OutOfMemory, what calls that take memory answer, and the causes that faults of evaluation are.
+-- Refusals outside any trigger, the refusal OutOfMemory, what calls that allocate answer, and the causes that faults of evaluation are.
 use Rattle.std.specs.Prelude.{◌≡◌, Bool, true, false, None, Result, Ok, Err, MatchBool}
 use Rattle.iv_catalogue.specs.declared.cause.Cause.{Cause}
 use Rattle.iv_expr.specs.declared.tree.ExprFault.{ExprFault}
@@ -14,7 +14,7 @@ refusal_of c = record { cause = c; trigger = None }
 abbrev pub refusal_answer : {A : Type 0} → Cause → Result A Refusal
 refusal_answer c = Err (refusal_of c)
 
--- memory was refused
+-- an allocation failed
 abbrev pub out_of_memory : Refusal
 out_of_memory = refusal_of OutOfMemory
 
@@ -27,8 +27,7 @@ abbrev pub is_memory : {A : Type 0} → Result A Refusal → Bool
 is_memory (Ok a) = false
 is_memory (Err r) = is_memory_cause r.cause
 
--- What a call that takes memory answers: what is seen of an Ok is what the definition says, and so is an error; where memory was refused
--- nothing is said.
+-- What a call that allocates answers: an Ok and an error are what the definition says; if an allocation failed, nothing is said.
 abbrev pub Answers : {A B E F : Type 0} → (E → Bool) → (E → F) → (A → B) → Result A E → Result B F → Type 0
 Answers no_memory error view (Ok a) said = said ≡ Ok (view a)
 Answers no_memory error view (Err e) said = MatchBool (no_memory e) (Unit {0}) (said ≡ Err (error e))

@@ -25,11 +25,11 @@ use std::marker::Model;
 pub struct Column {
     pub name: Name,
     pub kind: Kind,
-    /// The value of DEFAULT; NULL where there is none.
+    /// The value of DEFAULT; NULL if there is none.
     pub default: Value,
 }
 
-/// A table and its columns, in the order of their text.
+/// A table and its columns, in their order in the text.
 #[derive(Drop)]
 pub struct Table {
     pub name: Name,
@@ -60,8 +60,8 @@ impl Named for Trigger {
     }
 }
 
-/// All tables, constraints and triggers, each in the order of creation and with a name of its own. A name
-/// is found in constant time, and so are the constraints of a table. Contracts see it as its schema.
+/// All tables, constraints and triggers, each in creation order and with a distinct name. A look-up by name takes
+/// constant time, and so does finding the constraints of a table. Contracts see the catalogue as its schema.
 pub struct Catalogue {
     tables: NamedList<Table>,
     constraints: NamedList<Constraint>,
@@ -152,7 +152,7 @@ fn push_list(lists: &mut Vec<Items<ConstraintId>>, places: Items<ConstraintId>)
     }
 }
 
-// The places of a table's constraints; none where there is no such table.
+// The places of a table's constraints; none if there is no such table.
 fn places_at(lists: &[Items<ConstraintId>], table: usize) -> &[ConstraintId]
     ensures { result.now ≡ get_or lists.now table [] }
 {
@@ -162,7 +162,7 @@ fn places_at(lists: &[Items<ConstraintId>], table: usize) -> &[ConstraintId]
     }
 }
 
-// Adds a place to those of a table. Where memory is refused the lists are as before.
+// Adds a place to those of a table. If an allocation fails the lists are as before.
 fn push_place(
     lists: &mut Vec<Items<ConstraintId>>,
     table: usize,
@@ -177,7 +177,7 @@ fn push_place(
     places.push(place)
 }
 
-// Takes the last place out of those of a table. It takes no memory.
+// Takes the last place out of those of a table. It allocates nothing.
 fn pop_place(lists: &mut Vec<Items<ConstraintId>>, table: usize)
     requires { table < length lists.old.items }
     ensures { lists.new.items ≡ set lists.old.items table
@@ -208,7 +208,7 @@ fn number_at(triggers: &[Trigger], place: usize) -> Option<TriggerId>
 }
 
 impl Catalogue {
-    /// A catalogue of nothing. It takes no memory.
+    /// An empty catalogue. It allocates nothing.
     pub fn new(alloc: Global) -> Catalogue
         ensures { result ≡ empty_schema }
     {
@@ -306,15 +306,15 @@ impl Catalogue {
         }
     }
 
-    /// The constraints of a table, in the order of creation.
+    /// The constraints of a table, in creation order.
     pub fn constraints_of(&self, table: TableId) -> &[ConstraintId]
         ensures { result.now ≡ constraint_places self.now table }
     {
         places_at(self.constraint_places.as_slice(), table.place() as usize)
     }
 
-    /// Adds a table with its constraints: the schema after CREATE TABLE. Where memory is refused the
-    /// catalogue is as before.
+    /// Adds a table with its constraints: the schema after CREATE TABLE. If an allocation fails, the catalogue is as
+    /// before.
     pub fn add_table(&mut self, table: Table, constraints: Constraints) -> Result<(), AllocError>
         requires tables { length self.old.tables < MOST_TABLES }
         requires constraints { length constraints ≤ MOST_CONSTRAINTS }
@@ -341,8 +341,8 @@ impl Catalogue {
         Ok(())
     }
 
-    /// Adds a constraint of a table that is there: the schema after ALTER TABLE ADD. Where memory is
-    /// refused the catalogue is as before.
+    /// Adds a constraint of a table that is there: the schema after ALTER TABLE ADD. If an allocation fails, the
+    /// catalogue is as before.
     pub fn add_constraint(&mut self, constraint: Constraint) -> Result<(), AllocError>
         requires table { constraint.table < length self.old.tables }
         requires few { length (constraint_places self.old constraint.table) < MOST_CONSTRAINTS }
@@ -361,8 +361,8 @@ impl Catalogue {
         Ok(())
     }
 
-    /// Adds a trigger and gives it its number: the schema after CREATE TRIGGER. Where memory is refused
-    /// the catalogue is as before.
+    /// Adds a trigger and gives it its number: the schema after CREATE TRIGGER. If an allocation fails, the catalogue
+    /// is as before.
     pub fn add_trigger(&mut self, trigger: Trigger) -> Result<(), AllocError>
         requires triggers { length self.old.triggers < MOST_TRIGGERS }
         requires ever { self.old.created < MOST_TRIGGERS_EVER }
@@ -378,8 +378,7 @@ impl Catalogue {
         Ok(())
     }
 
-    /// Takes the trigger of this number out, where there is one: the schema after DROP TRIGGER. It takes
-    /// no memory.
+    /// Removes the trigger of this number, if there is one: the schema after DROP TRIGGER. It allocates nothing.
     pub fn drop_trigger(&mut self, id: TriggerId)
         ensures { self.new ≡ after self.old (DropTrigger id) }
     {
@@ -388,8 +387,8 @@ impl Catalogue {
         }
     }
 
-    /// Takes the last table out again with its constraints. Its condition is that the catalogue is as
-    /// `add_table` left it. It takes no memory.
+    /// Removes the last table and its constraints. The catalogue has to be as `add_table` left it. It allocates
+    /// nothing.
     pub fn take_table(&mut self)
         requires { (before : Schema) × (table : Table) × (constraints : List Constraint)
             × AfterTable before table constraints self.old }
@@ -404,8 +403,7 @@ impl Catalogue {
         self.tables.truncate(tables);
     }
 
-    /// Takes the last constraint out again. Its condition is that the catalogue is as `add_constraint`
-    /// left it. It takes no memory.
+    /// Removes the last constraint. The catalogue has to be as `add_constraint` left it. It allocates nothing.
     pub fn take_constraint(&mut self)
         requires { 0 < length self.old.constraints }
         ensures { (before : Schema) (constraint : Constraint)

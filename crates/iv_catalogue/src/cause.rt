@@ -49,9 +49,9 @@ pub enum Cause {
     CommitRefused(Fault),
     /// A constraint to be added that this row violates.
     AddRefused(u64),
-    /// A number beyond the limits of the language.
+    /// A number beyond the limits of the language, or one table, column or constraint too many.
     Limit,
-    /// Memory was refused.
+    /// An allocation failed.
     OutOfMemory,
 }
 

@@ -9,7 +9,7 @@ use std::marker::Model;
 /// A foreign key (ISO/IEC 9075-2:1999, "Referential constraint definition"). Columns are places in their table, from 0.
 #[derive(Drop)]
 pub struct ForeignKey {
-    /// The referencing columns, in the order of their text.
+    /// The referencing columns, in their order in the text.
     pub columns: Items<u32>,
     /// The referenced table.
     pub referenced: TableId,
@@ -44,7 +44,7 @@ pub struct Constraint {
     pub initially: ConstraintMode,
 }
 
-/// The constraints of a new table, in the order of their text. Contracts see it as the list.
+/// The constraints of a new table, in their order in the text. Contracts see it as the list.
 pub struct Constraints {
     items: Vec<Constraint>,
 }
@@ -70,21 +70,21 @@ impl Model for Constraints {
 }
 
 impl Constraints {
-    /// These constraints.
+    /// The list of these constraints.
     pub fn from_vec(items: Vec<Constraint>) -> Constraints
         ensures { result ≡ items.items }
     {
         Constraints { items }
     }
 
-    /// The constraints.
+    /// The constraints, as a slice.
     pub fn as_slice(&self) -> &[Constraint]
         ensures { result.now ≡ self.now }
     {
         self.items.as_slice()
     }
 
-    /// The constraints. It takes no memory.
+    /// The constraints, as a list. It allocates nothing.
     pub fn into_vec(self) -> Vec<Constraint>
         ensures { result.items ≡ self }
     {

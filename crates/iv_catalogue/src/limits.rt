@@ -1,4 +1,4 @@
-//! The limits of a catalogue and of its statements.
+//! The limits of a catalogue and of statements.
 
 /// The most tables of a database.
 pub const MOST_TABLES: usize = 64;

@@ -7,7 +7,7 @@ use indexmap::IndexMap;
 use std::alloc::{AllocError, Global};
 use std::marker::Model;
 
-/// Distinct names. The place of a name is found in constant time. Contracts see the list of the names.
+/// Distinct names, each found in constant time. Contracts see the list of the names.
 #[derive(Drop)]
 pub struct NameIndex {
     names: IndexMap<String, ()>,
@@ -23,7 +23,7 @@ impl Model for NameIndex {
 }
 
 impl NameIndex {
-    /// No names. It takes no memory.
+    /// An empty index. It allocates nothing.
     pub fn new(alloc: Global) -> NameIndex
         ensures { result ≡ [] }
     {
@@ -46,7 +46,7 @@ impl NameIndex {
         self.names.get_index_of(name)
     }
 
-    /// Adds a name at the end. Where memory is refused the names are as before.
+    /// Adds a name at the end. If an allocation fails, the names are as before.
     pub fn push(&mut self, name: &str) -> Result<(), AllocError>
         requires { is_among self.old name.now ≡ false }
         ensures ok { OnOk result (self.new ≡ self.old ++ name.now ∷ []) }
@@ -57,14 +57,14 @@ impl NameIndex {
         Ok(())
     }
 
-    /// Keeps the first `count` names. It takes no memory.
+    /// Keeps the first `count` names. It allocates nothing.
     pub fn truncate(&mut self, count: usize)
         ensures { self.new ≡ take count self.old }
     {
         self.names.truncate(count);
     }
 
-    /// Takes the name at this place out. It takes no memory.
+    /// Removes the name at this place. It allocates nothing.
     pub fn remove(&mut self, place: usize)
         ensures { self.new ≡ remove self.old place }
     {

@@ -1,4 +1,4 @@
-//! Lists of definitions with distinct names, of which each is found by its name.
+//! Lists of definitions with distinct names.
 ghost use Rattle.std.specs.Prelude.{◌≡◌, ◌<◌, ℕ, List, [], ◌∷◌, ◌++◌, false, length, map, position, take, remove, OnOk, OnErr, IfSome};
 ghost use Rattle.std.specs.List.{list_any};
 ghost use Rattle.std.specs.Str.{bytes_eq};
@@ -9,8 +9,7 @@ use iv_syntax::Named;
 use std::alloc::{AllocError, Global};
 use std::marker::Model;
 
-/// A list of items with distinct names. An item is found by its name in constant time. Contracts see it
-/// as the list.
+/// A list of items with distinct names, each found in constant time. Contracts see it as the list.
 #[derive(Drop)]
 pub struct NamedList<T: Named> {
     items: Vec<T>,
@@ -30,7 +29,7 @@ impl<T: Named> Model for NamedList<T> {
     ghost invariant = { λ l. l.names ≡ map T.named l.items.items };
 }
 
-// Adds the names of the items. Where memory is refused the names are as before.
+// Adds the names of the items. If an allocation fails the names are as before.
 fn add_names<T: Named>(names: &mut NameIndex, items: &[T]) -> Result<(), AllocError>
     requires { has_repeated names.old (map T.named items.now) ≡ false }
     ensures ok { OnOk result (names.new ≡ names.old ++ map T.named items.now) }
@@ -47,7 +46,7 @@ fn add_names<T: Named>(names: &mut NameIndex, items: &[T]) -> Result<(), AllocEr
 }
 
 impl<T: Named> NamedList<T> {
-    /// No items. It takes no memory.
+    /// An empty list. It allocates nothing.
     pub fn new(alloc: Global) -> Self
         ensures { result ≡ [] }
     {
@@ -81,7 +80,7 @@ impl<T: Named> NamedList<T> {
 }
 
 impl<T: Named + Drop> NamedList<T> {
-    /// Adds an item at the end. Where memory is refused the list is as before.
+    /// Adds an item at the end. If an allocation fails, the list is as before.
     pub fn push(&mut self, item: T) -> Result<(), AllocError>
         requires { list_any (λ other. bytes_eq (T.named item) (T.named other)) self.old ≡ false }
         ensures ok { OnOk result (self.new ≡ self.old ++ item ∷ []) }
@@ -95,7 +94,7 @@ impl<T: Named + Drop> NamedList<T> {
         }
     }
 
-    /// Adds items at the end. Where memory is refused the list is as before.
+    /// Adds items at the end. If an allocation fails, the list is as before.
     pub fn append(&mut self, items: Vec<T>) -> Result<(), AllocError>
         requires { has_repeated (map T.named self.old) (map T.named items.items) ≡ false }
         ensures ok { OnOk result (self.new ≡ self.old ++ items.items) }
@@ -110,7 +109,7 @@ impl<T: Named + Drop> NamedList<T> {
         }
     }
 
-    /// Keeps the first `count` items. It takes no memory.
+    /// Keeps the first `count` items. It allocates nothing.
     pub fn truncate(&mut self, count: usize)
         ensures { self.new ≡ take count self.old }
     {
@@ -118,7 +117,7 @@ impl<T: Named + Drop> NamedList<T> {
         self.names.truncate(count);
     }
 
-    /// Takes the item at this place out. It takes no memory.
+    /// Removes the item at this place. It allocates nothing.
     pub fn remove(&mut self, place: usize)
         requires { place < length self.old }
         ensures { self.new ≡ remove self.old place }

@@ -28,7 +28,7 @@ pub enum Outputs {
 pub enum InsertRows {
     /// The tuples of VALUES: each has a value for each of the columns, in their order.
     Values(Items<Items<Expr>>),
-    /// What a query gives of the rows of a range where its condition is true.
+    /// The rows that a query gives of a range where its condition is true.
     Query {
         outputs: Outputs,
         range: Range,
@@ -82,10 +82,10 @@ pub struct Trigger {
     pub table: TableId,
     pub time: ActionTime,
     pub event: TriggerEvent,
-    /// The columns of UPDATE OF, as places in the table from 0; empty where there is no list.
+    /// The columns of UPDATE OF, as places in the table from 0; empty if there is no list.
     pub columns: Items<u32>,
     pub granularity: Granularity,
-    /// The condition of WHEN; `Always` where there is none.
+    /// The condition of WHEN; `Always` if there is none.
     pub when: Cond,
     pub body: Items<BodyStatement>,
 }

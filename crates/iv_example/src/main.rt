@@ -1,14 +1,14 @@
-//! A program that uses the library: bank accounts, a transfer that is refused at COMMIT, one that is not, and what happened
-//! in a statement that is refused.
+//! A program that uses the library: bank accounts, a transfer that COMMIT refuses, one that it accepts, and what
+//! happened in a refused statement.
 #![tactic(auto)]
 
 mod showing;
 
 use crate::showing::{show_account, show_answer, show_outcome, show_pending};
-use iv_index_store::IndexStore;
 use iv_parse::{SyntaxFault, script};
 use iv_script::{place_at, words_at};
 use iv_session::{Limits, Session};
+use iv_store_index::IndexStore;
 use iv_syntax::Statement;
 use std::io;
 use std::process::ExitCode;
@@ -86,7 +86,7 @@ fn roll_back_to(rt: &HostRuntime, database: &mut Database, name: &str) -> io::Re
     println!(rt; "undone {}, keys looked up {}", work.undone, work.lookups)
 }
 
-// Commits by the call, and shows the violation where it is refused.
+// Commits by the call, and shows the violation if it is refused.
 fn commit(rt: &HostRuntime, database: &mut Database) -> io::Result<()> {
     match database.commit() {
         Ok(()) => println!(rt; "committed"),

@@ -45,7 +45,7 @@ pub fn show_pending(rt: &HostRuntime, catalogue: &Catalogue, faults: &[Fault]) -
     Ok(())
 }
 
-// Why a statement was refused. Where memory was refused, the statement may be given once more.
+// Why a statement was refused. If an allocation failed, the statement may be given once more.
 fn show_refusal(rt: &HostRuntime, catalogue: &Catalogue, refusal: &Refusal) -> io::Result<()> {
     match &refusal.cause {
         Cause::Violation(fault) => show_fault(rt, catalogue, fault),
@@ -65,7 +65,7 @@ pub fn show_outcome(rt: &HostRuntime, catalogue: &Catalogue, outcome: &Outcome) 
     }
 }
 
-// The name that the refusal of a statement is about, where it is that of a table that isn't there.
+// The name that the refusal of a statement is about, if it is that of a table that isn't there.
 fn show_name(
     rt: &HostRuntime,
     catalogue: &Catalogue,

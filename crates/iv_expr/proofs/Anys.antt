@@ -1,7 +1,7 @@
 -- Whether one of some truths is true, one truth after another.
 use Rattle.std.proofs.Common.{◌≡◌, refl, Bool, true, false, ◌||◌, List, [], ◌∷◌, Result, Ok, Err, ap, ◌∙◌}
 use Rattle.std.specs.List.{list_any}
-use Rattle.iv_expr.specs.Words.{Truth, ExprFault}
+use Rattle.iv_expr.specs.Types.{Truth, ExprFault}
 use Rattle.iv_value.specs.Truths.{is_true, truth_of}
 use Rattle.iv_expr.specs.Evaluation.{and_then, all_results, any_true}
 
@@ -11,7 +11,7 @@ any_from found [] = Ok (truth_of found)
 any_from found (Ok t ∷ ts) = any_from (found || is_true t) ts
 any_from found (Err e ∷ ts) = Err e
 
--- so of all results
+-- whether one of all these results is true
 abbrev found_in : Bool → Result (List Truth) ExprFault → Result Truth ExprFault
 found_in found r = and_then r (λ truths. Ok (truth_of (found || list_any is_true truths)))
 

@@ -10,12 +10,12 @@ use Rattle.std.specs.declared.cmp.Ordering.{Ordering}
 use Rattle.std.specs.declared.cmp.Ordering.TheVariants.{Less, Equal, Greater}
 use Rattle.std.proofs.lemmas.Bool.Decides.{Decides-int_eq}
 use Rattle.std.proofs.lemmas.Slice.Eq.{bytes_eq-Decides}
-use Rattle.iv_expr.specs.Words.{Value, Truth, Expr, Comparison, Cond, ExprFault}
-use Rattle.iv_expr.specs.Words.cond.{And}
-use Rattle.iv_expr.specs.Words.value.{Null, Int, Text}
-use Rattle.iv_expr.specs.Words.truth.{False, Unknown, True}
-use Rattle.iv_expr.specs.Words.comparison as by
-use Rattle.iv_expr.specs.Words.expr_fault.{IllTyped}
+use Rattle.iv_expr.specs.Types.{Value, Truth, Expr, Comparison, Cond, ExprFault}
+use Rattle.iv_expr.specs.Types.cond.{And}
+use Rattle.iv_expr.specs.Types.value.{Null, Int, Text}
+use Rattle.iv_expr.specs.Types.truth.{False, Unknown, True}
+use Rattle.iv_expr.specs.Types.comparison as by
+use Rattle.iv_expr.specs.Types.expr_fault.{IllTyped}
 use Rattle.iv_value.specs.Truths.{truth_and, truth_of}
 use Rattle.iv_value.specs.Values.{order, is_null, is_same}
 use Rattle.iv_expr.specs.Scopes.{Scope}

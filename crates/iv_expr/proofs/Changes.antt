@@ -1,6 +1,6 @@
 -- One change more at the end of rising ones.
 use Rattle.std.proofs.Common.{◌≡◌, refl, ℕ, ◌<◌, List, [], ◌∷◌, ◌++◌}
-use Rattle.iv_expr.specs.Words.{Change}
+use Rattle.iv_expr.specs.Types.{Change}
 use Rattle.iv_expr.specs.Changes.{RisingChangesFrom, RisingChanges, last_above, last_row}
 
 rising_from_push : (low : ℕ) (changes : List Change) (change : Change) → RisingChangesFrom low changes → last_above low changes < change.row → RisingChangesFrom low (changes ++ change ∷ [])

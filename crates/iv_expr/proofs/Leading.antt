@@ -1,7 +1,7 @@
 -- The rows of a key lead to all rows at which a condition may be true.
 use Rattle.std.proofs.Common.{◌≡◌, refl, ℕ, Bool, true, false, List, [], ◌∷◌, filter, Option, Some, None, IfSome, Result, Ok, ap, sym, subst, ◌∙◌}
-use Rattle.iv_expr.specs.Words.{Value, Truth, Kind, Cond, StoredRow, ExprFault}
-use Rattle.iv_expr.specs.Words.truth.{False, Unknown, True}
+use Rattle.iv_expr.specs.Types.{Value, Truth, Kind, Cond, StoredRow, ExprFault}
+use Rattle.iv_expr.specs.Types.truth.{False, Unknown, True}
 use Rattle.iv_expr.specs.Scopes.{Scope, Rises, within}
 use Rattle.iv_expr.specs.Evaluation.{truth}
 use Rattle.iv_expr.specs.Searches.{AllFit, AreHolders, AreTexts, IsNotTrue, NotTrueWhere, LeavesOut, has_all, numbers_of, rows_among}
@@ -66,7 +66,7 @@ none_among : (rows : List StoredRow) → [] ≡ numbers_of (rows_among [] rows)
 none_among [] = refl
 none_among (r ∷ rows) = none_among rows
 
--- where no row makes the condition true, none is looked at
+-- if no row makes the condition true, none is looked at
 pub leads_nowhere : (s inside : Scope) (rows : List StoredRow) (kinds : List Kind) (c : Cond) → inside ≡ within s [] → AllFit kinds rows
     → IsNeverRefused inside (kinds ∷ []) c → IsNeverTrue (λ row. truth (at_other inside row) c) → LeadsTo (seen s c) rows []
 leads_nowhere s inside rows kinds c e fit never nowhere = (

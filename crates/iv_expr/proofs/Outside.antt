@@ -2,11 +2,11 @@
 -- operands have comparable sorts.
 use Rattle.std.proofs.Common.{◌≡◌, refl, ℕ, zero, suc, ◌+ℤ◌, ◌-ℤ◌, ◌*ℤ◌, Bool, true, false, ◌&&◌, ◌||◌, if◌then◌else◌, is_none, is_some, List, [], ◌∷◌, drop, map, Option, Some, None, option_map, Result, Ok, Err, slice_get, subst, ap, sym, ◌∙◌}
 use Rattle.iv_value.specs.Truths.{is_true}
-use Rattle.iv_expr.specs.Words.{Value, Truth, Kind, Expr, Comparison, Cond, ExprFault, StoredRow}
-use Rattle.iv_expr.specs.Words.value.{Null, Int, Text}
-use Rattle.iv_expr.specs.Words.truth.{Unknown}
-use Rattle.iv_expr.specs.Words.side.{Old, New}
-use Rattle.iv_expr.specs.Words.expr.{Literal, Column, Variable}
+use Rattle.iv_expr.specs.Types.{Value, Truth, Kind, Expr, Comparison, Cond, ExprFault, StoredRow}
+use Rattle.iv_expr.specs.Types.value.{Null, Int, Text}
+use Rattle.iv_expr.specs.Types.truth.{Unknown}
+use Rattle.iv_expr.specs.Types.side.{Old, New}
+use Rattle.iv_expr.specs.Types.expr.{Literal, Column, Variable}
 use Rattle.iv_expr.specs.Trees.{plus, minus, times}
 use Rattle.iv_expr.specs.Scopes.{Frame, Scope, contents, table_rows, within}
 use Rattle.iv_expr.specs.Evaluation.{value, truth, both, and_then, any_true, arithmetic, comparison_of, column_of}

@@ -4,7 +4,7 @@ use Rattle.std.proofs.lemmas.Bool.{cases_Bool}
 use Rattle.std.specs.Prelude.{nat_lt, if◌then◌else◌}
 use Rattle.std.proofs.lemmas.Bool.Decides.{nat_tests}
 use Rattle.iv_expr.specs.Scopes.{Rises, row_above, Scope, within, contents, table_rows, numbered}
-use Rattle.iv_expr.specs.Words.{StoredRow, Value, Truth, ExprFault, Cond}
+use Rattle.iv_expr.specs.Types.{StoredRow, Value, Truth, ExprFault, Cond}
 use Rattle.iv_value.specs.Truths.{is_true}
 use Rattle.iv_expr.specs.Evaluation.{truth}
 use Rattle.iv_expr.proofs.Anys.{any_from}
@@ -66,14 +66,14 @@ rows_small low n (x ∷ xs) r s h = elim (tells n x.number) [
   | inr f ↦ rows_small x.number n xs r s.2 (rw f.0 at h)
 ]
 
--- one row more, where the condition has a truth
+-- one row more, if the condition has a truth
 pub any_step : (f : List Value → Result Truth ExprFault) (found : Bool) (rs : List StoredRow) (n : ℕ) (r : StoredRow) (t : Truth) → Rises 0 rs → row_above n rs ≡ Some r → f r.values ≡ Ok t →
     any_from found (map f (contents (rows_above n rs))) ≡ any_from (found || is_true t) (map f (contents (rows_above r.number rs)))
 any_step f found rs n r t s h e =
     ap (λ x. any_from found (map f (contents x))) (above_next 0 n rs r s h)
     ∙ ap (λ q. any_from found (q ∷ map f (contents (rows_above r.number rs)))) e
 
--- one row more, where the condition has a fault
+-- one row more, if the condition has a fault
 pub any_fault : (f : List Value → Result Truth ExprFault) (found : Bool) (rs : List StoredRow) (n : ℕ) (r : StoredRow) (e : ExprFault) → Rises 0 rs → row_above n rs ≡ Some r → f r.values ≡ Err e →
     any_from found (map f (contents (rows_above n rs))) ≡ Err e
 any_fault f found rs n r e s h p =
@@ -86,7 +86,7 @@ at_row s o rs row c x y p q r e =
     let m : record { ranges = rs; frame = s.frame; rows = s.rows } ≡ within s row = ap (λ (z : List (List Value)). record { ranges = z; frame = s.frame; rows = s.rows }) r in
     sym (ap (λ (z : Scope). truth z c) (q ∙ m)) ∙ sym p ∙ e
 
--- A table's rows rise where all do.
+-- A table's rows rise if all do.
 pub above_low : (low up : ℕ) (rs : List StoredRow) → low ≤ up → Rises up rs → Rises low rs
 above_low low up [] le h = tt
 above_low low up (r ∷ rs) le h = (omega (arith, le, h.0), h.1, h.2)
@@ -121,14 +121,14 @@ scan_next n rs p s h =
     let f = found_row (row_above n rs) p h in
     (f.0, above_next 0 n rs f.0 s f.1 ∙ ap (λ k. f.0 ∷ rows_above k rs) f.2, f.2, f.3)
 
--- One row that was scanned, where the condition has a truth.
+-- One row that was scanned, if the condition has a truth.
 pub scan_step : (f : List Value → Result Truth ExprFault) (found : Bool) (rs : List StoredRow) (n : ℕ) (p : ℕ × List Value) (t : Truth) → Rises 0 rs → Some p ≡ option_map numbered (row_above n rs) → f p.1 ≡ Ok t →
     any_from found (map f (contents (rows_above n rs))) ≡ any_from (found || is_true t) (map f (contents (rows_above p.0 rs)))
 scan_step f found rs n p t s h e =
     let r = found_row (row_above n rs) p h in
     any_step f found rs n r.0 t s r.1 (ap f r.3 ∙ e) ∙ ap (λ k. any_from (found || is_true t) (map f (contents (rows_above k rs)))) r.2
 
--- One row that was scanned, where the condition has a fault.
+-- One row that was scanned, if the condition has a fault.
 pub scan_fault : (f : List Value → Result Truth ExprFault) (found : Bool) (rs : List StoredRow) (n : ℕ) (p : ℕ × List Value) (e : ExprFault) → Rises 0 rs → Some p ≡ option_map numbered (row_above n rs) → f p.1 ≡ Err e →
     any_from found (map f (contents (rows_above n rs))) ≡ Err e
 scan_fault f found rs n p e s h q =

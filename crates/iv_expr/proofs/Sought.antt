@@ -2,7 +2,7 @@
 use Rattle.std.proofs.Common.{◌≡◌, refl, ℕ, zero, suc, ◌-◌, ◌<◌, ◌≤◌, ◌⊎◌, inl, inr, Bool, true, false, ◌||◌, ◌==◌, if◌then◌else◌, List, [], ◌∷◌, map, filter, length, Option, Some, None, Result, Ok, Err, ap, sym, subst, ◌∙◌, arith}
 use Rattle.std.specs.Prelude.{nat_lt, slice_index}
 use Rattle.std.proofs.lemmas.Bool.Decides.{nat_tests}
-use Rattle.iv_expr.specs.Words.{Value, Truth, StoredRow, ExprFault}
+use Rattle.iv_expr.specs.Types.{Value, Truth, StoredRow, ExprFault}
 use Rattle.iv_value.specs.Truths.{is_true}
 use Rattle.iv_expr.specs.Scopes.{Rises, contents, row_above}
 use Rattle.iv_expr.specs.Evaluation.{any_true}

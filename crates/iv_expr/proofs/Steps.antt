@@ -1,8 +1,8 @@
 -- Values and truths at the trees that code matches.
 use Rattle.std.proofs.Common.{◌≡◌, refl, ◌+ℤ◌, ◌-ℤ◌, ◌*ℤ◌, ◌&&◌, List, Ok, map}
-use Rattle.iv_expr.specs.Words.{Kind, Expr, Range, Cond}
-use Rattle.iv_expr.specs.Words.expr.{Plus, Minus, Times}
-use Rattle.iv_expr.specs.Words.cond.{Not, And, Or, Exists}
+use Rattle.iv_expr.specs.Types.{Kind, Expr, Range, Cond}
+use Rattle.iv_expr.specs.Types.expr.{Plus, Minus, Times}
+use Rattle.iv_expr.specs.Types.cond.{Not, And, Or, Exists}
 use Rattle.iv_value.specs.Truths.{truth_not, truth_and, truth_or}
 use Rattle.iv_expr.specs.Evaluation.{value, truth, both, and_then, any_true, arithmetic}
 use Rattle.iv_expr.specs.Scopes.{Scope, within, range_rows}

@@ -1,12 +1,12 @@
 -- A tree that suits its scope has no fault but OutOfRange.
 use Rattle.std.proofs.Common.{◌≡◌, refl, ℕ, zero, suc, ℤ, ◌+ℤ◌, ◌-ℤ◌, ◌*ℤ◌, Bool, true, false, ◌&&◌, ◌||◌, ◌≢◌, List, [], ◌∷◌, map, Option, Some, None, is_some, Result, Ok, Err, slice_get, subst}
-use Rattle.iv_expr.specs.Words.{Value, Truth, Kind, Range, Expr, Comparison, Cond, ExprFault}
-use Rattle.iv_expr.specs.Words.value.{Null, Int, Text}
-use Rattle.iv_expr.specs.Words.side.{Old, New}
-use Rattle.iv_expr.specs.Words.range.{Table, Transition}
-use Rattle.iv_expr.specs.Words.expr.{Literal, Column, Variable}
-use Rattle.iv_expr.specs.Words.cond.{Always, Compare, IsNull}
-use Rattle.iv_expr.specs.Words.expr_fault.{OutOfRange, IllTyped}
+use Rattle.iv_expr.specs.Types.{Value, Truth, Kind, Range, Expr, Comparison, Cond, ExprFault}
+use Rattle.iv_expr.specs.Types.value.{Null, Int, Text}
+use Rattle.iv_expr.specs.Types.side.{Old, New}
+use Rattle.iv_expr.specs.Types.range.{Table, Transition}
+use Rattle.iv_expr.specs.Types.expr.{Literal, Column, Variable}
+use Rattle.iv_expr.specs.Types.cond.{Always, Compare, IsNull}
+use Rattle.iv_expr.specs.Types.expr_fault.{OutOfRange, IllTyped}
 use Rattle.iv_value.specs.Truths.{is_true}
 use Rattle.iv_expr.specs.Trees.{plus, minus, times, not_c, and_c, or_c, exists_c}
 use Rattle.iv_expr.specs.Scopes.{Scope, within, range_rows}

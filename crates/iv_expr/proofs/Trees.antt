@@ -1,8 +1,8 @@
 -- A tree that code makes or matches is the plain tree of the definitions.
 use Rattle.std.proofs.Common.{◌≡◌, refl}
-use Rattle.iv_expr.specs.Words.{Range, Expr, Cond}
-use Rattle.iv_expr.specs.Words.expr.{Plus, Minus, Times}
-use Rattle.iv_expr.specs.Words.cond.{Not, And, Or, Exists}
+use Rattle.iv_expr.specs.Types.{Range, Expr, Cond}
+use Rattle.iv_expr.specs.Types.expr.{Plus, Minus, Times}
+use Rattle.iv_expr.specs.Types.cond.{Not, And, Or, Exists}
 use Rattle.iv_expr.specs.Trees.{plus, minus, times, not_c, and_c, or_c, exists_c}
 
 pub plus_is : (a b : Expr) → Plus a b ≡ plus a b

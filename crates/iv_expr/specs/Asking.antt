@@ -1,9 +1,9 @@
 -- What a condition asks of a row of the innermost range, and when no row there can refuse it.
 use Rattle.std.specs.Prelude.{◌≡◌, ℕ, zero, Bool, true, ◌&&◌, if◌then◌else◌, is_none, List, [], ◌∷◌, drop, slice_get, Option, Some, None, option_map, Result, Ok, Err}
 use Rattle.std.specs.declared.cmp.Ordering.TheVariants as cmp
-use Rattle.iv_expr.specs.Words.{Value, Truth, Kind, Expr, Cond, ExprFault}
-use Rattle.iv_expr.specs.Words.truth.{True}
-use Rattle.iv_expr.specs.Words.expr.{Literal, Column, Variable}
+use Rattle.iv_expr.specs.Types.{Value, Truth, Kind, Expr, Cond, ExprFault}
+use Rattle.iv_expr.specs.Types.truth.{True}
+use Rattle.iv_expr.specs.Types.expr.{Literal, Column, Variable}
 use Rattle.iv_expr.specs.Trees.{plus, minus, times}
 use Rattle.iv_value.specs.Values.{order}
 use Rattle.iv_expr.specs.Scopes.{Scope}
@@ -52,8 +52,8 @@ abbrev pub sort_of_column : List (List Kind) → Expr → Option Sort
 sort_of_column kindss (Column range c) = elim (slice_get kindss range) [ Some kinds ↦ option_map sort_of_kind (slice_get kinds c) | None ↦ None ]
 sort_of_column kindss _ = None
 
--- The sort of an expression's values at all rows of these kinds in the innermost ranges: of what reads nothing of them by its value, of
--- a column of theirs by its kind; nothing where a row might refuse it.
+-- The sort of an expression's values at all rows of these kinds in the innermost ranges: of what reads nothing of them by its value, of a
+-- column of theirs by its kind; nothing if a row might refuse it.
 abbrev pub sort_in : Scope → List (List Kind) → Expr → Option Sort
 sort_in s kindss e = if is_fixed kindss e then sort_of_result (value s e) else sort_of_column kindss e
 

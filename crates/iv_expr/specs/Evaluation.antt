@@ -3,13 +3,13 @@ use Rattle.std.specs.List.{list_any}
 use Rattle.std.specs.Prelude.{ℕ, Bool, ◌||◌, if◌then◌else◌, List, [], ◌∷◌, map, ℤ, ◌+ℤ◌, ◌-ℤ◌, ◌*ℤ◌, Option, Some, None, Result, Ok, Err, slice_get}
 use Rattle.std.specs.declared.cmp.Ordering.{Ordering}
 use Rattle.std.specs.Ordering.{is_eq, is_ne, is_lt, is_gt, is_le, is_ge}
-use Rattle.iv_expr.specs.Words.{Value, Truth, Expr, Comparison, Cond, ExprFault}
-use Rattle.iv_expr.specs.Words.value.{Null, Int}
-use Rattle.iv_expr.specs.Words.truth.{False, Unknown, True}
-use Rattle.iv_expr.specs.Words.expr.{Literal, Column, Variable}
-use Rattle.iv_expr.specs.Words.comparison as by
-use Rattle.iv_expr.specs.Words.cond.{Always, Compare, IsNull}
-use Rattle.iv_expr.specs.Words.expr_fault.{OutOfRange, IllTyped}
+use Rattle.iv_expr.specs.Types.{Value, Truth, Expr, Comparison, Cond, ExprFault}
+use Rattle.iv_expr.specs.Types.value.{Null, Int}
+use Rattle.iv_expr.specs.Types.truth.{False, Unknown, True}
+use Rattle.iv_expr.specs.Types.expr.{Literal, Column, Variable}
+use Rattle.iv_expr.specs.Types.comparison as by
+use Rattle.iv_expr.specs.Types.cond.{Always, Compare, IsNull}
+use Rattle.iv_expr.specs.Types.expr_fault.{OutOfRange, IllTyped}
 use Rattle.iv_value.specs.Truths.{truth_not, truth_and, truth_or, truth_of, is_true}
 use Rattle.iv_value.specs.Values.{is_null, order, checked}
 use Rattle.iv_expr.specs.Trees.{plus, minus, times, not_c, and_c, or_c, exists_c}
@@ -62,7 +62,7 @@ accepts by.LessEqual = is_le
 accepts by.Greater = is_gt
 accepts by.GreaterEqual = is_ge
 
--- A comparison ("Comparison predicate"): unknown where an operand is null; two kinds suit none.
+-- A comparison ("Comparison predicate"): unknown if an operand is null; two kinds suit none.
 abbrev pub comparison_of : Comparison → Value → Value → Result Truth ExprFault
 comparison_of op a b = elim (order a b) [ Some o ↦ Ok (truth_of (accepts op o)) | None ↦ if is_null a || is_null b then Ok Unknown else Err IllTyped ]
 
@@ -75,8 +75,8 @@ all_results (result ∷ results) = and_then result (λ x. and_then (all_results 
 abbrev pub any_true : List (Result Truth ExprFault) → Result Truth ExprFault
 any_true results = and_then (all_results results) (λ truths. Ok (truth_of (list_any is_true truths)))
 
--- The truth of a condition ("Search condition"). IS NULL is never unknown ("Null predicate"). EXISTS is true where some row of its
--- range makes its condition true ("Exists predicate").
+-- The truth of a condition ("Search condition"). IS NULL is never unknown ("Null predicate"). EXISTS is true if some row of its range makes
+-- its condition true ("Exists predicate").
 abbrev pub truth : Scope → Cond → Result Truth ExprFault
 truth s Always = Ok True
 truth s (Compare op a b) = both (comparison_of op) (value s a) (value s b)
@@ -86,7 +86,7 @@ truth s (and_c a b) = both (λ x y. Ok (truth_and x y)) (truth s a) (truth s b)
 truth s (or_c a b) = both (λ x y. Ok (truth_or x y)) (truth s a) (truth s b)
 truth s (exists_c range a) = any_true (map (λ row. truth (within s row) a) (range_rows s range))
 
--- A truth, where a fault counts as false.
+-- A truth, if a fault counts as false.
 abbrev pub fault_is_false : Result Truth ExprFault → Truth
 fault_is_false (Ok t) = t
 fault_is_false (Err e) = False

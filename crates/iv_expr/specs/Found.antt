@@ -1,6 +1,6 @@
 -- The rows that a search goes through: all of a table, or those of some numbers.
 use Rattle.std.specs.Prelude.{◌≡◌, ℕ, List, Option, Some, None, Result}
-use Rattle.iv_expr.specs.Words.{Value, Truth, StoredRow, ExprFault}
+use Rattle.iv_expr.specs.Types.{Value, Truth, StoredRow, ExprFault}
 use Rattle.iv_expr.specs.Searches.{LeavesOut, numbers_of, rows_among}
 
 -- the rows of these numbers, or all

@@ -1,4 +1,4 @@
-pub mod Words
+pub mod Types
 pub mod Trees
 pub mod Scopes
 pub mod Evaluation

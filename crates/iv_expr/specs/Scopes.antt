@@ -1,8 +1,8 @@
 -- This file defines scopes: what the columns, row variables and tables of an expression mean where it is evaluated.
 use Rattle.std.specs.Prelude.{ℕ, ◌^◌, ◌<◌, List, [], ◌∷◌, map, filter, filter_map, ◌==◌, Option, Some, None, if◌then◌else◌, nat_lt}
-use Rattle.iv_expr.specs.Words.{Value, Change, StoredRow, Side, Range}
-use Rattle.iv_expr.specs.Words.side.{Old, New}
-use Rattle.iv_expr.specs.Words.range.{Table, Transition}
+use Rattle.iv_expr.specs.Types.{Value, Change, StoredRow, Side, Range}
+use Rattle.iv_expr.specs.Types.side.{Old, New}
+use Rattle.iv_expr.specs.Types.range.{Table, Transition}
 
 -- The row numbers rise, from above `low`, and are less than 2 ^ 63.
 abbrev pub Rises : ℕ → List StoredRow → Type 0
@@ -26,14 +26,14 @@ numbered r = (r.number, r.values)
 abbrev pub contents : List StoredRow → List (List Value)
 contents rows = map (λ r. r.values) rows
 
--- What the body of a trigger sees: the row variables OLD and NEW, where they are there, and the changes of its
--- transition tables (ISO/IEC 9075-2:1999, "Execution of triggers").
+-- What the body of a trigger sees: the row variables OLD and NEW, if they are there, and the changes of its transition tables (ISO/IEC
+-- 9075-2:1999, "Execution of triggers").
 pub record Frame : Type 0 where
   pub old : Option (List Value)
   pub new : Option (List Value)
   pub transition : List Change
 
--- Outside of triggers there is nothing of the kind.
+-- Outside triggers there is none of these.
 abbrev pub no_frame : Frame
 no_frame = record { old = None; new = None; transition = [] }
 
@@ -48,7 +48,7 @@ pub record Scope : Type 0 where
 abbrev pub scope_of : Frame → List StoredRow → Scope
 scope_of frame rows = record { ranges = []; frame = frame; rows = rows }
 
--- A row alone, as a CHECK sees it.
+-- A row by itself, as a CHECK sees it.
 abbrev pub alone : List Value → Scope
 alone row = record { ranges = row ∷ []; frame = no_frame; rows = [] }
 

@@ -1,11 +1,12 @@
--- Searches: which rows of a table a search may leave out, and what a store of rows tells for it.
+-- Searches: which rows of a table a search may leave out, and what a store tells for it.
 use Rattle.std.specs.Prelude.{◌≡◌, ℕ, Bool, true, false, ◌&&◌, ◌||◌, ◌==◌, List, [], ◌∷◌, map, filter, Result, Ok}
 use Rattle.std.specs.List.{list_any}
 use Rattle.std.specs.Str.{IsUtf8}
 use Rattle.iv_value.specs.Truths.{is_true}
 use Rattle.iv_value.specs.Values.{is_null, is_same}
-use Rattle.iv_expr.specs.Words.{Value, Truth, Kind, StoredRow, ExprFault}
-use Rattle.iv_expr.specs.Words.value.{Text}
+use Rattle.iv_key.specs.Keys.{key_of}
+use Rattle.iv_expr.specs.Types.{Value, Truth, Kind, StoredRow, ExprFault}
+use Rattle.iv_expr.specs.Types.value.{Text}
 use Rattle.iv_expr.specs.Suiting.{row_suits}
 
 -- ---- what a store knows of its rows
@@ -23,14 +24,14 @@ AreTexts (v ∷ row) = IsText v × AreTexts row
 abbrev pub Fits : List Kind → List Value → Type 0
 Fits kinds row = (row_suits kinds row ≡ true) × AreTexts row
 
--- So is each of these rows.
+-- Each of these rows is of the kinds, and its texts are in UTF-8.
 abbrev pub AllFit : List Kind → List StoredRow → Type 0
 AllFit kinds [] = Unit {0}
 AllFit kinds (r ∷ rows) = Fits kinds r.values × AllFit kinds rows
 
 -- ---- rows that are asked for
 
--- A row has these values, column by column; where null is asked for, it may have any.
+-- A row has these values, column by column; if null is asked for, it may have any.
 abbrev pub has_all : List Value → List Value → Bool
 has_all [] row = true
 has_all (a ∷ asked) [] = is_null a && has_all asked []
@@ -39,11 +40,19 @@ has_all (a ∷ asked) (v ∷ row) = (is_null a || is_same a v) && has_all asked 
 abbrev pub numbers_of : List StoredRow → List ℕ
 numbers_of rows = map (λ r. r.number) rows
 
--- Numbers of rows among which are all rows that have the values that are asked for: the numbers of those that pass some test, which
--- each row with these values passes.
+-- Numbers of rows among which are all rows that have something: the numbers of those that pass some test, which each row that has it
+-- passes.
+abbrev pub AreAmong : (List Value → Type 0) → List StoredRow → List ℕ → Type 0
+AreAmong Has rows numbers =
+    (p : List Value → Bool) × (numbers ≡ numbers_of (filter (λ r. p r.values) rows)) × ((row : List Value) → Has row → p row ≡ true)
+
+-- The rows have the values that are asked for.
 abbrev pub AreHolders : List Value → List StoredRow → List ℕ → Type 0
-AreHolders asked rows numbers =
-    (p : List Value → Bool) × (numbers ≡ numbers_of (filter (λ r. p r.values) rows)) × ((row : List Value) → has_all asked row ≡ true → p row ≡ true)
+AreHolders asked rows numbers = AreAmong (λ row. has_all asked row ≡ true) rows numbers
+
+-- The rows have a row's values in these columns, if a null is a value like any other.
+abbrev pub AreSharing : List ℕ → List Value → List StoredRow → List ℕ → Type 0
+AreSharing columns row rows numbers = AreAmong (λ other. key_of columns other ≡ key_of columns row) rows numbers
 
 -- ---- rows that are left out
 

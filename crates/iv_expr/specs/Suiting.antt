@@ -1,12 +1,12 @@
--- This file defines when a tree suits a scope: by the kinds of the columns alone, as they are known before any row is.
+-- This file defines when a tree suits a scope: only by the kinds of the columns, as they are known before any row is.
 use Rattle.std.specs.Prelude.{◌≡◌, ℕ, Bool, true, false, ◌&&◌, List, [], ◌∷◌, Option, Some, None, is_some, option_map, slice_get}
-use Rattle.iv_expr.specs.Words.{Value, Kind, Side, Range, Expr, Cond}
-use Rattle.iv_expr.specs.Words.value.{Null, Int, Text}
-use Rattle.iv_expr.specs.Words.kind.{Integer, Varchar}
-use Rattle.iv_expr.specs.Words.side.{Old, New}
-use Rattle.iv_expr.specs.Words.range.{Table, Transition}
-use Rattle.iv_expr.specs.Words.expr.{Literal, Column, Variable}
-use Rattle.iv_expr.specs.Words.cond.{Always, Compare, IsNull}
+use Rattle.iv_expr.specs.Types.{Value, Kind, Side, Range, Expr, Cond}
+use Rattle.iv_expr.specs.Types.value.{Null, Int, Text}
+use Rattle.iv_expr.specs.Types.kind.{Integer, Varchar}
+use Rattle.iv_expr.specs.Types.side.{Old, New}
+use Rattle.iv_expr.specs.Types.range.{Table, Transition}
+use Rattle.iv_expr.specs.Types.expr.{Literal, Column, Variable}
+use Rattle.iv_expr.specs.Types.cond.{Always, Compare, IsNull}
 use Rattle.iv_expr.specs.Trees.{plus, minus, times, not_c, and_c, or_c, exists_c}
 use Rattle.iv_expr.specs.Scopes.{Scope, contents, table_rows, transition_rows}
 
@@ -16,7 +16,7 @@ pub data Sort : Type 0 where
   numbers : Sort
   texts : Sort
 
--- A value is of a sort where it is null or of the one kind that the sort has.
+-- A value is of a sort if it is null or of the one kind that the sort has.
 abbrev pub of_sort : Sort → Value → Bool
 of_sort sort Null = true
 of_sort numbers (Int a) = true
@@ -33,8 +33,8 @@ sort_of_value Null = nulls
 sort_of_value (Int a) = numbers
 sort_of_value (Text t) = texts
 
--- The kinds of all columns in reach: of the ranges, the innermost first; of the row variables, where they are there; of
--- the transition tables; and of each table.
+-- The kinds of all columns in reach: of the ranges, the innermost first; of the row variables, if they are there; of the transition tables;
+-- and of each table.
 pub record Shape : Type 0 where
   pub ranges : List (List Kind)
   pub old : Option (List Kind)
@@ -56,7 +56,7 @@ abbrev pub variable_kinds : Shape → Side → Option (List Kind)
 variable_kinds shape Old = shape.old
 variable_kinds shape New = shape.new
 
--- The sort of a column by its place; nothing where there is none.
+-- The sort of a column by its place; nothing if there is none.
 abbrev pub column_sort : Option (List Kind) → ℕ → Option Sort
 column_sort None c = None
 column_sort (Some kinds) c = option_map sort_of_kind (slice_get kinds c)
@@ -69,7 +69,7 @@ arithmetic_sort (Some nulls) (Some numbers) = Some numbers
 arithmetic_sort (Some nulls) (Some nulls) = Some numbers
 arithmetic_sort _ _ = None
 
--- The sort of an expression's values; nothing where it doesn't suit the shape.
+-- The sort of an expression's values; nothing if it doesn't suit the shape.
 abbrev pub sort_of : Shape → Expr → Option Sort
 sort_of shape (Literal v) = Some (sort_of_value v)
 sort_of shape (Column range c) = column_sort (slice_get shape.ranges range) c
@@ -97,7 +97,7 @@ suits shape (and_c a b) = suits shape a && suits shape b
 suits shape (or_c a b) = suits shape a && suits shape b
 suits shape (exists_c range a) = suits (shape_within shape (range_kinds shape range)) a
 
--- A row is of these kinds where it has as many values, each of its column's sort.
+-- A row is of these kinds if it has as many values, each of its column's sort.
 abbrev pub row_suits : List Kind → List Value → Bool
 row_suits [] [] = true
 row_suits (kind ∷ kinds) (v ∷ vs) = of_sort (sort_of_kind kind) v && row_suits kinds vs
@@ -108,7 +108,7 @@ abbrev pub AllSuit : List Kind → List (List Value) → Type 0
 AllSuit kinds [] = Unit {0}
 AllSuit kinds (row ∷ rows) = (row_suits kinds row ≡ true) × AllSuit kinds rows
 
--- A row is there and of these kinds, where a shape has one.
+-- A row is there and of these kinds, if a shape has one.
 abbrev pub VariableSuits : Option (List Kind) → Option (List Value) → Type 0
 VariableSuits None row = Unit {0}
 VariableSuits (Some kinds) None = ⊥
@@ -128,10 +128,10 @@ pub record HasShape (s : Scope) (shape : Shape) : Type 0 where
   pub transition : (side : Side) → AllSuit shape.transition (transition_rows side s.frame.transition)
   pub tables : (t : ℕ) → AllSuit (shape.tables t) (contents (table_rows s.rows t))
 
--- An expression suits a scope where it suits a shape that the scope has.
+-- An expression suits a scope if it suits a shape that the scope has.
 abbrev pub SuitsExpr : Scope → Expr → Type 0
 SuitsExpr s e = (shape : Shape) × HasShape s shape × (is_some (sort_of shape e) ≡ true)
 
--- A condition suits a scope where it suits a shape that the scope has.
+-- A condition suits a scope if it suits a shape that the scope has.
 abbrev pub Suits : Scope → Cond → Type 0
 Suits s c = (shape : Shape) × HasShape s shape × (suits shape c ≡ true)

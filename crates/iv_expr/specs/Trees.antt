@@ -1,8 +1,8 @@
 -- This file defines how the trees of expressions and conditions are written in definitions: as patterns and as terms,
 -- without the shape of the box that a part is in.
-use Rattle.iv_expr.specs.Words.{Range}
-use Rattle.iv_expr.specs.Words.expr.{Plus', Minus', Times'}
-use Rattle.iv_expr.specs.Words.cond.{Not', And', Or', Exists'}
+use Rattle.iv_expr.specs.Types.{Range}
+use Rattle.iv_expr.specs.Types.expr.{Plus', Minus', Times'}
+use Rattle.iv_expr.specs.Types.cond.{Not', And', Or', Exists'}
 use Rattle.iv_expr.specs.declared.tree.Expr.{Expr, more_of-Expr, end_of-Expr}
 use Rattle.iv_expr.specs.declared.tree.Cond.{Cond, more_of-Cond, end_of-Cond}
 

@@ -1,15 +1,15 @@
 -- This file states worked values of the definitions: arithmetic at its edges, the tables of NOT, AND and OR with unknowns and
 -- faults, and EXISTS over no rows, over nulls, over a fault and inside of another range.
 use Rattle.std.specs.Prelude.{true, false, ◌≡◌, ℕ, [], ◌∷◌, ℤ, pos, negsuc, Result, None, Ok, Err}
-use Rattle.iv_expr.specs.Words.{Value, Truth, StoredRow, Expr, Cond, ExprFault}
-use Rattle.iv_expr.specs.Words.value.{Null, Int}
-use Rattle.iv_expr.specs.Words.truth.{False, Unknown, True}
-use Rattle.iv_expr.specs.Words.range.{Table}
-use Rattle.iv_expr.specs.Words.expr.{Literal, Column}
-use Rattle.iv_expr.specs.Words.comparison.{Equal, Less}
-use Rattle.iv_expr.specs.Words.cond.{Always, Compare, IsNull}
-use Rattle.iv_expr.specs.Words.expr_fault.{OutOfRange, IllTyped}
-use Rattle.iv_expr.specs.Words.kind.{Integer, Varchar}
+use Rattle.iv_expr.specs.Types.{Value, Truth, StoredRow, Expr, Cond, ExprFault}
+use Rattle.iv_expr.specs.Types.value.{Null, Int}
+use Rattle.iv_expr.specs.Types.truth.{False, Unknown, True}
+use Rattle.iv_expr.specs.Types.range.{Table}
+use Rattle.iv_expr.specs.Types.expr.{Literal, Column}
+use Rattle.iv_expr.specs.Types.comparison.{Equal, Less}
+use Rattle.iv_expr.specs.Types.cond.{Always, Compare, IsNull}
+use Rattle.iv_expr.specs.Types.expr_fault.{OutOfRange, IllTyped}
+use Rattle.iv_expr.specs.Types.kind.{Integer, Varchar}
 use Rattle.iv_expr.specs.Trees.{plus, minus, times, not_c, and_c, or_c, exists_c}
 use Rattle.iv_expr.specs.Scopes.{Scope, scope_of, no_frame, alone}
 use Rattle.iv_expr.specs.Suiting.{Shape, suits, Suits}
@@ -92,7 +92,7 @@ OrWorked =
     × (here (or_c t f) ≡ is True) × (here (or_c t u) ≡ is True) × (here (or_c t t) ≡ is True) × (here (or_c t x) ≡ fault)
     × (here (or_c x f) ≡ fault) × (here (or_c x u) ≡ fault) × (here (or_c x t) ≡ fault) × (here (or_c x x) ≡ fault)
 
--- Table 0 has the rows (1), (null) and (9223372036854775807); table 1 has (1) alone; table 2 has none.
+-- Table 0 has the rows (1), (null) and (9223372036854775807); table 1 has only (1); table 2 has none.
 abbrev stored : ℕ → ℕ → Value → StoredRow
 stored table n v = record { table = table; number = n; values = v ∷ [] }
 
@@ -106,8 +106,8 @@ column = Column 0 0
 abbrev outer : Expr
 outer = Column 1 0
 
--- No row is true of an empty table, nor of nulls alone; one true row is enough; a fault in the last row is the fault of all;
--- an inner condition names the column of the outer range.
+-- No row is true of an empty table, nor of only nulls; one true row is enough; a fault in the last row is the fault of all; an inner
+-- condition names the column of the outer range.
 abbrev pub ExistsWorked : Type 0
 ExistsWorked =
     (truth tables (exists_c (Table 2) Always) ≡ is False)

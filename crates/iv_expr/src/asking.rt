@@ -33,7 +33,7 @@ pub fn known_value(value: ValueRef<'_>)
     }
 }
 
-/// So many nulls.
+/// A list of as many nulls.
 pub fn nulls(alloc: Global, count: usize) -> Result<Vec<Value>, AllocError>
     ensures { IfOk result (λ v. (row : List Cell) → has_all v.items row ≡ true) }
 {
@@ -44,7 +44,7 @@ pub fn nulls(alloc: Global, count: usize) -> Result<Vec<Value>, AllocError>
     Ok(asked)
 }
 
-// Asks for this value in a column, where nothing is asked for there yet.
+// Asks for this value in a column, if nothing is asked for there yet.
 fn set(asked: &mut Vec<Value>, column: u32, value: Value)
     ensures asks { (row : List Cell) → AreTexts row → IsText value → IsEqualAt row column value → has_all asked.old.items row ≡ true → has_all asked.new.items row ≡ true }
 {
@@ -54,7 +54,7 @@ fn set(asked: &mut Vec<Value>, column: u32, value: Value)
     }
 }
 
-// Asks for the value of an expression in a column, and tells whether a row may have it: none does where it is null.
+// Asks for the value of an expression in a column, and tells whether a row may have it: none does if it is null.
 fn ask_value<R: Rows>(
     column: u32,
     expr: &Expr,
@@ -75,7 +75,7 @@ fn ask_value<R: Rows>(
     }
 }
 
-// The column that one side of an equality is, where the other reads nothing of the row.
+// The column that one side of an equality is, if the other reads nothing of the row.
 fn column_asked(column: &Expr, other: &Expr) -> Option<u32>
     ensures column { (c : _) → result ≡ Some c → column_of_own column.now ≡ Some c }
     ensures other { (c : _) → result ≡ Some c → outside other.now ≡ true }
@@ -120,7 +120,7 @@ fn ask_equal<R: Rows>(
 }
 
 /// Asks for the values that a row of the innermost range has where a condition is true, as far as equalities joined by
-/// AND tell, and tells whether a row may have them. Only the copy of a text takes memory.
+/// AND tell, and tells whether a row may have them. It allocates only copies of texts.
 pub fn ask<R: Rows>(
     cond: &Cond,
     inside: &Scope<'_, R>,

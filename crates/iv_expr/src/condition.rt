@@ -15,7 +15,7 @@ use crate::tree::{Cond, ExprFault, Range, Side};
 use iv_value::{Truth, Value};
 
 /// The truth of a condition in a scope. Both sides of every operator are evaluated, and all rows of every EXISTS,
-/// but those that another key than the one asked for leaves out. It takes memory only to search by a key.
+/// except those that a search by key leaves out. It allocates only for such a search.
 pub fn truth<R: Rows>(cond: &Cond, scope: &Scope<'_, R>) -> Result<Truth, ExprFault>
     ensures value { result ≡ truth_at scope.now cond.now }
     ensures suited { Suits scope.now cond.now → result ≢ Err fault.IllTyped }
@@ -129,7 +129,7 @@ impl Rows for NoTables {
     }
 }
 
-/// The truth of a CHECK's condition at a row alone; a fault counts as false. It takes no memory.
+/// The truth of a CHECK's condition at a row by itself; a fault counts as false. It allocates nothing.
 pub fn check_truth(cond: &Cond, row: &[Value]) -> Truth
     ensures { result ≡ truth_of_check cond.now row.now }
 {

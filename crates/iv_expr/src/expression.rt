@@ -12,7 +12,7 @@ use crate::scope::{Rows, Scope};
 use crate::tree::{Expr, ExprFault};
 use iv_value::{Value, ValueRef};
 
-/// The value of an expression in a scope; only the copy of a text takes memory.
+/// The value of an expression in a scope. It allocates only the copy of a text.
 pub fn eval<R: Rows>(expr: &Expr, scope: &Scope<'_, R>) -> Result<Value, ExprFault>
     ensures value { CopyOf (value scope.now expr.now) result }
     ensures suited { SuitsExpr scope.now expr.now → result ≢ Err fault.IllTyped }
@@ -32,7 +32,7 @@ fn copy(value: ValueRef<'_>) -> Result<Value, ExprFault>
     }
 }
 
-/// The value of an expression in a scope, borrowed where it is a text. It takes no memory.
+/// The value of an expression in a scope, borrowed if it is a text. It allocates nothing.
 pub fn eval_ref<'a, R: Rows>(
     expr: &'a Expr,
     scope: &'a Scope<'a, R>,

@@ -3,8 +3,8 @@ ghost use Rattle.std.specs.Prelude.{◌≡◌};
 
 use std::marker::{Model, PhantomData};
 
-/// One of the things of a kind, by its place in the order of their creation, from 0. Contracts see it as
-/// that number. The number of a thing of one kind is no number of another kind: the type tells them apart.
+/// One of the things of a kind, by its place in creation order, from 0. Contracts see it as that number. The type tells
+/// numbers of different kinds apart.
 #[derive(Clone, Copy, Debug, PartialEq, Eq)]
 pub struct Id<K: Copy> {
     place: u32,
@@ -22,7 +22,7 @@ impl<K: Copy> Model for Id<K> {
 }
 
 impl<K: Copy> Id<K> {
-    /// The one at this place.
+    /// The thing at this place.
     pub fn new(place: u32) -> Id<K>
         ensures { result ≡ place }
     {
@@ -44,5 +44,5 @@ impl<K: Copy> Id<K> {
 #[derive(Clone, Copy, Debug, PartialEq, Eq)]
 pub struct OfTable;
 
-/// A table, by its place in the order of creation.
+/// A table, by its place in creation order.
 pub type TableId = Id<OfTable>;

@@ -1,4 +1,4 @@
-//! The operators, over the results of their operands: where one is a fault, the left one's comes first.
+//! The operators, over the results of their operands: if one is a fault, the left one's comes first.
 ghost use Rattle.std.specs.Prelude.{◌≡◌, ◌||◌, Ok};
 ghost use Rattle.iv_value.specs.References.{value_of};
 ghost use Rattle.iv_value.specs.Truths.{is_true, truth_and, truth_not, truth_of, truth_or};

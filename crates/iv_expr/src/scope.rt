@@ -3,7 +3,7 @@ ghost use Rattle.std.specs.Prelude.{◌≡◌, ℕ, List, Option, [], ◌∷◌,
 ghost use Rattle.std.specs.Option.{option_map, option_copied};
 ghost use Rattle.iv_expr.specs.References.{outer};
 ghost use Rattle.iv_expr.specs.Scopes.{Rises, no_frame, numbered, row_above, scope_of, table_rows, variable_of};
-ghost use Rattle.iv_expr.specs.Searches.{AllFit, AreHolders};
+ghost use Rattle.iv_expr.specs.Searches.{AllFit, AreHolders, AreSharing};
 ghost use Rattle.iv_expr.specs.declared.row.StoredRow.{StoredRow};
 
 use crate::number::TableId;
@@ -22,22 +22,30 @@ pub trait Rows {
     fn known(&self)
         ensures { Rises 0 (rows self.now) };
 
-    /// The next row of a table above a number, with its number; nothing where there is no such table.
+    /// The next row of a table above a number, with its number; nothing if there is no such table.
     fn scan(&self, table: TableId, after: u64) -> Option<(u64, &[Value])>
         ensures { option_map (λ r. (r.0, r.1.now)) result
             ≡ option_map numbered (row_above after (table_rows (rows self.now) table)) };
 
-    /// The kinds of a table's columns, where each of its rows is known to be of them.
+    /// The kinds of a table's columns, if each of its rows is known to be of them.
     fn known_kinds(&self, table: TableId) -> Option<TableKinds<'_>>
         ensures { IfSome result (λ known. AllFit known.kinds.now (table_rows (rows self.now) table)) }
     {
         None
     }
 
-    /// The rows of a table among which are all that have these values, column by column; null stands for any. Nothing
-    /// where no key is kept that leads to them.
+    /// The rows of a table among which are all that have these values, column by column; null stands for any. It is
+    /// nothing if no key that is kept leads to them.
     fn holders(&self, table: TableId, asked: &[Value]) -> Option<HeldRows<'_>>
         ensures { IfSome result (λ numbers. AreHolders asked.now (table_rows (rows self.now) table) numbers) }
+    {
+        None
+    }
+
+    /// The rows of a table among which are all that have a row's values in these columns, with a null the same as a
+    /// null. It is nothing if no key of these columns is kept in which nulls are equal.
+    fn sharing(&self, table: TableId, columns: &[u32], row: &[Value]) -> Option<HeldRows<'_>>
+        ensures { IfSome result (λ numbers. AreSharing columns.now row.now (table_rows (rows self.now) table) numbers) }
     {
         None
     }
@@ -153,7 +161,7 @@ impl<'a> Ranges<'a> {
     }
 }
 
-/// What names mean, lent without copies.
+/// What names mean, borrowed without copies.
 #[derive(Drop)]
 pub struct Scope<'a, R: Rows> {
     pub(crate) rows: &'a R,
@@ -202,7 +210,7 @@ impl<'a, R: Rows> Scope<'a, R> {
         self.rows.scan(table, after)
     }
 
-    /// The kinds of a table's columns, where each of its rows is known to be of them.
+    /// The kinds of a table's columns, if each of its rows is known to be of them.
     pub fn known_kinds(&self, table: TableId) -> Option<TableKinds<'_>>
         ensures { IfSome result (λ known. AllFit known.kinds.now (table_rows self.now.rows table)) }
     {

@@ -1,4 +1,4 @@
-//! A look at the rows of a table, with those left out at which a condition can't be true.
+//! A look at the rows of a table that leaves out rows at which a condition can't be true.
 ghost use Rattle.std.specs.Prelude.{◌≡◌};
 ghost use Rattle.std.specs.Option.{option_map};
 ghost use Rattle.iv_expr.specs.Evaluation.{truth};
@@ -69,8 +69,8 @@ fn has_equality(cond: &Cond) -> bool {
     }
 }
 
-// The rows of a key among which are all those of a table at which a condition may be true; nothing where no key leads to
-// them, or a row might refuse the condition, or memory is refused.
+// The rows of a key among which are all those of a table at which a condition may be true; nothing if no key leads to
+// them, or a row might refuse the condition, or an allocation fails.
 fn holders_for<'a, R: Rows>(
     rows: &'a R,
     scope: &Scope<'_, R>,
@@ -106,8 +106,8 @@ fn holders_for<'a, R: Rows>(
 
 impl<'a, R: Rows> Scope<'a, R> {
     /// The rows of a table at which a condition may be true: all, or those of a key that the condition asks for by
-    /// equalities joined by AND. A row is left out only where the condition has a truth there that isn't true. A search
-    /// by a key takes memory for the values that are asked for; where it is refused, all rows are looked at.
+    /// equalities joined by AND. A row is left out only if the condition has a truth there that isn't true. A search by
+    /// a key allocates the values that are asked for; if it can't, all rows are looked at.
     pub fn search(&self, table: TableId, cond: &Cond) -> Search<'_, R>
         ensures { LeavesOut (λ row. truth (within self.now row) cond.now) (table_rows self.now.rows table) result }
     {

@@ -146,7 +146,7 @@ fn compares<R: Rows>(
     comparable(sort_of(left, kinds, inside), sort_of(right, kinds, inside))
 }
 
-/// Whether no rows of these kinds in the innermost ranges can refuse a condition. It takes no memory.
+/// Whether no rows of these kinds in the innermost ranges can refuse a condition. It allocates nothing.
 #[cycle(is_never_refused)]
 pub fn is_never_refused<R: Rows>(cond: &Cond, kinds: &RangeKinds<'_>, inside: &Scope<'_, R>) -> bool
     ensures { result ≡ true → IsNeverRefused inside.now kinds.now cond.now }

@@ -61,6 +61,6 @@ pub enum ExprFault {
     OutOfRange,
     /// The tree doesn't suit its scope.
     IllTyped,
-    /// Memory was refused.
+    /// An allocation failed.
     NoMemory,
 }

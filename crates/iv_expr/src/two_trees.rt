@@ -4,8 +4,8 @@ ghost use Rattle.std.specs.Prelude.{◌≡◌, IfOk};
 use sqlite_items::Boxed;
 use std::alloc::{AllocError, Global};
 
-/// Both in boxes, for a tree made of two. It is generic, so that where memory is refused the second is dropped by a call: the drop of a
-/// tree that is written out for each variant takes long to prove.
+/// Both in boxes, for a tree made of two. It is generic, so that if an allocation fails the second is dropped by a
+/// call: the drop of a tree that is written out for each variant takes long to prove.
 pub fn boxes<T: Drop>(alloc: Global, a: T, b: T) -> Result<(Boxed<T>, Boxed<T>), AllocError>
     ensures { IfOk result (λ p. (p.0 ≡ a) × (p.1 ≡ b)) }
 {

@@ -23,8 +23,8 @@ pub fn names_column(columns: &[TableColumn], table: TableId, column: u32) -> boo
         .any(|named| named.table == table && named.column == column)
 }
 
-/// Changes by rising row number, so of different rows, and the columns that what asks for them names. Contracts see it
-/// as the record of the two.
+/// Changes by rising row number, of different rows, and the columns named by whatever caused them. Contracts see it as
+/// the record of the two.
 #[derive(Drop)]
 pub struct Wave {
     changes: Vec<Change>,
@@ -44,7 +44,7 @@ impl Model for Wave {
     ghost invariant = { λ w. (w.last ≡ last_row w.changes.items) × RisingChanges w.changes.items };
 }
 
-// The row number of the last of these changes, or 0 where there is none.
+// The row number of the last of these changes, or 0 if there is none.
 fn last_row_of(changes: &[Change]) -> u64
     ensures { result ≡ last_row changes.now }
 {
@@ -67,8 +67,8 @@ impl Wave {
         }
     }
 
-    /// The wave of changes that are by rising row number, and of the columns that what asks for them names. It takes
-    /// no memory; its time is linear.
+    /// The wave of changes that are by rising row number, and of the columns named by whatever caused them. It
+    /// allocates nothing; its time is linear.
     pub fn from_parts(changes: Vec<Change>, columns: Vec<TableColumn>) -> Wave
         requires { RisingChanges changes.items }
         ensures { result ≡ record { changes = changes.items; columns = columns.items } }
@@ -81,7 +81,7 @@ impl Wave {
         }
     }
 
-    /// The row number of the last change, or 0 where there is none.
+    /// The row number of the last change, or 0 if there is none.
     pub fn last_row(&self) -> u64
         ensures { result ≡ last_row self.now.changes }
     {
@@ -113,8 +113,8 @@ impl Wave {
         (changes, columns)
     }
 
-    /// The columns that what asks for the changes names: those of the SET list of an UPDATE, and in a later wave the
-    /// referencing columns of the foreign keys whose actions set values.
+    /// The columns named by whatever caused the changes: the SET list of an UPDATE, and in a later wave the referencing
+    /// columns of the foreign keys whose actions set values.
     pub fn columns(&self) -> &[TableColumn]
         ensures { result.now ≡ self.now.columns }
     {

@@ -1,5 +1,5 @@
--- The hashes of keys. They keep neighbours together: keys that differ in their last integer alone and follow each other have hashes
--- that do so in their lowest bits, so that rows that come one after the other are found at places beside each other.
+-- The hashes of keys. They keep neighbours together: keys that differ only in their last integer and follow each other have hashes that do
+-- so in their lowest bits, so that rows that come one after the other are found at places beside each other.
 use Rattle.std.specs.Prelude.{ℕ, ℤ, ◌+◌, ◌%◌, ◌^◌, List, [], ◌∷◌, length, bit_and, bit_or}
 use Rattle.std.specs.List.{fold}
 use Rattle.std.specs.Hash.{u64}
@@ -13,8 +13,8 @@ use Rattle.iv_value.specs.declared.value.Value.TheVariants.{Null, Int, Text}
 abbrev pub fed_number : DefaultHasher → ℕ → DefaultHasher
 fed_number hasher n = fold write hasher (u64 n)
 
--- A hasher after a value: a mark tells null from the others, and a text comes after its length. So no list of values begins as
--- another of the same kinds does that differs from it, nulls among them.
+-- A hasher after a value: a mark tells null from the others, and a text comes after its length. No list of values therefore begins like
+-- another list of the same kinds that differs from it, nulls among them.
 abbrev pub fed : DefaultHasher → Value → DefaultHasher
 fed hasher Null = write hasher (0 ∷ [])
 fed hasher (Int n) = fed_number (write hasher (1 ∷ [])) (cast_unsigned w64 n)

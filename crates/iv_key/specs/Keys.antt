@@ -19,6 +19,6 @@ none_null key = list_all (λ v. not (is_null v)) key
 abbrev pub all_null : List Value → Bool
 all_null key = list_all is_null key
 
--- a row holds a key where its columns are all non-null and equal the key
+-- a row holds a key if its columns are all non-null and equal the key
 abbrev pub holds_key : List ℕ → List Value → List Value → Bool
 holds_key columns key row = none_null (key_of columns row) && all_same (key_of columns row) key

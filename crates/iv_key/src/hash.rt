@@ -8,7 +8,7 @@ use crate::key::value_at;
 use iv_value::{Value, ValueRef};
 use std::hash::{DefaultHasher, Hasher};
 
-// Feeds a value: null as a mark alone, the others after another mark, and a text after its length.
+// Feeds a value: null as only a mark, the others after another mark, and a text after its length.
 fn feed(hasher: &mut DefaultHasher, value: ValueRef<'_>)
     ensures { hasher.new ≡ fed hasher.old (value_of value.entry) }
 {

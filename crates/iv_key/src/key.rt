@@ -50,28 +50,28 @@ impl<'a> Key<'a> {
         all_null(self.columns, self.row)
     }
 
-    /// Whether another key has the same values; null is the same as null.
+    /// Whether another key has the same values, with null the same as null.
     pub fn same(&self, other: &Key<'_>) -> bool
         ensures { result ≡ all_same self.now other.now }
     {
         same_key(self.columns, self.row, other.columns, other.row)
     }
 
-    /// Whether its values are these.
+    /// Whether the key has these values.
     pub fn has_values(&self, values: &[Value]) -> bool
         ensures { result ≡ all_same values.now self.now }
     {
         has_values(values, self.columns, self.row)
     }
 
-    /// Its values, as a list of their own; a text is shared.
+    /// The values, as a list of their own; texts are shared.
     pub fn to_values(&self, alloc: Global) -> Result<Vec<Value>, AllocError>
         ensures { IfOk result (λ values. values.items ≡ self.now) }
     {
         copied(alloc, self.columns, self.row)
     }
 
-    /// Its hash of 64 bits, the same in every run. A key of one integer is its own hash; in others a last integer is
+    /// The hash of 64 bits, the same in every run. A key of one integer is its own hash; in others a last integer is
     /// added to the lowest 24 bits of a hash by SipHash with a fixed key.
     pub fn hash(&self) -> u64
         ensures { result ≡ hash_of self.now }
@@ -80,7 +80,7 @@ impl<'a> Key<'a> {
     }
 }
 
-/// The value of a column, null where there is none.
+/// The value of a column, null if there is none.
 pub fn value_at(row: &[Value], column: u32) -> ValueRef<'_>
     ensures { value_of result ≡ value_at row.now column }
 {

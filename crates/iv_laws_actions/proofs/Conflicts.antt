@@ -116,7 +116,7 @@ conflict_is n es (e ∷ some) = λ i. where_number (e.0 == n) refl i || conflict
     where_number true f = ap (λ m. list_any (λ earlier. nat_lt earlier.0 m && disagree earlier.1 e.1) es) (sym (eqb-true e.0 n f))
     where_number false f = refl
 
--- The first foreign key that has a conflict depends on the effects alone.
+-- The first foreign key that has a conflict depends only on the effects.
 pub first_conflict_is : (g : Reference → List (ℕ × Effect)) (own : (k : Reference) → AllOf k.id (g k)) (ks : List Reference) → RisingReferences 0 ks
     → option_map (λ k. k.id) (find (λ k. has_conflict k.id (flat_map g ks)) ks) ≡ first_conflict (flat_map g ks)
 first_conflict_is g own ks rise =

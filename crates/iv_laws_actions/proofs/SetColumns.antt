@@ -34,7 +34,7 @@ any_of_numbers q at (n ∷ numbers) = where_row (at n) (any_of_numbers q at numb
     where_row None e = e
     where_row (Some r) e = ap (λ b. q r || b) e
 
--- where those of a filter that fail one test fail another, the first of them may be left out
+-- if those of a filter that fail one test fail another, the first of them may be left out
 pub filter_acting : (q acts : Reference → Bool) (ks : List Reference) → EachReference (λ k. acts k ≡ false → q k ≡ false) ks
     → filter q ks ≡ filter q (filter acts ks)
 filter_acting q acts [] h = refl

@@ -41,7 +41,7 @@ effects_of schema ks lost before after =
     flat_map (λ k. map (λ effect. (k.id, effect)) (effects_of_loss schema k (lost_reference lost k.key before)))
     (filter (keeps_reference before after) ks)
 
--- so to a row as it is after the changes
+-- what these foreign keys do to a row as it is after the changes
 abbrev pub effects_at : Schema → List Reference → LostKeys → List Change → List StoredRow → StoredRow → List (ℕ × Effect)
 effects_at schema ks lost changes later after =
     elim (row_before (wave_of changes) later after.number) [ Some before ↦ effects_of schema ks lost before after | None ↦ [] ]

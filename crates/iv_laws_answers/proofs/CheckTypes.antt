@@ -18,12 +18,12 @@ use Rattle.iv_laws_fitting.proofs.Schemas.{additions_fit}
 use Rattle.iv_laws_rows.specs.RowFits.{row_fits}
 use Rattle.iv_laws_rows.proofs.FittingFrames.{values_have_kinds}
 use Rattle.iv_laws_rows.proofs.SettledRows.{proposals_start, started_waves_fit}
-use Rattle.iv_laws_answers.specs.Words.{ExprFault}
-use Rattle.iv_laws_answers.specs.Words.expr_fault.{OutOfRange}
+use Rattle.iv_laws_answers.specs.Types.{ExprFault}
+use Rattle.iv_laws_answers.specs.Types.expr_fault.{OutOfRange}
 use Rattle.iv_laws_answers.specs.Shapes.{ChecksAreWellTyped, SettledChecksAreWellTyped, ReachedChecksAreWellTyped, AddedChecksAreWellTyped}
 use Rattle.iv_laws_answers.proofs.FittingStates.{Fitting, all_fitting}
 
--- a row alone has the shape that a CHECK of its kinds sees
+-- a row by itself has the shape that a CHECK of its kinds sees
 alone_shape : (kinds : List Kind) (row : List Value) → row_suits kinds row ≡ true → HasShape (alone row) (check_shape kinds)
 alone_shape kinds row h = record { ranges = (h, tt); old = tt; new = tt; transition = λ side. tt; tables = λ t. tt }
 

@@ -26,10 +26,10 @@ use Rattle.iv_laws_rows.proofs.FittingLevels.{levels_keep_rows}
 use Rattle.iv_laws_rows.proofs.MoreRows.{rows_fit_more_tables}
 use Rattle.iv_step.specs.Step.{step, run}
 use Rattle.iv_step.proofs.Reached.{IsReached, step_reached, empty_reached}
-use Rattle.iv_laws_answers.specs.Words.{Statement, Table, Cause, Fault, Refusal, Plan, Database}
-use Rattle.iv_laws_answers.specs.Words.plan
-use Rattle.iv_laws_answers.specs.Words.schema
-use Rattle.iv_laws_answers.specs.Words.cause.{AddRefused, NotDeferrable, Violation}
+use Rattle.iv_laws_answers.specs.Types.{Statement, Table, Cause, Fault, Refusal, Plan, Database}
+use Rattle.iv_laws_answers.specs.Types.plan
+use Rattle.iv_laws_answers.specs.Types.schema
+use Rattle.iv_laws_answers.specs.Types.cause.{AddRefused, NotDeferrable, Violation}
 use Rattle.iv_laws_answers.specs.FittingStates.{savepoint_fits, RowsFit, ReachedStatesFit}
 
 -- ---- savepoints
@@ -128,7 +128,7 @@ release_fits s name (Some x) e h = record {
   saves = (named_parts s.schema.tables x (named_fit s.schema.tables name s.savepoints x e h.saves)).1;
 }
 
--- the database at the start, where another one is the current one
+-- the database at the start, if another one is the current one
 started_fits : (tables : List Table) (start : Option Database) (before after : Database) → rows_fit tables (unwrap_or start before).rows ≡ true
     → rows_fit tables after.rows ≡ true → rows_fit tables (unwrap_or start after).rows ≡ true
 started_fits tables None before after h g = g

@@ -8,3 +8,5 @@ mod SparedAnswers
 mod SparedLevels
 mod SparedTriggers
 mod SparedValues
+mod NoViolations
+mod Telling

@@ -12,9 +12,9 @@ use Rattle.iv_machine.specs.Databases.{first, scan}
 use Rattle.iv_machine.specs.Levels.{Finished}
 use Rattle.iv_machine.specs.Machine.{State, Outcome, NamedSavepoint, Occasion, outside, inside, beginning, always, accept, refuse, refuse_first, level_outcome, answer_outcome, commit_by, rollback_by, first_violation, savepoint_named, release_outcome, rollback_to_outcome, is_deferrable, constraints_meant, with_modes, first_made_immediate, modes_outcome, set_constraints_outcome, with_schema, schema_outcome, transaction_outcome, transaction_cause, outcome_unless}
 use Rattle.std.proofs.lemmas.Option.{none-some, same_Some}
-use Rattle.iv_laws_answers.specs.Words.{Cause, Fault, Refusal, Database}
-use Rattle.iv_laws_answers.specs.Words.schema
-use Rattle.iv_laws_answers.specs.Words.cause.{InTransaction, NoTransaction, ActiveTransaction, UnknownSavepoint, NotDeferrable, Violation, CommitRefused, AddRefused}
+use Rattle.iv_laws_answers.specs.Types.{Cause, Fault, Refusal, Database}
+use Rattle.iv_laws_answers.specs.Types.schema
+use Rattle.iv_laws_answers.specs.Types.cause.{InTransaction, NoTransaction, ActiveTransaction, UnknownSavepoint, NotDeferrable, Violation, CommitRefused, AddRefused}
 
 -- a test that is false of every cause which the occasion of a statement has, or a statement about the schema or a transaction
 pub record IsOfEvaluation (bad : Cause → Bool) : Type 0 where

@@ -1,4 +1,4 @@
--- A SELECT that suits is refused for a number out of range alone.
+-- A SELECT that suits is refused only for a number out of range.
 use Rattle.std.proofs.Common.{◌≡◌, refl, ℕ, zero, suc, Bool, true, ◌&&◌, ◌==◌, List, [], ◌∷◌, ◌∙◌, map, filter_map, length, pos, Option, Some, None, is_some, Result, Ok, Err, slice_get, sym, ap}
 use Rattle.std.specs.List.{list_all}
 use Rattle.std.proofs.lemmas.Bool.{eqb-true, and_parts}
@@ -28,8 +28,8 @@ use Rattle.iv_laws_rows.specs.RowFits.{row_fits, rows_fit}
 use Rattle.iv_laws_rows.proofs.FittingFrames.{values_have_kinds, table_rows_suit}
 use Rattle.iv_laws_rows.proofs.MoreMembers.{at_in}
 use Rattle.iv_step.specs.Step.{run}
-use Rattle.iv_laws_answers.specs.Words.{StoredRow, Expr, Cond, ExprFault, Table, Cause, Refusal}
-use Rattle.iv_laws_answers.specs.Words.cause.{NumberOutOfRange}
+use Rattle.iv_laws_answers.specs.Types.{StoredRow, Expr, Cond, ExprFault, Table, Cause, Refusal}
+use Rattle.iv_laws_answers.specs.Types.cause.{NumberOutOfRange}
 use Rattle.iv_laws_answers.specs.Shapes.{QueriesAreWellTyped, ReachedQueriesAreWellTyped}
 use Rattle.iv_laws_answers.proofs.FittingStates.{Fitting, all_fitting}
 

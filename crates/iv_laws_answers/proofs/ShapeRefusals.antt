@@ -13,9 +13,9 @@ use Rattle.iv_laws_rows.specs.WellTyped.{is_ill_typed}
 use Rattle.iv_laws_rows.proofs.FittingFrames.{plain_statements_fit}
 use Rattle.iv_laws_rows.proofs.FreeLevels.{levels_are_well_typed}
 use Rattle.iv_step.specs.Step.{step, run}
-use Rattle.iv_laws_answers.specs.Words.{Statement, Cause, Refusal, Plan}
-use Rattle.iv_laws_answers.specs.Words.plan
-use Rattle.iv_laws_answers.specs.Words.cause.{WrongShape}
+use Rattle.iv_laws_answers.specs.Types.{Statement, Cause, Refusal, Plan}
+use Rattle.iv_laws_answers.specs.Types.plan
+use Rattle.iv_laws_answers.specs.Types.cause.{WrongShape}
 use Rattle.iv_laws_answers.specs.Shapes.{WrongShapesAreOfResolution}
 use Rattle.iv_laws_answers.proofs.FittingStates.{Fitting, all_fitting}
 use Rattle.iv_laws_answers.proofs.Outcomes.{IsOfEvaluation, Without, schema_without, transaction_without, occasion_without, level_without, without_refused}

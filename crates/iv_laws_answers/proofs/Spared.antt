@@ -1,6 +1,6 @@
--- Results that aren't refused for want of memory, one step after another.
+-- Results that aren't refused for lack of memory, one step after another.
 use Rattle.std.proofs.Common.{◌≡◌, ℕ, false, List, [], ◌∷◌, map, Result, Ok, Err}
-use Rattle.iv_laws_answers.specs.Words.{ExprFault, Cause, Fault, Refusal, Database}
+use Rattle.iv_laws_answers.specs.Types.{ExprFault, Cause, Fault, Refusal, Database}
 use Rattle.iv_expr.specs.Evaluation.{both, and_then, all_results}
 use Rattle.iv_catalogue.specs.Refusals.{is_memory_cause, cause_of}
 use Rattle.iv_machine.specs.Context.{Failure, over, unless_first, with_count, inside_trigger, each, in_turn}

@@ -15,9 +15,9 @@ use Rattle.iv_machine.specs.Machine.{State, is_open, context_of, rows_meant, out
 use Rattle.iv_resolution.specs.Bound.{bound}
 use Rattle.iv_resolution.specs.Resolution.{is_unknown, is_duplicate, is_faulty, is_misshaped, is_beyond_limits, refused_or_planned, resolution}
 use Rattle.iv_step.specs.Step.{step, run}
-use Rattle.iv_laws_answers.specs.Words.{StoredRow, Cond, Refusal, Plan}
-use Rattle.iv_laws_answers.specs.Words.plan
-use Rattle.iv_laws_answers.specs.Words.cause.{Unknown, Duplicate, SchemaFault, WrongShape, Limit}
+use Rattle.iv_laws_answers.specs.Types.{StoredRow, Cond, Refusal, Plan}
+use Rattle.iv_laws_answers.specs.Types.plan
+use Rattle.iv_laws_answers.specs.Types.cause.{Unknown, Duplicate, SchemaFault, WrongShape, Limit}
 use Rattle.iv_laws_answers.specs.Answers.{ResolutionsWantNoMemory, PlansWantNoMemory, StepsWantNoMemory, RunsWantNoMemory}
 use Rattle.iv_laws_answers.proofs.Spared.{SparedCause, then_spared, each_spared, spared_refused}
 use Rattle.iv_laws_answers.proofs.SparedValues.{results_spared, where_spared}

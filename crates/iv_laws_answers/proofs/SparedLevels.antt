@@ -1,8 +1,8 @@
--- Waves and levels aren't refused for want of memory.
+-- Waves and levels aren't refused for lack of memory.
 use Rattle.std.proofs.Common.{refl, ℕ, zero, suc, ◌+◌, ◌-◌, nat_lt, Bool, true, false, if◌then◌else◌, List, ◌∷◌, Ok}
-use Rattle.iv_laws_answers.specs.Words.{BodyStatement, DataStatement, Database}
-use Rattle.iv_laws_answers.specs.Words.cause.{Restrict, ActionConflict, Violation, TooManyChanges, TransactionTooLarge, Limit}
-use Rattle.iv_laws_answers.specs.Words.body
+use Rattle.iv_laws_answers.specs.Types.{BodyStatement, DataStatement, Database}
+use Rattle.iv_laws_answers.specs.Types.cause.{Restrict, ActionConflict, Violation, TooManyChanges, TransactionTooLarge, Limit}
+use Rattle.iv_laws_answers.specs.Types.body
 use Rattle.iv_expr.specs.Changes.{Wave}
 use Rattle.iv_expr.specs.Evaluation.{and_then}
 use Rattle.iv_expr.specs.Scopes.{Frame, scope_of}

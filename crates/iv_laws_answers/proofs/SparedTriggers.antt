@@ -1,6 +1,6 @@
--- BEFORE triggers aren't refused for want of memory.
+-- BEFORE triggers aren't refused for lack of memory.
 use Rattle.std.proofs.Common.{refl, List}
-use Rattle.iv_laws_answers.specs.Words.{StoredRow, Change, Refusal, DataStatement, Trigger}
+use Rattle.iv_laws_answers.specs.Types.{StoredRow, Change, Refusal, DataStatement, Trigger}
 use Rattle.iv_expr.specs.Changes.{Wave}
 use Rattle.iv_expr.specs.Evaluation.{value}
 use Rattle.iv_catalogue.specs.Refusals.{is_memory_cause}

@@ -1,4 +1,4 @@
--- Expressions, conditions and proposals aren't refused for want of memory.
+-- Expressions, conditions and proposals aren't refused for lack of memory.
 use Rattle.std.proofs.Common.{◌≢◌, refl, ℕ, ◌+◌, ℤ, ◌+ℤ◌, ◌-ℤ◌, ◌*ℤ◌, Bool, true, false, ◌||◌, if◌then◌else◌, List, [], ◌∷◌, map, filter_map, zip, Option, Some, None, Result, Ok, Err, slice_get}
 use Rattle.std.proofs.lemmas.Bool.{true≢false}
 use Rattle.std.specs.List.{enumerate_from}
@@ -29,9 +29,9 @@ use Rattle.iv_catalogue.specs.declared.plan.DataStatement.TheVariants as data_st
 use Rattle.iv_catalogue.specs.Refusals.{cause_of}
 use Rattle.iv_machine.specs.Context.{Context, each}
 use Rattle.iv_machine.specs.Proposals.{set_columns, with_cause, holds, column_at, value_for_column, stored_value, stored_values, with_columns, element_where_true, where_true, matching_rows, outputs_of, values_by_column, row_of_values, insertion, insertion_of, proposed_insertions, update_of, deletion, proposed_changes, proposed_wave}
-use Rattle.iv_laws_answers.specs.Words.{StoredRow, Expr, Cond, ExprFault, Cause, DataStatement, Database}
-use Rattle.iv_laws_answers.specs.Words.expr_fault.{IllTyped, NoMemory}
-use Rattle.iv_laws_answers.specs.Words.cause.{WrongShape, TextTooLong}
+use Rattle.iv_laws_answers.specs.Types.{StoredRow, Expr, Cond, ExprFault, Cause, DataStatement, Database}
+use Rattle.iv_laws_answers.specs.Types.expr_fault.{IllTyped, NoMemory}
+use Rattle.iv_laws_answers.specs.Types.cause.{WrongShape, TextTooLong}
 use Rattle.iv_laws_answers.specs.Memory.{ValuesWantNoMemory, TruthsWantNoMemory, ProposalsWantNoMemory}
 use Rattle.iv_laws_answers.proofs.Spared.{SparedFault, SparedCause, then_spared, both_spared, each_spared, all_spared, spared_refused}
 

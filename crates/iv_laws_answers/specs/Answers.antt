@@ -1,7 +1,7 @@
--- No answer of any state is a refusal for want of memory.
+-- No answer of any state is a refusal for lack of memory.
 use Rattle.std.specs.Prelude.{◌≡◌, false, List}
 use Rattle.std.specs.List.{list_any}
-use Rattle.iv_laws_answers.specs.Words.{Statement, Plan}
+use Rattle.iv_laws_answers.specs.Types.{Statement, Plan}
 use Rattle.iv_catalogue.specs.Catalogues.{Schema}
 use Rattle.iv_catalogue.specs.Refusals.{is_memory}
 use Rattle.iv_machine.specs.Machine.{State, plan_outcome}
@@ -16,7 +16,7 @@ ResolutionsWantNoMemory = (c : Schema) (st : Statement) → is_memory (resolutio
 abbrev pub PlansWantNoMemory : Type 0
 PlansWantNoMemory = (s : State) (p : Plan) → is_memory (plan_outcome s p).answer ≡ false
 
--- so no statement is, whatever the state is,
+-- no statement is, whatever the state is,
 abbrev pub StepsWantNoMemory : Type 0
 StepsWantNoMemory = (s : State) (st : Statement) → is_memory (step s st).answer ≡ false
 

@@ -1,7 +1,7 @@
 -- In a reached state all that the catalogue has suits its tables, and the rows of every database fit them.
 use Rattle.std.specs.Prelude.{◌≡◌, Bool, true, List}
 use Rattle.std.specs.List.{list_all}
-use Rattle.iv_laws_answers.specs.Words.{Statement, Table}
+use Rattle.iv_laws_answers.specs.Types.{Statement, Table}
 use Rattle.iv_machine.specs.Bounds.{Bounds}
 use Rattle.iv_machine.specs.Machine.{Savepoint, State, empty_state, start_database}
 use Rattle.iv_laws_fitting.specs.ConstraintShapes.{SchemaSuits}
@@ -17,7 +17,7 @@ pub record RowsFit (tables : List Table) (s : State) : Type 0 where
   pub first : rows_fit tables (start_database s).rows ≡ true
   pub saves : list_all (savepoint_fits tables) s.savepoints ≡ true
 
--- So the tables, constraints and triggers suit.
+-- The tables, constraints and triggers suit, and the rows fit.
 pub record StateFits (s : State) : Type 0 where
   pub suits : SchemaSuits s.schema
   pub rows : RowsFit s.schema.tables s

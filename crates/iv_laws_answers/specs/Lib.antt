@@ -1,5 +1,6 @@
-pub mod Words
+pub mod Types
 pub mod Memory
 pub mod Answers
 pub mod FittingStates
 pub mod Shapes
+pub mod AccountLaws

@@ -1,8 +1,8 @@
--- The definitions have memory enough: no tree has the fault of refused memory, and no statement is refused for it. So an answer that is such
--- a refusal is always the program's own.
+-- The definitions never run out of memory: no tree has the fault of a failed allocation, and no statement is refused for one. Such a
+-- refusal is always the program's own.
 use Rattle.std.specs.Prelude.{◌≡◌, ◌≢◌, ℕ, false, List, Err}
-use Rattle.iv_laws_answers.specs.Words.{StoredRow, Change, Expr, Cond, Cause, Refusal, DataStatement, Trigger, Database}
-use Rattle.iv_laws_answers.specs.Words.expr_fault.{NoMemory}
+use Rattle.iv_laws_answers.specs.Types.{StoredRow, Change, Expr, Cond, Cause, Refusal, DataStatement, Trigger, Database}
+use Rattle.iv_laws_answers.specs.Types.expr_fault.{NoMemory}
 use Rattle.iv_expr.specs.Changes.{Wave}
 use Rattle.iv_expr.specs.Scopes.{Scope, Frame}
 use Rattle.iv_expr.specs.Evaluation.{value, truth}
@@ -29,7 +29,7 @@ ProposalsWantNoMemory =
     (context : Context) (db : Database) (frame : Frame) (d : DataStatement) (cause : Cause)
     → proposed_wave context db frame d ≡ Err cause → is_memory_cause cause ≡ false
 
--- So are BEFORE triggers, of rows and of statements.
+-- BEFORE triggers, of rows and of statements, are refused for another cause.
 abbrev pub RowTriggersWantNoMemory : Type 0
 RowTriggersWantNoMemory =
     (context : Context) (rows : List StoredRow) (triggers : List Trigger) (changes : List Change) (refusal : Refusal)
@@ -40,13 +40,13 @@ StatementTriggersWantNoMemory =
     (context : Context) (rows : List StoredRow) (d : DataStatement) (refusal : Refusal)
     → before_statement context rows d ≡ Err refusal → is_memory_cause refusal.cause ≡ false
 
--- So are all waves.
+-- All waves are refused for another cause.
 abbrev pub WavesWantNoMemory : Type 0
 WavesWantNoMemory =
     (context : Context) (db : Database) (budget : ℕ) (wave : Wave) (failure : Failure)
     → settled_waves context db budget wave ≡ Err failure → is_memory_cause failure.cause ≡ false
 
--- So is a data statement of a script, and one of a trigger's body, with all that follows from it.
+-- A data statement of a script, and one of a trigger's body, with all that follows, is refused for another cause.
 abbrev pub LevelsWantNoMemory : Type 0
 LevelsWantNoMemory =
     (deeper : ℕ) (context : Context) (d : DataStatement) (frame : Frame) (db : Database) (budget : ℕ) (failure : Failure)

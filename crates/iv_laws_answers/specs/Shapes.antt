@@ -1,12 +1,11 @@
--- No value of the wrong kind is met where a CHECK is evaluated, or a SELECT; so it is resolution that refuses for a wrong shape, and
--- nothing after it.
+-- No value of the wrong kind is met when a CHECK or a SELECT is evaluated: resolution refuses for a wrong shape, and nothing after it does.
 use Rattle.std.specs.Prelude.{◌≡◌, ℕ, true, List, slice_get, Some, Ok, Err}
-use Rattle.iv_laws_answers.specs.Words.{StoredRow, Cond, ExprFault, Statement, Refusal, Constraint, DataStatement, QueryPlan, Database}
-use Rattle.iv_laws_answers.specs.Words.expr_fault.{OutOfRange}
-use Rattle.iv_laws_answers.specs.Words.cause.{WrongShape, NumberOutOfRange}
-use Rattle.iv_laws_answers.specs.Words.rule.{Check}
-use Rattle.iv_laws_answers.specs.Words.plan
-use Rattle.iv_laws_answers.specs.Words.schema.{AddConstraint}
+use Rattle.iv_laws_answers.specs.Types.{StoredRow, Cond, ExprFault, Statement, Refusal, Constraint, DataStatement, QueryPlan, Database}
+use Rattle.iv_laws_answers.specs.Types.expr_fault.{OutOfRange}
+use Rattle.iv_laws_answers.specs.Types.cause.{WrongShape, NumberOutOfRange}
+use Rattle.iv_laws_answers.specs.Types.rule.{Check}
+use Rattle.iv_laws_answers.specs.Types.plan
+use Rattle.iv_laws_answers.specs.Types.schema.{AddConstraint}
 use Rattle.iv_expr.specs.Changes.{Wave}
 use Rattle.iv_expr.specs.Scopes.{Frame, alone}
 use Rattle.iv_expr.specs.Evaluation.{truth}
@@ -33,13 +32,13 @@ ChecksAt rows k =
     → k.rule ≡ Check condition → slice_get rows place ≡ Some row → row.table ≡ k.table
     → truth (alone row.values) condition ≡ Err fault → fault ≡ OutOfRange
 
--- So it is of a constraint that suits, at rows that fit.
+-- The condition of a CHECK that suits has a truth at rows that fit, or a number in it is out of range.
 abbrev pub ChecksAreWellTyped : Type 0
 ChecksAreWellTyped =
     (c : Schema) (k : Constraint) (rows : List StoredRow)
     → constraint_suits c.tables k ≡ true → rows_fit c.tables rows ≡ true → ChecksAt rows k
 
--- So it is where a data statement that fits checks its constraints: at the rows after its waves.
+-- The same holds when a data statement that fits checks its constraints: at the rows after its waves.
 abbrev pub SettledChecksAreWellTyped : Type 0
 SettledChecksAreWellTyped =
     (context : Context) (d : DataStatement) (frame : Frame) (db : Database) (budget : ℕ) (wave : Wave) (settled : SettledWaves) (id : ℕ) (k : Constraint)
@@ -50,14 +49,14 @@ SettledChecksAreWellTyped =
     → slice_get context.schema.constraints id ≡ Some k
     → ChecksAt settled.last.rows k
 
--- So it is of each constraint of a state that a run reaches, at the rows of its database.
+-- The same holds of each constraint of a state that a run reaches, at the rows of its database.
 abbrev pub ReachedChecksAreWellTyped : Type 0
 ReachedChecksAreWellTyped =
     (limits : Bounds) (statements : List Statement) (id : ℕ) (k : Constraint)
     → slice_get (run (empty_state limits) statements).1.schema.constraints id ≡ Some k
     → ChecksAt (run (empty_state limits) statements).1.database.rows k
 
--- And so it is of a constraint that an ALTER TABLE would add to it.
+-- The same holds of a constraint that an ALTER TABLE would add.
 abbrev pub AddedChecksAreWellTyped : Type 0
 AddedChecksAreWellTyped =
     (limits : Bounds) (statements : List Statement) (st : Statement) (k : Constraint)
@@ -66,14 +65,14 @@ AddedChecksAreWellTyped =
 
 -- ---- SELECT
 
--- A query that suits, over rows that fit, is refused for a number out of range alone.
+-- A query that suits, over rows that fit, is refused only for a number out of range.
 abbrev pub QueriesAreWellTyped : Type 0
 QueriesAreWellTyped =
     (s : State) (q : QueryPlan) (refusal : Refusal)
     → query_suits s.schema.tables q ≡ true → rows_fit s.schema.tables s.database.rows ≡ true
     → (query_outcome s q).answer ≡ Err refusal → refusal ≡ refusal_of NumberOutOfRange
 
--- So is that which resolution gives for a SELECT in a state that a run reaches.
+-- A query that resolution gives for a SELECT in a state that a run reaches is refused only for a number out of range.
 abbrev pub ReachedQueriesAreWellTyped : Type 0
 ReachedQueriesAreWellTyped =
     (limits : Bounds) (statements : List Statement) (st : Statement) (q : QueryPlan) (refusal : Refusal)

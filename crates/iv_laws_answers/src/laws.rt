@@ -4,13 +4,13 @@ ghost use Rattle.iv_laws_answers.specs.Answers.{PlansWantNoMemory, ResolutionsWa
 ghost use Rattle.iv_laws_answers.specs.FittingStates.{ReachedStatesFit};
 ghost use Rattle.iv_laws_answers.specs.Shapes.{AddedChecksAreWellTyped, ChecksAreWellTyped, QueriesAreWellTyped, ReachedChecksAreWellTyped, ReachedQueriesAreWellTyped, SettledChecksAreWellTyped, WrongShapesAreOfResolution};
 
-/// No expression and no condition has the fault of refused memory, in any scope.
+/// No expression and no condition has the fault of a failed allocation, in any scope.
 pub fn evaluation_wants_no_memory()
     ensures values { ValuesWantNoMemory }
     ensures truths { TruthsWantNoMemory }
 {}
 
-/// No step of a data statement is refused for want of memory.
+/// No step of a data statement is refused for lack of memory.
 pub fn data_statements_want_no_memory()
     ensures proposals { ProposalsWantNoMemory }
     ensures rows { RowTriggersWantNoMemory }
@@ -43,13 +43,13 @@ pub fn checks_are_well_typed()
     ensures added { AddedChecksAreWellTyped }
 {}
 
-/// A SELECT that resolution accepts is refused for a number out of range alone.
+/// A SELECT that resolution accepts is refused only for a number out of range.
 pub fn queries_are_well_typed()
     ensures suited { QueriesAreWellTyped }
     ensures reached { ReachedQueriesAreWellTyped }
 {}
 
-/// In a state that a run reaches, a statement is refused for a wrong shape only where its resolution is.
+/// In a state that a run reaches, a statement is refused for a wrong shape only if its resolution is.
 pub fn wrong_shapes_are_of_resolution()
     ensures { WrongShapesAreOfResolution }
 {}

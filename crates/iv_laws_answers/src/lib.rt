@@ -1,8 +1,10 @@
-//! Laws of answers: no statement is answered by OutOfMemory, and none but by its resolution for a wrong shape.
+//! Laws of answers: no statement is answered by OutOfMemory, and only resolution refuses for a wrong shape.
 #![tactic(auto)]
 
+mod accounts;
 mod laws;
 
+pub use accounts::{accounts_lead_on, accounts_tell_violations, all_that_begins_ends};
 pub use laws::{
     answers_want_no_memory, checks_are_well_typed, data_statements_want_no_memory,
     evaluation_wants_no_memory, queries_are_well_typed, reached_states_fit,

@@ -5,8 +5,8 @@ use Rattle.std.proofs.lemmas.Option.{same_Some}
 use Rattle.std.specs.Option.{option_or}
 use Rattle.std.specs.List.{list_any, list_all, enumerate_from}
 use Rattle.std.proofs.lemmas.Bool.Decides.{nat_tests}
-use Rattle.iv_laws_fitting.specs.Words.{Kind, Expr, Range, Column}
-use Rattle.iv_laws_fitting.specs.Words.kind
+use Rattle.iv_laws_fitting.specs.Types.{Kind, Expr, Range, Column}
+use Rattle.iv_laws_fitting.specs.Types.kind
 use Rattle.iv_expr.specs.Suiting.{Shape, shape_within, range_kinds, suits}
 use Rattle.iv_syntax.specs.declared.table.ColumnType.{ColumnType}
 use Rattle.iv_syntax.specs.declared.tree.Condition.{Condition}

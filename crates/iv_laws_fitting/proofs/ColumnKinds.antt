@@ -1,8 +1,8 @@
 -- The kinds of the columns that names see are those of a shape.
 use Rattle.std.proofs.Common.{◌≡◌, ℕ, zero, suc, ◌<◌, ◌≤◌, Bool, List, [], ◌∷◌, ◌++◌, ◌∙◌, Option, Some, None, refl, sym, ap, length, map, slice_get, option_map, subst, arith}
 use Rattle.std.proofs.lemmas.Option.{same_Some}
-use Rattle.iv_laws_fitting.specs.Words.{Kind, Column, Table}
-use Rattle.iv_laws_fitting.specs.Words.kind
+use Rattle.iv_laws_fitting.specs.Types.{Kind, Column, Table}
+use Rattle.iv_laws_fitting.specs.Types.kind
 use Rattle.iv_expr.specs.declared.tree.Side.{Side}
 use Rattle.iv_expr.specs.declared.tree.Side.TheVariants as side
 use Rattle.iv_expr.specs.Suiting.{Sort, numbers, texts, Shape, sort_of_kind, variable_kinds, column_sort, sort_of}
@@ -13,9 +13,9 @@ use Rattle.iv_resolution.specs.declared.origin.Origin.{Origin}
 use Rattle.iv_resolution.specs.declared.origin.Origin.TheVariants.{Rows, Variable}
 use Rattle.iv_resolution.specs.Scopes.{NamedColumn, NamedRange, Found, number, count_outward, type_of, named_columns, column_meant}
 use Rattle.iv_resolution.specs.Terms.{bound_origin}
-use Rattle.iv_laws_naming.specs.Naming.{IsFirst, ColumnOfRange, NamesAlone, NamesQualified}
-use Rattle.iv_laws_naming.proofs.Firsts.{first_there}
-use Rattle.iv_laws_naming.proofs.NamesFound.{columns_found}
+use Rattle.iv_laws_fitting.specs.Naming.{IsFirst, ColumnOfRange, NamesAlone, NamesQualified}
+use Rattle.iv_laws_fitting.proofs.Firsts.{first_there}
+use Rattle.iv_laws_fitting.proofs.NamesFound.{columns_found}
 use Rattle.iv_laws_fitting.specs.PlanShapes.{kinds_of}
 
 -- the greatest number of 32 bits

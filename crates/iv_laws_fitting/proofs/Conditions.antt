@@ -1,8 +1,8 @@
 -- A condition that has no name that names nothing, and no operand of the wrong kind, suits the shape of its names.
 use Rattle.std.proofs.Common.{◌≡◌, ℕ, ◌+◌, ◌≤◌, true, false, not, ◌&&◌, ◌||◌, List, [], ◌∷◌, ◌∙◌, Option, Some, None, is_some, refl, sym, ap, length, subst, arith}
 use Rattle.std.proofs.lemmas.Bool.{and_from, or_parts}
-use Rattle.iv_laws_fitting.specs.Words.{Kind, Range}
-use Rattle.iv_laws_fitting.specs.Words.range
+use Rattle.iv_laws_fitting.specs.Types.{Kind, Range}
+use Rattle.iv_laws_fitting.specs.Types.range
 use Rattle.iv_expr.specs.Suiting.{Sort, nulls, numbers, texts, Shape, shape_within, range_kinds, sort_of, comparable, suits}
 use Rattle.iv_syntax.specs.declared.tree.Expression.{Expression}
 use Rattle.iv_syntax.specs.declared.tree.Condition.{Condition}

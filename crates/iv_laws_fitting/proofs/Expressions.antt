@@ -1,7 +1,7 @@
 -- An expression that has no name that names nothing, and no arithmetic on a text, has a sort: that of its tree as it is written.
 use Rattle.std.proofs.Common.{◌≡◌, ◌≤◌, true, false, ◌||◌, List, ◌∙◌, Option, Some, None, is_none, refl, sym, ap, length}
 use Rattle.std.proofs.lemmas.Bool.{or_parts}
-use Rattle.iv_laws_fitting.specs.Words.{Expr}
+use Rattle.iv_laws_fitting.specs.Types.{Expr}
 use Rattle.iv_expr.specs.Suiting.{Sort, nulls, numbers, texts, Shape, sort_of, arithmetic_sort}
 use Rattle.iv_syntax.specs.declared.table.ColumnType.{ColumnType}
 use Rattle.iv_syntax.specs.declared.table.ColumnType.TheVariants as type

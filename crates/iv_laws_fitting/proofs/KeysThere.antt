@@ -7,8 +7,8 @@ use Rattle.std.specs.List.{list_any, list_all, enumerate_from}
 use Rattle.std.specs.Str.{bytes_eq}
 use Rattle.std.proofs.lemmas.Bool.Decides.{nat_tests}
 use Rattle.iv_catalogue.specs.Names.{is_among, has_repeated}
-use Rattle.iv_laws_fitting.specs.Words.{Constraint, ForeignKey, Rule, Kind, Column, Table}
-use Rattle.iv_laws_fitting.specs.Words.rule
+use Rattle.iv_laws_fitting.specs.Types.{Constraint, ForeignKey, Rule, Kind, Column, Table}
+use Rattle.iv_laws_fitting.specs.Types.rule
 use Rattle.iv_catalogue.specs.Catalogues.{Schema}
 use Rattle.iv_syntax.specs.declared.table.ConstraintTime.{ConstraintTime}
 use Rattle.iv_syntax.specs.declared.table.References.{References}
@@ -21,8 +21,8 @@ use Rattle.iv_resolution.specs.Bound.{bound_rule, bound_place, bound_reference, 
 use Rattle.iv_resolution.specs.NameFaults.{unknown_in_columns, unknown_in_reference, unknown_in_rule}
 use Rattle.iv_resolution.proofs.Told.{none_parts}
 use Rattle.iv_store.specs.Stores.{all_among, are_same_columns, unique_columns, is_named_key, has_key}
-use Rattle.iv_laws_naming.specs.Naming.{column_is_called, table_is_called}
-use Rattle.iv_laws_naming.proofs.Firsts.{Search, nothing, something, search, later, first_position, first_found, first_there, none_position, none_found}
+use Rattle.iv_laws_fitting.specs.Naming.{column_is_called, table_is_called}
+use Rattle.iv_laws_fitting.proofs.Firsts.{Search, nothing, something, search, later, first_position, first_found, first_there, none_position, none_found}
 use Rattle.iv_laws_fitting.specs.ConstraintShapes.{is_place, rule_suits, constraint_suits}
 use Rattle.iv_laws_fitting.specs.PlanShapes.{kinds_of, table_kinds, is_there, table_suits}
 use Rattle.iv_laws_fitting.proofs.ColumnKinds.{stored_match, there_below}
@@ -200,7 +200,7 @@ written_keys_named schema own ks j k g =
 
 -- ---- the key that a foreign key names
 
--- where keys are named, by what a name of a table refers to
+-- if keys are named, by what a name of a table refers to
 pub record AllNamed (schema : Schema) (own : Altered) (all : List Constraint) : Type 0 where
   pub own_keys : KeysNamed all own.table own.columns own.keys
   pub others : (name : List ℕ) (t : Referenced) → stored_reference schema name ≡ Some t → KeysNamed all t.table t.columns t.keys

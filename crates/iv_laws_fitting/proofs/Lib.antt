@@ -16,3 +16,5 @@ pub mod Staying
 pub mod Statements
 pub mod Targets
 pub mod Triggers
+pub mod Firsts
+pub mod NamesFound

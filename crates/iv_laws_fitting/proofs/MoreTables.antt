@@ -3,14 +3,14 @@ use Rattle.std.proofs.Common.{◌≡◌, ℕ, zero, suc, ◌+◌, nat_lt, true, 
 use Rattle.std.proofs.lemmas.Bool.{and_from, and_parts}
 use Rattle.std.specs.List.{list_all}
 use Rattle.std.proofs.lemmas.Bool.Decides.{nat_tests}
-use Rattle.iv_laws_fitting.specs.Words.{Kind, Granularity, TriggerEvent, Range, Expr, Table, Constraint, Rule, BodyStatement, DataStatement, InsertRows, Outputs, Setting, Trigger}
-use Rattle.iv_laws_fitting.specs.Words.kind
-use Rattle.iv_laws_fitting.specs.Words.range
-use Rattle.iv_laws_fitting.specs.Words.rule
-use Rattle.iv_laws_fitting.specs.Words.body
-use Rattle.iv_laws_fitting.specs.Words.data_statement.{Insert, Update, Delete}
-use Rattle.iv_laws_fitting.specs.Words.insert_rows as rows
-use Rattle.iv_laws_fitting.specs.Words.outputs
+use Rattle.iv_laws_fitting.specs.Types.{Kind, Granularity, TriggerEvent, Range, Expr, Table, Constraint, Rule, BodyStatement, DataStatement, InsertRows, Outputs, Setting, Trigger}
+use Rattle.iv_laws_fitting.specs.Types.kind
+use Rattle.iv_laws_fitting.specs.Types.range
+use Rattle.iv_laws_fitting.specs.Types.rule
+use Rattle.iv_laws_fitting.specs.Types.body
+use Rattle.iv_laws_fitting.specs.Types.data_statement.{Insert, Update, Delete}
+use Rattle.iv_laws_fitting.specs.Types.insert_rows as rows
+use Rattle.iv_laws_fitting.specs.Types.outputs
 use Rattle.iv_expr.specs.declared.tree.Side.{Side}
 use Rattle.iv_expr.specs.declared.tree.Side.TheVariants as side
 use Rattle.iv_expr.specs.declared.tree.Expr.TheVariants as expr
@@ -48,7 +48,7 @@ same_kinds tables new place h =
 
 -- ---- a shape with more tables
 
--- lists of kinds that are the same, but where the first has no column
+-- lists of kinds that are the same, but if the first has no column
 pub data KindsWider (few many : List Kind) : Type 0 where
   same : many ≡ few → KindsWider few many
   none : few ≡ [] → KindsWider few many

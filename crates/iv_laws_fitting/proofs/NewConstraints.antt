@@ -5,8 +5,8 @@ use Rattle.std.proofs.lemmas.Bool.{and_from, not-false, or_parts}
 use Rattle.std.proofs.lemmas.Option.{same_Some}
 use Rattle.std.specs.List.{list_any, list_all}
 use Rattle.std.proofs.lemmas.Bool.Decides.{nat_tests}
-use Rattle.iv_laws_fitting.specs.Words.{Kind}
-use Rattle.iv_laws_fitting.specs.Words.kind
+use Rattle.iv_laws_fitting.specs.Types.{Kind}
+use Rattle.iv_laws_fitting.specs.Types.kind
 use Rattle.iv_expr.specs.Suiting.{Shape, suits}
 use Rattle.iv_syntax.specs.declared.table.ColumnType.{ColumnType}
 use Rattle.iv_syntax.specs.declared.tree.Condition.{Condition}
@@ -17,8 +17,8 @@ use Rattle.iv_resolution.specs.Terms.{misshaped_expression, misshaped_condition,
 use Rattle.iv_resolution.specs.Constraints.{Key, places_of, types_differ, pairs_differ}
 use Rattle.iv_resolution.specs.NameFaults.{unknown_in_columns, unknown_in_condition, unknown_in_expression}
 use Rattle.iv_resolution.proofs.Told.{known_column, none_parts}
-use Rattle.iv_laws_naming.specs.Naming.{column_is_called}
-use Rattle.iv_laws_naming.proofs.Firsts.{Search, nothing, something, search, first_position, first_found, first_there, none_position}
+use Rattle.iv_laws_fitting.specs.Naming.{column_is_called}
+use Rattle.iv_laws_fitting.proofs.Firsts.{Search, nothing, something, search, first_position, first_found, first_there, none_position}
 use Rattle.iv_laws_fitting.specs.ConstraintShapes.{is_place, check_shape, same_kind, pair_suits}
 use Rattle.iv_laws_fitting.proofs.ColumnKinds.{greatest, ColumnsMatch, Matches, kind_at}
 use Rattle.iv_laws_fitting.proofs.Conditions.{compares, has_sort_of}

@@ -20,7 +20,7 @@ use Rattle.iv_syntax.specs.declared.table.TableElement.TheVariants as element
 use Rattle.iv_catalogue.specs.Catalogues.{Schema, AllOn, has_constraint}
 use Rattle.iv_catalogue.specs.Names.{is_among, has_repeated}
 use Rattle.iv_catalogue.proofs.NamedLists.{any_map}
-use Rattle.iv_laws_fitting.specs.Words.{Column, Constraint}
+use Rattle.iv_laws_fitting.specs.Types.{Column, Constraint}
 use Rattle.iv_catalogue.specs.declared.limits.TheConstants.{MOST_CHARACTERS, MOST_COLUMNS}
 use Rattle.iv_resolution.specs.Constraints.{WrittenConstraint, written_columns, constraint_name, Altered, default_fits, literal_fits}
 use Rattle.iv_resolution.specs.Items.{in_use_fault, twice_fault, first_again}

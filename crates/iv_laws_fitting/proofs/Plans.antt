@@ -3,11 +3,11 @@ use Rattle.std.proofs.Common.{◌≡◌, ℕ, ◌≤◌, Bool, true, false, not,
 use Rattle.std.proofs.lemmas.Bool.{and_from, and_parts, not-false, or_parts}
 use Rattle.std.specs.Option.{option_or}
 use Rattle.std.specs.List.{list_all}
-use Rattle.iv_laws_fitting.specs.Words.{Kind, Statement, Table, Cause, DataStatement, QueryPlan}
-use Rattle.iv_laws_fitting.specs.Words.range
-use Rattle.iv_laws_fitting.specs.Words.cause.{Unknown, Duplicate, SchemaFault, WrongShape, Limit}
-use Rattle.iv_laws_fitting.specs.Words.plan
-use Rattle.iv_laws_fitting.specs.Words.query
+use Rattle.iv_laws_fitting.specs.Types.{Kind, Statement, Table, Cause, DataStatement, QueryPlan}
+use Rattle.iv_laws_fitting.specs.Types.range
+use Rattle.iv_laws_fitting.specs.Types.cause.{Unknown, Duplicate, SchemaFault, WrongShape, Limit}
+use Rattle.iv_laws_fitting.specs.Types.plan
+use Rattle.iv_laws_fitting.specs.Types.query
 use Rattle.iv_expr.specs.Suiting.{Shape, shape_within, range_kinds, suits}
 use Rattle.iv_syntax.specs.declared.tree.Condition.{Condition}
 use Rattle.iv_syntax.specs.declared.tree.RangeName.{RangeName}
@@ -30,9 +30,9 @@ use Rattle.iv_resolution.specs.Writable.{is_writable, is_select, is_list, is_ran
 use Rattle.iv_resolution.specs.Items.{table_item}
 use Rattle.iv_resolution.specs.NameFaults.{unknown_in_expression, unknown_in_filter, unknown_in_from, unknown_in_query, unknown_in_select, unknown_in_select_list, unknown_name, duplicate_name}
 use Rattle.iv_resolution.proofs.Told.{none_of, none_parts, none_told, untold}
-use Rattle.iv_laws_naming.specs.Naming.{NamesSource, transition, created, stored}
-use Rattle.iv_laws_naming.proofs.Firsts.{first_there, first_position}
-use Rattle.iv_laws_naming.proofs.NamesFound.{sources}
+use Rattle.iv_laws_fitting.specs.Naming.{NamesSource, transition, created, stored}
+use Rattle.iv_laws_fitting.proofs.Firsts.{first_there, first_position}
+use Rattle.iv_laws_fitting.proofs.NamesFound.{sources}
 use Rattle.iv_laws_fitting.specs.Laws.{ChangesFit, QueriesFit}
 use Rattle.iv_laws_fitting.specs.PlanShapes.{kinds_of, table_kinds, plain_shape, is_there, is_range_there, table_suits, data_suits, has_sort, listed_suit, query_suits}
 use Rattle.iv_laws_fitting.proofs.ColumnKinds.{ColumnsMatch, Matches, stored_match, greatest}

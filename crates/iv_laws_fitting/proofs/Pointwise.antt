@@ -3,7 +3,7 @@ use Rattle.std.proofs.Common.{◌≡◌, ℕ, zero, suc, ◌+◌, Bool, true, fa
 use Rattle.std.proofs.lemmas.Bool.{and_from, and_parts, or_parts}
 use Rattle.std.proofs.lemmas.Option.{same_Some}
 use Rattle.std.specs.List.{list_any, list_all, enumerate_from}
-use Rattle.iv_laws_fitting.specs.Words.{Kind, Expr}
+use Rattle.iv_laws_fitting.specs.Types.{Kind, Expr}
 use Rattle.iv_expr.specs.Suiting.{Shape}
 use Rattle.iv_laws_fitting.specs.PlanShapes.{value_suits, values_suit, kind_suits, kinds_suit}
 
@@ -60,7 +60,7 @@ mapped_length f (x ∷ xs) = ap suc (mapped_length f xs)
 pub same_tail : (m n : ℕ) → suc m ≡ suc n → m ≡ n
 same_tail m n h = omega arith
 
--- expressions suit columns where each suits its own
+-- expressions suit columns if each suits its own
 pub values_by : (shape : Shape) (kinds : List (Option Kind)) (es : List Expr) → length es ≡ length kinds
     → ((j : ℕ) (o : Option Kind) (e : Expr) → slice_get kinds j ≡ Some o → slice_get es j ≡ Some e → value_suits shape o e ≡ true)
     → values_suit shape kinds es ≡ true

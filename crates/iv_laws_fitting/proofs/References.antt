@@ -6,15 +6,15 @@ use Rattle.std.proofs.lemmas.Option.{same_Some}
 use Rattle.std.specs.List.{list_all, cons_option}
 use Rattle.std.specs.Str.{bytes_eq}
 use Rattle.std.proofs.lemmas.Bool.Decides.{nat_tests}
-use Rattle.iv_laws_fitting.specs.Words.{Kind, Column, Table, Constraint, Rule}
-use Rattle.iv_laws_fitting.specs.Words.rule
+use Rattle.iv_laws_fitting.specs.Types.{Kind, Column, Table, Constraint, Rule}
+use Rattle.iv_laws_fitting.specs.Types.rule
 use Rattle.iv_syntax.specs.declared.table.ColumnType.{ColumnType}
 use Rattle.iv_catalogue.specs.Catalogues.{Schema}
 use Rattle.iv_catalogue.specs.Names.{is_among, has_repeated}
 use Rattle.iv_resolution.specs.Scopes.{NamedColumn, named_columns, type_named}
 use Rattle.iv_resolution.specs.Constraints.{Key, name_at, key_of_rule, stored_keys, constraints_of}
-use Rattle.iv_laws_naming.specs.Naming.{IsFirst, column_is_called}
-use Rattle.iv_laws_naming.proofs.Firsts.{at_front, later, first_found}
+use Rattle.iv_laws_fitting.specs.Naming.{IsFirst, column_is_called}
+use Rattle.iv_laws_fitting.proofs.Firsts.{at_front, later, first_found}
 use Rattle.iv_laws_fitting.specs.PlanShapes.{kinds_of, table_kinds, is_there, table_suits}
 use Rattle.iv_laws_fitting.specs.ConstraintShapes.{is_place, rule_suits, constraint_suits}
 use Rattle.iv_laws_fitting.proofs.ColumnKinds.{stored_match}

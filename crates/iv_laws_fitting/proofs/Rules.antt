@@ -4,7 +4,7 @@ use Rattle.std.proofs.lemmas.Bool.{and_from, or_parts}
 use Rattle.std.proofs.lemmas.Option.{same_Some}
 use Rattle.std.specs.List.{list_any, list_all}
 use Rattle.std.specs.Str.{bytes_eq}
-use Rattle.iv_laws_fitting.specs.Words.{Kind, Table}
+use Rattle.iv_laws_fitting.specs.Types.{Kind, Table}
 use Rattle.iv_syntax.specs.declared.table.References.{References}
 use Rattle.iv_catalogue.specs.Catalogues.{Schema}
 use Rattle.iv_resolution.specs.Scopes.{Names, named_columns, has_column}
@@ -14,8 +14,8 @@ use Rattle.iv_resolution.specs.Tables.{check_ranges, faulty_rule, misshaped_rule
 use Rattle.iv_resolution.specs.Bound.{key_places, bound_reference, bound_rule}
 use Rattle.iv_resolution.specs.NameFaults.{unknown_in_columns, unknown_in_reference, unknown_in_rule}
 use Rattle.iv_resolution.proofs.Told.{none_parts, untold}
-use Rattle.iv_laws_naming.specs.Naming.{table_is_called}
-use Rattle.iv_laws_naming.proofs.Firsts.{Search, nothing, something, search, first_position, first_found, first_there, none_position, none_found}
+use Rattle.iv_laws_fitting.specs.Naming.{table_is_called}
+use Rattle.iv_laws_fitting.proofs.Firsts.{Search, nothing, something, search, first_position, first_found, first_there, none_position, none_found}
 use Rattle.iv_laws_fitting.specs.PlanShapes.{kinds_of, table_kinds, is_there, table_suits}
 use Rattle.iv_laws_fitting.specs.ConstraintShapes.{check_shape, pair_suits, pairs_suit, rule_suits, constraint_suits}
 use Rattle.iv_laws_fitting.proofs.ColumnKinds.{ColumnsMatch, stored_match}
@@ -45,7 +45,7 @@ the_reference schema place t = record { table = place; columns = named_columns t
 kinds_at : (tables : List Table) (place : ℕ) (t : Table) → slice_get tables place ≡ Some t → table_kinds tables place ≡ kinds_of t
 kinds_at tables place t h = ap (λ (o : Option Table). elim o as (λ x. List Kind) [ Some x ↦ kinds_of x | None ↦ [] ]) h
 
--- a table of the catalogue, where it has the same place among more tables
+-- a table of the catalogue, if it has the same place among more tables
 pub stored_fits : (schema : Schema) → list_all table_suits schema.tables ≡ true → list_all (constraint_suits schema.tables) schema.constraints ≡ true
     → (tables : List Table) → ((place : ℕ) (t : Table) → slice_get schema.tables place ≡ Some t → slice_get tables place ≡ Some t)
     → (name : List ℕ) (t : Referenced) → stored_reference schema name ≡ Some t → ReferenceFits tables t

@@ -5,14 +5,14 @@ use Rattle.std.proofs.lemmas.Option.{same_Some}
 use Rattle.std.specs.List.{list_all}
 use Rattle.iv_value.specs.declared.value.Value.{Value}
 use Rattle.iv_value.specs.declared.value.Value.TheVariants.{Null, Int, Text}
-use Rattle.iv_laws_fitting.specs.Words.{Kind, Expr, Range, Column, Table, Cause, InsertColumns, DataStatement, InsertRows, Outputs, Setting, Database}
-use Rattle.iv_laws_fitting.specs.Words.kind
-use Rattle.iv_laws_fitting.specs.Words.cause.{WrongShape, TextTooLong}
-use Rattle.iv_laws_fitting.specs.Words.range
-use Rattle.iv_laws_fitting.specs.Words.insert_columns as columns
-use Rattle.iv_laws_fitting.specs.Words.data_statement.{Insert, Update, Delete}
-use Rattle.iv_laws_fitting.specs.Words.insert_rows as rows
-use Rattle.iv_laws_fitting.specs.Words.outputs
+use Rattle.iv_laws_fitting.specs.Types.{Kind, Expr, Range, Column, Table, Cause, InsertColumns, DataStatement, InsertRows, Outputs, Setting, Database}
+use Rattle.iv_laws_fitting.specs.Types.kind
+use Rattle.iv_laws_fitting.specs.Types.cause.{WrongShape, TextTooLong}
+use Rattle.iv_laws_fitting.specs.Types.range
+use Rattle.iv_laws_fitting.specs.Types.insert_columns as columns
+use Rattle.iv_laws_fitting.specs.Types.data_statement.{Insert, Update, Delete}
+use Rattle.iv_laws_fitting.specs.Types.insert_rows as rows
+use Rattle.iv_laws_fitting.specs.Types.outputs
 use Rattle.iv_value.specs.declared.value.Truth.{Truth}
 use Rattle.iv_value.specs.Truths.{is_true}
 use Rattle.iv_value.specs.declared.value.Fit.TheVariants.{Yes, WrongKind, TooLong}

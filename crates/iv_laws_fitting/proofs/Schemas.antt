@@ -5,9 +5,9 @@ use Rattle.std.proofs.lemmas.Option.{same_Some}
 use Rattle.std.specs.List.{list_any, list_all, enumerate_from}
 use Rattle.std.specs.Option.{option_or}
 use Rattle.std.proofs.lemmas.Bool.Decides.{nat_tests}
-use Rattle.iv_laws_fitting.specs.Words.{Kind, Statement, Column, Table, Constraint}
-use Rattle.iv_laws_fitting.specs.Words.plan
-use Rattle.iv_laws_fitting.specs.Words.schema.{CreateTable, AddConstraint}
+use Rattle.iv_laws_fitting.specs.Types.{Kind, Statement, Column, Table, Constraint}
+use Rattle.iv_laws_fitting.specs.Types.plan
+use Rattle.iv_laws_fitting.specs.Types.schema.{CreateTable, AddConstraint}
 use Rattle.iv_syntax.specs.declared.table.ColumnType.{ColumnType}
 use Rattle.iv_syntax.specs.declared.table.ColumnType.TheVariants as type
 use Rattle.iv_syntax.specs.declared.table.ColumnDefinition.{ColumnDefinition}
@@ -28,8 +28,8 @@ use Rattle.iv_resolution.specs.Changes.{is_table}
 use Rattle.iv_resolution.specs.Items.{column_item, table_item, in_use_fault, twice_fault, told_if, first_of, first_again}
 use Rattle.iv_resolution.specs.NameFaults.{unknown_in_target, unknown_in_rule, told_of_altered, column_twice, duplicate_in_rule, duplicate_in_constraints, before_column_again, addition_in_use}
 use Rattle.iv_resolution.proofs.Told.{none_parts, none_mapped, none_told, untold}
-use Rattle.iv_laws_naming.specs.Naming.{table_is_called}
-use Rattle.iv_laws_naming.proofs.Firsts.{Search, nothing, something, search, first_position, first_there, none_position}
+use Rattle.iv_laws_fitting.specs.Naming.{table_is_called}
+use Rattle.iv_laws_fitting.proofs.Firsts.{Search, nothing, something, search, first_position, first_there, none_position}
 use Rattle.iv_laws_fitting.specs.ConstraintShapes.{has_named_key, rule_suits, constraint_suits, TableFits, ConstraintFits}
 use Rattle.iv_laws_fitting.specs.Laws.{TablesFit, AdditionsFit}
 use Rattle.iv_laws_fitting.specs.PlanShapes.{kinds_of, table_kinds, table_suits}

@@ -3,7 +3,7 @@ use Rattle.std.proofs.Common.{◌≡◌, ℕ, ◌≤◌, Bool, true, false, not,
 use Rattle.std.proofs.lemmas.Bool.{and_from, and_parts, or_parts}
 use Rattle.std.specs.Option.{option_or}
 use Rattle.std.specs.List.{list_any, list_all}
-use Rattle.iv_laws_fitting.specs.Words.{Kind, Column}
+use Rattle.iv_laws_fitting.specs.Types.{Kind, Column}
 use Rattle.iv_expr.specs.Suiting.{Shape, shape_within, suits}
 use Rattle.iv_syntax.specs.declared.table.ColumnType.{ColumnType}
 use Rattle.iv_syntax.specs.declared.statement.Insert.{Insert}

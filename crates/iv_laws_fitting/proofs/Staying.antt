@@ -2,8 +2,8 @@
 use Rattle.std.proofs.Common.{◌≡◌, Bool, true, false, not, ◌==◌, List, [], ◌∷◌, ◌++◌, refl, cond, filter}
 use Rattle.std.proofs.lemmas.Bool.{and_from, and_parts}
 use Rattle.std.specs.List.{list_all}
-use Rattle.iv_laws_fitting.specs.Words.{Trigger}
-use Rattle.iv_laws_fitting.specs.Words.schema.{CreateTable, AddConstraint, CreateTrigger, DropTrigger}
+use Rattle.iv_laws_fitting.specs.Types.{Trigger}
+use Rattle.iv_laws_fitting.specs.Types.schema.{CreateTable, AddConstraint, CreateTrigger, DropTrigger}
 use Rattle.iv_laws_fitting.specs.ConstraintShapes.{constraint_suits}
 use Rattle.iv_laws_fitting.specs.Laws.{SchemasStaySuited, EmptySchemaSuits}
 use Rattle.iv_laws_fitting.specs.PlanShapes.{table_suits, trigger_suits}

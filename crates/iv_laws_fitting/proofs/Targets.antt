@@ -5,8 +5,8 @@ use Rattle.std.specs.List.{list_all}
 use Rattle.std.proofs.lemmas.Bool.Decides.{nat_tests}
 use Rattle.iv_value.specs.declared.value.Value.{Value}
 use Rattle.iv_value.specs.declared.value.Value.TheVariants as value
-use Rattle.iv_laws_fitting.specs.Words.{Kind, Column, Table}
-use Rattle.iv_laws_fitting.specs.Words.kind
+use Rattle.iv_laws_fitting.specs.Types.{Kind, Column, Table}
+use Rattle.iv_laws_fitting.specs.Types.kind
 use Rattle.iv_value.specs.Values.{fit_of}
 use Rattle.iv_expr.specs.Suiting.{Sort, nulls, numbers, texts, Shape, sort_of_value}
 use Rattle.iv_syntax.specs.declared.table.ColumnType.{ColumnType}
@@ -23,8 +23,8 @@ use Rattle.iv_resolution.specs.Bound.{table_id, default_at, bound_value, target_
 use Rattle.iv_resolution.specs.NameFaults.{unknown_in_listed, unknown_in_value}
 use Rattle.iv_resolution.proofs.Told.{known_column}
 use Rattle.iv_store.specs.Stores.{is_fit}
-use Rattle.iv_laws_naming.specs.Naming.{column_is_called, table_is_called}
-use Rattle.iv_laws_naming.proofs.Firsts.{Search, nothing, something, search, first_position, first_found, first_there, none_position}
+use Rattle.iv_laws_fitting.specs.Naming.{column_is_called, table_is_called}
+use Rattle.iv_laws_fitting.proofs.Firsts.{Search, nothing, something, search, first_position, first_found, first_there, none_position}
 use Rattle.iv_laws_fitting.specs.PlanShapes.{kinds_of, table_kinds, is_there, sort_suits, value_suits, default_suits, table_suits, target_kinds}
 use Rattle.iv_laws_fitting.proofs.ColumnKinds.{greatest, Matches}
 use Rattle.iv_laws_fitting.proofs.Expressions.{Agrees, Sorted, sorted}

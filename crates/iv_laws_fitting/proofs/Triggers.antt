@@ -4,11 +4,11 @@ use Rattle.std.proofs.lemmas.Bool.{and_from, and_parts, not-false, or_parts}
 use Rattle.std.specs.Option.{option_or}
 use Rattle.std.specs.List.{list_any, list_all}
 use Rattle.std.proofs.lemmas.Bool.Decides.{nat_tests}
-use Rattle.iv_laws_fitting.specs.Words.{Kind, Statement, Granularity, TriggerEvent, Column, Table, Trigger}
-use Rattle.iv_laws_fitting.specs.Words.granularity
-use Rattle.iv_laws_fitting.specs.Words.event
-use Rattle.iv_laws_fitting.specs.Words.plan
-use Rattle.iv_laws_fitting.specs.Words.schema.{CreateTrigger}
+use Rattle.iv_laws_fitting.specs.Types.{Kind, Statement, Granularity, TriggerEvent, Column, Table, Trigger}
+use Rattle.iv_laws_fitting.specs.Types.granularity
+use Rattle.iv_laws_fitting.specs.Types.event
+use Rattle.iv_laws_fitting.specs.Types.plan
+use Rattle.iv_laws_fitting.specs.Types.schema.{CreateTrigger}
 use Rattle.iv_expr.specs.declared.tree.Side.{Side}
 use Rattle.iv_expr.specs.declared.tree.Side.TheVariants as side
 use Rattle.iv_expr.specs.Suiting.{Shape, range_kinds, suits}
@@ -33,9 +33,9 @@ use Rattle.iv_resolution.specs.Writable.{is_name, is_filter, is_action, are_even
 use Rattle.iv_resolution.specs.Items.{Item, column_item, table_item, variable_item, told_if, first_of}
 use Rattle.iv_resolution.specs.NameFaults.{unknown_in_target, unknown_in_action, unknown_in_columns, unknown_in_expression, unknown_in_filter, unknown_in_set}
 use Rattle.iv_resolution.proofs.Told.{none_parts, none_told, untold}
-use Rattle.iv_laws_naming.specs.Naming.{NamesSource, transition, created, stored}
-use Rattle.iv_laws_naming.proofs.Firsts.{first_there}
-use Rattle.iv_laws_naming.proofs.NamesFound.{sources}
+use Rattle.iv_laws_fitting.specs.Naming.{NamesSource, transition, created, stored}
+use Rattle.iv_laws_fitting.proofs.Firsts.{first_there}
+use Rattle.iv_laws_fitting.proofs.NamesFound.{sources}
 use Rattle.iv_laws_fitting.specs.Laws.{TriggersFit}
 use Rattle.iv_laws_fitting.specs.PlanShapes.{kinds_of, table_kinds, is_there, is_range_there, value_suits, table_suits, old_kinds, new_kinds, trigger_shape, action_suits, trigger_suits}
 use Rattle.iv_laws_fitting.proofs.ColumnKinds.{ColumnsMatch, VariablesMatch, side_kinds, stored_match, greatest}

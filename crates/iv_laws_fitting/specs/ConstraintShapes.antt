@@ -2,9 +2,9 @@
 -- one type ("Table constraint definition", "Referential constraint definition").
 use Rattle.std.specs.Prelude.{◌≡◌, ℕ, ◌<◌, ◌≤◌, ◌==◌, Bool, true, false, ◌&&◌, List, [], ◌∷◌, ◌++◌, length, map, zip, Option, Some, None, slice_get, nat_lt}
 use Rattle.std.specs.List.{list_all}
-use Rattle.iv_laws_fitting.specs.Words.{Kind, Table, Constraint, ForeignKey, Rule}
-use Rattle.iv_laws_fitting.specs.Words.kind.{Integer, Varchar}
-use Rattle.iv_laws_fitting.specs.Words.rule
+use Rattle.iv_laws_fitting.specs.Types.{Kind, Table, Constraint, ForeignKey, Rule}
+use Rattle.iv_laws_fitting.specs.Types.kind.{Integer, Varchar}
+use Rattle.iv_laws_fitting.specs.Types.rule
 use Rattle.iv_expr.specs.Suiting.{Shape, suits}
 use Rattle.iv_catalogue.specs.Catalogues.{Schema, AllOn, has_constraint, has_table, constraint_places}
 use Rattle.iv_catalogue.specs.Names.{has_repeated}

@@ -1,9 +1,9 @@
 -- The plans of statements that deserve no cause fit the tables of the schema.
 use Rattle.std.specs.Prelude.{◌≡◌, List, true, Ok}
 use Rattle.std.specs.List.{list_all}
-use Rattle.iv_laws_fitting.specs.Words.{Statement, Table, Constraint, DataStatement, QueryPlan, SchemaPlan, Trigger}
-use Rattle.iv_laws_fitting.specs.Words.plan
-use Rattle.iv_laws_fitting.specs.Words.schema.{CreateTable, AddConstraint, CreateTrigger}
+use Rattle.iv_laws_fitting.specs.Types.{Statement, Table, Constraint, DataStatement, QueryPlan, SchemaPlan, Trigger}
+use Rattle.iv_laws_fitting.specs.Types.plan
+use Rattle.iv_laws_fitting.specs.Types.schema.{CreateTable, AddConstraint, CreateTrigger}
 use Rattle.iv_catalogue.specs.Catalogues.{Schema, after, empty_schema}
 use Rattle.iv_resolution.specs.Resolution.{resolution}
 use Rattle.iv_laws_fitting.specs.ConstraintShapes.{constraint_suits, TableFits, ConstraintFits, SchemaSuits}
@@ -41,8 +41,8 @@ AdditionsFit =
     → list_all table_suits schema.tables ≡ true → list_all (constraint_suits schema.tables) schema.constraints ≡ true
     → resolution schema s ≡ Ok (plan.Schema (AddConstraint k)) → ConstraintFits schema k
 
--- All that a schema has suits its tables, and so it stays after each schema statement that deserves no cause. So it is in every schema
--- that statements lead to from the empty one.
+-- All that a schema has suits its tables. This stays after each schema statement that deserves no cause, and holds in every schema that
+-- statements lead to from the empty one.
 abbrev pub SchemasStaySuited : Type 0
 SchemasStaySuited =
     (schema : Schema) (s : Statement) (p : SchemaPlan)

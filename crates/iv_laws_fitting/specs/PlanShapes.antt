@@ -1,18 +1,18 @@
 -- When a plan fits the tables that it is of: each place is one of a column that is there, and each value is of its column's kind. It is
--- said by the kinds of columns alone, before any row is there ("Store assignment", "Value expression", "Search condition").
+-- said only by the kinds of columns, before any row is there ("Store assignment", "Value expression", "Search condition").
 use Rattle.std.specs.Prelude.{ℕ, Bool, true, false, not, ◌&&◌, List, [], ◌∷◌, length, map, Option, Some, None, is_some, slice_get, nat_le, nat_lt}
 use Rattle.std.specs.List.{list_all}
-use Rattle.iv_laws_fitting.specs.Words.{Kind, Expr, Range, Granularity, TriggerEvent, Column, Table, BodyStatement, DataStatement, InsertColumns, InsertRows, Outputs, QueryPlan, Setting, Trigger}
-use Rattle.iv_laws_fitting.specs.Words.kind.{Integer, Varchar}
-use Rattle.iv_laws_fitting.specs.Words.range
-use Rattle.iv_laws_fitting.specs.Words.granularity
-use Rattle.iv_laws_fitting.specs.Words.event
-use Rattle.iv_laws_fitting.specs.Words.body
-use Rattle.iv_laws_fitting.specs.Words.data_statement.{Insert, Update, Delete}
-use Rattle.iv_laws_fitting.specs.Words.insert_columns as columns
-use Rattle.iv_laws_fitting.specs.Words.insert_rows as rows
-use Rattle.iv_laws_fitting.specs.Words.outputs
-use Rattle.iv_laws_fitting.specs.Words.query
+use Rattle.iv_laws_fitting.specs.Types.{Kind, Expr, Range, Granularity, TriggerEvent, Column, Table, BodyStatement, DataStatement, InsertColumns, InsertRows, Outputs, QueryPlan, Setting, Trigger}
+use Rattle.iv_laws_fitting.specs.Types.kind.{Integer, Varchar}
+use Rattle.iv_laws_fitting.specs.Types.range
+use Rattle.iv_laws_fitting.specs.Types.granularity
+use Rattle.iv_laws_fitting.specs.Types.event
+use Rattle.iv_laws_fitting.specs.Types.body
+use Rattle.iv_laws_fitting.specs.Types.data_statement.{Insert, Update, Delete}
+use Rattle.iv_laws_fitting.specs.Types.insert_columns as columns
+use Rattle.iv_laws_fitting.specs.Types.insert_rows as rows
+use Rattle.iv_laws_fitting.specs.Types.outputs
+use Rattle.iv_laws_fitting.specs.Types.query
 use Rattle.iv_value.specs.Values.{fit_of}
 use Rattle.iv_expr.specs.Suiting.{Sort, nulls, numbers, texts, Shape, shape_within, range_kinds, sort_of, suits}
 use Rattle.iv_catalogue.specs.declared.limits.TheConstants.{MOST_COLUMNS}
@@ -24,7 +24,7 @@ use Rattle.iv_store.specs.Stores.{is_fit}
 abbrev pub kinds_of : Table → List Kind
 kinds_of t = map (λ c. c.kind) t.columns
 
--- the kinds of the columns of the table at this place; none where there is no table
+-- the kinds of the columns of the table at this place; none if there is no table
 abbrev pub table_kinds : List Table → ℕ → List Kind
 table_kinds tables place = elim (slice_get tables place) [ Some t ↦ kinds_of t | None ↦ [] ]
 

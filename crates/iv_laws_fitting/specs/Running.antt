@@ -3,8 +3,8 @@
 use Rattle.std.specs.Prelude.{◌≡◌, ℕ, Bool, true, false, Err}
 use Rattle.iv_expr.specs.Scopes.{Frame, scope_of}
 use Rattle.iv_expr.specs.Suiting.{Shape, HasShape}
-use Rattle.iv_laws_fitting.specs.Words.{Cause, DataStatement, Database}
-use Rattle.iv_laws_fitting.specs.Words.cause.{NumberOutOfRange, TextTooLong}
+use Rattle.iv_laws_fitting.specs.Types.{Cause, DataStatement, Database}
+use Rattle.iv_laws_fitting.specs.Types.cause.{NumberOutOfRange, TextTooLong}
 use Rattle.iv_machine.specs.Context.{Context}
 use Rattle.iv_machine.specs.Proposals.{proposed_changes}
 use Rattle.iv_laws_fitting.specs.PlanShapes.{table_kinds, data_suits}
@@ -15,7 +15,7 @@ is_of_values NumberOutOfRange = true
 is_of_values TextTooLong = true
 is_of_values _ = false
 
--- A statement that suits the tables, where all that it sees is of the kinds of the shape, is refused for its values alone.
+-- A statement that suits the tables, if all that it sees is of the kinds of the shape, is refused only for its values.
 abbrev pub ProposalsAreWellTyped : Type 0
 ProposalsAreWellTyped =
     (context : Context) (db : Database) (frame : Frame) (shape : Shape) (d : DataStatement) (cause : Cause)

@@ -19,8 +19,8 @@ pub fn schemas_suit()
     ensures after { SchemasStaySuited }
 {}
 
-/// A data statement that suits the tables, over rows that do, is refused for its values alone while its rows
-/// are found and its values are made: a number out of range, or a text that is too long.
+/// A data statement that suits the tables, over rows that do, is refused only for its values while its rows are found
+/// and its values are made: a number out of range, or a text that is too long.
 pub fn proposals_are_well_typed()
     ensures { ProposalsAreWellTyped }
 {}

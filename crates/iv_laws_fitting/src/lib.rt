@@ -2,5 +2,7 @@
 #![tactic(auto)]
 
 mod laws;
+mod naming;
 
 pub use laws::{plans_fit, proposals_are_well_typed, schemas_suit};
+pub use naming::names_are_found;

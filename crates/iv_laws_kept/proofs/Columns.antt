@@ -3,7 +3,7 @@ use Rattle.std.proofs.Common.{◌≡◌, refl, ℕ, Bool, true, false, ◌&&◌,
 use Rattle.std.specs.Bool.{◌==◌}
 use Rattle.std.specs.List.{list_any}
 use Rattle.std.proofs.lemmas.Bool.{eqb-true, eq-eqb}
-use Rattle.iv_laws_kept.specs.Words.{Value}
+use Rattle.iv_laws_kept.specs.Types.{Value}
 use Rattle.iv_value.specs.Values.{is_null}
 use Rattle.iv_store.specs.Stores.{all_among}
 use Rattle.iv_key.specs.Keys.{none_null}

@@ -1,7 +1,7 @@
 -- Groups by their keys.
 use Rattle.std.proofs.Common.{◌≡◌, refl, ℕ, Bool, true, false, ◌&&◌, ◌||◌, if◌then◌else◌, List, [], ◌∷◌, filter, flat_map, find, Option, Some, None, sym, ap, ◌∙◌}
 use Rattle.std.specs.List.{list_any}
-use Rattle.iv_laws_kept.specs.Words.{Value}
+use Rattle.iv_laws_kept.specs.Types.{Value}
 use Rattle.iv_value.specs.Values.{all_same}
 use Rattle.iv_laws_kept.specs.Numbers.{has}
 use Rattle.iv_laws_kept.specs.Kept.{Group, rows_in, OneEach}
@@ -29,7 +29,7 @@ true_or_any p q (g ∷ groups) h e =
     right true e = refl
     right false e = e
 
--- A test of the groups of one key, where no two groups have one key: what the group of the key answers.
+-- A test of the groups of one key, if no two groups have one key: what the group of the key answers.
 any_of_key : (v : List ℕ → Bool) (key : List Value) (groups : List Group) → OneEach groups
     → list_any (λ g. all_same g.key key && v g.rows) groups ≡ elim (find (λ g. all_same g.key key) groups) [ Some g ↦ v g.rows | None ↦ false ]
 any_of_key v key [] one = refl
@@ -51,7 +51,7 @@ any_of_key v key (g ∷ groups) one =
         (λ o i. ap (all_same o.key) (sym same) ∙ and_first (all_same o.key key) (v o.rows) i) h)
         (λ h. absurd (false_true h))
 
--- so a test that answers no of no rows is asked of the rows under the key
+-- a test that answers no of no rows is asked of the rows under the key
 pub any_under : (v : List ℕ → Bool) (key : List Value) (groups : List Group) → OneEach groups → v [] ≡ false
     → list_any (λ g. all_same g.key key && v g.rows) groups ≡ v (rows_in groups key)
 any_under v key groups one none = any_of_key v key groups one ∙ chosen (find (λ g. all_same g.key key) groups)

@@ -4,7 +4,7 @@ use mathlib.Core.Bool.{and-true, and-false}
 use Rattle.std.specs.Bool.{◌==◌}
 use Rattle.std.specs.List.{list_any}
 use Rattle.std.proofs.lemmas.Bool.{or_parts}
-use Rattle.iv_laws_kept.specs.Words.{Value, StoredRow, Constraint}
+use Rattle.iv_laws_kept.specs.Types.{Value, StoredRow, Constraint}
 use Rattle.iv_value.specs.Values.{all_same}
 use Rattle.iv_machine.specs.Databases.{row_at}
 use Rattle.iv_laws_levels.specs.RisingRows.{InOrder}

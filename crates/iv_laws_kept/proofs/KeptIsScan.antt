@@ -1,7 +1,7 @@
 -- Kept violations are those that a scan finds.
 use Rattle.std.proofs.Common.{◌≡◌, refl, ℕ, suc, ◌+◌, Bool, if◌then◌else◌, List, [], ◌∷◌, ◌++◌, map, filter, flat_map, slice_get, Some, sym, ap, subst, ◌∙◌, arith}
 use Rattle.std.specs.List.{enumerate_from}
-use Rattle.iv_laws_kept.specs.Words.{StoredRow, Constraint}
+use Rattle.iv_laws_kept.specs.Types.{StoredRow, Constraint}
 use Rattle.iv_machine.specs.Databases.{fault_at, violates, chosen_violations, scan}
 use Rattle.iv_store.specs.Stores.{numbers_of}
 use Rattle.iv_laws_levels.specs.RisingRows.{InOrder}

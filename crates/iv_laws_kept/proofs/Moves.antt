@@ -3,7 +3,7 @@ use Rattle.std.proofs.Common.{◌≡◌, refl, ℕ, Bool, true, false, ◌&&◌,
 use mathlib.Core.Bool.{or-false}
 use Rattle.std.specs.Bool.{◌==◌}
 use Rattle.std.proofs.lemmas.Bool.{eqb-true, eq-eqb}
-use Rattle.iv_laws_kept.specs.Words.{Value, StoredRow, Change, Constraint}
+use Rattle.iv_laws_kept.specs.Types.{Value, StoredRow, Change, Constraint}
 use Rattle.iv_machine.specs.Databases.{row_at, rows_after, scan}
 use Rattle.iv_store.specs.Stores.{numbers_of}
 use Rattle.iv_laws_kept.specs.Numbers.{has, Rise}
@@ -40,7 +40,7 @@ has_left : (was : Bool) (k n : ℕ) (numbers : List ℕ) → has k (left was n n
 has_left true k n numbers = has_without k n numbers
 has_left false k n numbers = refl
 
--- the changed row is among the numbers where it is now, if it was among them where it was before
+-- the changed row is among the numbers of its place now, if it was among those of its place before
 has_moved_row : (was is : Bool) (k n : ℕ) (numbers : List ℕ) → (n == k) ≡ true → has k numbers ≡ was → has k (moved was is n numbers) ≡ is
 has_moved_row was true k n numbers e h = has_with k n (left was n numbers) ∙ ap (λ b. b || has k (left was n numbers)) e
 has_moved_row was false k n numbers e h = has_left was k n numbers ∙ (λ i. not (was && e i) && h i) ∙ never was

@@ -2,8 +2,8 @@
 use Rattle.std.proofs.Common.{◌≡◌, refl, ℕ, zero, suc, ◌+◌, Bool, true, false, ◌||◌, if◌then◌else◌, List, [], ◌∷◌, filter_map, slice_get, Option, Some, None, sym, ap, ◌∙◌, arith}
 use Rattle.std.specs.Bool.{◌==◌}
 use Rattle.std.specs.List.{list_any, list_all, cons_option, enumerate_from}
-use Rattle.iv_laws_kept.specs.Words.{Constraint, ForeignKey}
-use Rattle.iv_laws_kept.specs.Words.rule
+use Rattle.iv_laws_kept.specs.Types.{Constraint, ForeignKey}
+use Rattle.iv_laws_kept.specs.Types.rule
 use Rattle.iv_machine.specs.Databases.{first}
 use Rattle.iv_store.specs.Stores.{unique_columns, are_same_columns, is_named_key, has_key}
 use Rattle.iv_machine.specs.ReferentialActions.{foreign_key}
@@ -20,7 +20,7 @@ pub record Named (constraints : List Constraint) (fk : ForeignKey) : Type 0 wher
   pub columns : unique_columns constraint.rule ≡ Some key.columns
   pub named : is_named_key fk constraint ≡ true
 
--- so from a place on
+-- the key that a foreign key names, from a place on
 record NamedFrom (start : ℕ) (constraints : List Constraint) (fk : ForeignKey) : Type 0 where
   key : KeyConstraint
   constraint : Constraint

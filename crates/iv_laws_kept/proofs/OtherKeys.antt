@@ -2,13 +2,13 @@
 use Rattle.std.proofs.Common.{◌≡◌, refl, ℕ, Bool, true, false, ◌&&◌, ◌||◌, not, List, length, slice_get, Option, Some, None, sym, ap, ◌∙◌}
 use Rattle.std.specs.Bool.{◌==◌, nat_lt}
 use Rattle.std.proofs.lemmas.Bool.{true≢false, or_parts}
-use Rattle.iv_laws_kept.specs.Words.{Value, StoredRow, Change, Constraint, Rule, ForeignKey}
-use Rattle.iv_laws_kept.specs.Words.rule
+use Rattle.iv_laws_kept.specs.Types.{Value, StoredRow, Change, Constraint, Rule, ForeignKey}
+use Rattle.iv_laws_kept.specs.Types.rule
 use Rattle.iv_key.specs.Keys.{none_null}
 use Rattle.iv_store.specs.Stores.{unique_columns}
 use Rattle.iv_laws_kept.specs.Kept.{Groups, rows_under, AllNamed, is_kept_under, in_order_of, can_be_key, is_empty, is_free, is_referenced, violates_alone, break_rule, violate}
 use Rattle.iv_laws_kept.specs.Moves.{side_under, moved, rows_moved, Follow}
-use Rattle.iv_laws_kept.specs.Marks.{referenced_side, is_referenced_by, concerns_key}
+use Rattle.iv_laws_kept.specs.GroupFlags.{referenced_side, is_referenced_by, concerns_key}
 use Rattle.iv_laws_levels.proofs.Keys.{and_first, and_second}
 use Rattle.iv_laws_kept.proofs.Naming.{Named, named_of}
 use Rattle.iv_laws_kept.proofs.RowByRow.{same_key, names_columns}
@@ -18,7 +18,7 @@ same_rows_under : (c : Constraint) (key : List Value) (change : Change) (numbers
     → side_under c key change change.old ≡ false → side_under c key change change.new ≡ false → rows_moved c key change numbers ≡ numbers
 same_rows_under c key change numbers old new = λ i. moved (old i) (new i) change.row numbers
 
--- where a side isn't what the key refers to, the named key keeps it under another key
+-- if a side isn't what the key refers to, the named key keeps it under another key
 not_kept_there : (fk : ForeignKey) (constraints : List Constraint) (named : Named constraints fk) (key : List Value) (change : Change) (side : Option (List Value))
     → none_null key ≡ true → can_be_key fk.key key ≡ true → referenced_side fk key change side ≡ false
     → side_under named.constraint (in_order_of named.key.columns fk.key key) change side ≡ false
@@ -57,7 +57,7 @@ still_referenced constraints change groups after fk key named follow given old n
         (not_kept_there fk constraints named key change change.old given e old) (not_kept_there fk constraints named key change change.new given e new))
     by_can false e = (λ i. e i && not (is_empty (rows_under after named.key.id other))) ∙ (λ i. sym e i && not (is_empty (rows_under groups named.key.id other)))
 
--- a key under which no row of a foreign key violates it alone
+-- a key under which no row of a foreign key violates it by itself
 without_null : (b : Bool) → not b ≡ false → b ≡ true
 without_null true e = refl
 without_null false e = absurd (true≢false e)

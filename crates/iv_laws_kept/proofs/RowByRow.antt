@@ -1,13 +1,13 @@
--- A row violates a constraint where the rows that are kept with it do.
+-- A row violates a constraint if the rows that are kept with it do.
 use Rattle.std.proofs.Common.{◌≡◌, refl, ℕ, ◌<◌, Bool, true, false, ◌&&◌, ◌||◌, not, if◌then◌else◌, List, [], ◌∷◌, length, filter, slice_get, Option, Some, None, sym, ap, subst, ◌∙◌, arith}
 use mathlib.Core.Bool.{and-false}
 use Rattle.std.specs.Bool.{◌==◌, nat_lt}
 use Rattle.std.specs.List.{list_any}
 use Rattle.std.proofs.lemmas.Bool.{eqb-true}
-use Rattle.iv_laws_kept.specs.Words.{Value, StoredRow, Constraint, Rule, ForeignKey, MatchType, NullTreatment}
-use Rattle.iv_laws_kept.specs.Words.rule
-use Rattle.iv_laws_kept.specs.Words.matching.{Simple, Full}
-use Rattle.iv_laws_kept.specs.Words.nulls.{Distinct, NotDistinct}
+use Rattle.iv_laws_kept.specs.Types.{Value, StoredRow, Constraint, Rule, ForeignKey, MatchType, NullTreatment}
+use Rattle.iv_laws_kept.specs.Types.rule
+use Rattle.iv_laws_kept.specs.Types.matching.{Simple, Full}
+use Rattle.iv_laws_kept.specs.Types.nulls.{Distinct, NotDistinct}
 use Rattle.iv_value.specs.Values.{is_null, all_same}
 use Rattle.iv_value.specs.Truths.{is_false}
 use Rattle.iv_expr.specs.Evaluation.{check_truth}
@@ -32,7 +32,7 @@ pub not_empty : (n : ℕ) (numbers : List ℕ) → has n numbers ≡ true → is
 not_empty n [] e = absurd (false_true e)
 not_empty n (m ∷ numbers) e = refl
 
--- of a list that has a number, another one is there where there is more than one
+-- of a list that has a number, another one is there if there is more than one
 pub another : (n : ℕ) (numbers : List ℕ) → Rise numbers → has n numbers ≡ true → list_any (λ m. not (m == n)) numbers ≡ nat_lt 1 (length numbers)
 another n [] h e = absurd (false_true e)
 another n (m ∷ []) h e = elim (m == n) as (λ b. (b || false) ≡ true → (not b || false) ≡ nat_lt 1 (length (m ∷ []))) [ true ↦ λ _. refl | false ↦ λ f. absurd (false_true f) ] e
@@ -76,7 +76,7 @@ any_is_some p (r ∷ rows) = elim (p r) as (λ b. (b || list_any p rows) ≡ not
 is_alone : (key : List Value) → none_null key ≡ true → all_same null_key key ≡ false
 is_alone key e = same_test (all_same null_key key) false (λ f. ap none_null (all_same_is null_key key f) ∙ e) (λ f. absurd (false_true f))
 
--- a rule with unique columns keeps a row under a key without nulls where the row holds the key
+-- a rule with unique columns keeps a row under a key without nulls if the row holds the key
 pub kept_is_held : (r : Rule) (columns : List ℕ) (key values : List Value) → unique_columns r ≡ Some columns → none_null key ≡ true
     → elim (kept_key r values) [ Some k ↦ all_same k key | None ↦ false ] ≡ holds_key columns key values
 kept_is_held (rule.NotNull column) columns key values e h = absurd (some_none columns (sym e))
@@ -114,7 +114,7 @@ null_not_held columns key values e =
 
 -- ---- UNIQUE
 
--- the rows that share a row's key, where the rows that have it are kept under it
+-- the rows that share a row's key, if the rows that have it are kept under it
 shared : (rows : List StoredRow) (c : Constraint) (nulls : NullTreatment) (columns : List ℕ) (numbers : List ℕ) (r : StoredRow)
     → ((values : List Value) → elim (kept_key c.rule values) [ Some k ↦ all_same k (key_of columns r.values) | None ↦ false ] ≡ holds_key_with nulls columns (key_of columns r.values) values)
     → numbers ≡ numbers_of (filter (is_kept_under c (key_of columns r.values)) rows)
@@ -140,7 +140,7 @@ shared rows c nulls columns numbers r held is rise there =
     turned true false false = refl
     turned false b c = refl
 
--- where nulls are distinct, a key with a null is shared by no row
+-- if nulls are distinct, a key with a null is shared by no row
 not_shared : (rows : List StoredRow) (t : ℕ) (columns : List ℕ) (r : StoredRow) → none_null (key_of columns r.values) ≡ false
     → list_any (shares_key Distinct columns r) (table_rows rows t) ≡ false
 not_shared rows t columns r e =
@@ -154,7 +154,7 @@ not_shared rows t columns r e =
 
 -- ---- foreign keys
 
--- A row has a key that is referenced where the key that the foreign key names keeps it under that key, in its own order of columns.
+-- A row has a key that is referenced if the key that the foreign key names keeps it under that key, in its own order of columns.
 pub same_key : (fk : ForeignKey) (columns : List ℕ) (c : Constraint) (key : List Value) (x : StoredRow)
     → unique_columns c.rule ≡ Some columns → (c.table == fk.referenced) ≡ true → are_same_columns columns fk.key ≡ true → none_null key ≡ true
     → ((x.table == fk.referenced) && all_same (key_of fk.key x.values) key) ≡ (can_be_key fk.key key && is_kept_under c (in_order_of columns fk.key key) x)
@@ -274,7 +274,7 @@ row_violates rows constraints groups id c r h all show at here table = by_rule
         (λ i. not (not_empty r.number (rows_under groups id null_key) (there k is null_key e) i)
         && ((not (keeps i) && not (none_null null_key)) || break_rule constraints groups k null_key (rows_under groups id null_key)))
 
-    -- a key under which no row violates alone violates by its rule
+    -- a key under which no row violates by itself violates by its rule
     by_key : (k : Rule) → c.rule ≡ k → (key : List Value) → kept_key k r.values ≡ Some key → violates_alone k key ≡ false
         → violate constraints groups k key (rows_under groups id key) ≡ break_rule constraints groups k key (rows_under groups id key)
     by_key k is key e given =

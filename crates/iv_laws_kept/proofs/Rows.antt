@@ -1,7 +1,7 @@
 -- The numbers of rows in rising number.
 use Rattle.std.proofs.Common.{◌≡◌, refl, ℕ, Bool, true, false, ◌||◌, if◌then◌else◌, List, [], ◌∷◌, filter, Option, Some, None, ap, ◌∙◌}
 use Rattle.std.specs.Bool.{◌==◌}
-use Rattle.iv_laws_kept.specs.Words.{StoredRow}
+use Rattle.iv_laws_kept.specs.Types.{StoredRow}
 use Rattle.iv_machine.specs.Databases.{row_at}
 use Rattle.iv_store.specs.Stores.{numbers_of}
 use Rattle.iv_laws_levels.specs.RisingRows.{Above, InOrder}

@@ -1,11 +1,11 @@
 -- Kept violations: the rows of each key, by their numbers, and which keys violate a constraint as a whole.
 use Rattle.std.specs.Prelude.{◌≡◌, ℕ, Bool, true, false, ◌&&◌, ◌||◌, not, if◌then◌else◌, ◌==◌, nat_lt, List, [], ◌∷◌, length, map, filter, filter_map, flat_map, find, slice_get, Option, Some, None}
 use Rattle.std.specs.List.{list_any, list_all, enumerate_from}
-use Rattle.iv_laws_kept.specs.Words.{Value, StoredRow, MatchType, NullTreatment, Constraint, Rule, ForeignKey, Fault}
-use Rattle.iv_laws_kept.specs.Words.value.{Null}
-use Rattle.iv_laws_kept.specs.Words.matching.{Simple, Full}
-use Rattle.iv_laws_kept.specs.Words.nulls.{Distinct, NotDistinct}
-use Rattle.iv_laws_kept.specs.Words.rule
+use Rattle.iv_laws_kept.specs.Types.{Value, StoredRow, MatchType, NullTreatment, Constraint, Rule, ForeignKey, Fault}
+use Rattle.iv_laws_kept.specs.Types.value.{Null}
+use Rattle.iv_laws_kept.specs.Types.matching.{Simple, Full}
+use Rattle.iv_laws_kept.specs.Types.nulls.{Distinct, NotDistinct}
+use Rattle.iv_laws_kept.specs.Types.rule
 use Rattle.iv_value.specs.Values.{is_null, all_same}
 use Rattle.iv_value.specs.Truths.{is_false}
 use Rattle.iv_expr.specs.Evaluation.{check_truth}
@@ -30,12 +30,12 @@ null_key_where false = None
 abbrev pub key_or : List Value → Option (List Value) → Option (List Value)
 key_or key other = if none_null key then Some key else other
 
--- a key that refers to no row and needs none: with a null under MATCH SIMPLE, of nulls null_key under MATCH FULL
+-- a key that refers to no row and needs none: with a null under MATCH SIMPLE, every value null under MATCH FULL
 abbrev pub is_free : MatchType → List Value → Bool
 is_free Simple key = not (none_null key)
 is_free Full key = all_null key
 
--- the key under which a UNIQUE keeps a row that has this key: where nulls are not distinct, keys with nulls are kept too
+-- the key under which a UNIQUE keeps a row that has this key: if nulls are not distinct, keys with nulls are kept too
 abbrev pub unique_key : NullTreatment → List Value → Option (List Value)
 unique_key Distinct key = key_or key None
 unique_key NotDistinct key = Some key
@@ -75,7 +75,7 @@ abbrev pub OneEach : List Group → Type 0
 OneEach [] = Unit {0}
 OneEach (g ∷ groups) = (list_any (λ other. all_same other.key g.key) groups ≡ false) × OneEach groups
 
--- so for each constraint
+-- no two groups of a constraint have one key, for each constraint
 abbrev pub KeysOnce : Groups → Type 0
 KeysOnce groups = (id : ℕ) → OneEach (groups_of groups id)
 
@@ -101,7 +101,7 @@ value_in (c ∷ columns) (v ∷ key) column = if c == column then v else value_i
 abbrev pub in_order_of : List ℕ → List ℕ → List Value → List Value
 in_order_of others columns key = map (value_in columns key) others
 
--- some row can have this key in these columns: there is a value for each column, and one value where a column is named twice
+-- some row can have this key in these columns: there is a value for each column, and one value if a column is named twice
 abbrev pub can_be_key : List ℕ → List Value → Bool
 can_be_key columns key = all_same (in_order_of columns columns key) key
 
@@ -110,7 +110,7 @@ pub record KeyConstraint : Type 0 where
   pub id : ℕ
   pub columns : List ℕ
 
--- the constraint with its number, where it is the key that a foreign key names
+-- the constraint with its number, if it is the key that a foreign key names
 abbrev pub named_by : ForeignKey → ℕ × Constraint → Option KeyConstraint
 named_by fk k = elim (unique_columns k.1.rule) [
   | Some columns ↦ if is_named_key fk k.1 then Some (record { id = k.0; columns = columns }) else None
@@ -155,7 +155,7 @@ break_rule constraints groups (rule.ForeignKey fk) key rows = not (is_free fk.ma
 abbrev pub violate : List Constraint → Groups → Rule → List Value → List ℕ → Bool
 violate constraints groups rule key rows = not (is_empty rows) && (violates_alone rule key || break_rule constraints groups rule key rows)
 
--- so of a group
+-- Whether a group violates the rule of its constraint.
 abbrev pub is_violating : List Constraint → Groups → Constraint → Group → Bool
 is_violating constraints groups c g = violate constraints groups c.rule g.key g.rows
 
@@ -169,7 +169,7 @@ fault_of id row = record { constraint = id; row = row }
 abbrev pub chosen_rows : List Constraint → Groups → (ℕ → Bool) → ℕ → Constraint → List Fault
 chosen_rows constraints groups chosen id c = if chosen id then map (fault_of id) (kept_rows constraints groups id c) else []
 
--- The kept violations: all pairs of a chosen constraint and a row of one of its violating groups, by the constraint's creation,
+-- The kept violations: all pairs of a chosen constraint and a row of one of its violating groups, in creation order of the constraints,
 -- then by row.
 abbrev pub kept : List Constraint → Groups → (ℕ → Bool) → List Fault
 kept constraints groups chosen = flat_map (λ k. chosen_rows constraints groups chosen k.0 k.1) (enumerate_from 0 constraints)

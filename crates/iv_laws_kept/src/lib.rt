@@ -4,7 +4,7 @@
 ghost use Rattle.iv_laws_kept.specs.Numbers.{SameNumbersAreOneList};
 ghost use Rattle.iv_laws_kept.specs.KeptIsScan.{KeptIsTheScan};
 ghost use Rattle.iv_laws_kept.specs.Moves.{ChangesAreFollowed, ChangesAreTakenBack};
-ghost use Rattle.iv_laws_kept.specs.Marks.{MarkedRowsAreKept, OtherKeysStay};
+ghost use Rattle.iv_laws_kept.specs.GroupFlags.{FlaggedRowsAreKept, OtherKeysStay};
 
 /// Two rising lists with the same members are one.
 pub fn same_numbers_are_one_list()
@@ -31,7 +31,7 @@ pub fn other_keys_stay()
     ensures { OtherKeysStay }
 {}
 
-/// The rows of the marked groups are the kept rows.
-pub fn marked_rows_are_kept()
-    ensures { MarkedRowsAreKept }
+/// The rows of the flagged groups are the kept rows.
+pub fn flagged_rows_are_kept()
+    ensures { FlaggedRowsAreKept }
 {}

@@ -4,7 +4,7 @@ use mathlib.Core.Bool.{or-false}
 use Rattle.std.specs.Bool.{◌==◌}
 use Rattle.std.specs.List.{cons_option}
 use Rattle.std.proofs.lemmas.Bool.{eqb-true, or_parts}
-use Rattle.iv_laws_levels.specs.Words.{Value, StoredRow, Change, Database}
+use Rattle.iv_laws_levels.specs.Types.{Value, StoredRow, Change, Database}
 use Rattle.iv_expr.specs.Changes.{Wave}
 use Rattle.iv_machine.specs.Databases.{row_at, has_change, next_after, database_after}
 use Rattle.iv_laws_levels.specs.RisingRows.{InOrder}

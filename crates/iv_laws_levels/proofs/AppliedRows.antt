@@ -5,7 +5,7 @@ use Rattle.std.specs.List.{cons_option}
 use Rattle.std.specs.Option.{option_or}
 use Rattle.std.proofs.lemmas.List.Folds.{find-append}
 use Rattle.std.proofs.lemmas.Bool.{eqb-true, true≢false}
-use Rattle.iv_laws_levels.specs.Words.{Value, StoredRow, Change, Database}
+use Rattle.iv_laws_levels.specs.Types.{Value, StoredRow, Change, Database}
 use Rattle.iv_machine.specs.Databases.{row_at, has_change, rows_after}
 use Rattle.iv_laws_levels.specs.RisingRows.{InOrder}
 use Rattle.iv_laws_levels.specs.Holders.{is_outside}

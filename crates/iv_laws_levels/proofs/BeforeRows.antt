@@ -1,8 +1,8 @@
 -- What BEFORE row triggers leave of a change: its row, its old values, and a deletion.
 use Rattle.std.proofs.Common.{◌≡◌, refl, ℕ, Bool, true, false, ◌||◌, if◌then◌else◌, List, [], ◌∷◌, filter, Option, Some, None, Ok, sym, ap, subst, ◌∙◌}
 use Rattle.std.specs.Bool.{◌==◌}
-use Rattle.iv_laws_levels.specs.Words.{Value, StoredRow, Change, BodyStatement, Database}
-use Rattle.iv_laws_levels.specs.Words.body
+use Rattle.iv_laws_levels.specs.Types.{Value, StoredRow, Change, BodyStatement, Database}
+use Rattle.iv_laws_levels.specs.Types.body
 use Rattle.iv_expr.specs.Changes.{Wave}
 use Rattle.iv_expr.specs.Evaluation.{value}
 use Rattle.iv_expr.specs.Scopes.{scope_of}

@@ -3,8 +3,8 @@ use Rattle.std.proofs.Common.{◌≡◌, ℕ, zero, suc, ◌+◌, Bool, true, fa
 use Rattle.iv_expr.specs.Changes.{Wave}
 use Rattle.iv_expr.specs.Evaluation.{and_then}
 use Rattle.iv_expr.specs.Scopes.{Frame, scope_of}
-use Rattle.iv_laws_levels.specs.Words.{BodyStatement, DataStatement, Database}
-use Rattle.iv_laws_levels.specs.Words.body
+use Rattle.iv_laws_levels.specs.Types.{BodyStatement, DataStatement, Database}
+use Rattle.iv_laws_levels.specs.Types.body
 use Rattle.iv_machine.specs.Context.{Context, Failure, over, in_turn}
 use Rattle.iv_machine.specs.Proposals.{holds}
 use Rattle.iv_machine.specs.BeforeTriggers.{placed_statements}

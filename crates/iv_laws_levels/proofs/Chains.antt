@@ -2,7 +2,7 @@
 use Rattle.std.proofs.Common.{◌≡◌, refl, ℕ, suc, List, [], ◌∷◌, length, Result, Ok, Err, sym, ap, ◌∙◌}
 use Rattle.iv_expr.specs.Evaluation.{and_then}
 use Rattle.iv_catalogue.specs.declared.cause.Cause.{Cause}
-use Rattle.iv_laws_levels.specs.Words.{Fault, Database}
+use Rattle.iv_laws_levels.specs.Types.{Fault, Database}
 use Rattle.iv_catalogue.specs.declared.cause.Refusal.{Refusal}
 use Rattle.iv_machine.specs.Context.{Failure, over, unless_first, while_running, with_count, inside_trigger, each}
 

@@ -1,9 +1,9 @@
 -- After a level no immediate constraint is violated.
 use Rattle.std.proofs.Common.{◌≡◌, ℕ, zero, suc, [], Ok}
 use Rattle.iv_expr.specs.Scopes.{Frame}
-use Rattle.iv_laws_levels.specs.Words.{DataStatement, Database}
-use Rattle.iv_laws_levels.specs.Words.cause.{Violation}
-use Rattle.iv_laws_levels.specs.Words.which.{Immediate}
+use Rattle.iv_laws_levels.specs.Types.{DataStatement, Database}
+use Rattle.iv_laws_levels.specs.Types.cause.{Violation}
+use Rattle.iv_laws_levels.specs.Types.which.{Immediate}
 use Rattle.iv_machine.specs.Context.{Context}
 use Rattle.iv_machine.specs.Databases.{scan, is_chosen}
 use Rattle.iv_machine.specs.Waves.{net_wave}

@@ -5,10 +5,10 @@ use Rattle.iv_expr.specs.Changes.{Wave}
 use Rattle.iv_expr.specs.Evaluation.{and_then}
 use Rattle.iv_expr.specs.Scopes.{Frame, scope_of}
 use Rattle.iv_catalogue.specs.declared.cause.Cause.{Cause}
-use Rattle.iv_laws_levels.specs.Words.{Fault, BodyStatement, DataStatement, Database}
-use Rattle.iv_laws_levels.specs.Words.cause.{Restrict, ActionConflict, Violation, TooManyChanges, TransactionTooLarge, Limit}
-use Rattle.iv_laws_levels.specs.Words.body
-use Rattle.iv_laws_levels.specs.Words.which.{Immediate}
+use Rattle.iv_laws_levels.specs.Types.{Fault, BodyStatement, DataStatement, Database}
+use Rattle.iv_laws_levels.specs.Types.cause.{Restrict, ActionConflict, Violation, TooManyChanges, TransactionTooLarge, Limit}
+use Rattle.iv_laws_levels.specs.Types.body
+use Rattle.iv_laws_levels.specs.Types.which.{Immediate}
 use Rattle.iv_catalogue.specs.declared.cause.Refusal.{Refusal}
 use Rattle.iv_machine.specs.Bounds.{most_changes_in_a_transaction}
 use Rattle.iv_machine.specs.Databases.{scan, is_chosen, size, database_after}

@@ -2,8 +2,8 @@
 use Rattle.std.proofs.Common.{◌≡◌, refl, ℕ, Bool, true, false, ◌&&◌, not, if◌then◌else◌, List, [], ◌∷◌, filter, Option, Some, None, sym, ap, subst, ◌∙◌, inl, inr}
 use Rattle.std.specs.Bool.{◌==◌}
 use Rattle.std.specs.List.{cons_option}
-use Rattle.iv_laws_levels.specs.Words.{Value, StoredRow, Change, ReferentialAction, ForeignKey, Database, Effect}
-use Rattle.iv_laws_levels.specs.Words.referential_action as action
+use Rattle.iv_laws_levels.specs.Types.{Value, StoredRow, Change, ReferentialAction, ForeignKey, Database, Effect}
+use Rattle.iv_laws_levels.specs.Types.referential_action as action
 use Rattle.iv_value.specs.Values.{all_same}
 use Rattle.iv_expr.specs.Scopes.{table_rows}
 use Rattle.iv_catalogue.specs.Catalogues.{Schema}

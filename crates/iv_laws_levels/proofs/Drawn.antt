@@ -1,7 +1,7 @@
 -- Lists that are drawn from others: of each element one thing or none, in their order.
 use Rattle.std.proofs.Common.{◌≡◌, refl, Bool, true, false, if◌then◌else◌, List, [], ◌∷◌, map, filter, filter_map, Option, Some, None, Result, Ok, sym, ap, subst}
 use Rattle.std.specs.List.{cons_option}
-use Rattle.iv_laws_levels.specs.Words.{Value, Cond}
+use Rattle.iv_laws_levels.specs.Types.{Value, Cond}
 use Rattle.iv_expr.specs.Evaluation.{and_then}
 use Rattle.iv_expr.specs.Scopes.{Scope, within}
 use Rattle.iv_catalogue.specs.declared.cause.Cause.{Cause}

@@ -3,7 +3,7 @@ use Rattle.std.proofs.Common.{◌≡◌, refl, ℕ, Bool, true, false, ◌&&◌,
 use mathlib.Core.Bool.{or-false}
 use Rattle.std.specs.Bool.{◌==◌}
 use Rattle.std.proofs.lemmas.Bool.{eqb-true, eq-eqb, not-true}
-use Rattle.iv_laws_levels.specs.Words.{StoredRow, Change, Constraint, Database}
+use Rattle.iv_laws_levels.specs.Types.{StoredRow, Change, Constraint, Database}
 use Rattle.iv_machine.specs.Databases.{row_at, violates}
 use Rattle.iv_laws_levels.specs.Reorderings.{after_changes}
 use Rattle.iv_laws_levels.specs.RisingRows.{InOrder}
@@ -22,7 +22,7 @@ none_passes p q None h = refl
 none_passes p q (Some r) h =
     elim (q r) as (λ b. passing p (if b then Some r else None) ≡ None) [ true ↦ ap (λ b. if b then Some r else None) (h r refl) | false ↦ refl ]
 
--- two first tests that agree where the last one passes may replace one another
+-- two first tests that agree if the last one passes may replace one another
 same_passes : (p q other : StoredRow → Bool) (o : Option StoredRow) → ((r : StoredRow) → p r ≡ true → q r ≡ other r)
     → passing p (passing q o) ≡ passing p (passing other o)
 same_passes p q other None h = refl

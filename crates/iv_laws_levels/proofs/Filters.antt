@@ -12,7 +12,7 @@ filter_both p q (x ∷ xs) =
       | false ↦ filter_both p q xs
     ]
 
--- none passes where no element does
+-- none passes if no element does
 pub filter_none : {A : Type 0} (p : A → Bool) (xs : List A) → list_any p xs ≡ false → filter p xs ≡ []
 filter_none p [] e = refl
 filter_none p (x ∷ xs) e =

@@ -2,8 +2,8 @@
 use Rattle.std.proofs.Common.{◌≡◌, ℕ, Bool, true, false, if◌then◌else◌, List, [], ◌∷◌, Ok, subst}
 use Rattle.iv_expr.specs.Changes.{Wave}
 use Rattle.iv_expr.specs.Scopes.{Frame, scope_of}
-use Rattle.iv_laws_levels.specs.Words.{BodyStatement, DataStatement, Database}
-use Rattle.iv_laws_levels.specs.Words.body
+use Rattle.iv_laws_levels.specs.Types.{BodyStatement, DataStatement, Database}
+use Rattle.iv_laws_levels.specs.Types.body
 use Rattle.iv_machine.specs.Databases.{size}
 use Rattle.iv_machine.specs.Context.{Context, over, with_count}
 use Rattle.iv_machine.specs.Proposals.{holds, proposed_wave}

@@ -1,8 +1,8 @@
--- What data statements that fit a catalogue keep, the triggers that fire keep, where their bodies fit it.
+-- What data statements that fit a catalogue keep, the triggers that fire keep, if their bodies fit it.
 use Rattle.std.proofs.Common.{◌≡◌, ℕ, ◌+◌, ◌≤◌, ◌||◌, Bool, true, false, if◌then◌else◌, nat_lt, List, [], ◌∷◌, ◌++◌, length, map, filter, flat_map, Ok, subst, arith}
 use Rattle.std.specs.List.{enumerate_from}
-use Rattle.iv_laws_levels.specs.Words.{Change, TableColumn, BodyStatement, DataStatement, Database}
-use Rattle.iv_laws_levels.specs.Words.body
+use Rattle.iv_laws_levels.specs.Types.{Change, TableColumn, BodyStatement, DataStatement, Database}
+use Rattle.iv_laws_levels.specs.Types.body
 use Rattle.iv_expr.specs.Changes.{Wave}
 use Rattle.iv_expr.specs.Scopes.{Frame, scope_of}
 use Rattle.iv_catalogue.specs.Catalogues.{Schema}

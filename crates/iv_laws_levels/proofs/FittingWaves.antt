@@ -1,7 +1,7 @@
 -- The waves of a level fit the databases that they are applied to.
 use Rattle.std.proofs.Common.{◌≡◌, refl, ℕ, zero, suc, ◌+◌, ◌<◌, ◌≤◌, false, ◌||◌, if◌then◌else◌, List, [], ◌∷◌, Option, Some, None, is_none, Ok, sym, ap, subst, ◌∙◌, arith, inl, inr}
 use Rattle.std.proofs.lemmas.Bool.{ne_eqb}
-use Rattle.iv_laws_levels.specs.Words.{Value, StoredRow, Change, DataStatement, Database}
+use Rattle.iv_laws_levels.specs.Types.{Value, StoredRow, Change, DataStatement, Database}
 use Rattle.iv_expr.specs.Changes.{Wave, wave_of, RisingChangesFrom, RisingChanges}
 use Rattle.iv_expr.specs.Scopes.{Frame}
 use Rattle.iv_machine.specs.Databases.{no_rows, row_at, has_change, database_after}
@@ -152,7 +152,7 @@ new_alike next (c ∷ changes) [] h p = absurd h
 new_alike next (c ∷ changes) (d ∷ other) h p =
     ((λ none. subst (λ n. next ≤ n) h.0.row (p.0 (h.0.old ∙ none))), new_alike next changes other h.1 p.1)
 
--- a wave that fits a database, but for its new values, fits it
+-- a wave that fits a database, except for its new values, fits it
 pub alike_fits : (db : Database) (wave other : Wave) → AllAlike wave.changes other.changes → FitsDatabase db wave → FitsDatabase db other
 alike_fits db wave other h fits = record {
   rising = rising_alike 0 wave.changes other.changes h fits.rising;

@@ -1,11 +1,11 @@
--- What follows a wave, from the database after it and the wave alone.
+-- What follows a wave, from only the database after it and the wave.
 use Rattle.std.proofs.Common.{◌≡◌, refl, ℕ, Bool, true, false, ◌&&◌, if◌then◌else◌, List, [], ◌∷◌, ◌++◌, map, filter, filter_map, flat_map, Option, Some, None, is_some, Ok, sym, ap, ◌∙◌}
 use Rattle.std.specs.Bool.{◌==◌}
 use Rattle.std.specs.List.{list_any}
 use Rattle.std.proofs.lemmas.Bool.{or_parts}
 use Rattle.iv_value.specs.Values.{all_same}
-use Rattle.iv_laws_levels.specs.Words.{StoredRow, Constraint, ForeignKey, Database, Effect}
-use Rattle.iv_laws_levels.specs.Words.cause.{Restrict, ActionConflict}
+use Rattle.iv_laws_levels.specs.Types.{StoredRow, Constraint, ForeignKey, Database, Effect}
+use Rattle.iv_laws_levels.specs.Types.cause.{Restrict, ActionConflict}
 use Rattle.iv_expr.specs.Changes.{Wave, RisingChanges}
 use Rattle.iv_catalogue.specs.Catalogues.{Schema}
 use Rattle.iv_key.specs.Keys.{key_of, none_null}

@@ -5,7 +5,7 @@ use Rattle.std.specs.List.{cons_option, find}
 use Rattle.std.specs.Option.{option_or}
 use Rattle.std.proofs.lemmas.List.Folds.{find-append}
 use Rattle.std.proofs.lemmas.Bool.{eqb-true}
-use Rattle.iv_laws_levels.specs.Words.{Value, StoredRow, Change, Database}
+use Rattle.iv_laws_levels.specs.Types.{Value, StoredRow, Change, Database}
 use Rattle.iv_expr.specs.Changes.{Wave}
 use Rattle.iv_expr.specs.Scopes.{table_rows}
 use Rattle.iv_key.specs.Keys.{holds_key}

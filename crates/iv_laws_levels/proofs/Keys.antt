@@ -3,7 +3,7 @@ use Rattle.std.proofs.Common.{◌≡◌, refl, Bool, true, false, ◌&&◌, List
 use Rattle.std.proofs.lemmas.Bool.{true≢false}
 use Rattle.std.proofs.lemmas.Bool.Decides.{Decides-int_eq}
 use Rattle.std.proofs.lemmas.Slice.Eq.{bytes_eq-Decides}
-use Rattle.iv_laws_levels.specs.Words.{Value}
+use Rattle.iv_laws_levels.specs.Types.{Value}
 use Rattle.iv_value.specs.declared.value.Value.TheVariants.{Null, Int, Text}
 use Rattle.iv_value.specs.Values.{is_same, all_same}
 

@@ -4,8 +4,8 @@ use mathlib.Core.Bool.{or-false, and-false}
 use Rattle.std.specs.Bool.{◌==◌}
 use Rattle.std.specs.List.{list_any}
 use Rattle.std.proofs.lemmas.Bool.{eqb-true, or_parts}
-use Rattle.iv_laws_levels.specs.Words.{Value, StoredRow, Change, Constraint, Rule, ForeignKey, Database}
-use Rattle.iv_laws_levels.specs.Words.rule
+use Rattle.iv_laws_levels.specs.Types.{Value, StoredRow, Change, Constraint, Rule, ForeignKey, Database}
+use Rattle.iv_laws_levels.specs.Types.rule
 use Rattle.iv_value.specs.Values.{all_same}
 use Rattle.iv_expr.specs.Scopes.{table_rows}
 use Rattle.iv_syntax.specs.declared.table.NullTreatment.{NullTreatment}
@@ -39,7 +39,7 @@ unmoved db c p h current old new =
     ] refl
     ∙ sym (row_at_filter_in_order p db.rows n h))
 
--- so a test of a table's rows that neither side passes finds one before where it finds one after
+-- a test of a table's rows that neither side passes finds one before if it finds one after
 same_any : (db : Database) (c : Change) (t : ℕ) (p : StoredRow → Bool) → InOrder db.rows → row_at db.rows c.row ≡ old_row c
     → passing (λ r. (r.table == t) && p r) (row_of c c.old) ≡ None → passing (λ r. (r.table == t) && p r) (row_of c c.new) ≡ None
     → list_any p (table_rows (after_changes db (c ∷ [])).rows t) ≡ list_any p (table_rows db.rows t)
@@ -62,7 +62,7 @@ held_swap key other = same_test (none_null key && all_same key other) (none_null
         let same = all_same_is a b (and_second (none_null a) (all_same a b) e) in
         (λ i. none_null (sym same i) && all_same (sym same i) (same i)) ∙ e
 
--- so where nulls may not be distinct
+-- two keys that are the same, even if nulls are not distinct
 held_with_swap : (nulls : NullTreatment) (columns : List ℕ) (values other : List Value)
     → holds_key_with nulls columns (key_of columns values) other ≡ holds_key_with nulls columns (key_of columns other) values
 held_with_swap Distinct columns values other = held_swap (key_of columns other) (key_of columns values)
@@ -72,7 +72,7 @@ held_with_swap NotDistinct columns values other = all_same_swap (key_of columns 
 abbrev row_with : Change → List Value → StoredRow
 row_with c values = record { table = c.table; number = c.row; values = values }
 
--- where a side's key isn't held, the side passes no test of that key
+-- if a side's key isn't held, the side passes no test of that key
 side_fails : (c : Change) (side : Option (List Value)) (t : ℕ) (nulls : NullTreatment) (columns key : List ℕ) (r : StoredRow) (p : StoredRow → Bool)
     → ((values : List Value) → holds_key_with nulls columns (key_of key values) r.values ≡ false → p (row_with c values) ≡ false)
     → ((c.table == t) && holds_side nulls columns key r side) ≡ false

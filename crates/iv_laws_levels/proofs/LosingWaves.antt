@@ -1,10 +1,10 @@
--- Which keys a wave took away, as the wave alone tells.
+-- Which keys a wave took away, as the wave tells.
 use Rattle.std.proofs.Common.{◌≡◌, refl, ℕ, ◌<◌, ◌≤◌, Bool, true, false, ◌&&◌, ◌||◌, not, if◌then◌else◌, List, [], ◌∷◌, filter, filter_map, Option, Some, None, sym, ap, ◌∙◌, arith}
 use Rattle.std.specs.Bool.{◌==◌}
 use Rattle.std.specs.List.{cons_option, find}
 use Rattle.std.specs.Option.{option_map}
 use Rattle.std.proofs.lemmas.Bool.{eqb-true, eq-eqb}
-use Rattle.iv_laws_levels.specs.Words.{Value, StoredRow, Change, ForeignKey, Database}
+use Rattle.iv_laws_levels.specs.Types.{Value, StoredRow, Change, ForeignKey, Database}
 use Rattle.iv_value.specs.Values.{all_same}
 use Rattle.iv_expr.specs.Changes.{Wave, RisingChangesFrom, RisingChanges}
 use Rattle.iv_key.specs.Keys.{key_of, holds_key}
@@ -51,7 +51,7 @@ outside_keeps db wave fk r e out =
 abbrev held : ForeignKey → List Value → StoredRow → Bool
 held fk key r = (r.table == fk.referenced) && holds_key fk.key key r.values
 
--- a key is lost by rows of the wave alone
+-- a key is lost only by rows of the wave
 lost_inside : (db : Database) (wave : List Change) (fk : ForeignKey) (key : List Value) → InOrder db.rows → Distinct wave → Current db.rows wave
     → lost_keys db.rows (after_changes db wave).rows fk key
     ≡ first (filter_map (loss_of_row (after_changes db wave).rows fk) (in_order (filter (held fk key) (old_rows wave))))

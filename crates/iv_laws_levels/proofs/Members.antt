@@ -3,7 +3,7 @@ use Rattle.std.proofs.Common.{◌≡◌, refl, ℕ, Bool, true, false, ◌||◌,
 use Rattle.std.specs.Bool.{◌==◌}
 use Rattle.std.specs.List.{list_any, list_all, cons_option}
 use Rattle.std.proofs.lemmas.Bool.{eqb-true, eq-eqb}
-use Rattle.iv_laws_levels.specs.Words.{StoredRow, Change}
+use Rattle.iv_laws_levels.specs.Types.{StoredRow, Change}
 use Rattle.iv_machine.specs.Databases.{row_at, has_change, first}
 use Rattle.iv_laws_levels.specs.RisingRows.{InOrder}
 use Rattle.iv_laws_levels.proofs.RowNumbers.{some_none, some_same}

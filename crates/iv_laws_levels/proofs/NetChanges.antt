@@ -2,7 +2,7 @@
 use Rattle.std.proofs.Common.{◌≡◌, refl, ℕ, Bool, true, false, ◌&&◌, ◌||◌, if◌then◌else◌, List, [], ◌∷◌, ◌++◌, map, filter, Option, Some, None, is_none, sym, ap, ◌∙◌}
 use Rattle.std.specs.Bool.{◌==◌}
 use Rattle.std.specs.List.{find}
-use Rattle.iv_laws_levels.specs.Words.{StoredRow, Change, Database}
+use Rattle.iv_laws_levels.specs.Types.{StoredRow, Change, Database}
 use Rattle.iv_expr.specs.Changes.{Wave, wave_of}
 use Rattle.iv_machine.specs.Databases.{row_at, has_change, new_row, database_after}
 use Rattle.iv_machine.specs.Waves.{in_waves, net_change, net_insertion, net_wave}
@@ -40,7 +40,7 @@ not_changed (c ∷ changes) n e =
       | false ↦ λ f. not_changed changes n f
     ] e
 
--- so one of the waves after changes it
+-- one of the waves after changes it
 changed_later : (wave : Wave) (waves : List Wave) (n : ℕ) → in_waves (wave ∷ waves) n ≡ true → find (λ c. c.row == n) wave.changes ≡ None → in_waves waves n ≡ true
 changed_later wave waves n e f = sym (ap (λ b. b || in_waves waves n) (not_changed wave.changes n f)) ∙ e
 
@@ -78,7 +78,7 @@ row_at_passing : (t : ℕ → Bool) (rows : List StoredRow) (n : ℕ) → InOrde
 row_at_passing t rows n h =
     row_at_filter_in_order (λ r. t r.number) rows n h ∙ passing_at t n (row_at rows n) (number_of_row_at rows n)
 
--- filters by numbers of two lists are the same where the rows that pass are
+-- filters by numbers of two lists are the same if the rows that pass are
 same_passing : (t u : ℕ → Bool) (rows others : List StoredRow) → InOrder rows → InOrder others
     → ((n : ℕ) → (if t n then row_at rows n else None) ≡ (if u n then row_at others n else None))
     → filter (λ r. t r.number) rows ≡ filter (λ r. u r.number) others

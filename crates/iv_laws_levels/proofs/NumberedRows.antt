@@ -2,7 +2,7 @@
 use Rattle.std.proofs.Common.{ℕ, ◌<◌, ◌≤◌, Bool, true, false, if◌then◌else◌, List, [], ◌∷◌, ◌++◌, filter, Option, Some, None, arith}
 use Rattle.std.specs.Bool.{nat_lt, ◌==◌}
 use Rattle.std.specs.List.{cons_option}
-use Rattle.iv_laws_levels.specs.Words.{Value, StoredRow, Change, Database}
+use Rattle.iv_laws_levels.specs.Types.{Value, StoredRow, Change, Database}
 use Rattle.iv_machine.specs.Databases.{rows_with, in_order, rows_after, next_after}
 use Rattle.iv_machine.specs.Invariants.{Rising}
 use Rattle.iv_laws_levels.specs.Reorderings.{after_changes}

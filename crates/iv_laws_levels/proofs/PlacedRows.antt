@@ -1,7 +1,7 @@
 -- Rows are of tables that are there, and data statements that fit the catalogue keep them so.
 use Rattle.std.proofs.Common.{◌≡◌, ℕ, zero, suc, ◌+◌, ◌<◌, ◌≤◌, true, false, if◌then◌else◌, List, [], ◌∷◌, length, map, is_none, Result, Ok, subst, arith}
-use Rattle.iv_laws_levels.specs.Words.{Value, StoredRow, Change, DataStatement, Database}
-use Rattle.iv_laws_levels.specs.Words.data_statement
+use Rattle.iv_laws_levels.specs.Types.{Value, StoredRow, Change, DataStatement, Database}
+use Rattle.iv_laws_levels.specs.Types.data_statement
 use Rattle.iv_expr.specs.Changes.{Wave}
 use Rattle.iv_expr.specs.declared.tree.ExprFault.{ExprFault}
 use Rattle.iv_expr.specs.Evaluation.{value}

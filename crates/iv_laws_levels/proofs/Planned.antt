@@ -4,10 +4,10 @@ use Rattle.iv_expr.specs.Scopes.{no_frame}
 use Rattle.iv_syntax.specs.declared.statement.ConstraintMode.{ConstraintMode}
 use Rattle.iv_catalogue.specs.Catalogues.{AllOn, NumbersRise, TriggersNumbered, Schema, with_table, with_constraint, with_trigger, without_trigger}
 use Rattle.iv_catalogue.specs.declared.catalogue.Table.{Table}
-use Rattle.iv_laws_levels.specs.Words.{Constraint, Fault, DataStatement, Plan, SchemaPlan, Database}
-use Rattle.iv_laws_levels.specs.Words.cause.{NotDeferrable, Violation, AddRefused}
-use Rattle.iv_laws_levels.specs.Words.plan
-use Rattle.iv_laws_levels.specs.Words.schema
+use Rattle.iv_laws_levels.specs.Types.{Constraint, Fault, DataStatement, Plan, SchemaPlan, Database}
+use Rattle.iv_laws_levels.specs.Types.cause.{NotDeferrable, Violation, AddRefused}
+use Rattle.iv_laws_levels.specs.Types.plan
+use Rattle.iv_laws_levels.specs.Types.schema
 use Rattle.iv_catalogue.specs.declared.cause.Cause.{Cause}
 use Rattle.iv_catalogue.specs.declared.plan.Trigger.{Trigger}
 use Rattle.iv_catalogue.specs.declared.plan.QueryPlan.{QueryPlan}

@@ -3,8 +3,8 @@ use Rattle.std.proofs.Common.{◌≡◌, refl, ℕ, true, false, not, if◌then�
 use Rattle.std.specs.Str.{bytes_eq}
 use Rattle.iv_syntax.specs.declared.statement.ConstraintMode.{ConstraintMode}
 use Rattle.iv_catalogue.specs.Catalogues.{Schema, TriggersNumbered}
-use Rattle.iv_laws_levels.specs.Words.{Database}
-use Rattle.iv_laws_levels.specs.Words.which.{Immediate, Deferred}
+use Rattle.iv_laws_levels.specs.Types.{Database}
+use Rattle.iv_laws_levels.specs.Types.which.{Immediate, Deferred}
 use Rattle.iv_machine.specs.Bounds.{Bounds}
 use Rattle.iv_machine.specs.Databases.{scan, is_chosen, initial_modes}
 use Rattle.iv_machine.specs.Laws.{IsSound, EachSaveHolds}

@@ -1,8 +1,8 @@
 -- What is proposed, and what follows a wave: changes of some rows in their order, or insertions.
 use Rattle.std.proofs.Common.{◌≡◌, refl, ℕ, List, [], ◌∷◌, map, filter, Some, None, Result, Ok, sym, ap, subst, ◌∙◌, ◌⊎◌, inl, inr}
-use Rattle.iv_laws_levels.specs.Words.{Value, StoredRow, Change, Cond, DataStatement, Database, Effect}
-use Rattle.iv_laws_levels.specs.Words.cause.{Restrict, ActionConflict}
-use Rattle.iv_laws_levels.specs.Words.data_statement
+use Rattle.iv_laws_levels.specs.Types.{Value, StoredRow, Change, Cond, DataStatement, Database, Effect}
+use Rattle.iv_laws_levels.specs.Types.cause.{Restrict, ActionConflict}
+use Rattle.iv_laws_levels.specs.Types.data_statement
 use Rattle.iv_expr.specs.Changes.{Wave}
 use Rattle.iv_expr.specs.declared.tree.ExprFault.{ExprFault}
 use Rattle.iv_expr.specs.Evaluation.{value}

@@ -2,7 +2,7 @@
 use Rattle.std.proofs.Common.{◌≡◌, refl, ℕ, ◌<◌, ◌≤◌, Bool, true, false, if◌then◌else◌, List, [], ◌∷◌, filter, Option, Some, None, sym, ap, ◌∙◌, arith}
 use Rattle.std.specs.Bool.{nat_lt, ◌==◌}
 use Rattle.std.proofs.lemmas.Bool.{eqb-true, eq-eqb, ltb-true}
-use Rattle.iv_laws_levels.specs.Words.{StoredRow}
+use Rattle.iv_laws_levels.specs.Types.{StoredRow}
 use Rattle.iv_machine.specs.Databases.{row_at, rows_with, in_order}
 use Rattle.iv_laws_levels.specs.RisingRows.{Above, InOrder}
 

@@ -1,8 +1,8 @@
--- What a scan finds where other scans find nothing.
+-- What a scan finds if other scans find nothing.
 use Rattle.std.proofs.Common.{◌≡◌, refl, ℕ, ◌+◌, Bool, true, false, not, ◌&&◌, List, [], ◌∷◌, ◌++◌, length, cond, None, sym, ap, ◌∙◌, arith}
 use Rattle.std.specs.Bool.{◌==◌}
 use Rattle.std.proofs.lemmas.Bool.{eq-eqb}
-use Rattle.iv_laws_levels.specs.Words.{StoredRow, Constraint, Fault}
+use Rattle.iv_laws_levels.specs.Types.{StoredRow, Constraint, Fault}
 use Rattle.iv_machine.specs.Databases.{violations, chosen_violations, scan, first}
 use Rattle.iv_machine.proofs.Scans.{scan_from, left_empty, right_empty, both_empty}
 use Rattle.iv_laws_levels.proofs.RowNumbers.{some_none}
@@ -32,7 +32,7 @@ module _ (rows : List StoredRow) (before after : ℕ → Bool) where
       (right_empty (chosen_violations rows (λ i. not (before i)) id c) (scan_from rows (λ i. not (before i)) (id + 1) cs) h)
       (right_empty (chosen_violations rows (λ i. before i && not (after i)) id c) (scan_from rows (λ i. before i && not (after i)) (id + 1) cs) k))
 
-  -- where no constraint that was immediate is violated, and none that is made so, none is that is immediate then
+  -- if no constraint that was immediate is violated, and none that is made so, none is that is immediate then
   pub none_immediate : (cs : List Constraint) → scan rows cs (λ i. not (before i)) ≡ [] → scan rows cs (λ i. before i && not (after i)) ≡ [] → scan rows cs (λ i. not (after i)) ≡ []
   none_immediate cs h k = immediate_from 0 cs h k
 
@@ -50,7 +50,7 @@ module _ (rows : List StoredRow) (k : Constraint) (n : ℕ) where
       (one_more_from (id + 1) cs (omega (arith, e)) (right_empty (violations rows id c) (scan_from rows (λ _. true) (id + 1) cs) h)
       (right_empty (chosen_violations rows (λ i. i == n) id c) (scan_from rows (λ i. i == n) (id + 1) (cs ++ k ∷ [])) one))
 
--- where nothing is violated, and the new constraint isn't, nothing is
+-- if nothing is violated, and the new constraint isn't, nothing is
 pub one_more : (rows : List StoredRow) (cs : List Constraint) (k : Constraint) → scan rows cs (λ _. true) ≡ []
     → scan rows (cs ++ k ∷ []) (λ i. i == length cs) ≡ [] → scan rows (cs ++ k ∷ []) (λ _. true) ≡ []
 one_more rows cs k h one = one_more_from rows k (length cs) 0 cs (omega arith) h one

@@ -1,8 +1,8 @@
 -- What an accepted wave and an accepted settling of waves say of their steps.
 use Rattle.std.proofs.Common.{◌≡◌, refl, ℕ, zero, suc, ◌+◌, ◌-◌, ◌≤◌, Bool, true, false, if◌then◌else◌, List, [], ◌∷◌, length, filter, Ok, is_none, Result, sym, ap, subst, ◌∙◌, arith}
 use Rattle.std.specs.Bool.{nat_lt}
-use Rattle.iv_laws_levels.specs.Words.{StoredRow, Change, Database}
-use Rattle.iv_laws_levels.specs.Words.cause.{TooManyChanges, TransactionTooLarge, Limit}
+use Rattle.iv_laws_levels.specs.Types.{StoredRow, Change, Database}
+use Rattle.iv_laws_levels.specs.Types.cause.{TooManyChanges, TransactionTooLarge, Limit}
 use Rattle.iv_expr.specs.Changes.{Wave}
 use Rattle.iv_expr.specs.Evaluation.{and_then}
 use Rattle.iv_catalogue.specs.declared.plan.Trigger.{Trigger}

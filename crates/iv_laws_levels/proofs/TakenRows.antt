@@ -2,8 +2,8 @@
 use Rattle.std.proofs.Common.{◌≡◌, refl, ℕ, true, ◌&&◌, not, if◌then◌else◌, List, [], ◌∷◌, map, flat_map, filter, Option, Some, None, Ok, sym, ap, subst, ◌∙◌, inl, inr}
 use Rattle.std.specs.Bool.{◌==◌}
 use Rattle.std.proofs.lemmas.Bool.{true≢false, and_from}
-use Rattle.iv_laws_levels.specs.Words.{StoredRow, Change, Cond, Database, Effect}
-use Rattle.iv_laws_levels.specs.Words.data_statement.{Delete}
+use Rattle.iv_laws_levels.specs.Types.{StoredRow, Change, Cond, Database, Effect}
+use Rattle.iv_laws_levels.specs.Types.data_statement.{Delete}
 use Rattle.iv_value.specs.Values.{all_same}
 use Rattle.iv_expr.specs.Changes.{Wave, wave_of}
 use Rattle.iv_expr.specs.Scopes.{Frame, scope_of, table_rows}
@@ -165,7 +165,7 @@ module _ (c : Schema) (only : no_column_is_set c.constraints ≡ true) (start : 
     begun = λ r e f. f;
   }
 
-  -- the row of a number is as at the start, where it is there
+  -- the row of a number is as at the start, if it is there
   as_at_first : (db : Database) (wave : List Change) (r found : StoredRow) → Going db wave → row_at start.rows r.number ≡ Some r → row_at db.rows r.number ≡ Some found
       → row_at db.rows r.number ≡ Some r
   as_at_first db wave r found g e f =

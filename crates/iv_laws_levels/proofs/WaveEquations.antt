@@ -3,7 +3,7 @@ use Rattle.std.proofs.Common.{◌≡◌, refl, ℕ, true, false, ◌||◌, if◌
 use Rattle.std.specs.Bool.{◌==◌}
 use Rattle.std.specs.List.{find}
 use Rattle.std.proofs.lemmas.Bool.{eqb-true}
-use Rattle.iv_laws_levels.specs.Words.{StoredRow, Change, Database}
+use Rattle.iv_laws_levels.specs.Types.{StoredRow, Change, Database}
 use Rattle.iv_expr.specs.Changes.{Wave}
 use Rattle.iv_expr.specs.Evaluation.{and_then}
 use Rattle.iv_machine.specs.Databases.{row_at, has_change, new_row, database_after}

@@ -1,6 +1,6 @@
 -- What is made of waves one after another needs no bound on their number: the waves after one that isn't empty have less of the budget.
 use Rattle.std.proofs.Common.{◌≡◌, refl, ℕ, zero, suc, ◌-◌, ◌<◌, ◌≤◌, Bool, true, false, if◌then◌else◌, List, [], ◌∷◌, length, Result, Ok, sym, ◌∙◌, arith}
-use Rattle.iv_laws_levels.specs.Words.{Change, Database}
+use Rattle.iv_laws_levels.specs.Types.{Change, Database}
 use Rattle.iv_expr.specs.Changes.{Wave}
 use Rattle.iv_machine.specs.Databases.{size, database_after}
 use Rattle.iv_machine.specs.Context.{Context, Failure}

@@ -4,8 +4,8 @@ use Rattle.std.specs.Prelude.{◌≡◌, ℕ, zero, suc, ◌+◌, ◌≤◌, if�
 use Rattle.iv_expr.specs.Changes.{Wave}
 use Rattle.iv_expr.specs.Evaluation.{and_then}
 use Rattle.iv_expr.specs.Scopes.{Frame, scope_of}
-use Rattle.iv_laws_levels.specs.Words.{BodyStatement, DataStatement, Database}
-use Rattle.iv_laws_levels.specs.Words.body
+use Rattle.iv_laws_levels.specs.Types.{BodyStatement, DataStatement, Database}
+use Rattle.iv_laws_levels.specs.Types.body
 use Rattle.iv_machine.specs.Databases.{size}
 use Rattle.iv_machine.specs.Context.{Context, Failure, over}
 use Rattle.iv_machine.specs.Proposals.{holds, proposed_wave}
@@ -29,7 +29,7 @@ abbrev pub statement_total : Counts → Firing → BodyStatement → Progress �
 statement_total count x (body.Data statement) at = count x.trigger.id statement x.frame at.database at.budget
 statement_total count x _ at = 0
 
--- of a trigger that fires: the statements of its body, where WHEN is true
+-- of a trigger that fires: the statements of its body, if WHEN is true
 abbrev pub firing_total : Runs → Counts → Firing → Progress → ℕ
 firing_total run count x at =
     elim (holds (scope_of x.frame at.database.rows) x.trigger.when) [
@@ -57,13 +57,13 @@ level_total own run count context statement frame db (suc budget) =
       | Err failure ↦ 0
     ]
 
--- of a data statement of a trigger's body, where so many levels may be nested from here on
+-- of a data statement of a trigger's body, if so many levels may be nested from here on
 abbrev pub nested_total : (List Wave → ℕ) → ℕ → Context → Counts
 nested_total own zero context trigger statement frame db budget = 0
 nested_total own (suc depth) context trigger statement frame db budget =
     level_total own (nested_level depth context) (nested_total own depth context) context statement frame db budget
 
--- of a data statement of a script, where so many levels may be nested in it
+-- of a data statement of a script, if so many levels may be nested in it
 abbrev pub total : (List Wave → ℕ) → ℕ → Context → DataStatement → Frame → Database → ℕ → ℕ
 total own deeper context statement frame db budget =
     level_total own (nested_level deeper context) (nested_total own deeper context) context statement frame db budget
@@ -87,7 +87,7 @@ LevelsTakeFromTheBudget =
     → level deeper context statement frame db budget ≡ Ok done
     → done.rest + total one_statement deeper context statement frame db budget + total sizes deeper context statement frame db budget ≡ budget
 
--- So does one of a trigger's body.
+-- An accepted data statement of a trigger's body takes the same from the budget.
 abbrev pub NestedLevelsTakeFromTheBudget : Type 0
 NestedLevelsTakeFromTheBudget =
     (depth : ℕ) (context : Context) (trigger : ℕ) (statement : DataStatement) (frame : Frame) (db : Database) (budget : ℕ)
@@ -120,7 +120,7 @@ LevelsCountTheirChanges =
     → level deeper context statement frame db budget ≡ Ok done
     → done.database.count ≡ db.count + total sizes deeper context statement frame db budget
 
--- So after one of a trigger's body.
+-- The count after an accepted data statement of a trigger's body is likewise that before, and the sizes of all waves.
 abbrev pub NestedLevelsCountTheirChanges : Type 0
 NestedLevelsCountTheirChanges =
     (depth : ℕ) (context : Context) (trigger : ℕ) (statement : DataStatement) (frame : Frame) (db : Database) (budget : ℕ)
@@ -128,7 +128,7 @@ NestedLevelsCountTheirChanges =
     → nested_level depth context trigger statement frame db budget ≡ Ok done
     → done.database.count ≡ db.count + nested_total sizes depth context trigger statement frame db budget
 
--- Where a data statement is refused, the count of row changes is no lower than before it.
+-- If a data statement is refused, the count of row changes is no lower than before it.
 abbrev pub RefusedLevelsKeepTheCount : Type 0
 RefusedLevelsKeepTheCount =
     (deeper : ℕ) (context : Context) (statement : DataStatement) (frame : Frame) (db : Database) (budget : ℕ) (failure : Failure)

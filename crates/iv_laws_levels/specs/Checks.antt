@@ -1,8 +1,8 @@
 -- What a data statement checks.
 use Rattle.std.specs.Prelude.{◌≡◌, ℕ, [], Ok}
 use Rattle.iv_expr.specs.Scopes.{Frame}
-use Rattle.iv_laws_levels.specs.Words.{DataStatement, Database}
-use Rattle.iv_laws_levels.specs.Words.which.{Immediate}
+use Rattle.iv_laws_levels.specs.Types.{DataStatement, Database}
+use Rattle.iv_laws_levels.specs.Types.which.{Immediate}
 use Rattle.iv_machine.specs.Context.{Context}
 use Rattle.iv_machine.specs.Databases.{scan, is_chosen}
 use Rattle.iv_machine.specs.Levels.{Finished, nested_level, level}
@@ -18,7 +18,7 @@ LevelsCheck =
     → level deeper context statement frame db budget ≡ Ok done
     → IsChecked context done.database
 
--- So after one of a trigger's body.
+-- After an accepted data statement of a trigger's body no immediate constraint is violated either.
 abbrev pub NestedLevelsCheck : Type 0
 NestedLevelsCheck =
     (depth : ℕ) (context : Context) (trigger : ℕ) (statement : DataStatement) (frame : Frame) (db : Database) (budget : ℕ) (done : Finished)

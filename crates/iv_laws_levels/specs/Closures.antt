@@ -1,9 +1,9 @@
--- Which rows a DELETE takes away, where foreign keys delete, restrict or do nothing on delete.
+-- Which rows a DELETE takes away, if foreign keys delete, restrict or do nothing on delete.
 use Rattle.std.specs.Prelude.{◌≡◌, ℕ, Bool, true, false, ◌&&◌, not, ◌==◌, List, Some, None, Ok}
 use Rattle.std.specs.List.{list_any, list_all}
-use Rattle.iv_laws_levels.specs.Words.{StoredRow, Cond, ReferentialAction, Constraint, ForeignKey, Database}
-use Rattle.iv_laws_levels.specs.Words.referential_action as action
-use Rattle.iv_laws_levels.specs.Words.data_statement.{Delete}
+use Rattle.iv_laws_levels.specs.Types.{StoredRow, Cond, ReferentialAction, Constraint, ForeignKey, Database}
+use Rattle.iv_laws_levels.specs.Types.referential_action as action
+use Rattle.iv_laws_levels.specs.Types.data_statement.{Delete}
 use Rattle.iv_expr.specs.Changes.{Wave}
 use Rattle.iv_expr.specs.Scopes.{Frame}
 use Rattle.iv_key.specs.Keys.{key_of, holds_key}
@@ -36,7 +36,7 @@ no_column_is_set constraints = list_all (λ k. not (sets_columns k.key.on_delete
 abbrev pub cascades_by : ForeignKey → StoredRow → StoredRow → Bool
 cascades_by fk row other = is_cascade fk.on_delete && ((other.table == fk.referenced) && holds_key fk.columns (key_of fk.key other.values) row.values)
 
--- so by some foreign key of its table
+-- a row holds the key of another by some such foreign key of its table
 abbrev pub follows : List Constraint → StoredRow → StoredRow → Bool
 follows constraints row other = list_any (λ k. (k.table == row.table) && cascades_by k.key row other) (references constraints)
 

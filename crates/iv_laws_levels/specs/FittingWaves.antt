@@ -1,6 +1,6 @@
 -- Waves that fit the databases that they are applied to: what a law of one wave asks, levels keep.
 use Rattle.std.specs.Prelude.{◌≡◌, ℕ, ◌≤◌, List, [], ◌∷◌, Option, Some, None, Ok}
-use Rattle.iv_laws_levels.specs.Words.{StoredRow, Change, DataStatement, Database}
+use Rattle.iv_laws_levels.specs.Types.{StoredRow, Change, DataStatement, Database}
 use Rattle.iv_expr.specs.Changes.{Wave, RisingChanges}
 use Rattle.iv_expr.specs.Scopes.{Frame}
 use Rattle.iv_machine.specs.Databases.{no_rows, row_at, database_after}
@@ -10,7 +10,7 @@ use Rattle.iv_machine.specs.Proposals.{proposed_wave}
 use Rattle.iv_machine.specs.Waves.{SettledWaves, settled_waves}
 use Rattle.iv_machine.specs.Levels.{Finished, nested_level, level}
 
--- the row that a change takes away, where it is no insertion
+-- the row that a change takes away, if it is no insertion
 abbrev pub old_row : Change → Option StoredRow
 old_row c = elim c.old [ Some values ↦ Some (record { table = c.table; number = c.row; values = values }) | None ↦ None ]
 
@@ -55,7 +55,7 @@ LevelsKeepNumbers =
     → Numbered db → level deeper context statement frame db budget ≡ Ok done
     → Numbered done.database
 
--- So does one of a trigger's body.
+-- A data statement of a trigger's body leaves a numbered database.
 abbrev pub NestedLevelsKeepNumbers : Type 0
 NestedLevelsKeepNumbers =
     (depth : ℕ) (context : Context) (trigger : ℕ) (statement : DataStatement) (frame : Frame) (db : Database) (budget : ℕ)

@@ -3,8 +3,8 @@
 use Rattle.std.specs.Prelude.{◌≡◌, ℕ, Bool, true, false, ◌&&◌, not, ◌==◌, List, ◌++◌, map, filter, filter_map, flat_map, find, Option, Some, None, is_some, Result, Ok}
 use Rattle.std.specs.List.{list_any}
 use Rattle.std.specs.Option.{option_map}
-use Rattle.iv_laws_levels.specs.Words.{Value, StoredRow, Change, TableColumn, Fault, Constraint, ForeignKey, Database, Effect}
-use Rattle.iv_laws_levels.specs.Words.cause.{Restrict, ActionConflict}
+use Rattle.iv_laws_levels.specs.Types.{Value, StoredRow, Change, TableColumn, Fault, Constraint, ForeignKey, Database, Effect}
+use Rattle.iv_laws_levels.specs.Types.cause.{Restrict, ActionConflict}
 use Rattle.iv_value.specs.Values.{all_same}
 use Rattle.iv_expr.specs.Changes.{Wave, RisingChanges}
 use Rattle.iv_expr.specs.Scopes.{table_rows}
@@ -42,7 +42,7 @@ HoldersBeforeAWave =
     (filter (is_outside wave.changes) (holders (database_after db wave).rows table columns key)
     ++ holders (old_rows wave.changes) table columns key)
 
--- The row of a number before a wave: what its change took away, or where it has none the row that there is after the wave.
+-- The row of a number before a wave: what its change took away, or if it has none the row that there is after the wave.
 abbrev pub row_before : Wave → List StoredRow → ℕ → Option StoredRow
 row_before wave later number = elim (find (λ c. c.row == number) wave.changes) [ Some c ↦ old_row c | None ↦ row_at later number ]
 
@@ -76,7 +76,7 @@ loss_of_new fk (Some new) = updated (key_of fk.key new)
 abbrev pub keys_lost_by : Wave → LostKeys
 keys_lost_by wave fk key = option_map (λ c. loss_of_new fk c.new) (find (loses_key fk key) wave.changes)
 
--- The wave alone tells which keys were lost, and how.
+-- Only the wave tells which keys were lost, and how.
 abbrev pub KeysAreLostByTheWave : Type 0
 KeysAreLostByTheWave =
     (db : Database) (wave : Wave) (fk : ForeignKey) (key : List Value)
@@ -150,7 +150,7 @@ NextWavesFollow =
     → next_wave schema (lost_keys db.rows (database_after db wave).rows) db.rows (database_after db wave).rows
     ≡ next_wave_by wave schema (database_after db wave).rows
 
--- So what follows a wave is a function of the database after it and of the wave alone.
+-- What follows a wave is a function of the database after it and of the wave.
 abbrev pub wave_following : Context → Wave → Database → Result Wave Failure
 wave_following context wave later =
     unless_first later Restrict (restricted_by wave context.schema.constraints later.rows)

@@ -1,4 +1,4 @@
-pub mod Words
+pub mod Types
 pub mod Budgets
 pub mod Checks
 pub mod RisingRows

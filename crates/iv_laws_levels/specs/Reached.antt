@@ -1,10 +1,10 @@
 -- The states that resolved statements reach, whatever constraints, modes, savepoints and triggers there are.
 use Rattle.std.specs.Prelude.{ℕ, ◌<◌, List, [], ◌∷◌, length}
 use Rattle.iv_catalogue.specs.Catalogues.{AllOn, Schema}
-use Rattle.iv_laws_levels.specs.Words.{BodyStatement, Plan, SchemaPlan}
-use Rattle.iv_laws_levels.specs.Words.body
-use Rattle.iv_laws_levels.specs.Words.plan
-use Rattle.iv_laws_levels.specs.Words.schema
+use Rattle.iv_laws_levels.specs.Types.{BodyStatement, Plan, SchemaPlan}
+use Rattle.iv_laws_levels.specs.Types.body
+use Rattle.iv_laws_levels.specs.Types.plan
+use Rattle.iv_laws_levels.specs.Types.schema
 use Rattle.iv_machine.specs.Bounds.{Bounds}
 use Rattle.iv_machine.specs.Laws.{IsSound}
 use Rattle.iv_machine.specs.Machine.{State, Outcome, empty_state, is_open, transaction_cause, plan_occasion, outcome_unless, plan_outcome}

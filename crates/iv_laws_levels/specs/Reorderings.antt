@@ -1,6 +1,6 @@
 -- The changes of a wave one by one, in any order.
 use Rattle.std.specs.Prelude.{◌≡◌, false, List, [], ◌∷◌}
-use Rattle.iv_laws_levels.specs.Words.{Change, Database}
+use Rattle.iv_laws_levels.specs.Types.{Change, Database}
 use Rattle.iv_expr.specs.Changes.{Wave, wave_of}
 use Rattle.iv_machine.specs.Databases.{has_change, database_after}
 use Rattle.iv_laws_levels.specs.RisingRows.{InOrder}
@@ -26,8 +26,7 @@ abbrev pub one_by_one : Database → List Change → Database
 one_by_one db [] = db
 one_by_one db (c ∷ changes) = one_by_one (after_changes db (c ∷ [])) changes
 
--- The changes of a wave, one by one in any order, give what the wave gives, where rows are in rising number and no two changes
--- are of one row.
+-- The changes of a wave, one by one in any order, give what the wave gives, if rows are in rising number and no two changes are of one row.
 abbrev pub AnyOrderGivesTheWave : Type 0
 AnyOrderGivesTheWave =
     (db : Database) (wave : Wave) (other : List Change)

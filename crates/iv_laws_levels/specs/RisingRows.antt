@@ -1,6 +1,6 @@
 -- Rows in rising number.
 use Rattle.std.specs.Prelude.{ℕ, ◌<◌, List, [], ◌∷◌}
-use Rattle.iv_laws_levels.specs.Words.{StoredRow}
+use Rattle.iv_laws_levels.specs.Types.{StoredRow}
 
 -- each of these rows is so
 abbrev pub Every : (StoredRow → Type 0) → List StoredRow → Type 0

@@ -1,6 +1,6 @@
 -- What one wave does to rows, and how waves are settled one after another.
 use Rattle.std.specs.Prelude.{◌≡◌, ℕ, ◌==◌, List, find, Option, Some, None}
-use Rattle.iv_laws_levels.specs.Words.{StoredRow, Database}
+use Rattle.iv_laws_levels.specs.Types.{StoredRow, Database}
 use Rattle.iv_expr.specs.Changes.{Wave}
 use Rattle.iv_machine.specs.Databases.{row_at, new_row, database_after}
 use Rattle.iv_machine.specs.Context.{Context}
@@ -8,7 +8,7 @@ use Rattle.iv_machine.specs.Waves.{settled_by, settled_waves}
 use Rattle.iv_laws_levels.specs.RisingRows.{InOrder}
 use Rattle.iv_laws_levels.specs.Reorderings.{Distinct}
 
--- The row of a number after a wave: what its change leaves, or where it has none the row that there was before the wave.
+-- The row of a number after a wave: what its change leaves, or if it has none the row that there was before the wave.
 abbrev pub row_after : Wave → List StoredRow → ℕ → Option StoredRow
 row_after wave rows number = elim (find (λ c. c.row == number) wave.changes) [ Some c ↦ new_row c | None ↦ row_at rows number ]
 

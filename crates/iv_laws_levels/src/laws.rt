@@ -18,8 +18,8 @@ pub fn budget_falls()
     ensures waves { WavesTakeWhatTheyChange }
 {}
 
-/// The count of row changes after a data statement is that before it, and the sizes of all waves at all
-/// levels; where it is refused, the count is no lower than before it.
+/// The count of row changes after a data statement is that before it, and the sizes of all waves at all levels; if it
+/// is refused, the count is no lower than before it.
 pub fn changes_are_counted()
     ensures waves { WavesCountTheirChanges }
     ensures level { LevelsCountTheirChanges }
@@ -61,8 +61,8 @@ pub fn net_changes_follow()
     ensures net { NetChangesFollowFromTheWaves }
 {}
 
-/// Which rows held a key before a wave, which keys it took away, and what follows it, depend on the rows
-/// after it and on the wave.
+/// Which rows held a key before a wave, which keys it removed, and what follows, depend on the rows after it and on the
+/// wave.
 pub fn holders_before_a_wave()
     ensures holders { HoldersBeforeAWave }
     ensures rows { RowsBeforeAWave }
@@ -80,22 +80,21 @@ pub fn a_change_is_local()
     ensures elsewhere { ViolationsElsewhereStay }
 {}
 
-/// Where no foreign key sets columns on delete, an accepted DELETE takes away exactly the least set of
-/// rows that has its candidates, and each row that by a foreign key with ON DELETE CASCADE holds the key
-/// of a row of the set; no other row changes.
+/// If no foreign key sets columns on delete, an accepted DELETE removes exactly the least set of rows that has its
+/// candidates and each row that, by a foreign key with ON DELETE CASCADE, holds the key of a row of the set. No other
+/// row changes.
 pub fn deletion_closure()
     ensures gone { TakenRowsAreGone }
     ensures only { GoneRowsAreTaken }
     ensures stay { OtherRowsStay }
 {}
 
-/// In every state that resolved statements reach from an empty one, with any constraints, modes,
-/// savepoints and triggers, no immediate constraint is violated, so that none is violated exactly where no
-/// deferred one is; no immediate one is violated in a savepoint's database either, under its own modes.
-/// Outside a transaction no constraint is violated, modes are initial, there is no savepoint, and no row
-/// change stands. The numbers of triggers are distinct, below the number of triggers ever created. The
-/// statements and the bodies of triggers change only tables that are there, and the constraints of a new table
-/// are on it.
+/// In every state that resolved statements reach from an empty one, with any constraints, modes, savepoints and
+/// triggers, no immediate constraint is violated, so that none is violated exactly if no deferred one is; no immediate
+/// one is violated in a savepoint's database either, under its own modes. Outside a transaction no constraint is
+/// violated, modes are initial, there is no savepoint, and no row change stands. The numbers of triggers are distinct,
+/// below the number of triggers ever created. The statements and the bodies of triggers change only tables that are
+/// there, and the constraints of a new table are on it.
 pub fn planned_states_are_sound()
     ensures { PlannedStatesAreSound }
 {}

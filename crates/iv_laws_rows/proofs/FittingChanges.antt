@@ -3,8 +3,8 @@ use Rattle.std.proofs.Common.{◌≡◌, ℕ, ◌+◌, Bool, true, false, ◌&&�
 use mathlib.Core.Bool.{or-true}
 use Rattle.std.proofs.lemmas.Bool.{and_from, and_parts}
 use Rattle.std.specs.List.{cons_option}
-use Rattle.iv_laws_rows.specs.Words.{Value, StoredRow, Change, Table, Cause, Refusal, BodyStatement, Trigger}
-use Rattle.iv_laws_rows.specs.Words.body
+use Rattle.iv_laws_rows.specs.Types.{Value, StoredRow, Change, Table, Cause, Refusal, BodyStatement, Trigger}
+use Rattle.iv_laws_rows.specs.Types.body
 use Rattle.iv_expr.specs.Evaluation.{value}
 use Rattle.iv_expr.specs.Scopes.{scope_of}
 use Rattle.iv_machine.specs.Databases.{database_after}

@@ -2,8 +2,8 @@
 use Rattle.std.proofs.Common.{◌≡◌, ℕ, nat_lt, Bool, true, false, ◌&&◌, ◌||◌, ◌==◌, if◌then◌else◌, List, [], ◌∷◌, ◌∙◌, Option, Some, None, is_none, is_some, refl, sym, ap, subst, length, map, filter, slice_get, inl, inr}
 use Rattle.std.specs.List.{list_all, cons_option}
 use Rattle.std.proofs.lemmas.Bool.{eqb-true, and_from, and_parts}
-use Rattle.iv_laws_rows.specs.Words.{Value, StoredRow, Change, TableColumn, TriggerEvent, Table, DataStatement, Trigger}
-use Rattle.iv_laws_rows.specs.Words.body
+use Rattle.iv_laws_rows.specs.Types.{Value, StoredRow, Change, TableColumn, TriggerEvent, Table, DataStatement, Trigger}
+use Rattle.iv_laws_rows.specs.Types.body
 use Rattle.iv_value.specs.declared.value.Value.TheVariants.{Null, Int, Text}
 use Rattle.iv_value.specs.declared.value.Kind.{Kind}
 use Rattle.iv_value.specs.declared.value.Kind.TheVariants as kind

@@ -2,8 +2,8 @@
 use Rattle.std.proofs.Common.{◌≡◌, ℕ, zero, suc, ◌+◌, Bool, true, false, if◌then◌else◌, List, [], ◌∷◌, Some, Ok, refl, ap, subst, inl, inr}
 use Rattle.std.specs.List.{enumerate_from}
 use Rattle.iv_expr.specs.Scopes.{Frame, scope_of}
-use Rattle.iv_laws_rows.specs.Words.{Table, BodyStatement, DataStatement, Database}
-use Rattle.iv_laws_rows.specs.Words.body
+use Rattle.iv_laws_rows.specs.Types.{Table, BodyStatement, DataStatement, Database}
+use Rattle.iv_laws_rows.specs.Types.body
 use Rattle.iv_machine.specs.Context.{Context, over}
 use Rattle.iv_machine.specs.Proposals.{holds}
 use Rattle.iv_machine.specs.BeforeTriggers.{placed_statements}

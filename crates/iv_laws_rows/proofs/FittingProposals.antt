@@ -3,7 +3,7 @@ use Rattle.std.proofs.Common.{◌≡◌, ℕ, zero, suc, Bool, true, ◌&&◌, �
 use Rattle.std.proofs.lemmas.Bool.{and_from, and_parts}
 use Rattle.std.specs.List.{list_all}
 use Rattle.iv_value.specs.declared.value.Kind.{Kind}
-use Rattle.iv_laws_rows.specs.Words.{Value, StoredRow, Change, Table, Cause, DataStatement, Database}
+use Rattle.iv_laws_rows.specs.Types.{Value, StoredRow, Change, Table, Cause, DataStatement, Database}
 use Rattle.iv_expr.specs.declared.tree.Cond.{Cond}
 use Rattle.iv_expr.specs.declared.tree.Expr.{Expr}
 use Rattle.iv_expr.specs.declared.tree.ExprFault.{ExprFault}
@@ -32,7 +32,7 @@ use Rattle.iv_laws_rows.proofs.FittingValues.{there_at, fits_there, with_fits, a
 
 -- ---- changes of each
 
--- what is made of each fits, where each fits
+-- what is made of each fits, if each fits
 pub each_fits : {A : Type 0} (p : Change → Bool) (f : A → Result Change Cause) (xs : List A) (changes : List Change)
     → ((j : ℕ) (x : A) (c : Change) → slice_get xs j ≡ Some x → f x ≡ Ok c → p c ≡ true) → each f xs ≡ Ok changes → list_all p changes ≡ true
 each_fits p f [] changes h e = ap (list_all p) (sym (ok_same {E = Cause} [] changes e))

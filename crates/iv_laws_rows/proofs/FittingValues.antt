@@ -3,8 +3,8 @@ use Rattle.std.proofs.Common.{◌≡◌, ℕ, zero, suc, ◌+◌, nat_lt, nat_le
 use Rattle.std.proofs.lemmas.Bool.{and_from, and_parts}
 use Rattle.std.specs.List.{list_all, enumerate_from}
 use Rattle.std.proofs.lemmas.Bool.Decides.{nat_tests}
-use Rattle.iv_laws_rows.specs.Words.{Value, Table, Cause}
-use Rattle.iv_laws_rows.specs.Words.cause.{WrongShape, TextTooLong}
+use Rattle.iv_laws_rows.specs.Types.{Value, Table, Cause}
+use Rattle.iv_laws_rows.specs.Types.cause.{WrongShape, TextTooLong}
 use Rattle.iv_value.specs.declared.value.Value.TheVariants.{Null}
 use Rattle.iv_value.specs.declared.value.Fit.{Fit}
 use Rattle.iv_value.specs.declared.value.Fit.TheVariants.{Yes, WrongKind, TooLong}
@@ -45,7 +45,7 @@ there_at [] place h = let n : nat_lt place 0 ≡ false = grind (arith, nat_tests
 there_at (x ∷ xs) zero h = (x, refl)
 there_at (x ∷ xs) (suc n) h = there_at xs n (grind (arith, nat_tests))
 
--- where values fit, their table is there
+-- if values fit, their table is there
 pub fits_there : (tables : List Table) (table : ℕ) (values : List Value) → fits_table tables table values ≡ true → is_there tables table ≡ true
 fits_there tables table values h = by (slice_get tables table) refl h
   where

@@ -3,7 +3,7 @@ use Rattle.std.proofs.Common.{◌≡◌, ℕ, Bool, true, false, ◌&&◌, if◌
 use Rattle.std.specs.List.{list_any, list_all, enumerate_from}
 use Rattle.std.proofs.lemmas.Bool.{eqb-true, and_from, and_parts}
 use Rattle.std.proofs.lemmas.List.Folds.{list_all-append}
-use Rattle.iv_laws_rows.specs.Words.{Value, StoredRow, Change, Table, Database}
+use Rattle.iv_laws_rows.specs.Types.{Value, StoredRow, Change, Table, Database}
 use Rattle.iv_value.specs.declared.value.Value.TheVariants.{Null}
 use Rattle.iv_value.specs.declared.value.Kind.{Kind}
 use Rattle.iv_value.specs.declared.value.Kind.TheVariants as kind
@@ -41,7 +41,7 @@ use Rattle.iv_laws_rows.proofs.FittingChanges.{rows_after_fit}
 use Rattle.iv_laws_rows.proofs.MoreMembers.{enumerated_in}
 use Rattle.iv_laws_rows.proofs.StayingTables.{TablesStay, tables_stay_applied}
 
--- the kinds of a table, where there is one
+-- the kinds of a table, if there is one
 abbrev pub kinds_in : Option Table → List Kind
 kinds_in o = elim o [ Some t ↦ kinds_of t | None ↦ [] ]
 
@@ -334,7 +334,7 @@ next_changes_fit schema db later s order sorted stay rows (r ∷ some) i =
         and_from _ _
         (change_by_fits schema.tables r (effects_on schema (lost_keys db later) (row_at db r.number) r) c fit (by_before (row_at db r.number) refl) f) more
 
--- the wave that follows from one database to a later one, where rows stay of their tables
+-- the wave that follows from one database to a later one, if rows stay of their tables
 pub followed_fits : (context : Context) (db later : Database) (next : Wave) → SchemaSuits context.schema
     → InOrder db.rows → InOrder later.rows → TablesStay db.rows later.rows → rows_fit context.schema.tables later.rows ≡ true
     → following_wave context db later ≡ Ok next → wave_fits context.schema.tables next ≡ true

@@ -1,8 +1,8 @@
 -- The waves of a statement that fits are well-typed, and so are the levels that it leads to.
 use Rattle.std.proofs.Common.{◌≡◌, ℕ, zero, suc, ◌+◌, ◌-◌, nat_lt, Bool, true, false, if◌then◌else◌, List, [], ◌∷◌, ◌∙◌, Some, Result, Ok, Err, refl, ap, filter}
-use Rattle.iv_laws_rows.specs.Words.{Change, Cause, BodyStatement, DataStatement, Database}
-use Rattle.iv_laws_rows.specs.Words.cause.{Restrict, ActionConflict, Violation, TooManyChanges, TransactionTooLarge, Limit}
-use Rattle.iv_laws_rows.specs.Words.body
+use Rattle.iv_laws_rows.specs.Types.{Change, Cause, BodyStatement, DataStatement, Database}
+use Rattle.iv_laws_rows.specs.Types.cause.{Restrict, ActionConflict, Violation, TooManyChanges, TransactionTooLarge, Limit}
+use Rattle.iv_laws_rows.specs.Types.body
 use Rattle.iv_expr.specs.Changes.{Wave}
 use Rattle.iv_expr.specs.Evaluation.{and_then}
 use Rattle.iv_expr.specs.Scopes.{Frame, scope_of}
@@ -124,7 +124,7 @@ module _ (w : Context) (run : Runs) (keeps : KeepsWhereFits w.schema.tables (IsF
   abbrev Stands : Progress → Type 0
   Stands at = IsFitting w at.database at.budget
 
-  -- of a statement of a body: that it fits, where it is a data statement
+  -- of a statement of a body: that it fits, if it is a data statement
   abbrev Placed : Firing → ℕ × BodyStatement → Type 0
   Placed x p = (d : DataStatement) → p.1 ≡ body.Data d → StatementFits w.schema.tables x.frame d
 

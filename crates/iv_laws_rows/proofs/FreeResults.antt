@@ -1,8 +1,8 @@
 -- Results that are without a fault of types, one step after another.
 use Rattle.std.proofs.Common.{◌≡◌, ℕ, true, false, List, Result, Ok, Err, refl}
 use Rattle.iv_expr.specs.Evaluation.{and_then}
-use Rattle.iv_laws_rows.specs.Words.{Cause, Refusal, Database}
-use Rattle.iv_laws_rows.specs.Words.cause.{NumberOutOfRange, TextTooLong}
+use Rattle.iv_laws_rows.specs.Types.{Cause, Refusal, Database}
+use Rattle.iv_laws_rows.specs.Types.cause.{NumberOutOfRange, TextTooLong}
 use Rattle.iv_catalogue.specs.declared.cause.Fault.{Fault}
 use Rattle.iv_machine.specs.Context.{Failure, over, unless_first, while_running, with_count, inside_trigger, each, in_turn}
 use Rattle.iv_laws_fitting.specs.Running.{is_of_values}
@@ -32,7 +32,7 @@ then_free cause = then_without (λ e. is_ill_typed (cause e))
 pub each_free : {A B E : Type 0} (cause : E → Cause) (f : A → Result B E) (xs : List A) → ((x : A) → In x xs → FreeBy cause (f x)) → FreeBy cause (each f xs)
 each_free cause = each_without (λ e. is_ill_typed (cause e))
 
--- one after another, where each keeps what the next asks
+-- one after another, if each keeps what the next asks
 pub in_turn_free : {A B E : Type 0} (cause : E → Cause) (P : B → Type 0) (f : A → B → Result B E) (xs : List A)
     → ((x : A) → In x xs → (b : B) → P b → FreeBy cause (f x b)) → ((x : A) → In x xs → (b after : B) → P b → f x b ≡ Ok after → P after)
     → (b : B) → P b → FreeBy cause (in_turn f xs b)

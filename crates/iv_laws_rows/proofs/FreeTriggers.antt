@@ -2,9 +2,9 @@
 use Rattle.std.proofs.Common.{◌≡◌, ℕ, Bool, true, false, not, ◌&&◌, ◌==◌, if◌then◌else◌, List, [], ◌∙◌, Option, Some, None, is_none, Result, Ok, Err, refl, sym, ap, find, filter, slice_get, slice_set}
 use Rattle.std.proofs.lemmas.Bool.{and_parts, not-true}
 use Rattle.std.specs.List.{list_all}
-use Rattle.iv_laws_rows.specs.Words.{Value, StoredRow, Change, Table, Cause, Refusal, BodyStatement, DataStatement, Trigger}
-use Rattle.iv_laws_rows.specs.Words.cause.{Signal}
-use Rattle.iv_laws_rows.specs.Words.body
+use Rattle.iv_laws_rows.specs.Types.{Value, StoredRow, Change, Table, Cause, Refusal, BodyStatement, DataStatement, Trigger}
+use Rattle.iv_laws_rows.specs.Types.cause.{Signal}
+use Rattle.iv_laws_rows.specs.Types.body
 use Rattle.iv_expr.specs.Evaluation.{value}
 use Rattle.iv_expr.specs.Scopes.{Frame, no_frame, scope_of}
 use Rattle.iv_expr.specs.Suiting.{suits}

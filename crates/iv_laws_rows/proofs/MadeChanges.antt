@@ -2,8 +2,8 @@
 use Rattle.std.proofs.Common.{◌≡◌, ℕ, ◌+◌, ◌≤◌, nat_lt, Bool, true, false, ◌||◌, if◌then◌else◌, List, [], ◌∷◌, ◌∙◌, Option, Some, None, IfSome, Ok, refl, sym, ap, subst, length, arith}
 use Rattle.std.proofs.lemmas.Bool.{ne_eqb, and_parts, or_parts}
 use Rattle.std.proofs.lemmas.Bool.Decides.{nat_tests}
-use Rattle.iv_laws_rows.specs.Words.{Value, StoredRow, Change, Table, Database}
-use Rattle.iv_laws_rows.specs.Words.cause.{TooManyChanges, TransactionTooLarge, Limit}
+use Rattle.iv_laws_rows.specs.Types.{Value, StoredRow, Change, Table, Database}
+use Rattle.iv_laws_rows.specs.Types.cause.{TooManyChanges, TransactionTooLarge, Limit}
 use Rattle.iv_expr.specs.Changes.{Wave, RisingChangesFrom}
 use Rattle.iv_machine.specs.Bounds.{most_changes_in_a_transaction, last_row_number}
 use Rattle.iv_machine.specs.Databases.{row_at, has_change, size}

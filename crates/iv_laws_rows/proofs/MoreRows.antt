@@ -1,7 +1,7 @@
--- Rows still fit where there are more tables.
+-- Rows still fit if there are more tables.
 use Rattle.std.proofs.Common.{◌≡◌, ℕ, zero, suc, true, List, [], ◌∷◌, ◌++◌, ◌∙◌, Option, Some, None, refl, ap, slice_get}
 use Rattle.std.proofs.lemmas.Bool.{and_from, and_parts}
-use Rattle.iv_laws_rows.specs.Words.{Value, Table}
+use Rattle.iv_laws_rows.specs.Types.{Value, Table}
 use Rattle.iv_store.specs.Stores.{fits_table}
 use Rattle.iv_laws_rows.specs.RowFits.{row_fits, rows_fit}
 use Rattle.iv_laws_rows.specs.Laws.{RowsFitMoreTables}

@@ -2,7 +2,7 @@
 use Rattle.std.proofs.Common.{◌≡◌, Bool, true, ◌&&◌, List, [], ◌∷◌, ◌∙◌, Option, Some, None, is_none, inl, inr, refl, sym, ap, map, filter}
 use Rattle.std.proofs.lemmas.Bool.{and_from}
 use Rattle.std.proofs.lemmas.List.Folds.{list_all-append}
-use Rattle.iv_laws_rows.specs.Words.{Value, StoredRow, Change, Table, Database}
+use Rattle.iv_laws_rows.specs.Types.{Value, StoredRow, Change, Table, Database}
 use Rattle.iv_expr.specs.Changes.{Wave}
 use Rattle.iv_machine.specs.Databases.{row_at}
 use Rattle.iv_machine.specs.Waves.{in_waves, net_change, net_insertion, net_wave}

@@ -3,7 +3,7 @@ use Rattle.std.proofs.Common.{◌≡◌, true, refl}
 use Rattle.std.proofs.lemmas.Bool.{and_from}
 use Rattle.std.specs.List.{list_all}
 use Rattle.iv_expr.specs.Changes.{Wave}
-use Rattle.iv_laws_rows.specs.Words.{Database}
+use Rattle.iv_laws_rows.specs.Types.{Database}
 use Rattle.iv_machine.specs.Databases.{database_after}
 use Rattle.iv_machine.specs.Context.{Context}
 use Rattle.iv_machine.specs.Waves.{SettledWaves}

@@ -1,6 +1,6 @@
 -- A row stays of its table, over a wave and over a chain of waves.
 use Rattle.std.proofs.Common.{◌≡◌, ℕ, ◌<◌, ◌≤◌, Bool, true, false, if◌then◌else◌, List, [], ◌∷◌, ◌∙◌, Option, Some, None, refl, sym, ap, subst, inl, inr, arith}
-use Rattle.iv_laws_rows.specs.Words.{Value, StoredRow, Change, Database}
+use Rattle.iv_laws_rows.specs.Types.{Value, StoredRow, Change, Database}
 use Rattle.iv_expr.specs.Changes.{Wave}
 use Rattle.iv_machine.specs.Databases.{row_at, has_change, next_after, database_after}
 use Rattle.iv_laws_levels.specs.FittingWaves.{old_row, Current, NumbersFrom, Numbered, FitsDatabase, Chain}
@@ -9,7 +9,7 @@ use Rattle.iv_laws_levels.proofs.AppliedRows.{row_of, news, row_at_rows_after}
 use Rattle.iv_laws_levels.proofs.NumberedRows.{Below, parts_of}
 use Rattle.iv_laws_levels.proofs.Members.{In, Member, of_filter_map, in_rows}
 
--- the row of a number is of one table in both lists, where both have one
+-- the row of a number is of one table in both lists, if both have one
 abbrev pub TablesStay : List StoredRow → List StoredRow → Type 0
 TablesStay rows later = (n : ℕ) (r s : StoredRow) → row_at rows n ≡ Some r → row_at later n ≡ Some s → s.table ≡ r.table
 

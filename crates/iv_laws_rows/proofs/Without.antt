@@ -1,7 +1,7 @@
 -- Results that are without refusals of some kind, one step after another. The kind is a test of what is refused with.
 use Rattle.std.proofs.Common.{◌≡◌, ℕ, Bool, true, false, List, [], ◌∷◌, Some, is_none, Result, Ok, Err, if◌then◌else◌, refl, subst, inl, inr}
 use Rattle.iv_expr.specs.Evaluation.{and_then}
-use Rattle.iv_laws_rows.specs.Words.{Cause, Refusal, Database}
+use Rattle.iv_laws_rows.specs.Types.{Cause, Refusal, Database}
 use Rattle.iv_catalogue.specs.declared.cause.Fault.{Fault}
 use Rattle.iv_machine.specs.Context.{Failure, over, unless_first, while_running, with_count, inside_trigger, each, in_turn}
 use Rattle.iv_laws_levels.proofs.Members.{In}
@@ -23,7 +23,7 @@ each_without test f (x ∷ xs) h =
     then_without test (f x) (λ y. and_then (each f xs) (λ ys. Ok (y ∷ ys))) (h x (inl refl))
     (λ y e. then_without test (each f xs) (λ ys. Ok (y ∷ ys)) (each_without test f xs (λ z i. h z (inr i))) (λ ys g. tt))
 
--- one after another, where each keeps what the next asks
+-- one after another, if each keeps what the next asks
 pub in_turn_without : {A B E : Type 0} (test : E → Bool) (P : B → Type 0) (f : A → B → Result B E) (xs : List A)
     → ((x : A) → In x xs → (b : B) → P b → Without test (f x b)) → ((x : A) → In x xs → (b after : B) → P b → f x b ≡ Ok after → P after)
     → (b : B) → P b → Without test (in_turn f xs b)

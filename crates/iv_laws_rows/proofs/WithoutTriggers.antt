@@ -1,8 +1,8 @@
 -- BEFORE triggers are without refusals of some kind, if conditions, the values of columns and SIGNAL are.
 use Rattle.std.proofs.Common.{◌≡◌, ℕ, Bool, true, false, if◌then◌else◌, List, Option, Some, None, Result, Ok, Err, find, filter}
-use Rattle.iv_laws_rows.specs.Words.{StoredRow, Change, Cause, Refusal, BodyStatement, DataStatement, Trigger}
-use Rattle.iv_laws_rows.specs.Words.cause.{Signal}
-use Rattle.iv_laws_rows.specs.Words.body
+use Rattle.iv_laws_rows.specs.Types.{StoredRow, Change, Cause, Refusal, BodyStatement, DataStatement, Trigger}
+use Rattle.iv_laws_rows.specs.Types.cause.{Signal}
+use Rattle.iv_laws_rows.specs.Types.body
 use Rattle.iv_expr.specs.declared.tree.Cond.{Cond}
 use Rattle.iv_expr.specs.declared.tree.Expr.{Expr}
 use Rattle.iv_expr.specs.Changes.{Wave}

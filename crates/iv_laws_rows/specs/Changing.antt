@@ -1,7 +1,7 @@
 -- What holds of a store before a data statement, and what a call that changes a store answers and leaves as it was.
 use Rattle.std.specs.Prelude.{◌≡◌, ℕ, true, Result, Ok, Err, MatchBool}
 use Rattle.iv_expr.specs.Evaluation.{and_then}
-use Rattle.iv_laws_rows.specs.Words.{Database, Refusal}
+use Rattle.iv_laws_rows.specs.Types.{Database, Refusal}
 use Rattle.iv_catalogue.specs.Catalogues.{Schema}
 use Rattle.iv_catalogue.specs.Refusals.{Answers, is_memory_cause}
 use Rattle.iv_machine.specs.Context.{Failure}
@@ -19,13 +19,13 @@ pub record StoreFits (schema : Schema) (s : StoreState) : Type 0 where
 
 -- ---- what is answered
 
--- What is seen of the answer is the definition's; so is a refusal, with the count of row changes in the store when it comes. Where
--- memory was refused nothing is said.
+-- What is seen of the answer is the definition's; so is a refusal, with the count of row changes in the store when it comes. If an
+-- allocation failed nothing is said.
 abbrev pub AnswersAt : {A B : Type 0} → (A → B) → ℕ → Result A Refusal → Result B Failure → Type 0
 AnswersAt view count r said =
     Answers (λ x. is_memory_cause x.cause) (λ x. record { cause = x.cause; trigger = x.trigger; count = count }) view r said
 
--- so it is, unless memory was refused
+-- this holds, unless an allocation failed
 abbrev pub UnlessMemory : {A : Type 0} → Result A Refusal → Type 0 → Type 0
 UnlessMemory (Ok a) P = P
 UnlessMemory (Err r) P = MatchBool (is_memory_cause r.cause) (Unit {0}) P

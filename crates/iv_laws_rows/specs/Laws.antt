@@ -1,7 +1,7 @@
 -- The rows of every table fit its columns, whatever statements, waves and triggers do.
 use Rattle.std.specs.Prelude.{◌≡◌, ℕ, true, false, List, ◌++◌, slice_get, Some, Ok}
 use Rattle.std.specs.List.{list_all}
-use Rattle.iv_laws_rows.specs.Words.{StoredRow, Change, TableColumn, Table, DataStatement, Trigger, Database}
+use Rattle.iv_laws_rows.specs.Types.{StoredRow, Change, TableColumn, Table, DataStatement, Trigger, Database}
 use Rattle.iv_expr.specs.Changes.{Wave}
 use Rattle.iv_expr.specs.Scopes.{Frame, no_frame}
 use Rattle.iv_machine.specs.Databases.{database_after}
@@ -24,7 +24,7 @@ PlainStatementsFit =
     (tables : List Table) (d : DataStatement)
     → data_suits tables (plain_shape tables) d ≡ true → StatementFits tables no_frame d
 
--- Rows still fit where there are more tables.
+-- Rows still fit if there are more tables.
 abbrev pub RowsFitMoreTables : Type 0
 RowsFitMoreTables =
     (tables more : List Table) (rows : List StoredRow)
@@ -57,7 +57,7 @@ TriggeredChangesFit =
     → changes_after_triggers context rows triggers changes ≡ Ok out
     → changes_fit context.schema.tables out ≡ true
 
--- So a wave that fits does as it is applied.
+-- A wave that fits still fits as it is applied.
 abbrev pub AppliedWavesFit : Type 0
 AppliedWavesFit =
     (context : Context) (db : Database) (budget : ℕ) (wave out : Wave)
@@ -104,7 +104,7 @@ NetChangesFit =
 
 -- ---- triggers
 
--- The body of a trigger fits at each of its transitions: OLD and NEW are there where its event has them, with the kinds of its table.
+-- The body of a trigger fits at each of its transitions: OLD and NEW are there if its event has them, with the kinds of its table.
 abbrev pub RowFiringsFit : Type 0
 RowFiringsFit =
     (tables : List Table) (t : Trigger) (transitions : List Change) (place : ℕ) (c : Change)
@@ -114,7 +114,7 @@ RowFiringsFit =
     → slice_get transitions place ≡ Some c
     → BodyFits tables (row_firing t transitions c).frame t.body
 
--- So does that of a statement trigger, once for all its transitions.
+-- The body of a statement trigger fits, once for all its transitions.
 abbrev pub StatementFiringsFit : Type 0
 StatementFiringsFit =
     (tables : List Table) (t : Trigger) (transitions : List Change)
@@ -124,7 +124,7 @@ StatementFiringsFit =
     → list_all (λ x. is_on x.table (event_of_change x) t) transitions ≡ true
     → BodyFits tables (statement_firing t transitions).frame t.body
 
--- So do the bodies of all that fire on net changes which fit, whatever the columns.
+-- The bodies of all triggers that fire on net changes which fit do so, whatever the columns.
 abbrev pub FiringsFit : Type 0
 FiringsFit =
     (context : Context) (d : DataStatement) (columns : List TableColumn) (net : Wave) (place : ℕ) (x : Firing)
@@ -145,7 +145,7 @@ LevelsKeepRowsFitting =
     → level deeper context d frame db budget ≡ Ok done
     → rows_fit context.schema.tables done.database.rows ≡ true
 
--- So does one of a trigger's body.
+-- A data statement of a trigger's body that fits leaves rows that fit.
 abbrev pub NestedLevelsKeepRowsFitting : Type 0
 NestedLevelsKeepRowsFitting =
     (depth : ℕ) (context : Context) (trigger : ℕ) (d : DataStatement) (frame : Frame) (db : Database) (budget : ℕ) (done : Finished)

@@ -1,4 +1,4 @@
-pub mod Words
+pub mod Types
 pub mod RowFits
 pub mod Changing
 pub mod Laws

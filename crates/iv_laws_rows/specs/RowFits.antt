@@ -1,8 +1,8 @@
 -- When rows, changes and statements fit the tables: each value fits its column, by its kind and its length ("Store assignment").
 use Rattle.std.specs.Prelude.{◌≡◌, ℕ, Bool, true, ◌&&◌, ◌||◌, List, [], Option, Some, None, is_some, slice_get}
 use Rattle.std.specs.List.{list_all}
-use Rattle.iv_laws_rows.specs.Words.{Value, StoredRow, Change, Table, BodyStatement, DataStatement}
-use Rattle.iv_laws_rows.specs.Words.body
+use Rattle.iv_laws_rows.specs.Types.{Value, StoredRow, Change, Table, BodyStatement, DataStatement}
+use Rattle.iv_laws_rows.specs.Types.body
 use Rattle.iv_expr.specs.Changes.{Wave}
 use Rattle.iv_expr.specs.Scopes.{Frame, scope_of}
 use Rattle.iv_expr.specs.Suiting.{Shape, HasShape}
@@ -11,7 +11,7 @@ use Rattle.iv_laws_fitting.specs.PlanShapes.{table_kinds, is_there, data_suits}
 
 -- ---- rows and changes
 
--- the row before or after a change fits its table, where there is one
+-- the row before or after a change fits its table, if there is one
 abbrev pub side_fits : List Table → ℕ → Option (List Value) → Bool
 side_fits tables table None = true
 side_fits tables table (Some values) = fits_table tables table values

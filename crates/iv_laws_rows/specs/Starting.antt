@@ -1,7 +1,7 @@
 -- What a wave is settled from, step by step, and what a store asks of each change of it.
 use Rattle.std.specs.Prelude.{◌≡◌, ℕ, ◌<◌, ◌≤◌, true, List, [], ◌∷◌, length, IfSome, Ok}
 use Rattle.std.specs.List.{list_all}
-use Rattle.iv_laws_rows.specs.Words.{Change, Table, DataStatement, Database}
+use Rattle.iv_laws_rows.specs.Types.{Change, Table, DataStatement, Database}
 use Rattle.iv_expr.specs.Changes.{Wave}
 use Rattle.iv_expr.specs.Scopes.{Frame}
 use Rattle.iv_machine.specs.Bounds.{most_changes_in_a_transaction, last_row_number}
@@ -34,7 +34,7 @@ pub record MayBeMade (tables : List Table) (db : Database) (c : Change) : Type 0
   pub small : c.row ≤ last_row_number
   pub room : db.count < most_changes_in_a_transaction
 
--- so of each, where those before it were made
+-- each may be made, after those before it were
 abbrev pub AllMayBeMade : List Table → Database → List Change → Type 0
 AllMayBeMade tables db [] = Unit {0}
 AllMayBeMade tables db (c ∷ changes) = MayBeMade tables db c × AllMayBeMade tables (after_changes db (c ∷ [])) changes
@@ -65,7 +65,7 @@ NextWavesStart =
     → following_wave context db (database_after db out) ≡ Ok next
     → Starts context (database_after db out) next
 
--- So all waves from one that starts are a chain of waves that fit, to rows that fit.
+-- All waves from one that starts are a chain of waves that fit, to rows that fit.
 abbrev pub StartedWavesFit : Type 0
 StartedWavesFit =
     (context : Context) (db : Database) (budget : ℕ) (wave : Wave) (s : SettledWaves)

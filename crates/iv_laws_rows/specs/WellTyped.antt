@@ -1,8 +1,8 @@
 -- A data statement that fits meets no value of the wrong kind, and names no column that isn't there, in all that follows from it.
 use Rattle.std.specs.Prelude.{◌≡◌, ℕ, Bool, true, false, List, Err}
 use Rattle.std.specs.List.{list_all}
-use Rattle.iv_laws_rows.specs.Words.{StoredRow, Change, Cause, Refusal, DataStatement, Trigger, Database}
-use Rattle.iv_laws_rows.specs.Words.cause.{WrongShape}
+use Rattle.iv_laws_rows.specs.Types.{StoredRow, Change, Cause, Refusal, DataStatement, Trigger, Database}
+use Rattle.iv_laws_rows.specs.Types.cause.{WrongShape}
 use Rattle.iv_expr.specs.Changes.{Wave}
 use Rattle.iv_expr.specs.Scopes.{Frame}
 use Rattle.iv_machine.specs.Context.{Context, Failure}
@@ -31,7 +31,7 @@ RowTriggersAreWellTyped =
     → changes_after_triggers context rows triggers changes ≡ Err refusal
     → is_ill_typed refusal.cause ≡ false
 
--- Nor do BEFORE statement triggers.
+-- BEFORE statement triggers that suit are well-typed too.
 abbrev pub StatementTriggersAreWellTyped : Type 0
 StatementTriggersAreWellTyped =
     (context : Context) (rows : List StoredRow) (statement : DataStatement) (refusal : Refusal)
@@ -50,7 +50,7 @@ WavesAreWellTyped =
     → Starts context db wave → settled_waves context db budget wave ≡ Err failure
     → is_ill_typed failure.cause ≡ false
 
--- A data statement of a script that fits meets none, with all that follows from it.
+-- A data statement of a script that fits meets no value of a wrong kind, nor does anything that follows from it.
 abbrev pub LevelsAreWellTyped : Type 0
 LevelsAreWellTyped =
     (deeper : ℕ) (context : Context) (d : DataStatement) (frame : Frame) (db : Database) (budget : ℕ) (failure : Failure)
@@ -60,7 +60,7 @@ LevelsAreWellTyped =
     → level deeper context d frame db budget ≡ Err failure
     → is_ill_typed failure.cause ≡ false
 
--- Nor does one of a trigger's body.
+-- The same holds of a data statement of a trigger's body.
 abbrev pub NestedLevelsAreWellTyped : Type 0
 NestedLevelsAreWellTyped =
     (depth : ℕ) (context : Context) (trigger : ℕ) (d : DataStatement) (frame : Frame) (db : Database) (budget : ℕ) (failure : Failure)

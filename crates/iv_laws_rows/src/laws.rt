@@ -3,7 +3,7 @@ ghost use Rattle.iv_laws_rows.specs.Laws.{AppliedWavesFit, FiringsFit, Following
 ghost use Rattle.iv_laws_rows.specs.WellTyped.{LevelsAreWellTyped, NestedLevelsAreWellTyped, RowTriggersAreWellTyped, StatementTriggersAreWellTyped, WavesAreWellTyped};
 ghost use Rattle.iv_laws_rows.specs.Starting.{ChangesMayBeMade, NextWavesStart, ProposalsStart, StartedWavesFit};
 
-/// A plan that suits the tables fits outside of triggers; rows still fit where there are more tables.
+/// A plan that suits the tables fits outside of triggers; rows still fit if there are more tables.
 pub fn statements_fit()
     ensures plain { PlainStatementsFit }
     ensures more { RowsFitMoreTables }
@@ -14,8 +14,7 @@ pub fn proposals_fit()
     ensures { ProposalsFit }
 {}
 
-/// Each wave fits as it is applied, so do the rows after it and the wave that follows; and so do the net
-/// changes of them all.
+/// Each wave fits as it is applied. The rows after it, the wave that follows, and the net changes of all waves fit too.
 pub fn waves_fit()
     ensures numbered { NumberedChangesFit }
     ensures triggered { TriggeredChangesFit }

@@ -2,12 +2,12 @@
 use Rattle.std.proofs.Common.{◌≡◌, true, ◌&&◌, Option, List, ◌∷◌, ◌++◌, refl, subst}
 use Rattle.iv_lex.specs.declared.kind.TokenKind.TheVariants as kind
 use Rattle.iv_lex.specs.Words.{Word, name, plain}
-use Rattle.iv_parse_data.specs.Words.{Condition, RangeName, SelectList}
-use Rattle.iv_parse_data.specs.Words.given.{Value, Default}
-use Rattle.iv_parse_data.specs.Words.source
-use Rattle.iv_parse_data.specs.Words.insert.{DefaultValues, Rows}
-use Rattle.iv_parse_data.specs.Words.select_list
-use Rattle.iv_parse_data.specs.Words.select
+use Rattle.iv_parse_data.specs.Types.{Condition, RangeName, SelectList}
+use Rattle.iv_parse_data.specs.Types.given.{Value, Default}
+use Rattle.iv_parse_data.specs.Types.source
+use Rattle.iv_parse_data.specs.Types.insert.{DefaultValues, Rows}
+use Rattle.iv_parse_data.specs.Types.select_list
+use Rattle.iv_parse_data.specs.Types.select
 use Rattle.iv_parse_data.specs.Series.{Series}
 use Rattle.iv_parse_data.specs.Data.{IsShallow, IsValue, IsTuple, IsSelectList, IsQuery, IsSource, IsInsert, IsAssignment, IsUpdate, IsDelete, IsSelect}
 use Rattle.iv_resolution.specs.Writable.{is_name, is_name_list_or_none, is_expression, is_range, is_filter, is_value, is_tuple, is_list, is_insert_source, is_insert, is_assignment, is_update, is_delete, is_select}

@@ -1,4 +1,4 @@
--- Parts that come several times or may be left out: where each part can be written, all of them can.
+-- Parts that come several times or may be left out: if each part can be written, all of them can.
 use Rattle.std.proofs.Common.{◌≡◌, Bool, true, not, ◌&&◌, Some, None, List, [], ◌∷◌, ◌++◌, length, refl, ap, subst}
 use Rattle.std.specs.Prelude.{◌==◌}
 use Rattle.std.specs.List.{list_all}

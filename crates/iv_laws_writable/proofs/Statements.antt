@@ -5,9 +5,9 @@ use Rattle.std.proofs.lemmas.Bool.{and_parts}
 use Rattle.iv_lex.specs.declared.kind.TokenKind.TheVariants as kind
 use Rattle.iv_lex.specs.Words.{Word, name, plain, words}
 use Rattle.iv_parse_data.specs.Tables.{mode_kind}
-use Rattle.iv_parse.specs.Words.{Statement}
-use Rattle.iv_parse.specs.Words.statement
-use Rattle.iv_parse.specs.Words.constraints.{All, Named}
+use Rattle.iv_parse.specs.Types.{Statement}
+use Rattle.iv_parse.specs.Types.statement
+use Rattle.iv_parse.specs.Types.constraints.{All, Named}
 use Rattle.iv_parse.specs.Statements.{IsConstraintList, Reads}
 use Rattle.iv_parse.specs.Script.{AreStatements}
 use Rattle.iv_resolution.specs.Writable.{is_constraint_list, is_writable}

@@ -5,11 +5,11 @@ use Rattle.std.proofs.lemmas.Bool.{and_parts}
 use Rattle.std.proofs.lemmas.List.Folds.{list_all-append, list_all-map}
 use Rattle.iv_lex.specs.declared.kind.TokenKind.TheVariants as kind
 use Rattle.iv_lex.specs.Words.{Word, name, plain}
-use Rattle.iv_parse_data.specs.Words.{Literal, References, ColumnConstraint, TableConstraint, TableElement}
-use Rattle.iv_parse_data.specs.Words.literal
-use Rattle.iv_parse_data.specs.Words.column_rule
-use Rattle.iv_parse_data.specs.Words.table_rule
-use Rattle.iv_parse_data.specs.Words.element.{Column, Constraint}
+use Rattle.iv_parse_data.specs.Types.{Literal, References, ColumnConstraint, TableConstraint, TableElement}
+use Rattle.iv_parse_data.specs.Types.literal
+use Rattle.iv_parse_data.specs.Types.column_rule
+use Rattle.iv_parse_data.specs.Types.table_rule
+use Rattle.iv_parse_data.specs.Types.element.{Column, Constraint}
 use Rattle.iv_parse_data.specs.Series.{Maybe, InParentheses}
 use Rattle.iv_parse_data.specs.Data.{Names, IsShallowCondition}
 use Rattle.iv_parse_data.specs.Tables.{IsLiteral, IsDefault, IsConstraintName, IsReferences, null_words, IsColumnRule, IsColumnConstraint, IsTableRule, IsTableConstraint, IsElement, IsCreateTable, IsAlterTable}

@@ -5,9 +5,9 @@ use Rattle.iv_lex.specs.declared.kind.TokenKind.TheVariants as kind
 use Rattle.iv_lex.specs.Words.{Word, name, plain}
 use Rattle.iv_syntax.specs.declared.limits.TheConstants.{DEEPEST_TREE}
 use Rattle.iv_syntax.specs.Trees.{group, signed, product, sum, enclosed, negated, both, either, exists_where, depth, condition_depth}
-use Rattle.iv_parse_terms.specs.Words.{RangeName, Expression, Condition}
-use Rattle.iv_parse_terms.specs.Words.expression.{Number, Text, Null, Column}
-use Rattle.iv_parse_terms.specs.Words.condition.{Compare, IsNull, IsNotNull, Exists}
+use Rattle.iv_parse_terms.specs.Types.{RangeName, Expression, Condition}
+use Rattle.iv_parse_terms.specs.Types.expression.{Number, Text, Null, Column}
+use Rattle.iv_parse_terms.specs.Types.condition.{Compare, IsNull, IsNotNull, Exists}
 use Rattle.iv_parse_terms.specs.Expressions.{sign_kind, qualifier_spelling, spelling}
 use Rattle.iv_parse_terms.specs.Conditions.{comparison_kind, AliasSpelled, RangeSpelled, exists_spelling, Spelled}
 use Rattle.iv_parse_data.specs.Data.{IsShallow, IsShallowCondition, IsShallowFrom, IsWhere}

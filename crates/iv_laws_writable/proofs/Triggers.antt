@@ -7,9 +7,9 @@ use Rattle.iv_lex.specs.declared.kind.TokenKind.TheVariants as kind
 use Rattle.iv_lex.specs.Words.{Word, name, plain}
 use Rattle.iv_parse_data.specs.Series.{Maybe}
 use Rattle.iv_parse_data.specs.Data.{Names, IsShallowCondition}
-use Rattle.iv_parse.specs.Words.{Referencing, TriggerEvent}
-use Rattle.iv_parse.specs.Words.event
-use Rattle.iv_parse.specs.Words.action
+use Rattle.iv_parse.specs.Types.{Referencing, TriggerEvent}
+use Rattle.iv_parse.specs.Types.event
+use Rattle.iv_parse.specs.Types.action
 use Rattle.iv_parse.specs.Triggers.{IsItem, IsReferencing, IsWhen, IsAction, IsEndedAction, IsSingle, IsBlock, IsBody, time_kind, IsUpdateColumns, IsEvent, IsTrigger}
 use Rattle.iv_resolution.specs.Writable.{is_name, are_names, is_name_list, is_condition, is_filter, is_action, are_event_columns, is_trigger_definition}
 use Rattle.iv_laws_writable.proofs.Names.{Written, two_parts, front, back, join}

@@ -2,7 +2,7 @@
 -- identifiers", "Literal").
 use Rattle.std.specs.Prelude.{◌≡◌, ℕ, true, List, map, Option}
 use Rattle.std.specs.List.{list_all}
-use Rattle.iv_parse.specs.Words.{Statement}
+use Rattle.iv_parse.specs.Types.{Statement}
 use Rattle.iv_parse.specs.Script.{IsScript}
 use Rattle.iv_catalogue.specs.Catalogues.{Schema}
 use Rattle.iv_resolution.specs.Writable.{is_writable}
@@ -13,7 +13,7 @@ abbrev pub StatementsAreWritable : Type 0
 StatementsAreWritable =
     (text : List ℕ) (statements : List Statement) (fault : Option ℕ) → IsScript text statements fault → list_all is_writable statements ≡ true
 
--- So, under every schema, they deserve Limit exactly where there would be more of something than there may be.
+-- Under every schema, they deserve Limit exactly if there would be more of something than the limits allow.
 abbrev pub LimitsAreTooLarge : Type 0
 LimitsAreTooLarge =
     (text : List ℕ) (statements : List Statement) (fault : Option ℕ) → IsScript text statements fault

@@ -1,6 +1,6 @@
 -- The first violation.
 use Rattle.std.proofs.Common.{◌≡◌, ℕ, Bool, true, false, List, [], ◌∷◌, ◌++◌, refl, ap, cond, map, filter, find, option_map, length, suc, Some, None}
-use Rattle.iv_machine.specs.Words.{Constraint, StoredRow}
+use Rattle.iv_machine.specs.Types.{Constraint, StoredRow}
 use Rattle.iv_machine.specs.Databases.{violates, fault_at, violations, first}
 
 -- the first of the items that pass

@@ -3,3 +3,4 @@ pub mod Scans
 pub mod Orders
 pub mod Modes
 pub mod Puts
+pub mod OneChange

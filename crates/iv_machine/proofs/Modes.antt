@@ -1,7 +1,7 @@
--- Where no immediate constraint is violated, the violations are those of the deferred ones.
+-- If no immediate constraint is violated, the violations are those of the deferred ones.
 use Rattle.std.proofs.Common.{◌≡◌, ℕ, ◌+◌, Bool, true, false, not, List, [], ◌∷◌, ◌++◌, refl, cond}
-use Rattle.iv_machine.specs.Words.{StoredRow, ConstraintMode, Fault, Constraint}
-use Rattle.iv_machine.specs.Words.which.{Immediate, Deferred}
+use Rattle.iv_machine.specs.Types.{StoredRow, ConstraintMode, Fault, Constraint}
+use Rattle.iv_machine.specs.Types.which.{Immediate, Deferred}
 use Rattle.iv_machine.specs.Databases.{violations, chosen_violations, scan, is_chosen, is_deferred}
 use Rattle.iv_machine.proofs.Scans.{scan_from}
 

@@ -1,7 +1,7 @@
 -- Rows in rising number.
 use Rattle.std.proofs.Common.{◌≡◌, ℕ, ◌<◌, true, if◌then◌else◌, ◌==◌, nat_lt, List, [], ◌∷◌, ◌∙◌, refl, ap, arith}
 use Rattle.std.proofs.lemmas.Bool.Decides.{nat_tests}
-use Rattle.iv_machine.specs.Words.{StoredRow}
+use Rattle.iv_machine.specs.Types.{StoredRow}
 use Rattle.iv_machine.specs.Databases.{rows_with, in_order}
 use Rattle.iv_machine.specs.Invariants.{Rising}
 

@@ -1,8 +1,8 @@
--- A row rows_with among rows in rising number, by the place where it goes, and lists taken from their end.
+-- A row put among rows in rising number, by the place where it goes, and lists taken from their end.
 use Rattle.std.proofs.Common.{◌≡◌, ℕ, ◌+◌, ◌≤◌, Bool, true, false, if◌then◌else◌, ◌==◌, nat_lt, List, [], ◌∷◌, ◌∙◌, refl, ap, cond, suc, length, option_map, unwrap_or, arith}
 use Rattle.std.proofs.lemmas.Bool.Decides.{nat_tests}
 use Rattle.std.specs.List.{prefix_len, slice_get, slice_set, insert}
-use Rattle.iv_machine.specs.Words.{StoredRow}
+use Rattle.iv_machine.specs.Types.{StoredRow}
 use Rattle.iv_machine.specs.Databases.{rows_with}
 
 abbrev pub place_of : ℕ → List StoredRow → ℕ

@@ -3,7 +3,7 @@ use Rattle.std.proofs.Common.{◌≡◌, ℕ, ◌+◌, ◌<◌, ◌≤◌, Bool,
 use Rattle.std.specs.List.{enumerate_from}
 use Rattle.std.proofs.lemmas.Bool.Decides.{nat_tests}
 use Rattle.std.proofs.lemmas.Grind.{common_steps}
-use Rattle.iv_machine.specs.Words.{Constraint, Fault, StoredRow}
+use Rattle.iv_machine.specs.Types.{Constraint, Fault, StoredRow}
 use Rattle.iv_catalogue.specs.Catalogues.{AllOn}
 use Rattle.iv_machine.specs.Invariants.{Below}
 use Rattle.iv_machine.specs.Databases.{satisfies, violates, fault_at, violations, chosen_violations, scan}
@@ -37,7 +37,7 @@ none_of_some_from rows chosen id (c ∷ cs) h =
     (chosen_of_none rows chosen id c (left_empty (violations rows id c) (scan_from rows (λ _. true) (id + 1) cs) h))
     (none_of_some_from rows chosen (id + 1) cs (right_empty (violations rows id c) (scan_from rows (λ _. true) (id + 1) cs) h))
 
--- where nothing is violated, none of some constraints is
+-- if nothing is violated, none of some constraints is
 pub none_of_some : (rows : List StoredRow) (chosen : ℕ → Bool) (cs : List Constraint) → scan rows cs (λ _. true) ≡ [] → scan rows cs chosen ≡ []
 none_of_some rows chosen cs h = none_of_some_from rows chosen 0 cs h
 

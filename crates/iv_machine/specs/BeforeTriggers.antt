@@ -1,12 +1,12 @@
 -- BEFORE triggers: those of a statement, and those of the rows of a wave ("Triggers", "Execution of BEFORE triggers").
 use Rattle.std.specs.Prelude.{ℕ, Bool, true, false, ◌&&◌, ◌||◌, not, if◌then◌else◌, ◌==◌, List, [], length, filter, find, slice_set, Some, None, is_none, Result, Ok, Err}
 use Rattle.std.specs.List.{list_any, enumerate_from}
-use Rattle.iv_machine.specs.Words.{Value, StoredRow, Change, TableColumn, TriggerEvent, Cause, Refusal, BodyStatement, DataStatement, Setting, Trigger}
-use Rattle.iv_machine.specs.Words.time.{Before, After}
-use Rattle.iv_machine.specs.Words.granularity
-use Rattle.iv_machine.specs.Words.event
-use Rattle.iv_machine.specs.Words.cause.{Signal}
-use Rattle.iv_machine.specs.Words.body
+use Rattle.iv_machine.specs.Types.{Value, StoredRow, Change, TableColumn, TriggerEvent, Cause, Refusal, BodyStatement, DataStatement, Setting, Trigger}
+use Rattle.iv_machine.specs.Types.time.{Before, After}
+use Rattle.iv_machine.specs.Types.granularity
+use Rattle.iv_machine.specs.Types.event
+use Rattle.iv_machine.specs.Types.cause.{Signal}
+use Rattle.iv_machine.specs.Types.body
 use Rattle.iv_expr.specs.Changes.{Wave, names_column}
 use Rattle.iv_expr.specs.Scopes.{Frame, no_frame, scope_of}
 use Rattle.iv_expr.specs.Evaluation.{value, and_then}
@@ -55,21 +55,21 @@ abbrev pub is_signal : BodyStatement → Bool
 is_signal (body.Signal text) = true
 is_signal _ = false
 
--- refused with the first SIGNAL of the body, where there is one
+-- refused with the first SIGNAL of the body, if there is one
 abbrev pub unless_signal : Trigger → Result (Unit {0}) Cause
 unless_signal t = elim (find (λ s. is_signal s.1) (placed_statements t)) [ Some s ↦ Err (Signal t.id s.0) | None ↦ Ok tt ]
 
--- a BEFORE statement trigger: its body runs where WHEN is true
+-- a BEFORE statement trigger: its body runs if WHEN is true
 abbrev pub before_statement_run : List StoredRow → Trigger → Result (Unit {0}) Cause
 before_statement_run rows t =
     and_then (holds (scope_of no_frame rows) t.when) (λ fires. if fires then unless_signal t else Ok tt)
 
--- it is a BEFORE statement trigger of the statement's table and event, and of a column of its SET list where it lists columns
+-- it is a BEFORE statement trigger of the statement's table and event, and of a column of its SET list if it lists columns
 abbrev pub is_before_this : DataStatement → Trigger → Bool
 is_before_this statement t =
     is_before_statement t && is_on (table_of statement) (event_of statement) t && is_on_columns (set_columns statement) t
 
--- The BEFORE statement triggers of a statement, by creation.
+-- The BEFORE statement triggers of a statement, in creation order.
 abbrev pub before_statement : Context → List StoredRow → DataStatement → Result (Unit {0}) Refusal
 before_statement context rows statement =
     in_turn (λ t _. while_running t.id (before_statement_run rows t)) (filter (is_before_this statement) context.schema.triggers) tt
@@ -96,13 +96,13 @@ change_after_statement context rows t place (body.Set s) c = change_after_set co
 change_after_statement context rows t place (body.Signal text) c = Err (Signal t.id place)
 change_after_statement context rows t place (body.Data statement) c = Ok c
 
--- a BEFORE row trigger on a change: its body runs where WHEN is true, and a later SET sees the value of an earlier one
+-- a BEFORE row trigger on a change: its body runs if WHEN is true, and a later SET sees the value of an earlier one
 abbrev pub before_row_run : Context → List StoredRow → Trigger → Change → Result Change Cause
 before_row_run context rows t c =
     and_then (holds (scope_of (change_frame c) rows) t.when) (λ fires.
     if fires then in_turn (λ s. change_after_statement context rows t s.0 s.1) (placed_statements t) c else Ok c)
 
--- the change after a BEFORE row trigger, which is run where it is on the change's table and event
+-- the change after a BEFORE row trigger, which is run if it is on the change's table and event
 abbrev pub change_after_trigger : Context → List StoredRow → Trigger → Change → Result Change Refusal
 change_after_trigger context rows t c =
     if is_on c.table (event_of_change c) t then while_running t.id (before_row_run context rows t c) else Ok c
@@ -111,12 +111,12 @@ change_after_trigger context rows t c =
 abbrev pub changes_after_triggers : Context → List StoredRow → List Trigger → List Change → Result (List Change) Refusal
 changes_after_triggers context rows triggers changes = in_turn (λ t. each (change_after_trigger context rows t)) triggers changes
 
--- a BEFORE row trigger, on one of these columns where it lists columns
+-- a BEFORE row trigger, on one of these columns if it lists columns
 abbrev pub is_before_row_on : List TableColumn → Trigger → Bool
 is_before_row_on columns t = is_before_row t && is_on_columns columns t
 
--- A wave after its BEFORE row triggers, by their creation; tables are seen with these rows, as they are before the wave. What a
--- trigger sets adds nothing to the wave's columns.
+-- A wave after its BEFORE row triggers, in creation order; tables are seen with these rows, as they are before the wave. What a trigger
+-- sets adds nothing to the wave's columns.
 abbrev pub wave_after_triggers : Context → List StoredRow → Wave → Result Wave Refusal
 wave_after_triggers context rows wave =
     and_then

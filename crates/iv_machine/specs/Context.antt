@@ -1,6 +1,6 @@
 -- What a data statement runs under, and how it is refused half-way.
 use Rattle.std.specs.Prelude.{ℕ, List, [], ◌∷◌, Option, Some, None, is_none, if◌then◌else◌, Result, Ok, Err}
-use Rattle.iv_machine.specs.Words.{ConstraintMode, Cause, Fault, Refusal, Database}
+use Rattle.iv_machine.specs.Types.{ConstraintMode, Cause, Fault, Refusal, Database}
 use Rattle.iv_expr.specs.Evaluation.{and_then}
 use Rattle.iv_catalogue.specs.Catalogues.{Schema}
 
@@ -9,8 +9,7 @@ pub record Context : Type 0 where
   pub schema : Schema
   pub modes : List ConstraintMode
 
--- A refusal: its cause, the innermost trigger whose body or WHEN was running, and the row changes that stood in the transaction
--- when it came.
+-- A refusal: its cause, the innermost trigger whose body or WHEN was running, and the count of row changes in the transaction when it came.
 pub record Failure : Type 0 where
   pub cause : Cause
   pub trigger : Option ℕ
@@ -25,7 +24,7 @@ abbrev pub over : {A : Type 0} → Database → Result A Cause → Result A Fail
 over db (Ok a) = Ok a
 over db (Err cause) = fails db cause
 
--- refused with the first fault of a list, where there is one
+-- refused with the first fault of a list, if there is one
 abbrev pub unless_first : {A : Type 0} → Database → (Fault → Cause) → List Fault → Result A Failure → Result A Failure
 unless_first db cause [] result = result
 unless_first db cause (fault ∷ faults) result = fails db (cause fault)

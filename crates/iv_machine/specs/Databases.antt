@@ -2,13 +2,13 @@
 -- changes (ISO/IEC 9075-2:1999, "Integrity constraints").
 use Rattle.std.specs.Prelude.{ℕ, ◌+◌, max, Bool, true, false, ◌&&◌, ◌||◌, not, if◌then◌else◌, ◌==◌, nat_lt, List, [], ◌∷◌, ◌++◌, length, map, filter, filter_map, flat_map, find, slice_get, Option, Some, None}
 use Rattle.std.specs.List.{list_any, list_all, enumerate_from}
-use Rattle.iv_machine.specs.Words.{Value, StoredRow, Change, ConstraintMode, MatchType, NullTreatment, Constraint, Rule, ForeignKey, Fault, Database, Which}
-use Rattle.iv_machine.specs.Words.value.{Null}
-use Rattle.iv_machine.specs.Words.mode
-use Rattle.iv_machine.specs.Words.matching.{Simple, Full}
-use Rattle.iv_machine.specs.Words.nulls.{Distinct, NotDistinct}
-use Rattle.iv_machine.specs.Words.rule
-use Rattle.iv_machine.specs.Words.which.{Immediate, Deferred, All}
+use Rattle.iv_machine.specs.Types.{Value, StoredRow, Change, ConstraintMode, MatchType, NullTreatment, Constraint, Rule, ForeignKey, Fault, Database, Which}
+use Rattle.iv_machine.specs.Types.value.{Null}
+use Rattle.iv_machine.specs.Types.mode
+use Rattle.iv_machine.specs.Types.matching.{Simple, Full}
+use Rattle.iv_machine.specs.Types.nulls.{Distinct, NotDistinct}
+use Rattle.iv_machine.specs.Types.rule
+use Rattle.iv_machine.specs.Types.which.{Immediate, Deferred, All}
 use Rattle.iv_value.specs.Truths.{is_false}
 use Rattle.iv_value.specs.Values.{is_null, all_same}
 use Rattle.iv_key.specs.Keys.{value_at, key_of, none_null, all_null, holds_key}
@@ -20,7 +20,7 @@ use Rattle.iv_expr.specs.Scopes.{table_rows}
 abbrev pub no_rows : Database
 no_rows = record { rows = []; next = 1; count = 0 }
 
--- the row of this number, where there is one
+-- the row of this number, if there is one
 abbrev pub row_at : List StoredRow → ℕ → Option StoredRow
 row_at rows number = find (λ r. r.number == number) rows
 
@@ -49,8 +49,8 @@ abbrev pub matches : MatchType → List StoredRow → ForeignKey → List Value 
 matches Simple rows fk key = not (none_null key) || has_referenced rows fk key
 matches Full rows fk key = all_null key || (none_null key && has_referenced rows fk key)
 
--- what a rule on this table asks of a row; a CHECK is satisfied where its condition is not false ("Check constraint definition"),
--- and a fault of evaluation makes the condition false
+-- what a rule on this table asks of a row; a CHECK is satisfied if its condition is not false ("Check constraint definition"), and a fault
+-- of evaluation makes the condition false
 abbrev pub obeys : List StoredRow → ℕ → Rule → StoredRow → Bool
 obeys rows table (rule.NotNull column) row = not (is_null (value_at row.values column))
 obeys rows table (rule.Check condition) row = not (is_false (check_truth condition row.values))
@@ -76,11 +76,11 @@ violates rows constraint row = (row.table == constraint.table) && not (satisfies
 abbrev pub violations : List StoredRow → ℕ → Constraint → List Fault
 violations rows id constraint = map (fault_at id) (filter (violates rows constraint) rows)
 
--- the violations of a constraint, where it is chosen
+-- the violations of a constraint, if it is chosen
 abbrev pub chosen_violations : List StoredRow → (ℕ → Bool) → ℕ → Constraint → List Fault
 chosen_violations rows chosen id constraint = if chosen id then violations rows id constraint else []
 
--- The scan: all pairs of a chosen constraint and a row that violates it, by the constraint's creation, then by row.
+-- The scan: all pairs of a chosen constraint and a row that violates it, in creation order of the constraints, then by row.
 abbrev pub scan : List StoredRow → List Constraint → (ℕ → Bool) → List Fault
 scan rows constraints chosen = flat_map (λ k. chosen_violations rows chosen k.0 k.1) (enumerate_from 0 constraints)
 
@@ -98,7 +98,7 @@ defers mode.Immediate = false
 abbrev pub is_deferred : List ConstraintMode → ℕ → Bool
 is_deferred modes id = elim (slice_get modes id) [ Some mode ↦ defers mode | None ↦ false ]
 
--- the constraints that are meant, under these modes
+-- the chosen constraints, under these modes
 abbrev pub is_chosen : List ConstraintMode → Which → ℕ → Bool
 is_chosen modes Immediate id = not (is_deferred modes id)
 is_chosen modes Deferred id = is_deferred modes id
@@ -126,7 +126,7 @@ abbrev pub in_order : List StoredRow → List StoredRow
 in_order [] = []
 in_order (r ∷ rows) = rows_with r (in_order rows)
 
--- the row that a change leaves, where it is no deletion
+-- the row that a change leaves, if it is no deletion
 abbrev pub new_row : Change → Option StoredRow
 new_row c = elim c.new [ Some values ↦ Some (record { table = c.table; number = c.row; values = values }) | None ↦ None ]
 

@@ -1,6 +1,6 @@
 -- Rows by their numbers and tables.
 use Rattle.std.specs.Prelude.{ℕ, ◌<◌, List, [], ◌∷◌}
-use Rattle.iv_machine.specs.Words.{StoredRow}
+use Rattle.iv_machine.specs.Types.{StoredRow}
 
 -- the numbers rise from above the one, and stay below the other
 abbrev pub Rising : ℕ → List StoredRow → ℕ → Type 0

@@ -1,7 +1,7 @@
 -- What is true of every state that statements reach.
 use Rattle.std.specs.Prelude.{◌≡◌, ◌↔◌, List, [], ◌∷◌, None}
 use Rattle.iv_catalogue.specs.Catalogues.{Schema, TriggersNumbered}
-use Rattle.iv_machine.specs.Words.which.{Immediate, Deferred, All}
+use Rattle.iv_machine.specs.Types.which.{Immediate, Deferred, All}
 use Rattle.iv_machine.specs.Databases.{scan, is_chosen, initial_modes}
 use Rattle.iv_machine.specs.Machine.{State, Savepoint}
 use Rattle.iv_machine.specs.Invariants.{Rising}
@@ -21,7 +21,7 @@ abbrev pub EachSaveHolds : Schema → List Savepoint → Type 0
 EachSaveHolds c [] = Unit {0}
 EachSaveHolds c (save ∷ saves) = SaveHolds c save × EachSaveHolds c saves
 
--- No immediate constraint is violated, so that none is violated exactly where no deferred one is; and what holds outside a
+-- No immediate constraint is violated, so that none is violated exactly if no deferred one is. The rest says what holds outside a
 -- transaction, of savepoints, of rows (their numbers rise, below the next one) and of the numbers of triggers.
 pub record IsSound (s : State) : Type 0 where
   pub immediate : scan s.database.rows s.schema.constraints (is_chosen s.modes Immediate) ≡ []

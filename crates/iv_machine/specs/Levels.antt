@@ -1,10 +1,10 @@
 -- A data statement with all that follows from it: a level ("Delete statement: searched", "Insert statement", "Update statement:
 -- searched", "Execution of triggers").
 use Rattle.std.specs.Prelude.{ℕ, zero, suc, Bool, ◌||◌, ◌&&◌, ◌++◌, not, if◌then◌else◌, nat_lt, List, [], ◌∷◌, length, map, filter, flat_map, None, Result, Ok}
-use Rattle.iv_machine.specs.Words.{Change, TableColumn, BodyStatement, DataStatement, Trigger, Database}
-use Rattle.iv_machine.specs.Words.cause.{Violation, Signal, DepthLimit, TooManyChanges}
-use Rattle.iv_machine.specs.Words.body
-use Rattle.iv_machine.specs.Words.which.{Immediate}
+use Rattle.iv_machine.specs.Types.{Change, TableColumn, BodyStatement, DataStatement, Trigger, Database}
+use Rattle.iv_machine.specs.Types.cause.{Violation, Signal, DepthLimit, TooManyChanges}
+use Rattle.iv_machine.specs.Types.body
+use Rattle.iv_machine.specs.Types.which.{Immediate}
 use Rattle.iv_expr.specs.Changes.{Wave}
 use Rattle.iv_expr.specs.Scopes.{Frame, scope_of}
 use Rattle.iv_expr.specs.Evaluation.{and_then}
@@ -28,8 +28,8 @@ row_firing t transitions c = record { trigger = t; frame = record { old = c.old;
 abbrev pub statement_firing : Trigger → List Change → Firing
 statement_firing t transitions = record { trigger = t; frame = record { old = None; new = None; transition = transitions } }
 
--- A row trigger fires once for each transition. A statement trigger fires once: for the table and event of the statement even
--- with no transitions, and otherwise where there are some.
+-- A row trigger fires once for each transition. A statement trigger fires once: for the table and event of the statement even with no
+-- transitions, and otherwise if there are some.
 abbrev pub firings_of : DataStatement → Trigger → List Change → List Firing
 firings_of statement t transitions =
     if for_each_row t then map (row_firing t transitions) transitions
@@ -43,11 +43,11 @@ transitions_of t net = filter (λ c. is_on c.table (event_of_change c) t) net.ch
 abbrev pub level_columns : DataStatement → List Wave → List TableColumn
 level_columns statement waves = set_columns statement ++ flat_map (λ wave. wave.columns) waves
 
--- an AFTER trigger, on one of these columns where it lists columns
+-- an AFTER trigger, on one of these columns if it lists columns
 abbrev pub is_after_on : List TableColumn → Trigger → Bool
 is_after_on columns t = not (is_before t) && is_on_columns columns t
 
--- The firings that the columns and the net changes of a level fix, by the triggers' creation, then by row.
+-- The firings that the columns and the net changes of a level fix, in creation order of the triggers, then by row.
 abbrev pub firings : Context → DataStatement → List TableColumn → Wave → List Firing
 firings context statement columns net =
     flat_map (λ t. firings_of statement t (transitions_of t net)) (filter (is_after_on columns) context.schema.triggers)
@@ -65,7 +65,7 @@ pub record Progress : Type 0 where
   pub database : Database
   pub budget : ℕ
 
--- What runs a data statement of a trigger's body: the trigger's number, the statement, what it sees, the database and the budget.
+-- What runs a data statement of a trigger's body, from the trigger's number, the statement, what it sees, the database and the budget.
 abbrev pub Runs : Type 0
 Runs = ℕ → DataStatement → Frame → Database → ℕ → Result Finished Failure
 
@@ -83,7 +83,7 @@ statement_run run x place (body.Set _) at = Ok at
 abbrev pub body_run : Runs → Firing → List (ℕ × BodyStatement) → Progress → Result Progress Failure
 body_run run x statements at = in_turn (λ s. statement_run run x s.0 s.1) statements at
 
--- a trigger: WHEN sees the database of its moment, and the body runs where it is true
+-- a trigger: WHEN sees the database of its moment, and the body runs if it is true
 abbrev pub firing_run : Runs → Firing → Progress → Result Progress Failure
 firing_run run x at =
     inside_trigger x.trigger.id
@@ -119,12 +119,12 @@ abbrev pub level_within : Runs → Context → DataStatement → Frame → Datab
 level_within run context statement frame db zero = fails db TooManyChanges
 level_within run context statement frame db (suc budget) = level_steps run context statement frame db budget
 
--- A data statement of a trigger's body, where so many levels may be nested from here on.
+-- A data statement of a trigger's body, if so many levels may be nested from here on.
 abbrev pub nested_level : ℕ → Context → Runs
 nested_level zero context trigger statement frame db budget = fails db (DepthLimit trigger)
 nested_level (suc depth) context trigger statement frame db budget =
     level_within (nested_level depth context) context statement frame db budget
 
--- A data statement of a script, where so many levels may be nested in it.
+-- A data statement of a script, if so many levels may be nested in it.
 abbrev pub level : ℕ → Context → DataStatement → Frame → Database → ℕ → Result Finished Failure
 level deeper context statement frame db budget = level_within (nested_level deeper context) context statement frame db budget

@@ -1,4 +1,4 @@
-pub mod Words
+pub mod Types
 pub mod Bounds
 pub mod Databases
 pub mod Context
@@ -10,3 +10,4 @@ pub mod Levels
 pub mod Machine
 pub mod Invariants
 pub mod Laws
+pub mod SetRows

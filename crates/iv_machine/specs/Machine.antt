@@ -2,17 +2,17 @@
 use Rattle.std.specs.Prelude.{◌≡◌, ℕ, ◌-◌, Bool, true, false, not, ◌&&◌, if◌then◌else◌, ◌==◌, List, [], ◌∷◌, length, map, filter, find, fold, pos, slice_get, slice_set, Option, Some, None, is_some, unwrap_or, Result, Ok, Err}
 use Rattle.std.specs.List.{enumerate_from}
 use Rattle.std.specs.Str.{bytes_eq}
-use Rattle.iv_machine.specs.Words.{Value, StoredRow, Cond, ConstraintMode, Statement, Constraint, Cause, Fault, Refusal, ConstraintSet, DataStatement, Outputs, Plan, SchemaPlan, QueryPlan, TransactionPlan, Database, Answer}
-use Rattle.iv_machine.specs.Words.value.{Int}
-use Rattle.iv_machine.specs.Words.statement
-use Rattle.iv_machine.specs.Words.cause.{InTransaction, NoTransaction, ActiveTransaction, UnknownSavepoint, NotDeferrable, Violation, CommitRefused, AddRefused, OutOfMemory}
-use Rattle.iv_machine.specs.Words.set
-use Rattle.iv_machine.specs.Words.plan
-use Rattle.iv_machine.specs.Words.schema
-use Rattle.iv_machine.specs.Words.query
-use Rattle.iv_machine.specs.Words.transaction
-use Rattle.iv_machine.specs.Words.which.{All}
-use Rattle.iv_machine.specs.Words.answer.{Done, Changed, Rows}
+use Rattle.iv_machine.specs.Types.{Value, StoredRow, Cond, ConstraintMode, Statement, Constraint, Cause, Fault, Refusal, ConstraintSet, DataStatement, Outputs, Plan, SchemaPlan, QueryPlan, TransactionPlan, Database, Answer}
+use Rattle.iv_machine.specs.Types.value.{Int}
+use Rattle.iv_machine.specs.Types.statement
+use Rattle.iv_machine.specs.Types.cause.{InTransaction, NoTransaction, ActiveTransaction, UnknownSavepoint, NotDeferrable, Violation, CommitRefused, AddRefused, OutOfMemory}
+use Rattle.iv_machine.specs.Types.set
+use Rattle.iv_machine.specs.Types.plan
+use Rattle.iv_machine.specs.Types.schema
+use Rattle.iv_machine.specs.Types.query
+use Rattle.iv_machine.specs.Types.transaction
+use Rattle.iv_machine.specs.Types.which.{All}
+use Rattle.iv_machine.specs.Types.answer.{Done, Changed, Rows}
 use Rattle.iv_expr.specs.Scopes.{Scope, scope_of, no_frame, table_rows}
 use Rattle.iv_expr.specs.Evaluation.{and_then}
 use Rattle.iv_catalogue.specs.Catalogues.{Schema, empty_schema, with_table, with_constraint, with_trigger, without_trigger, trigger_numbered}
@@ -49,7 +49,7 @@ empty_state limits = record { schema = empty_schema; limits = limits; database =
 abbrev pub is_open : State → Bool
 is_open s = is_some s.start
 
--- the database at the start of the transaction, or the database where none is open
+-- the database at the start of the transaction, or the database if none is open
 abbrev pub start_database : State → Database
 start_database s = unwrap_or s.start s.database
 
@@ -76,7 +76,7 @@ accept s a = record { answer = Ok a; state = s; work = no_work }
 abbrev pub refuse : State → Cause → Outcome
 refuse s c = record { answer = refusal_answer c; state = s; work = no_work }
 
--- refused for the first fault, where there is one
+-- refused for the first fault, if there is one
 abbrev pub refuse_first : State → (Fault → Cause) → Option Fault → Outcome → Outcome
 refuse_first s cause (Some f) o = refuse s (cause f)
 refuse_first s cause None o = o
@@ -140,12 +140,12 @@ state_at_end s db = record s { database = record db { count = 0 }; modes = initi
 abbrev pub undo_outcome : State → Database → Result Answer Refusal → Outcome
 undo_outcome s start answer = record { answer = answer; state = state_at_end s start; work = record { changes = 0; undone = s.database.count } }
 
--- the first violation of any constraint, by creation, then by row
+-- the first violation of any constraint, in creation order, then by row
 abbrev pub first_violation : State → Option Fault
 first_violation s = first (scan s.database.rows s.schema.constraints (is_chosen s.modes All))
 
--- COMMIT, by the database at the start of an open transaction and by the first violation. Outside a transaction it does nothing. It
--- is accepted where no constraint is violated, and the database stays; otherwise it rolls the transaction back.
+-- COMMIT, by the database at the start of an open transaction and by the first violation. Outside a transaction it does nothing. It is
+-- accepted if no constraint is violated, and the database stays; otherwise it rolls the transaction back.
 abbrev pub commit_by : State → Option Database → Option Fault → Outcome
 commit_by s None violation = accept s Done
 commit_by s (Some start) None = accept (state_at_end s s.database) Done
@@ -199,7 +199,7 @@ rollback_to_outcome s (Some x) = record {
 abbrev pub is_deferrable : Schema → ℕ → Bool
 is_deferrable c id = elim (slice_get c.constraints id) [ Some k ↦ k.deferrable | None ↦ false ]
 
--- the constraints that are meant, in the order of the list
+-- the chosen constraints, in the order of the list
 abbrev pub constraints_meant : Schema → ConstraintSet → List ℕ
 constraints_meant c set.All = filter (is_deferrable c) (map (λ k. k.0) (enumerate_from 0 c.constraints))
 constraints_meant c (set.Named ids) = ids
@@ -228,7 +228,7 @@ set_constraints_outcome s ids m =
 abbrev pub with_schema : State → Schema → State
 with_schema s c = record s { schema = c; modes = initial_modes c.constraints }
 
--- a constraint is refused where a row violates it, deferrable or not ("Add table constraint definition")
+-- a constraint is refused if a row violates it, deferrable or not ("Add table constraint definition")
 abbrev pub add_constraint_outcome : State → Constraint → Outcome
 add_constraint_outcome s k =
     refuse_first s (λ f. AddRefused f.row)
@@ -269,7 +269,7 @@ resolution_outcome s (Err r) = record { answer = Err r; state = s; work = no_wor
 
 -- ---- when a statement may run
 
--- Outside a transaction alone, inside one alone, only to begin one, or always.
+-- Only outside a transaction, only inside one, only to begin one, or always.
 pub data Occasion : Type 0 where
   outside : Occasion
   inside : Occasion
@@ -321,7 +321,7 @@ changes_rows (statement.Update _) = true
 changes_rows (statement.Delete _) = true
 changes_rows _ = false
 
--- what a refusal for want of memory may tell: no trigger, or one that the catalogue has, where the statement changes rows
+-- what a refusal for lack of memory may tell: no trigger, or one that the catalogue has, if the statement changes rows
 abbrev pub may_tell : Bool → Schema → Option ℕ → Bool
 may_tell changes schema None = true
 may_tell changes schema (Some id) = changes && is_some (trigger_numbered schema id)
@@ -331,6 +331,6 @@ abbrev pub IsMemoryRefusal : Bool → Schema → Result Answer Refusal → Type 
 IsMemoryRefusal changes schema r =
     (trigger : Option ℕ) × (may_tell changes schema trigger ≡ true) × (r ≡ Err (record { cause = OutOfMemory; trigger = trigger }))
 
--- Memory was refused: the state stays, and a trigger is told only where one may have run.
+-- An allocation failed: the state stays, and a trigger is told only if one may have run.
 abbrev pub MemoryRefused : State → Statement → Result Answer Refusal → State → Type 0
 MemoryRefused old st r new = (new ≡ old) × IsMemoryRefusal (changes_rows st) old.schema r

@@ -2,14 +2,14 @@
 -- "Update statement: searched").
 use Rattle.std.specs.Prelude.{ℕ, Bool, if◌then◌else◌, List, [], map, filter_map, fold, zip, slice_get, slice_set, Option, Some, None, Result, Ok, Err}
 use Rattle.std.specs.List.{enumerate_from}
-use Rattle.iv_machine.specs.Words.{Value, StoredRow, Change, TableColumn, Cond, ExprFault, TriggerEvent, Column, Cause, Setting, Outputs, InsertColumns, InsertRows, DataStatement, Database}
-use Rattle.iv_machine.specs.Words.fit.{Yes, WrongKind, TooLong}
-use Rattle.iv_machine.specs.Words.event
-use Rattle.iv_machine.specs.Words.cause.{TextTooLong, WrongShape}
-use Rattle.iv_machine.specs.Words.outputs.{Star, Values}
-use Rattle.iv_machine.specs.Words.insert_columns as columns
-use Rattle.iv_machine.specs.Words.insert_rows as rows
-use Rattle.iv_machine.specs.Words.data_statement
+use Rattle.iv_machine.specs.Types.{Value, StoredRow, Change, TableColumn, Cond, ExprFault, TriggerEvent, Column, Cause, Setting, Outputs, InsertColumns, InsertRows, DataStatement, Database}
+use Rattle.iv_machine.specs.Types.fit.{Yes, WrongKind, TooLong}
+use Rattle.iv_machine.specs.Types.event
+use Rattle.iv_machine.specs.Types.cause.{TextTooLong, WrongShape}
+use Rattle.iv_machine.specs.Types.outputs.{Star, Values}
+use Rattle.iv_machine.specs.Types.insert_columns as columns
+use Rattle.iv_machine.specs.Types.insert_rows as rows
+use Rattle.iv_machine.specs.Types.data_statement
 use Rattle.iv_value.specs.Truths.{is_true}
 use Rattle.iv_value.specs.Values.{fit_of}
 use Rattle.iv_expr.specs.Changes.{Wave}
@@ -25,7 +25,7 @@ abbrev pub with_cause : {A : Type 0} → Result A ExprFault → Result A Cause
 with_cause (Ok a) = Ok a
 with_cause (Err fault) = Err (cause_of fault)
 
--- whether a condition takes effect: only where it is true
+-- whether a condition takes effect: only if it is true
 abbrev pub holds : Scope → Cond → Result Bool Cause
 holds scope condition = elim (truth scope condition) [ Ok t ↦ Ok (is_true t) | Err fault ↦ Err (cause_of fault) ]
 
@@ -57,7 +57,8 @@ with_columns row pairs = fold (λ r p. slice_set r p.0 p.1) row pairs
 abbrev pub element_where_true : {A : Type 0} → A × Bool → Option A
 element_where_true p = if p.1 then Some p.0 else None
 
--- those of a list where the condition is true of the row; it is taken at all of them, and a fault at any is a fault of the whole
+-- those of a list where the condition is true of the row; the condition is evaluated at all of them, and a fault at any is a fault of the
+-- whole
 abbrev pub where_true : {A : Type 0} → (A → List Value) → Scope → Cond → List A → Result (List A) Cause
 where_true row_of scope condition xs =
     and_then (each (λ x. and_then (holds (within scope (row_of x)) condition) (λ b. Ok (x, b))) xs) (λ pairs.

@@ -2,12 +2,12 @@
 -- wave that follows (ISO/IEC 9075-2:1999, "Referential constraint definition").
 use Rattle.std.specs.Prelude.{ℕ, Bool, true, false, ◌&&◌, not, if◌then◌else◌, ◌==◌, nat_lt, List, [], ◌∷◌, map, filter, filter_map, flat_map, zip, Option, Some, None, Result, Ok}
 use Rattle.std.specs.List.{list_any, enumerate_from}
-use Rattle.iv_machine.specs.Words.{Value, StoredRow, Change, TableColumn, ReferentialAction, Constraint, Rule, ForeignKey, Fault, Database, Effect}
-use Rattle.iv_machine.specs.Words.value.{Null}
-use Rattle.iv_machine.specs.Words.referential_action as action
-use Rattle.iv_machine.specs.Words.rule
-use Rattle.iv_machine.specs.Words.cause.{Restrict, ActionConflict}
-use Rattle.iv_machine.specs.Words.effect.{DeleteRow, SetColumns}
+use Rattle.iv_machine.specs.Types.{Value, StoredRow, Change, TableColumn, ReferentialAction, Constraint, Rule, ForeignKey, Fault, Database, Effect}
+use Rattle.iv_machine.specs.Types.value.{Null}
+use Rattle.iv_machine.specs.Types.referential_action as action
+use Rattle.iv_machine.specs.Types.rule
+use Rattle.iv_machine.specs.Types.cause.{Restrict, ActionConflict}
+use Rattle.iv_machine.specs.Types.effect.{DeleteRow, SetColumns}
 use Rattle.iv_value.specs.Values.{is_same, all_same}
 use Rattle.iv_expr.specs.Changes.{Wave}
 use Rattle.iv_expr.specs.Scopes.{table_rows}
@@ -19,7 +19,7 @@ use Rattle.iv_machine.specs.Proposals.{with_columns, defaults_of}
 
 -- ---- foreign keys
 
--- the foreign key that a rule is, where it is one
+-- the foreign key that a rule is, if it is one
 abbrev pub foreign_key : Rule → Option ForeignKey
 foreign_key (rule.ForeignKey fk) = Some fk
 foreign_key _ = None
@@ -30,11 +30,11 @@ pub record Reference : Type 0 where
   pub table : ℕ
   pub key : ForeignKey
 
--- the foreign key that a constraint is, where it is one
+-- the foreign key that a constraint is, if it is one
 abbrev pub reference : ℕ × Constraint → Option Reference
 reference k = elim (foreign_key k.1.rule) [ Some fk ↦ Some (record { id = k.0; table = k.1.table; key = fk }) | None ↦ None ]
 
--- The foreign keys among the constraints, by creation.
+-- The foreign keys among the constraints, in creation order.
 abbrev pub references : List Constraint → List Reference
 references constraints = filter_map reference (enumerate_from 0 constraints)
 
@@ -80,7 +80,7 @@ is_restrict _ = false
 abbrev pub is_restricted : LostKeys → ForeignKey → StoredRow → Bool
 is_restricted lost fk row = elim (lost_reference lost fk row) [ Some loss ↦ is_restrict (action_on fk loss) | None ↦ false ]
 
--- The rows that refer to keys lost under RESTRICT, by the foreign key's creation, then by row.
+-- The rows that refer to keys lost under RESTRICT, in creation order of the foreign keys, then by row.
 abbrev pub restricted_rows : LostKeys → List Constraint → List StoredRow → List Fault
 restricted_rows lost constraints rows =
     flat_map (λ k. map (fault_at k.id) (filter (is_restricted lost k.key) (table_rows rows k.table))) (references constraints)
@@ -111,14 +111,14 @@ abbrev pub keeps_reference : StoredRow → StoredRow → Reference → Bool
 keeps_reference before after k =
     (k.table == before.table) && all_same (key_of k.key.columns before.values) (key_of k.key.columns after.values)
 
--- What all foreign keys do to a row: each of those on its table whose lost key it holds before and after, by creation, with its
+-- What all foreign keys do to a row: each of those on its table whose lost key it holds before and after, in creation order, with its
 -- effect.
 abbrev pub effects : Schema → LostKeys → StoredRow → StoredRow → List (ℕ × Effect)
 effects schema lost before after =
     flat_map (λ k. map (λ effect. (k.id, effect)) (effects_of_loss schema k (lost_reference lost k.key before)))
     (filter (keeps_reference before after) (references schema.constraints))
 
--- so of a row of the later database, with the row that it was before, where it was there
+-- what all foreign keys do to a row of the later database, with the row that it was before, if it was there
 abbrev pub effects_on : Schema → LostKeys → Option StoredRow → StoredRow → List (ℕ × Effect)
 effects_on schema lost None after = []
 effects_on schema lost (Some before) after = effects schema lost before after
@@ -139,7 +139,7 @@ have_deletion es = list_any (λ e. is_deletion e.1) es
 abbrev pub values_after : List Value → List (ℕ × Effect) → Option (List Value)
 values_after values es = if have_deletion es then None else Some (with_columns values (flat_map (λ e. columns_set e.1) es))
 
--- the change of a row by these effects, where there are any
+-- the change of a row by these effects, if there are any
 abbrev pub change_by : StoredRow → List (ℕ × Effect) → Option Change
 change_by row [] = None
 change_by row (e ∷ es) =
@@ -153,7 +153,7 @@ sets_values id es = not (have_deletion es) && list_any (λ e. e.0 == id) es
 abbrev pub referencing_columns : Reference → List TableColumn
 referencing_columns k = map (λ column. record { table = k.table; column = column }) k.key.columns
 
--- the columns of the foreign keys that set values of a row of the later database, by creation; values that are equal count
+-- the columns of the foreign keys that set values of a row of the later database, in creation order; values that are equal count
 abbrev pub columns_set_next : Schema → LostKeys → List StoredRow → List StoredRow → List TableColumn
 columns_set_next schema lost rows later =
     flat_map referencing_columns
@@ -177,13 +177,13 @@ is_set_otherwise pairs own = list_any (λ p. (p.0 == own.0) && not (is_same p.1 
 abbrev pub disagree : Effect → Effect → Bool
 disagree earlier own = list_any (is_set_otherwise (columns_set earlier)) (columns_set own)
 
--- Of the effects on a row: none deletes it, this foreign key has one, and some earlier foreign key's sets a column of it otherwise.
+-- No effect on a row deletes it, this foreign key has an effect, and some earlier foreign key's effect sets a column of it otherwise.
 abbrev pub has_conflict : ℕ → List (ℕ × Effect) → Bool
 has_conflict id es =
     not (have_deletion es)
     && list_any (λ own. (own.0 == id) && list_any (λ earlier. nat_lt earlier.0 id && disagree earlier.1 own.1) es) es
 
--- The foreign keys that disagree with an earlier one, by creation, each with the rows at which they do.
+-- The foreign keys that disagree with an earlier one, in creation order, each with the rows at which they do.
 abbrev pub conflicts : Schema → LostKeys → List StoredRow → List StoredRow → List Fault
 conflicts schema lost rows later =
     flat_map

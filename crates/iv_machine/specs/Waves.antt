@@ -1,8 +1,8 @@
 -- The waves of a data statement, one after another until nothing follows, and the net change of them all.
 use Rattle.std.specs.Prelude.{ℕ, zero, suc, ◌+◌, ◌-◌, Bool, true, false, ◌&&◌, if◌then◌else◌, nat_lt, List, [], ◌∷◌, ◌++◌, map, filter, Option, Some, None, is_none, Result, Ok}
 use Rattle.std.specs.List.{list_any}
-use Rattle.iv_machine.specs.Words.{Value, StoredRow, Change, Database}
-use Rattle.iv_machine.specs.Words.cause.{TooManyChanges, TransactionTooLarge, Limit}
+use Rattle.iv_machine.specs.Types.{Value, StoredRow, Change, Database}
+use Rattle.iv_machine.specs.Types.cause.{TooManyChanges, TransactionTooLarge, Limit}
 use Rattle.iv_expr.specs.Changes.{Wave, wave_of}
 use Rattle.iv_expr.specs.Evaluation.{and_then}
 use Rattle.iv_machine.specs.Bounds.{most_changes_in_a_transaction, last_row_number}
@@ -26,8 +26,8 @@ numbered_wave next wave = record wave { changes = with_numbers next wave.changes
 abbrev pub is_beyond_last_row : List Change → Bool
 is_beyond_last_row changes = list_any (λ c. nat_lt last_row_number c.row) changes
 
--- A wave as it is applied. It takes its size from the budget, then from the changes of a transaction; then new rows take numbers;
--- then the BEFORE row triggers run.
+-- A wave as it is applied. It takes its size from the budget, then from the changes of a transaction. Then new rows take numbers, and the
+-- BEFORE row triggers run.
 abbrev pub wave_as_applied : Context → Database → ℕ → Wave → Result Wave Failure
 wave_as_applied context db budget wave =
     if nat_lt budget (size wave) then fails db TooManyChanges
@@ -62,7 +62,7 @@ abbrev pub is_empty : List Change → Bool
 is_empty [] = true
 is_empty (c ∷ changes) = false
 
--- An empty wave ends. Of another, one wave is made, and the rest is settled with what it leaves of the budget.
+-- An empty wave ends. Otherwise one wave is made, and the rest is settled with what it leaves of the budget.
 abbrev pub settled_by : Settles → Context → Settles
 settled_by settled context db budget wave =
     if is_empty wave.changes then Ok (record { last = db; waves = []; rest = budget })
@@ -70,11 +70,11 @@ settled_by settled context db budget wave =
     and_then (settled (database_after db one.wave) (budget - size one.wave) one.next) (λ s.
     Ok (record s { waves = one.wave ∷ s.waves })))
 
--- where no more waves may come
+-- when no more waves may come
 abbrev pub none_settled : Settles
 none_settled db budget wave = fails db TooManyChanges
 
--- so with at most so many waves
+-- the waves, at most so many
 abbrev pub settled_within : ℕ → Context → Settles
 settled_within zero context db budget wave = settled_by none_settled context db budget wave
 settled_within (suc most) context db budget wave = settled_by (settled_within most context) context db budget wave
@@ -100,8 +100,8 @@ net_change later r = record { table = r.table; row = r.number; old = Some r.valu
 abbrev pub net_insertion : StoredRow → Change
 net_insertion r = record { table = r.table; row = r.number; old = None; new = Some r.values }
 
--- Each row of the waves with its values in the first database and in the last: in both, an update, even to equal values; in the
--- first alone, a deletion; in the last alone, an insertion. By row.
+-- Each row of the waves with its values in the first database and in the last: in both, an update, even to equal values; only in the first,
+-- a deletion; only in the last, an insertion. By row.
 abbrev pub net_wave : List StoredRow → List StoredRow → List Wave → Wave
 net_wave rows later waves =
     wave_of

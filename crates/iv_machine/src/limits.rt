@@ -45,7 +45,7 @@ impl Model for Limits {
 }
 
 impl Limits {
-    /// These limits; none where the depth isn't from 1 to 64 or the changes aren't from 1 to 65,536.
+    /// These limits; none if the depth isn't from 1 to 64 or the changes aren't from 1 to 65,536.
     pub fn new(depth: u8, changes: u32) -> Option<Limits>
         ensures { result ≡
             (if nat_le least_depth depth && nat_le depth greatest_depth

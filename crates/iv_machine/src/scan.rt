@@ -1,7 +1,6 @@
-//! The plain program of the scan: whether a row satisfies a constraint, the first violation, how many
-//! there are, and all of them. It looks at whole lists: `satisfies` takes time in proportion to the rows,
-//! and a scan to the square of the rows of each table times the constraints that are chosen; for CHECK and
-//! NOT NULL to the rows alone.
+//! The plain program of the scan: whether a row satisfies a constraint, the first violation, how many there are, and
+//! all of them. It looks at whole lists: `satisfies` takes time in proportion to the rows, and a scan to the square of
+//! the rows of each table times the chosen constraints, but only to the rows for CHECK and NOT NULL.
 ghost use Rattle.std.specs.Prelude.{◌≡◌, ◌++◌, ◌≤◌, ◌+◌, ◌*◌, ◌-◌, ◌^◌, ◌&&◌, ◌||◌, ℕ, not, length, filter, map, min, option_map, find, if◌then◌else◌, [], IfOk, OnOk, OnErr, ◌==◌, slice_get};
 ghost use Rattle.std.specs.List.{list_any};
 ghost use Rattle.iv_value.specs.Truths.{is_false};
@@ -141,7 +140,7 @@ pub fn first_violating(rows: &[StoredRow], constraint: &Constraint) -> Option<u6
         .map(|row| row.number)
 }
 
-/// The first violation of a constraint, by row, where the constraint of this number is chosen.
+/// The first violation of a constraint, by row, if the constraint of this number is chosen.
 #[tactic(auto, using(crate::proofs::Firsts::first_of_violations))]
 pub fn first_fault_of(
     rows: &[StoredRow],
@@ -178,7 +177,7 @@ fn count_rows(rows: &[StoredRow], constraint: &Constraint) -> usize
     count
 }
 
-// How many violations of a constraint there are, where it is chosen.
+// How many violations of a constraint there are, if it is chosen.
 #[tactic(auto, using(crate::proofs::Firsts::count_of_violations))]
 fn count_of(
     rows: &[StoredRow],
@@ -197,7 +196,7 @@ fn count_of(
     }
 }
 
-/// How many violations the scan finds; the count stays at 2^64 - 1 once it is there. It takes no memory.
+/// How many violations the scan finds; the count stays at 2^64 - 1 once it is there. It allocates nothing.
 pub fn count_faults(
     rows: &[StoredRow],
     constraints: &[Constraint],
@@ -238,7 +237,7 @@ fn push_rows(
     Ok(())
 }
 
-// Adds the violations of a constraint, where it is chosen.
+// Adds the violations of a constraint, if it is chosen.
 fn push_faults(
     faults: &mut Vec<Fault>,
     rows: &[StoredRow],
@@ -258,7 +257,7 @@ fn push_faults(
     }
 }
 
-/// All violations that the scan finds, by the constraint's creation, then by row.
+/// All violations that the scan finds, in creation order of the constraints, then by row.
 pub fn list_faults(
     alloc: Global,
     rows: &[StoredRow],

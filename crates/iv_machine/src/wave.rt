@@ -77,7 +77,7 @@ fn new_row(change: &Change) -> Result<Option<StoredRow>, AllocError>
     }
 }
 
-// Puts the row that a change leaves, where it leaves one.
+// Puts the row that a change leaves, if it leaves one.
 fn put_new(rows: &mut Vec<StoredRow>, change: &Change) -> Result<(), AllocError>
     ensures { OnOk result (MatchOption (new_row change.now)
         (rows.new.items ≡ rows.old.items) (λ r. rows.new.items ≡ rows_with r rows.old.items)) }
@@ -88,7 +88,7 @@ fn put_new(rows: &mut Vec<StoredRow>, change: &Change) -> Result<(), AllocError>
     }
 }
 
-// Puts a row where none of the changes is of it.
+// Puts a row if none of the changes is of it.
 fn put_outside(
     rows: &mut Vec<StoredRow>,
     row: &StoredRow,

@@ -1,4 +1,4 @@
--- The modes of constraints: a finite map, by the constraint's creation (ISO/IEC 9075-2:1999, "Set constraints mode statement").
+-- The modes of constraints: a finite map by the constraint's number (ISO/IEC 9075-2:1999, "Set constraints mode statement").
 use Rattle.std.specs.Prelude.{◌≡◌, ℕ, Bool, false, ◌==◌, not, if◌then◌else◌, List, map, find, slice_get, Option, Some, None}
 use Rattle.std.specs.List.{list_any}
 use Rattle.iv_syntax.specs.declared.statement.ConstraintMode.{ConstraintMode}

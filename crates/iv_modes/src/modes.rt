@@ -63,7 +63,7 @@ fn initial_modes(
     Ok(modes)
 }
 
-// Sets the mode of a constraint, where there is one of this number.
+// Sets the mode of a constraint, if there is one of this number.
 fn set_one(modes: &mut Vec<ConstraintMode>, id: ConstraintId, mode: ConstraintMode)
     ensures { modes.new.items ≡ slice_set modes.old.items id mode }
 {
@@ -101,7 +101,7 @@ impl Modes {
         })
     }
 
-    /// The same modes again.
+    /// A copy of the modes.
     pub fn copy(&self) -> Result<Modes, AllocError>
         ensures { IfOk result (λ m. m ≡ self.now) }
     {
@@ -112,7 +112,7 @@ impl Modes {
         })
     }
 
-    /// Sets every mode to that of an earlier copy of the same map. It takes no memory.
+    /// Sets every mode to that of an earlier copy of the same map. It allocates nothing.
     pub fn restore(&mut self, earlier: &Modes)
         requires { self.old.deferrable ≡ earlier.now.deferrable }
         ensures { self.new ≡ earlier.now }
@@ -127,7 +127,7 @@ impl Modes {
         self.modes.as_slice()
     }
 
-    /// Whether the constraint is deferred; false where there is none of this number.
+    /// Whether the constraint is deferred; false if there is none of this number.
     pub fn is_deferred(&self, id: ConstraintId) -> bool
         ensures { result ≡ is_deferred self.now.modes id }
     {
@@ -156,8 +156,8 @@ impl Modes {
         None
     }
 
-    /// Sets the modes of these constraints (ISO/IEC 9075-2:1999, "Set constraints mode statement"). Where one
-    /// isn't deferrable nothing is set, and the first such one is the answer. It takes no memory.
+    /// Sets the modes of these constraints (ISO/IEC 9075-2:1999, "Set constraints mode statement"). If one isn't
+    /// deferrable, nothing is set, and the first such one is the answer. It allocates nothing.
     pub fn set(
         &mut self,
         constraints: &[ConstraintId],

@@ -4,8 +4,8 @@ use Rattle.std.proofs.Common.{◌≡◌, ◌≢◌, ℕ, ◌+◌, ◌-◌, ◌<�
 use Rattle.std.proofs.lemmas.Bool.{cases_lt, cases_eq}
 use Rattle.std.proofs.lemmas.List.{append-nil, get_or-take, get_or-drop, ext_get_or, get_or-set_same, get_or-set_other, length-set, get_or_append_left, get_or-append_right}
 use Rattle.std.proofs.lemmas.List.Edits.{length-insert, length-remove, get_or-insert_below, get_or-insert_at, get_or-insert_above, get_or-remove_below, get_or-remove_above}
-use Rattle.iv_numbers.specs.declared.parts.Parts.{Parts}
-use Rattle.iv_numbers.specs.Parts.{AreWithin, held, size}
+use Rattle.iv_numbers.specs.declared.gap_layout.GapLayout.{GapLayout}
+use Rattle.iv_numbers.specs.GapLayout.{AreWithin, held, size}
 
 get_or-range : (xs : List ℕ) (i j k : ℕ) → k < j - i → get_or (slice_range xs i j) k 0 ≡ get_or xs (i + k) 0
 get_or-range xs i j k h = get_or-take (j - i) (drop i xs) k 0 h ∙ get_or-drop i xs k 0
@@ -14,7 +14,7 @@ pub length-range : (xs : List ℕ) (i j : ℕ) → i ≤ j → j ≤ length xs �
 length-range xs i j h g = let a = length-take (j - i) (drop i xs) in let b = length-drop i xs in omega arith
 
 -- how many numbers the two parts hold
-pub length-held : (xs : List ℕ) (p : Parts) → AreWithin p (length xs) → length (held xs p) ≡ size p
+pub length-held : (xs : List ℕ) (p : GapLayout) → AreWithin p (length xs) → length (held xs p) ≡ size p
 length-held xs p w =
     let f = length-range xs p.start p.gap_start w.front (omega (arith, w.gap, w.back, w.within)) in
     let b = length-range xs p.gap_end p.end w.back w.within in
@@ -22,14 +22,14 @@ length-held xs p w =
     omega arith
 
 -- a number of the front, by its place
-front_at : (xs : List ℕ) (p : Parts) (k i : ℕ) → AreWithin p (length xs) → k < p.gap_start - p.start → i ≡ p.start + k → get_or (held xs p) k 0 ≡ get_or xs i 0
+front_at : (xs : List ℕ) (p : GapLayout) (k i : ℕ) → AreWithin p (length xs) → k < p.gap_start - p.start → i ≡ p.start + k → get_or (held xs p) k 0 ≡ get_or xs i 0
 front_at xs p k i w lt e =
     let f = length-range xs p.start p.gap_start w.front (omega (arith, w.gap, w.back, w.within)) in
     get_or_append_left (slice_range xs p.start p.gap_start) (slice_range xs p.gap_end p.end) 0 k (omega arith)
     ∙ get_or-range xs p.start p.gap_start k lt ∙ ap (λ (x : ℕ). get_or xs x 0) (sym e)
 
 -- a number of the back, by its place
-back_at : (xs : List ℕ) (p : Parts) (k i : ℕ) → AreWithin p (length xs) → p.gap_start - p.start ≤ k → k < size p → i + (p.gap_start - p.start) ≡ p.gap_end + k → get_or (held xs p) k 0 ≡ get_or xs i 0
+back_at : (xs : List ℕ) (p : GapLayout) (k i : ℕ) → AreWithin p (length xs) → p.gap_start - p.start ≤ k → k < size p → i + (p.gap_start - p.start) ≡ p.gap_end + k → get_or (held xs p) k 0 ≡ get_or xs i 0
 back_at xs p k i w le lt e =
     let left : ℕ = p.gap_start - p.start in
     let f = length-range xs p.start p.gap_start w.front (omega (arith, w.gap, w.back, w.within)) in
@@ -38,7 +38,7 @@ back_at xs p k i w le lt e =
     ∙ get_or-range xs p.gap_end p.end (k - left) (omega arith) ∙ ap (λ (x : ℕ). get_or xs x 0) q
 
 -- two parts that hold what others held, number by number
-same_held : (xs ys : List ℕ) (p q : Parts) → AreWithin p (length xs) → AreWithin q (length ys) → size q ≡ size p
+same_held : (xs ys : List ℕ) (p q : GapLayout) → AreWithin p (length xs) → AreWithin q (length ys) → size q ≡ size p
     → ((k : ℕ) → k < size p → get_or (held ys q) k 0 ≡ get_or (held xs p) k 0) → held ys q ≡ held xs p
 same_held xs ys p q w w' e each =
     let n = length-held xs p w in
@@ -46,7 +46,7 @@ same_held xs ys p q w w' e each =
     ext_get_or 0 (held ys q) (held xs p) (omega arith) (λ k h. each k (omega arith))
 
 -- the gap was moved to the front: what stood between its new place and its old one stands behind it
-pub gap_moved_down : (xs ys : List ℕ) (p q : Parts) (at : ℕ) → AreWithin p (length xs) → AreWithin q (length ys) → at < p.gap_start - p.start
+pub gap_moved_down : (xs ys : List ℕ) (p q : GapLayout) (at : ℕ) → AreWithin p (length xs) → AreWithin q (length ys) → at < p.gap_start - p.start
     → q.start ≡ p.start → q.gap_start ≡ p.start + at → q.gap_end ≡ q.gap_start + (p.gap_end - p.gap_start) → q.end ≡ p.end
     → ((k : ℕ) (d : ℕ) → q.gap_end ≤ k → k < q.gap_end + (p.gap_start - q.gap_start) → get_or ys k d ≡ get_or xs (q.gap_start + (k - q.gap_end)) d)
     → ((k : ℕ) (d : ℕ) → k < q.gap_end → get_or ys k d ≡ get_or xs k d)
@@ -64,7 +64,7 @@ gap_moved_down xs ys p q at w w' less s g h e moved below above =
     (cases_lt k at))
 
 -- the gap was moved to the end: what stood between its old place and its new one stands before it
-pub gap_moved_up : (xs ys : List ℕ) (p q : Parts) (at : ℕ) → AreWithin p (length xs) → AreWithin q (length ys) → p.gap_start - p.start ≤ at → at ≤ size p
+pub gap_moved_up : (xs ys : List ℕ) (p q : GapLayout) (at : ℕ) → AreWithin p (length xs) → AreWithin q (length ys) → p.gap_start - p.start ≤ at → at ≤ size p
     → q.start ≡ p.start → q.gap_start ≡ p.start + at → q.gap_end ≡ q.gap_start + (p.gap_end - p.gap_start) → q.end ≡ p.end
     → ((k : ℕ) (d : ℕ) → p.gap_start ≤ k → k < p.gap_start + (q.gap_end - p.gap_end) → get_or ys k d ≡ get_or xs (p.gap_end + (k - p.gap_start)) d)
     → ((k : ℕ) (d : ℕ) → k < p.gap_start → get_or ys k d ≡ get_or xs k d)
@@ -82,7 +82,7 @@ gap_moved_up xs ys p q at w w' more most s g h e moved below above =
     (cases_lt k at))
 
 -- each part was moved as it is
-pub parts_moved : (xs ys : List ℕ) (p q : Parts) → AreWithin p (length xs) → AreWithin q (length ys)
+pub parts_moved : (xs ys : List ℕ) (p q : GapLayout) → AreWithin p (length xs) → AreWithin q (length ys)
     → q.gap_start - q.start ≡ p.gap_start - p.start → q.end - q.gap_end ≡ p.end - p.gap_end
     → ((k : ℕ) → k < p.gap_start - p.start → get_or ys (q.start + k) 0 ≡ get_or xs (p.start + k) 0)
     → ((k : ℕ) → k < p.end - p.gap_end → get_or ys (q.gap_end + k) 0 ≡ get_or xs (p.gap_end + k) 0)
@@ -121,7 +121,7 @@ removed_by xs zs at at_in less below above =
     (cases_lt k at))
 
 -- a number was written before the front
-pub first_inserted : (xs : List ℕ) (p q : Parts) (r : ℕ) → AreWithin p (length xs) → AreWithin q (length xs)
+pub first_inserted : (xs : List ℕ) (p q : GapLayout) (r : ℕ) → AreWithin p (length xs) → AreWithin q (length xs)
     → q.start + 1 ≡ p.start → q.gap_start ≡ p.gap_start → q.gap_end ≡ p.gap_end → q.end ≡ p.end
     → held (set xs q.start r) q ≡ insert (held xs p) 0 r
 first_inserted xs p q r w v s g h e =
@@ -140,7 +140,7 @@ first_inserted xs p q r w v s g h e =
     (cases_lt k (p.gap_start - p.start)))
 
 -- a number was written behind the back
-pub last_inserted : (xs : List ℕ) (p q : Parts) (r : ℕ) → AreWithin p (length xs) → AreWithin q (length xs)
+pub last_inserted : (xs : List ℕ) (p q : GapLayout) (r : ℕ) → AreWithin p (length xs) → AreWithin q (length xs)
     → q.start ≡ p.start → q.gap_start ≡ p.gap_start → q.gap_end ≡ p.gap_end → q.end ≡ p.end + 1
     → held (set xs p.end r) q ≡ insert (held xs p) (size p) r
 last_inserted xs p q r w v s g h e =
@@ -160,7 +160,7 @@ last_inserted xs p q r w v s g h e =
     (λ k le lt. absurd (omega arith))
 
 -- a number was written at the beginning of the gap
-pub inserted_in_gap : (xs : List ℕ) (p q : Parts) (r : ℕ) → AreWithin p (length xs) → AreWithin q (length xs)
+pub inserted_in_gap : (xs : List ℕ) (p q : GapLayout) (r : ℕ) → AreWithin p (length xs) → AreWithin q (length xs)
     → q.start ≡ p.start → q.gap_start ≡ p.gap_start + 1 → q.gap_end ≡ p.gap_end → q.end ≡ p.end
     → held (set xs p.gap_start r) q ≡ insert (held xs p) (p.gap_start - p.start) r
 inserted_in_gap xs p q r w v s g h e =
@@ -177,7 +177,7 @@ inserted_in_gap xs p q r w v s g h e =
     back_at ys q (k + 1) i w' (omega arith) (omega arith) (omega arith) ∙ get_or-set_other xs p.gap_start i r 0 (omega arith) ∙ sym (back_at xs p k i w le (omega arith) (omega arith)))
 
 -- the first of the front went
-pub first_removed : (xs : List ℕ) (p q : Parts) → AreWithin p (length xs) → AreWithin q (length xs) → p.start < p.gap_start
+pub first_removed : (xs : List ℕ) (p q : GapLayout) → AreWithin p (length xs) → AreWithin q (length xs) → p.start < p.gap_start
     → q.start ≡ p.start + 1 → q.gap_start ≡ p.gap_start → q.gap_end ≡ p.gap_end → q.end ≡ p.end
     → held xs q ≡ remove (held xs p) 0
 first_removed xs p q w w' some s g h e =
@@ -192,7 +192,7 @@ first_removed xs p q w w' some s g h e =
     (cases_lt k (q.gap_start - q.start)))
 
 -- the last of the back went
-pub last_removed : (xs : List ℕ) (p q : Parts) (at : ℕ) → AreWithin p (length xs) → AreWithin q (length xs) → p.gap_end < p.end → at + 1 ≡ size p
+pub last_removed : (xs : List ℕ) (p q : GapLayout) (at : ℕ) → AreWithin p (length xs) → AreWithin q (length xs) → p.gap_end < p.end → at + 1 ≡ size p
     → q.start ≡ p.start → q.gap_start ≡ p.gap_start → q.gap_end ≡ p.gap_end → q.end + 1 ≡ p.end
     → held xs q ≡ remove (held xs p) at
 last_removed xs p q at w w' some last s g h e =
@@ -208,7 +208,7 @@ last_removed xs p q at w w' some last s g h e =
     (λ k le lt. absurd (omega arith))
 
 -- the first of the back went
-pub removed_at_gap : (xs : List ℕ) (p q : Parts) (at : ℕ) → AreWithin p (length xs) → AreWithin q (length xs) → p.gap_end < p.end → at ≡ p.gap_start - p.start
+pub removed_at_gap : (xs : List ℕ) (p q : GapLayout) (at : ℕ) → AreWithin p (length xs) → AreWithin q (length xs) → p.gap_end < p.end → at ≡ p.gap_start - p.start
     → q.start ≡ p.start → q.gap_start ≡ p.gap_start → q.gap_end ≡ p.gap_end + 1 → q.end ≡ p.end
     → held xs q ≡ remove (held xs p) at
 removed_at_gap xs p q at w w' some here s g h e =
@@ -221,7 +221,7 @@ removed_at_gap xs p q at w w' some here s g h e =
     back_at xs q k i w' (omega arith) (omega arith) (omega arith) ∙ sym (back_at xs p (k + 1) i w (omega arith) (omega arith) (omega arith)))
 
 -- nothing is behind the gap
-pub closed_held : (xs : List ℕ) (p : Parts) → p.gap_end ≡ p.end → held xs p ≡ slice_range xs p.start p.gap_start
+pub closed_held : (xs : List ℕ) (p : GapLayout) → p.gap_end ≡ p.end → held xs p ≡ slice_range xs p.start p.gap_start
 closed_held xs p e =
     let none : p.end - p.gap_end ≡ 0 = omega arith in
     ap (λ (n : ℕ). slice_range xs p.start p.gap_start ++ take n (drop p.gap_end xs)) none ∙ append-nil (slice_range xs p.start p.gap_start)

@@ -41,7 +41,7 @@ rising_back xs ys rising i j lt l =
     let a = in_back xs ys (length xs + i) i refl in let b = in_back xs ys (length xs + j) j refl in
     omega (arith, rising (length xs + i) (length xs + j) (omega arith) (omega arith))
 
--- a search in the second part, where the number isn't before it
+-- a search in the second part, if the number isn't before it
 pub found_behind : (xs ys : List ℕ) (r : ℕ) (said : Result ℕ ℕ) → Stands ys r said → IsRising (xs ++ ys) → 0 < length ys → get_or ys 0 0 ≤ r → Found (xs ++ ys) r (further (length xs) said)
 found_behind xs ys r said at rising some first =
     found_of (xs ++ ys) r (further (length xs) said) rising (stands said at)
@@ -58,7 +58,7 @@ found_behind xs ys r said at rising some first =
           (λ k le lt. let q = in_back xs ys k (k - length xs) (omega arith) in omega (arith, above (k - length xs) (omega arith) (omega arith))),
         )
 
--- a search in the first part, where the number is before the second
+-- a search in the first part, if the number is before the second
 pub found_before : (xs ys : List ℕ) (r : ℕ) (said : Result ℕ ℕ) → Stands xs r said → IsRising (xs ++ ys) → (0 < length ys → r < get_or ys 0 0) → Found (xs ++ ys) r said
 found_before xs ys r said at rising before =
     found_of (xs ++ ys) r said rising (stands said at)

@@ -3,10 +3,10 @@ use Rattle.std.specs.Prelude.{◌==◌}
 use Rattle.std.proofs.Common.{◌≡◌, ◌≢◌, ℕ, zero, suc, ◌+◌, ◌<◌, ◌≤◌, List, [], ◌∷◌, ◌++◌, length, insert, remove, get_or, take, drop, Bool, true, false, cond, arith, refl, ap, sym, ◌∙◌, ⊎_elim, subst}
 use Rattle.std.proofs.lemmas.Bool.{cases_lt, cases_eq, false≢true, eq-eqb, or_parts}
 use Rattle.std.proofs.lemmas.List.{take_at}
-use Rattle.iv_numbers.specs.declared.parts.Parts.{Parts}
+use Rattle.iv_numbers.specs.declared.gap_layout.GapLayout.{GapLayout}
 use Rattle.iv_numbers.specs.Rows.{Rows, IsRising, added, has_row, put, roomy, with_row, without_row}
 use Rattle.iv_numbers.specs.Kept.{IsKept}
-use Rattle.iv_numbers.specs.Parts.{AreWithin, held, size}
+use Rattle.iv_numbers.specs.GapLayout.{AreWithin, held, size}
 use Rattle.iv_numbers.proofs.RowsLemmas.{rising_rest, lt_true, lt_false, eq_false}
 
 -- a number is below all of these
@@ -84,7 +84,7 @@ pub whole_after : (new old : List ℕ) (n : ℕ) → length new ≡ n → take n
 whole_after new old n e = take_at new (drop (length new) old) n e
 
 -- a number was inserted
-pub kept_inserted : (places new : List ℕ) (live live' : Parts) (room room' at r : ℕ) → IsKept places live room → length new ≡ length places → AreWithin live' (length new)
+pub kept_inserted : (places new : List ℕ) (live live' : GapLayout) (room room' at r : ℕ) → IsKept places live room → length new ≡ length places → AreWithin live' (length new)
     → size live' ≡ size live + 1 → held new live' ≡ insert (held places live) at r → insert (held places live) at r ≡ with_row r (held places live)
     → has_row r (held places live) ≡ false → room' < room → IsKept new live' room'
 kept_inserted places new live live' room room' at r k len w count held_is with_is absent less = record {
@@ -94,7 +94,7 @@ kept_inserted places new live live' room room' at r k len w count held_is with_i
 }
 
 -- a number was removed
-pub kept_removed : (places new : List ℕ) (live live' : Parts) (room at r : ℕ) → IsKept places live room → length new ≡ length places → AreWithin live' (length new)
+pub kept_removed : (places new : List ℕ) (live live' : GapLayout) (room at r : ℕ) → IsKept places live room → length new ≡ length places → AreWithin live' (length new)
     → size live' + 1 ≡ size live → held new live' ≡ remove (held places live) at → remove (held places live) at ≡ without_row r (held places live)
     → IsKept new live' (room + 1)
 kept_removed places new live live' room at r k len w count held_is without_is = record {
@@ -104,7 +104,7 @@ kept_removed places new live live' room at r k len w count held_is without_is = 
 }
 
 -- the numbers stand otherwise, and are the same
-pub kept_moved : (places new : List ℕ) (live live' : Parts) (room : ℕ) → IsKept places live room → length new ≡ length places → AreWithin live' (length new)
+pub kept_moved : (places new : List ℕ) (live live' : GapLayout) (room : ℕ) → IsKept places live room → length new ≡ length places → AreWithin live' (length new)
     → size live' ≡ size live → held new live' ≡ held places live → IsKept new live' room
 kept_moved places new live live' room k len w count held_is = record {
   within = w;

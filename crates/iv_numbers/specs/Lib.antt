@@ -1,5 +1,5 @@
 pub mod Rows
-pub mod Parts
+pub mod GapLayout
 pub mod Search
 pub mod Kept
 pub mod Closing

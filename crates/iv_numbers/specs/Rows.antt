@@ -25,7 +25,7 @@ abbrev pub without_row : ℕ → List ℕ → List ℕ
 without_row row [] = []
 without_row row (r ∷ rows) = if r == row then rows else r ∷ without_row row rows
 
--- The rows of a key, in rising order, and its room: how many more it takes without memory.
+-- The rows of a key, in rising order, and its room: how many more it takes without an allocation.
 pub record Rows : Type 0 where
   pub rows : List ℕ
   pub room : ℕ
@@ -34,7 +34,7 @@ pub record Rows : Type 0 where
 abbrev pub no_rows : Rows
 no_rows = record { rows = []; room = 0 }
 
--- With one row more, which takes one of the room where there is some.
+-- With one row more, which takes one of the room if there is some.
 abbrev pub added : ℕ → Rows → Rows
 added row held = record { rows = with_row row held.rows; room = held.room - 1 }
 
@@ -42,7 +42,7 @@ added row held = record { rows = with_row row held.rows; room = held.room - 1 }
 abbrev pub removed : ℕ → Rows → Rows
 removed row held = record { rows = without_row row held.rows; room = held.room + 1 }
 
--- With this row, where it isn't among them yet.
+-- With this row, if it isn't among them yet.
 abbrev pub put : ℕ → Rows → Rows
 put row held = if has_row row held.rows then held else added row held
 

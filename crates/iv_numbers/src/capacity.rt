@@ -4,8 +4,8 @@ ghost use Rattle.std.specs.Prelude.{◌≡◌};
 // A list with room for so many items keeps it.
 const FEW: usize = 16;
 
-/// Gives memory of a list back where less than a quarter of its room is taken: twice as much as it needs stays. Where
-/// the smaller block is refused, it keeps the one that it has.
+/// Gives memory of a list back if less than a quarter of its room is used, and keeps twice as much as it needs. If a
+/// smaller block can't be had, the list keeps the one that it has.
 pub fn give_room_back<T>(list: &mut Vec<T>)
     ensures { list.new.items ≡ list.old.items }
 {

@@ -54,7 +54,7 @@ fn first_of(rows: &[u64]) -> Option<u64>
     }
 }
 
-// Adds the numbers of both parts. Where memory is refused it adds none.
+// Adds the numbers of both parts. If an allocation fails it adds none.
 fn push_onto(front: &[u64], back: &[u64], rows: &mut Vec<u64>) -> Result<(), AllocError>
     requires few { length front.now + length back.now < 2 ^ 64 }
     ensures ok { OnOk result (rows.new.items ≡ rows.old.items ++ front.now ++ back.now) }
@@ -66,7 +66,7 @@ fn push_onto(front: &[u64], back: &[u64], rows: &mut Vec<u64>) -> Result<(), All
     Ok(())
 }
 
-// What a search in the second part tells, where the first has so many numbers.
+// What a search in the second part tells, if the first has so many numbers.
 fn further(count: usize, said: Result<usize, usize>, len: usize) -> Result<usize, usize>
     requires few { count + len < 2 ^ 64 }
     requires within { IsSearchInRange said len }
@@ -101,7 +101,7 @@ fn find(front: &[u64], back: &[u64], row: u64) -> Result<usize, usize>
     search(front, row)
 }
 
-// The first of some numbers above one. Where no number up to it is missing, that takes constant time; else it halves.
+// The first of some numbers above one. If no number up to it is missing, that takes constant time; else it halves.
 fn above(rows: &[u64], row: u64) -> Option<u64>
     requires { IsRising rows.now }
     ensures { result ≡ number_above row rows.now }
@@ -174,7 +174,7 @@ impl<'a> HeldRows<'a> {
         next_above(self.front, self.back, row)
     }
 
-    /// Adds all of them to others. Where memory is refused it adds none.
+    /// Adds all of them to others. If an allocation fails, it adds none.
     pub fn push_onto(&self, rows: &mut Vec<u64>) -> Result<(), AllocError>
         ensures ok { OnOk result (rows.new.items ≡ rows.old.items ++ self.now) }
         ensures err { OnErr result (rows.new.items ≡ rows.old.items) }

@@ -2,8 +2,8 @@
 #![tactic(auto)]
 
 mod capacity;
+mod gap_layout;
 mod held_rows;
-mod parts;
 mod row_numbers;
 mod searching;
 

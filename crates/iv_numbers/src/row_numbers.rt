@@ -2,28 +2,28 @@
 ghost use Rattle.std.specs.Prelude.{◌≡◌, ℕ, ◌+◌, ◌-◌, ◌<◌, ◌≤◌, length, true, false, OnOk, OnErr, MatchResult, insert, remove};
 ghost use Rattle.std.specs.Borrow.{sem};
 ghost use Rattle.iv_numbers.specs.Closing.{NumbersStay};
-ghost use Rattle.iv_numbers.specs.Parts.{AreWithin, held, size};
+ghost use Rattle.iv_numbers.specs.GapLayout.{AreWithin, held, size};
 ghost use Rattle.iv_numbers.specs.Rows.{IsRising, Found, added, has_row, no_rows, put, removed, roomy, with_row, without_row};
 
+use crate::gap_layout::{GapLayout, insert_at, move_gap, remove_at, size};
 use crate::held_rows::HeldRows;
-use crate::parts::{Parts, insert_at, move_gap, remove_at, size};
 use std::alloc::{AllocError, Global};
 use std::marker::Model;
 
-/// Different row numbers in rising order, and their room: how many more they take without memory. They stand in
-/// two parts of a list of places. Between these is a gap, where the last number came or went in the middle: the next one
-/// beside it takes constant time, as do the first and the last.
+/// Different row numbers in rising order, and their room: how many more they take without an allocation. They stand in
+/// two parts of a list of places, with a gap where the last number came or went in the middle. The next number beside
+/// it takes constant time, as do the first and the last.
 #[derive(Drop)]
 pub struct RowNumbers {
     places: Vec<u64>,
-    live: Parts,
+    live: GapLayout,
     room: usize,
 }
 
 impl Model for RowNumbers {
     ghost use Rattle.std.specs.Prelude.{ℕ, ◌+◌, ◌≤◌, length};
     ghost use Rattle.iv_numbers.specs.Rows.{Rows, IsRising};
-    ghost use Rattle.iv_numbers.specs.Parts.{held};
+    ghost use Rattle.iv_numbers.specs.GapLayout.{held};
     ghost use Rattle.iv_numbers.specs.Kept.{IsKept};
 
     ghost Value = { Rows };
@@ -33,9 +33,9 @@ impl Model for RowNumbers {
     ghost invariant = { λ r. IsKept r.places.items r.live r.room };
 }
 
-// Doubles the places where not a fifth of them is free. So the numbers are moved to the middle once in many changes, also
-// where they go at one end and come at the other.
-fn more_places(places: &mut Vec<u64>, live: Parts) -> Result<(), AllocError>
+// Doubles the places if less than a fifth of them is free. The numbers are then moved to the middle once in many
+// changes, even if they go at one end and come at the other.
+fn more_places(places: &mut Vec<u64>, live: GapLayout) -> Result<(), AllocError>
     requires within { AreWithin live (length places.old.items) }
     ensures within { OnOk result (AreWithin live (length places.new.items)) }
     ensures free { OnOk result (size live < length places.new.items) }
@@ -50,7 +50,7 @@ fn more_places(places: &mut Vec<u64>, live: Parts) -> Result<(), AllocError>
 }
 
 // The numbers that stand in the parts.
-fn held(places: &[u64], live: Parts) -> HeldRows<'_>
+fn held(places: &[u64], live: GapLayout) -> HeldRows<'_>
     requires { AreWithin live (length places.now) }
     ensures { result ≡ held places.now live }
 {
@@ -61,13 +61,13 @@ fn held(places: &[u64], live: Parts) -> HeldRows<'_>
 }
 
 impl RowNumbers {
-    /// No numbers and no room. It takes no memory.
+    /// No numbers and no room. It allocates nothing.
     pub fn new(alloc: Global) -> RowNumbers
         ensures { result ≡ no_rows }
     {
         RowNumbers {
             places: Vec::new(alloc),
-            live: Parts {
+            live: GapLayout {
                 start: 0,
                 gap_start: 0,
                 gap_end: 0,
@@ -95,7 +95,7 @@ impl RowNumbers {
         &self.places.as_slice()[self.live.start..self.live.gap_start]
     }
 
-    /// How many more numbers it takes without memory.
+    /// How many more numbers are taken without an allocation.
     pub fn room(&self) -> usize
         ensures { result ≡ self.now.room }
     {
@@ -121,7 +121,7 @@ impl RowNumbers {
         }
     }
 
-    // Makes room for one number where there is none.
+    // Makes room for one number if there is none.
     fn grow(&mut self) -> Result<(), AllocError>
         requires { self.old.room ≡ 0 }
         ensures ok { OnOk result (self.new ≡ record { rows = self.old.rows; room = 1 }) }
@@ -132,7 +132,7 @@ impl RowNumbers {
         Ok(())
     }
 
-    // Inserts a number at its place, where a place is free.
+    // Inserts a number at its place, if a place is free.
     fn insert(&mut self, at: usize, row: u64, room: usize)
         requires absent { has_row row self.old.rows ≡ false }
         requires within { at ≤ length self.old.rows }
@@ -144,7 +144,7 @@ impl RowNumbers {
         self.room = room;
     }
 
-    /// Sees that there is room for one number at least.
+    /// Ensures that there is room for one number at least.
     pub fn make_room(&mut self) -> Result<(), AllocError>
         ensures ok { OnOk result (self.new ≡ roomy self.old) }
         ensures err { OnErr result (self.new ≡ self.old) }
@@ -155,7 +155,7 @@ impl RowNumbers {
         Ok(())
     }
 
-    /// Puts a number where it isn't among them. It takes one of the room, and no memory.
+    /// Puts a number that isn't among them. It uses one of the room, and allocates nothing.
     pub fn put(&mut self, row: u64)
         requires { 0 < self.old.room }
         ensures { self.new ≡ put row self.old }
@@ -169,7 +169,7 @@ impl RowNumbers {
         }
     }
 
-    /// Adds a number. It takes one of the room, or memory where there is no room.
+    /// Adds a number. It uses one of the room, and allocates if there is none.
     pub fn add(&mut self, row: u64) -> Result<(), AllocError>
         requires { has_row row self.old.rows ≡ false }
         ensures ok { OnOk result (self.new ≡ added row self.old) }
@@ -190,7 +190,7 @@ impl RowNumbers {
         self.room += 1;
     }
 
-    // Moves the numbers, which have no room, into places for them alone. If memory for these is refused, they stay where
+    // Moves the numbers, which have no room, into places only for them. If these can't be allocated, they stay where
     // they are.
     fn shorten(&mut self)
         requires { self.old.room ≡ 0 }
@@ -200,7 +200,7 @@ impl RowNumbers {
         if let Ok(places) = self.held().to_vec(alloc) {
             let end = places.len();
             self.places = places;
-            self.live = Parts {
+            self.live = GapLayout {
                 start: 0,
                 gap_start: end,
                 gap_end: end,
@@ -209,7 +209,7 @@ impl RowNumbers {
         }
     }
 
-    /// Gives the room up, and memory where the numbers take less than a quarter of it.
+    /// Gives the room up, and memory if the numbers use less than a quarter of it.
     pub fn give_room_back(&mut self)
         ensures { self.new ≡ record { rows = self.old.rows; room = 0 } }
     {

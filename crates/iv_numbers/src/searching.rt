@@ -31,8 +31,8 @@ pub(crate) fn is_beyond(rows: &[u64], row: u64) -> bool
     }
 }
 
-// The place of a number, or the place where it would be inserted. Where no number up to it is missing, or it is above
-// all of them, that takes constant time; else it halves.
+// The place of a number, or the place where it would be inserted. If no number up to it is missing, or it is above all
+// of them, that takes constant time; else it halves.
 pub(crate) fn search(rows: &[u64], row: u64) -> Result<usize, usize>
     requires { IsRising rows.now }
     ensures stands { MatchResult result

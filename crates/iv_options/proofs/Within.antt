@@ -26,14 +26,16 @@ depth_parser zero d lt = λ same. refl
 depth_parser (suc zero) d lt = λ same. let bad : false ≡ true = same in cc
 depth_parser (suc (suc zero)) d lt = λ same. let bad : false ≡ true = same in cc
 depth_parser (suc (suc (suc zero))) d lt = λ same. let bad : false ≡ true = same in cc
-depth_parser (suc (suc (suc (suc k)))) d lt = absurd (omega arith)
+depth_parser (suc (suc (suc (suc zero)))) d lt = λ same. let bad : false ≡ true = same in cc
+depth_parser (suc (suc (suc (suc (suc k))))) d lt = absurd (omega arith)
 
 changes_parser : All (HasParser (codes "changes") (parser.Signed (pos fewest_changes_in_a_statement) (pos most_changes_in_a_statement))) command_line.top.rules
 changes_parser zero d lt = λ same. let bad : false ≡ true = same in cc
 changes_parser (suc zero) d lt = λ same. refl
 changes_parser (suc (suc zero)) d lt = λ same. let bad : false ≡ true = same in cc
 changes_parser (suc (suc (suc zero))) d lt = λ same. let bad : false ≡ true = same in cc
-changes_parser (suc (suc (suc (suc k)))) d lt = absurd (omega arith)
+changes_parser (suc (suc (suc (suc zero)))) d lt = λ same. let bad : false ≡ true = same in cc
+changes_parser (suc (suc (suc (suc (suc k))))) d lt = absurd (omega arith)
 
 -- the text of a limit writes a number in its range
 limit_within : (c built : Command) (m : ArgMatches) (id : Text) (low high : ℕ) → app_of c ≡ command_line → BuildsTo c built

@@ -34,6 +34,13 @@ explain_rule = record (new_rule (codes "explain")) {
   action = Some SetTrue;
 }
 
+-- --json
+abbrev pub json_rule : Rule
+json_rule = record (new_rule (codes "json")) {
+  long = Some (codes "json");
+  action = Some SetTrue;
+}
+
 -- FILE
 abbrev pub file_rule : Rule
 file_rule = record (new_rule (codes "file")) { value_names = 1 }
@@ -42,10 +49,13 @@ file_rule = record (new_rule (codes "file")) { value_names = 1 }
 abbrev pub with_version : App → App
 with_version app = record app { top = record app.top { has_version = true } }
 
--- sqlkeep [--depth N] [--changes N] [--explain] [FILE]
+-- sqlkeep [--depth N] [--changes N] [--explain] [--json]
+abbrev pub named_options : App
+named_options = with_rule (with_rule (with_rule (with_rule (with_version (new_app (codes "sqlkeep"))) depth_rule) changes_rule) explain_rule) json_rule
+
+-- so with [FILE]
 abbrev pub command_line : App
-command_line =
-    with_rule (with_rule (with_rule (with_rule (with_version (new_app (codes "sqlkeep"))) depth_rule) changes_rule) explain_rule) file_rule
+command_line = with_rule named_options file_rule
 
 -- the number that a text's digits write, or another one where there is no text
 abbrev pub number_or : ℕ → Option Text → ℕ
@@ -63,9 +73,17 @@ limits_of rows = record {
 abbrev pub is_given : Text → Bool
 is_given text = bytes_eq text (codes "true")
 
+-- whether the flag of this name is given
+abbrev pub flag_of : Text → List Row → Bool
+flag_of name rows = option_map_or is_given (one_of name rows) false
+
 -- whether they say that accounts are written
 abbrev pub explains_of : List Row → Bool
-explains_of rows = option_map_or is_given (one_of (codes "explain") rows) false
+explains_of rows = flag_of (codes "explain") rows
+
+-- whether they say that the transcript is written as JSON
+abbrev pub json_of : List Row → Bool
+json_of rows = flag_of (codes "json") rows
 
 -- the file that they give
 abbrev pub file_of : List Row → Option Text

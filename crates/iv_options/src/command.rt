@@ -1,7 +1,7 @@
 //! The command that `clap` reads words for.
 ghost use Rattle.std.specs.Prelude.{◌≡◌, codes, false, IfOk};
 ghost use Rattle.clap.specs.Words.{app_of, new_app, rule_of};
-ghost use Rattle.iv_options.specs.CommandLine.{changes_rule, command_line, depth_rule, explain_rule, file_rule, with_version};
+ghost use Rattle.iv_options.specs.CommandLine.{changes_rule, command_line, depth_rule, explain_rule, file_rule, json_rule, named_options, with_version};
 
 use crate::version::version;
 use clap::{Arg, ArgAction, Command, value_parser};
@@ -49,6 +49,17 @@ fn explain<'a>(alloc: Global) -> Arg<'a>
         .help("Writes after each statement's line what happened in it")
 }
 
+fn json<'a>(alloc: Global) -> Arg<'a>
+    ensures rule { rule_of result ≡ json_rule }
+    ensures local { result.global ≡ false }
+{
+    Arg::new(alloc, "json")
+        .long("json")
+        .action(ArgAction::SetTrue)
+        .help_heading("Transcript")
+        .help("Writes a JSON object for each statement, on one line")
+}
+
 fn file<'a>(alloc: Global) -> Arg<'a>
     ensures rule { rule_of result ≡ file_rule }
     ensures local { result.global ≡ false }
@@ -76,13 +87,20 @@ fn described<'a>(alloc: Global) -> Command<'a>
         .after_help(EXAMPLES)
 }
 
-/// `sqlkeep [--depth N] [--changes N] [--explain] [FILE]`, with `--help` and `--version`.
-pub fn command<'a>(alloc: Global) -> Result<Command<'a>, AllocError>
-    ensures { IfOk result (λ c. app_of c ≡ command_line) }
+// The command with its options, which have a name each.
+fn with_options<'a>(alloc: Global) -> Result<Command<'a>, AllocError>
+    ensures { IfOk result (λ c. app_of c ≡ named_options) }
 {
     described(alloc)
         .arg(depth(alloc))?
         .arg(changes(alloc))?
         .arg(explain(alloc))?
-        .arg(file(alloc))
+        .arg(json(alloc))
+}
+
+/// `sqlkeep [--depth N] [--changes N] [--explain] [--json] [FILE]`, with `--help` and `--version`.
+pub fn command<'a>(alloc: Global) -> Result<Command<'a>, AllocError>
+    ensures { IfOk result (λ c. app_of c ≡ command_line) }
+{
+    with_options(alloc)?.arg(file(alloc))
 }

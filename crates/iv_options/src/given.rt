@@ -9,6 +9,8 @@ pub struct Options<'a> {
     pub limits: Limits,
     /// Whether the account of each statement is written.
     pub explain: bool,
+    /// Whether the transcript is written as JSON.
+    pub json: bool,
     /// The file of the script; standard input where there is none.
     pub file: Option<&'a str>,
 }

@@ -1,4 +1,4 @@
-//! The command line of `sqlkeep`: the limits of the session, whether accounts are written, and the file of the script.
+//! The command line of `sqlkeep`: the limits of the session, whether accounts are written and the transcript is JSON, and the file of the script.
 #![tactic(auto)]
 
 mod command;

@@ -6,7 +6,7 @@ ghost use Rattle.iv_machine.specs.Bounds.{least_depth, greatest_depth, fewest_ch
 ghost use Rattle.iv_machine.specs.declared.limits.TheConstants.{MOST_CHANGES_IN_A_STATEMENT};
 ghost use Rattle.iv_options.specs.declared.command.TheConstants.{USUAL_DEPTH};
 ghost use Rattle.iv_options.specs.declared.given.WordsError.TheVariants.{NoMemory};
-ghost use Rattle.iv_options.specs.CommandLine.{command_line, explains_of, file_of, limits_of, number_or};
+ghost use Rattle.iv_options.specs.CommandLine.{command_line, explains_of, file_of, flag_of, json_of, limits_of, number_or};
 ghost use Rattle.iv_options.specs.Ranges.{GivesLimits, WritesWithin};
 ghost use Rattle.iv_options.specs.Refusals.{AnswersBy, MayAnswer};
 
@@ -56,12 +56,12 @@ fn limits_of(matches: &ArgMatches<'_>) -> Limits
     }
 }
 
-// Whether the flag is given. `get_flag` has this body, but its clauses leave open what a text other than "true" and
-// "false" reads as; those of `get_one` don't.
-fn explains_of(matches: &ArgMatches<'_>) -> bool
-    ensures { result ≡ explains_of (rows_of (found_of matches.now)) }
+// Whether the flag of this name is given. `get_flag` has this body, but its clauses leave open what a text other than
+// "true" and "false" reads as; those of `get_one` don't.
+fn flag_of(matches: &ArgMatches<'_>, name: &str) -> bool
+    ensures { result ≡ flag_of name.now (rows_of (found_of matches.now)) }
 {
-    matches.get_one::<bool>("explain").unwrap_or(false)
+    matches.get_one::<bool>(name).unwrap_or(false)
 }
 
 // The options that the words give, or the error of `clap`.
@@ -70,6 +70,8 @@ fn read_words<'a, S: AsStr>(alloc: Global, words: &'a [S]) -> Result<Options<'a>
         ≡ limits_of (matches_of command_line (map S.text words.entry.now))) }
     ensures explain { IfOk result (λ o. o.explain
         ≡ explains_of (matches_of command_line (map S.text words.entry.now))) }
+    ensures json { IfOk result (λ o. o.json
+        ≡ json_of (matches_of command_line (map S.text words.entry.now))) }
     ensures file { IfOk result (λ o. option_map (λ s. s.now) o.file
         ≡ file_of (matches_of command_line (map S.text words.entry.now))) }
     ensures passes { IfErr result (λ e. takes command_line (map S.text words.entry.now) ≡ true
@@ -80,7 +82,8 @@ fn read_words<'a, S: AsStr>(alloc: Global, words: &'a [S]) -> Result<Options<'a>
     let matches = command.try_get_matches_from_mut(words)?;
     Ok(Options {
         limits: limits_of(&matches),
-        explain: explains_of(&matches),
+        explain: flag_of(&matches, "explain"),
+        json: flag_of(&matches, "json"),
         file: matches.get_str("file"),
     })
 }
@@ -110,6 +113,8 @@ pub fn options<'a, S: AsStr>(alloc: Global, words: &'a [S]) -> Result<Options<'a
         ≡ limits_of (matches_of command_line (map S.text words.entry.now))) }
     ensures explain { IfOk result (λ o. o.explain
         ≡ explains_of (matches_of command_line (map S.text words.entry.now))) }
+    ensures json { IfOk result (λ o. o.json
+        ≡ json_of (matches_of command_line (map S.text words.entry.now))) }
     ensures file { IfOk result (λ o. option_map (λ s. s.now) o.file
         ≡ file_of (matches_of command_line (map S.text words.entry.now))) }
     ensures passes { IfErr result (λ e. takes command_line (map S.text words.entry.now) ≡ true

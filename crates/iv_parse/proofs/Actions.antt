@@ -1,65 +1,67 @@
 -- One action of a block more.
-use Rattle.std.proofs.Common.{◌≡◌, ℕ, zero, suc, ◌-◌, ◌<◌, Option, Some, None, List, [], ◌∷◌, ◌++◌, refl, sym, ◌∙◌, ap, arith}
+use Rattle.std.proofs.Common.{◌≡◌, ℕ, ◌+◌, ◌<◌, true, false, Bool, is_some, Option, Some, None, List, [], ◌∷◌, ◌++◌, length, Result, Ok, Err, refl, sym, ◌∙◌, ap, subst, arith, length-append}
+use Rattle.std.proofs.lemmas.Bool.{false≢true}
+use Rattle.std.specs.Result.{IsErr, IsErrAnd}
 use Rattle.iv_lex.specs.declared.kind.TokenKind.TheVariants as kind
-use Rattle.iv_lex.specs.Words.{Word}
-use Rattle.iv_parse.specs.Words.{TriggerAction}
+use Rattle.iv_lex.specs.Words.{Word, plain}
+use Rattle.iv_parse.specs.Types.{TriggerAction}
 use Rattle.iv_parse_terms.specs.After.{after, if_some, then_read}
-use Rattle.iv_parse_data.specs.readers.Data.{then_word}
-use Rattle.iv_parse.specs.readers.Triggers.{read_action, read_with_semicolon, read_ended_action}
-use Rattle.iv_parse_data.proofs.Loops.{Amid, preceded, amid_none, amid_end, amid_more}
+use Rattle.iv_parse_terms.specs.declared.stop.Stop.{Stop}
+use Rattle.iv_parse_terms.specs.Reading.{At, Other, Like, ahead, GivesAs, Reads, Peeks}
+use Rattle.iv_parse_terms.proofs.Rules.{told, stop_in, stopped}
+use Rattle.iv_parse_data.specs.Series.{Maybe}
+use Rattle.iv_parse.specs.readers.Triggers.{read_with_semicolon, read_ended_action}
+use Rattle.iv_parse.specs.Triggers.{IsEndedAction}
+use Rattle.iv_parse.proofs.TriggerSound.{ended_action_good}
 
--- what is read where the next word isn't END
-ended : (ws : List Word) → None ≡ after kind.End ws → read_ended_action ws ≡ then_read (read_with_semicolon ws) (λ a rest. Some (Some a, rest))
+abbrev one_found : TriggerAction → List Word → Option (Option TriggerAction × List Word)
+one_found a rest = Some (Some a, rest)
+
+at_end : (o : Option (List Word)) (ws : List Word) (other : Option (Option TriggerAction × List Word)) → is_some o ≡ true → if_some o (λ rest. Some (None, ws)) other ≡ Some (None, ws)
+at_end None ws other h = absurd (false≢true h)
+at_end (Some r) ws other h = refl
+
+before_end : (o : Option (List Word)) (ws : List Word) (other : Option (Option TriggerAction × List Word)) → is_some o ≡ false → if_some o (λ rest. Some (None, ws)) other ≡ other
+before_end None ws other h = refl
+before_end (Some r) ws other h = absurd (false≢true (sym h))
+
+-- END is next
+pub ends : (all : List Word) (c n : At) → Peeks (after kind.End) all c true n → Reads read_ended_action all c (Ok None) n
 unfolding read_ended_action
-ended ws e = ap (λ o. if_some o (λ rest. Some (None, ws)) (then_read (read_with_semicolon ws) (λ a rest. Some (Some a, rest)))) (sym e)
+ends all c n peek o l =
+    let q = peek o l in
+    (q.0, at_end (after kind.End (ahead c o)) (ahead c o) (then_read (read_with_semicolon (ahead c o)) one_found) q.2 ∙ ap (λ w. Some (None, w)) (sym q.1))
 
-no_action : (ws : List Word) → None ≡ after kind.End ws → None ≡ read_action ws → None ≡ read_ended_action ws
-unfolding read_with_semicolon
-no_action ws e h =
-    ap (λ o. then_read (then_read o (λ a rest. then_word kind.Semicolon rest (λ more. Some (a, more)))) (λ a rest. Some (Some a, rest))) h ∙ sym (ended ws e)
-
-no_semicolon : (ws rest : List Word) (a : TriggerAction) → None ≡ after kind.End ws → Some (a, rest) ≡ read_action ws → None ≡ after kind.Semicolon rest → None ≡ read_ended_action ws
-unfolding read_with_semicolon
-no_semicolon ws rest a e h g =
-    ap (λ o. then_read (if_some o (λ more. Some (a, more)) None) (λ a rest. Some (Some a, rest))) g
-    ∙ ap (λ o. then_read (then_read o (λ a rest. then_word kind.Semicolon rest (λ more. Some (a, more)))) (λ a rest. Some (Some a, rest))) h ∙ sym (ended ws e)
-
-one_action : (ws rest more : List Word) (a : TriggerAction) → None ≡ after kind.End ws → Some (a, rest) ≡ read_action ws → Some more ≡ after kind.Semicolon rest → Some (Some a, more) ≡ read_ended_action ws
-unfolding read_with_semicolon
-one_action ws rest more a e h g =
-    ap (λ o. then_read (if_some o (λ more. Some (a, more)) None) (λ a rest. Some (Some a, rest))) g
-    ∙ ap (λ o. then_read (then_read o (λ a rest. then_word kind.Semicolon rest (λ more. Some (a, more)))) (λ a rest. Some (Some a, rest))) h ∙ sym (ended ws e)
-
-abbrev no_more : List Word → Option TriggerAction → List Word → Option (List TriggerAction × List Word)
-no_more ws o rest = if_some o (λ a. None) (Some ([], ws))
-
-abbrev found_one : TriggerAction → List Word → Option (Option TriggerAction × List Word)
-found_one a rest = Some (Some a, rest)
-
-full : (ws : List Word) (o : Option (TriggerAction × List Word)) → then_read (then_read o found_one) (no_more ws) ≡ None
-full ws None = refl
-full ws (Some p) = refl
-
--- there are more actions than words
-pub actions_full : (items : List TriggerAction) (n : ℕ) (ws : List Word) (all : Option (List TriggerAction × List Word)) → Amid read_ended_action items n ws all → n ≡ 0 → None ≡ after kind.End ws → None ≡ all
-actions_full items zero ws all amid z e =
-    ap (preceded items) (sym (full ws (read_with_semicolon ws)))
-    ∙ ap (λ o. preceded items (then_read o (λ o rest. if_some o (λ a. None) (Some ([], ws))))) (sym (ended ws e)) ∙ amid.is
-actions_full items (suc n) ws all amid z e = absurd (omega arith)
-
-pub actions_none : (items : List TriggerAction) (n : ℕ) (ws : List Word) (all : Option (List TriggerAction × List Word)) → Amid read_ended_action items n ws all → None ≡ after kind.End ws → None ≡ read_action ws → None ≡ all
-actions_none items n ws all amid e h = amid_none read_ended_action items n ws all amid (no_action ws e h)
-
-pub actions_open : (items : List TriggerAction) (n : ℕ) (ws rest : List Word) (a : TriggerAction) (all : Option (List TriggerAction × List Word)) → Amid read_ended_action items n ws all
-    → None ≡ after kind.End ws → Some (a, rest) ≡ read_action ws → None ≡ after kind.Semicolon rest → None ≡ all
-actions_open items n ws rest a all amid e h g = amid_none read_ended_action items n ws all amid (no_semicolon ws rest a e h g)
-
-pub actions_more : (items : List TriggerAction) (n : ℕ) (ws rest more : List Word) (a : TriggerAction) (all : Option (List TriggerAction × List Word)) → Amid read_ended_action items n ws all → 0 < n
-    → None ≡ after kind.End ws → Some (a, rest) ≡ read_action ws → Some more ≡ after kind.Semicolon rest → Amid read_ended_action (items ++ a ∷ []) (n - 1) more all
-actions_more items n ws rest more a all amid l e h g = amid_more read_ended_action items n ws more a all amid l (one_action ws rest more a e h g)
-
--- the next word is END
-pub actions_end : (items : List TriggerAction) (n : ℕ) (ws rest : List Word) (all : Option (List TriggerAction × List Word)) → Amid read_ended_action items n ws all → Some rest ≡ after kind.End ws → Some (items, ws) ≡ all
+before : (all : List Word) (c : At) (o : Other) → is_some (after kind.End (ahead c o)) ≡ false → read_ended_action (ahead c o) ≡ then_read (read_with_semicolon (ahead c o)) one_found
 unfolding read_ended_action
-actions_end items n ws rest all amid e =
-    amid_end read_ended_action items n ws ws all amid (ap (λ o. if_some o (λ rest. Some (None, ws)) (then_read (read_with_semicolon ws) (λ a rest. Some (Some a, rest)))) e)
+before all c o h = before_end (after kind.End (ahead c o)) (ahead c o) (then_read (read_with_semicolon (ahead c o)) one_found) h
+
+-- an action is next
+pub goes_on : (all : List Word) (c m n : At) (a : TriggerAction) → Peeks (after kind.End) all c false m → Reads read_with_semicolon all m (Ok a) n → Reads read_ended_action all c (Ok (Some a)) n
+goes_on all c m n a peek h o l =
+    let p = h o l in
+    let q = peek o p.0 in
+    (q.0, before all c o q.2 ∙ (ap (λ w. then_read (read_with_semicolon w) one_found) (sym q.1) ∙ ap (λ r. then_read r one_found) p.1))
+
+pub goes_wrong : (all : List Word) (c m n : At) (r : Result (Option TriggerAction) Stop) (e : Stop) → Peeks (after kind.End) all c false m → Reads read_with_semicolon all m (Err e) n
+    → IsErr r × IsErrAnd r (λ y. y ≡ e) → Reads read_ended_action all c r n
+goes_wrong all c m n r e peek h i o l =
+    let p = h o l in
+    let q = peek o p.0 in (
+      q.0,
+      told (λ x. x) r e (read_ended_action (ahead c o)) (ahead n o) i
+          (stop_in e (read_with_semicolon (ahead m o)) (read_ended_action (ahead c o))
+          (λ x. before all c o q.2 ∙ (ap (λ w. then_read (read_with_semicolon w) one_found) (sym q.1) ∙ ap (λ r. then_read r one_found) x))
+          (stopped (λ x. x) e (read_with_semicolon (ahead m o)) (ahead n o) p.1)),
+    )
+
+-- an action takes a word at least
+pub action_takes : (ws rest : List Word) (a : TriggerAction) → read_ended_action ws ≡ Some (Some a, rest) → length rest < length ws
+action_takes ws rest a h =
+    let fit = (ended_action_good ws).holds (Some a) rest h in
+    let (inner, p, w) = fit.part in
+    let e = ap length w in
+    let f = length-append inner (plain kind.Semicolon ∷ []) in
+    let g = ap length fit.whole in
+    let k = length-append fit.front rest in
+    omega (arith, e, f, g, k)

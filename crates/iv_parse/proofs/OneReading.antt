@@ -6,7 +6,7 @@ use Rattle.iv_lex.specs.declared.kind.TokenKind.TheVariants as kind
 use Rattle.iv_lex.specs.declared.token.Token.{Token}
 use Rattle.iv_lex.specs.Words.{Word, plain, word_of, words}
 use Rattle.iv_lex.specs.Tokens.{tokens_of}
-use Rattle.iv_parse.specs.Words.{Statement}
+use Rattle.iv_parse.specs.Types.{Statement}
 use Rattle.iv_parse.specs.readers.Statements.{read_statement}
 use Rattle.iv_parse.specs.Script.{AreStatements, BeginsStatement, first_place}
 use Rattle.iv_parse.specs.Laws.{OneStatement, NoOtherBegins, OneScript}

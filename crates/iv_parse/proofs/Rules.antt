@@ -2,8 +2,8 @@
 use Rattle.std.proofs.Common.{◌≡◌, Some, None, List, [], ◌∷◌, ◌++◌, refl, sym, ◌∙◌, ap}
 use Rattle.iv_lex.specs.declared.kind.TokenKind.TheVariants as kind
 use Rattle.iv_lex.specs.Words.{Word, plain}
-use Rattle.iv_parse.specs.Words.{Statement}
-use Rattle.iv_parse.specs.Words.statement
+use Rattle.iv_parse.specs.Types.{Statement}
+use Rattle.iv_parse.specs.Types.statement
 use Rattle.iv_parse_terms.specs.After.{then_read}
 use Rattle.iv_parse_data.specs.Series.{Series, InParentheses}
 use Rattle.iv_parse_data.specs.Tables.{IsElement, IsTableConstraint}

@@ -2,8 +2,8 @@
 use Rattle.std.proofs.Common.{Some, None, List, ◌∷◌, ◌++◌, refl, sym, ◌∙◌, ap, subst, append-nil}
 use Rattle.iv_lex.specs.declared.kind.TokenKind.TheVariants as kind
 use Rattle.iv_lex.specs.Words.{Word, plain}
-use Rattle.iv_parse.specs.Words.statement.{DropTrigger, StartTransaction, Commit, Rollback, Savepoint, Release, RollbackTo, SetConstraints}
-use Rattle.iv_parse.specs.Words.constraints.{All, Named}
+use Rattle.iv_parse.specs.Types.statement.{DropTrigger, StartTransaction, Commit, Rollback, Savepoint, Release, RollbackTo, SetConstraints}
+use Rattle.iv_parse.specs.Types.constraints.{All, Named}
 use Rattle.iv_parse_data.specs.Series.{Optional}
 use Rattle.iv_parse_data.specs.readers.Series.{read_series}
 use Rattle.iv_parse_data.specs.Data.{Names}

@@ -3,13 +3,13 @@ use Rattle.std.proofs.Common.{◌≡◌, inl, inr, ℕ, false, Option, Some, Non
 use Rattle.iv_lex.specs.declared.kind.TokenKind.{TokenKind}
 use Rattle.iv_lex.specs.declared.kind.TokenKind.TheVariants as kind
 use Rattle.iv_lex.specs.Words.{Word, name, plain}
-use Rattle.iv_parse.specs.Words.{Side, Condition, ActionTime, TriggerEvent, Granularity, TransitionName, Referencing, TriggerAction, TriggerDefinition}
-use Rattle.iv_parse.specs.Words.side
-use Rattle.iv_parse.specs.Words.time as action_time
-use Rattle.iv_parse.specs.Words.event
-use Rattle.iv_parse.specs.Words.granularity
-use Rattle.iv_parse.specs.Words.transition
-use Rattle.iv_parse.specs.Words.action
+use Rattle.iv_parse.specs.Types.{Side, Condition, ActionTime, TriggerEvent, Granularity, TransitionName, Referencing, TriggerAction, TriggerDefinition}
+use Rattle.iv_parse.specs.Types.side
+use Rattle.iv_parse.specs.Types.time as action_time
+use Rattle.iv_parse.specs.Types.event
+use Rattle.iv_parse.specs.Types.granularity
+use Rattle.iv_parse.specs.Types.transition
+use Rattle.iv_parse.specs.Types.action
 use Rattle.iv_syntax.specs.declared.statement.Insert.TheVariants as insert
 use Rattle.iv_syntax.specs.declared.statement.Insert.{Insert}
 use Rattle.iv_parse_terms.specs.After.{after, if_some, then_read, same}
@@ -19,7 +19,7 @@ use Rattle.iv_parse_data.specs.Data.{IsInsert}
 use Rattle.iv_parse_data.specs.readers.Data.{then_word, read_name, read_check}
 use Rattle.iv_parse_data.specs.readers.Items.{read_transition, read_referencing_item_of, read_referencing_item}
 use Rattle.iv_parse.specs.Triggers.{side_kind, IsTransition, IsItem, IsReferencing, IsGranularity, IsWhen, IsAction, IsEndedAction, IsBody, time_kind, IsUpdateColumns, IsEvent, IsTrigger}
-use Rattle.iv_parse.specs.readers.Triggers.{read_middle, trigger_of, some_items, read_referencing, read_each, read_granularity, read_when, read_set_variable, read_signal, read_other_action, read_delete_action, read_update_action, read_action, read_with_semicolon, read_ended_action, some_actions, read_block, read_single, read_body, read_action_time, read_update_columns, read_update_event, read_other_event, read_event, read_occasion, read_trigger_rest, read_trigger}
+use Rattle.iv_parse.specs.readers.Triggers.{read_middle, trigger_of, some_items, read_referencing, read_each, read_granularity, read_when, read_set_variable, read_signal, read_other_action, read_delete_action, read_action, read_with_semicolon, read_ended_action, some_actions, read_block, read_single, read_body, read_action_time, read_update_columns, read_update_event, read_other_event, read_event, read_occasion, read_trigger_rest, read_trigger}
 use Rattle.iv_parse_data.proofs.Complete.{Anything}
 use Rattle.iv_parse_data.proofs.OptionalComplete.{maybe_after, Parts, sequence_complete}
 use Rattle.iv_parse_data.proofs.DataComplete.{EndsStatement, semicolon, names_complete, shallow_complete, check_complete, insert_reads, update_reads, delete_reads, other_word, statement_expression}
@@ -98,7 +98,7 @@ when_reads (Some c) front rest (check, p, w) e =
     ap (λ z. read_when (z ++ rest)) w ∙ ap (λ o. then_read o (λ c left. Some (Some c, left))) (check_complete.reads c check rest p tt)
 
 action_reads : (a : TriggerAction) (front rest : List Word) → IsAction front a → EndsStatement rest → read_action (front ++ rest) ≡ Some (a, rest)
-unfolding read_action read_update_action read_delete_action read_other_action read_signal read_set_variable
+unfolding read_action read_delete_action read_other_action read_signal read_set_variable
 action_reads (action.Insert i) front rest p e =
     let (back, w, h) = insert_reads i front rest p e in ap read_action w ∙ ap (λ o. then_read o (λ i more. Some (action.Insert i, more))) h
 action_reads (action.Update u) front rest p e =

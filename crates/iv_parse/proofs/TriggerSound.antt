@@ -2,13 +2,13 @@
 use Rattle.std.proofs.Common.{◌≡◌, inl, inr, ℕ, Option, Some, None, List, [], ◌∷◌, ◌++◌, length, refl, sym, ◌∙◌, ap, subst, append-nil, append_assoc}
 use Rattle.iv_lex.specs.declared.kind.TokenKind.TheVariants as kind
 use Rattle.iv_lex.specs.Words.{Word, name, plain}
-use Rattle.iv_parse.specs.Words.{Side, ActionTime, TriggerEvent, Granularity, Condition, Referencing, TriggerAction}
-use Rattle.iv_parse.specs.Words.side
-use Rattle.iv_parse.specs.Words.time as action_time
-use Rattle.iv_parse.specs.Words.event
-use Rattle.iv_parse.specs.Words.granularity
-use Rattle.iv_parse.specs.Words.transition
-use Rattle.iv_parse.specs.Words.action
+use Rattle.iv_parse.specs.Types.{Side, ActionTime, TriggerEvent, Granularity, Condition, Referencing, TriggerAction}
+use Rattle.iv_parse.specs.Types.side
+use Rattle.iv_parse.specs.Types.time as action_time
+use Rattle.iv_parse.specs.Types.event
+use Rattle.iv_parse.specs.Types.granularity
+use Rattle.iv_parse.specs.Types.transition
+use Rattle.iv_parse.specs.Types.action
 use Rattle.iv_parse_terms.specs.After.{after, if_some, then_read}
 use Rattle.iv_parse_data.specs.Series.{Sequence, Maybe, InParentheses, Optional}
 use Rattle.iv_parse_data.specs.readers.Series.{read_series, read_sequence}
@@ -17,7 +17,7 @@ use Rattle.iv_parse_data.specs.readers.Data.{read_name, read_shallow, read_check
 use Rattle.iv_parse_data.specs.readers.Tables.{read_quoted}
 use Rattle.iv_parse_data.specs.readers.Items.{read_transition, read_referencing_item_of, read_referencing_item}
 use Rattle.iv_parse.specs.Triggers.{side_kind, IsTransition, IsItem, IsReferencing, IsGranularity, IsWhen, IsAction, IsEndedAction, IsBody, time_kind, IsUpdateColumns, IsEvent, IsTrigger}
-use Rattle.iv_parse.specs.readers.Triggers.{read_middle, trigger_of, some_items, read_referencing, read_each, read_granularity, read_when, read_set_variable, read_signal, read_other_action, read_delete_action, read_update_action, read_action, read_with_semicolon, read_ended_action, some_actions, read_block, read_single, read_body, read_action_time, read_update_columns, read_update_event, read_other_event, read_event, read_occasion, read_trigger_rest, read_trigger}
+use Rattle.iv_parse.specs.readers.Triggers.{read_middle, trigger_of, some_items, read_referencing, read_each, read_granularity, read_when, read_set_variable, read_signal, read_other_action, read_delete_action, read_action, read_with_semicolon, read_ended_action, some_actions, read_block, read_single, read_body, read_action_time, read_update_columns, read_update_event, read_other_event, read_event, read_occasion, read_trigger_rest, read_trigger}
 use Rattle.iv_parse_data.proofs.Fronts.{Good, nothing_good, done_good, after_good, name_good, then_good, made_good, skip_good}
 use Rattle.iv_parse_data.proofs.OptionalSound.{IsQuoted, quoted_good, sequence_good}
 use Rattle.iv_parse_data.proofs.DataSound.{names_good, shallow_good, check_good, insert_good, update_good, delete_good}
@@ -87,7 +87,7 @@ unfolding read_signal
 signal_good ws = made_good IsQuoted _ ws (read_quoted ws) action.Signal (quoted_good ws) (λ t front p. ap (λ z. plain kind.Signal ∷ z) p)
 
 action_good : (ws : List Word) → Good IsAction ws (read_action ws)
-unfolding read_action read_update_action read_delete_action read_other_action
+unfolding read_action read_delete_action read_other_action
 action_good ws =
     after_good IsAction kind.Insert ws _ _
     (λ rest. made_good (λ back i. IsInsert (plain kind.Insert ∷ back) i) _ rest (read_insert rest) action.Insert (insert_good rest) (λ i front p. p))
@@ -109,7 +109,7 @@ end_option : (ws : List Word) (o : Option (List Word)) → Good (Maybe IsEndedAc
 end_option ws (Some rest) = done_good (Maybe IsEndedAction) ws None refl
 end_option ws None = made_good IsEndedAction (Maybe IsEndedAction) ws (read_with_semicolon ws) Some (with_semicolon_good ws) (λ a front p. p)
 
-ended_action_good : (ws : List Word) → Good (Maybe IsEndedAction) ws (read_ended_action ws)
+pub ended_action_good : (ws : List Word) → Good (Maybe IsEndedAction) ws (read_ended_action ws)
 unfolding read_ended_action
 ended_action_good ws = end_option ws (after kind.End ws)
 

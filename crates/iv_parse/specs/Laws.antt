@@ -2,7 +2,7 @@
 use Rattle.std.specs.Prelude.{◌≡◌, ℕ, Option, List, ◌∷◌, ◌++◌}
 use Rattle.iv_lex.specs.declared.kind.TokenKind.TheVariants as kind
 use Rattle.iv_lex.specs.Words.{Word, plain}
-use Rattle.iv_parse.specs.Words.{Statement}
+use Rattle.iv_parse.specs.Types.{Statement}
 use Rattle.iv_parse.specs.Statements.{Reads}
 use Rattle.iv_parse.specs.Script.{IsScript}
 

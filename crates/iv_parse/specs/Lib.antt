@@ -1,4 +1,4 @@
-pub mod Words
+pub mod Types
 pub mod Triggers
 pub mod Statements
 pub mod Script

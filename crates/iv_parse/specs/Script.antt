@@ -1,10 +1,10 @@
 -- Scripts: the longest run of whole statements, and the fault where it ends too soon.
-use Rattle.std.specs.Prelude.{◌≡◌, ℕ, Option, Some, List, [], ◌∷◌, ◌++◌}
+use Rattle.std.specs.Prelude.{◌≡◌, ◌≤◌, ◌-◌, ℕ, suc, Option, Some, unwrap_or, List, [], ◌∷◌, ◌++◌, length, take, drop}
 use Rattle.iv_lex.specs.declared.kind.TokenKind.TheVariants as kind
 use Rattle.iv_lex.specs.declared.token.Token.{Token}
 use Rattle.iv_lex.specs.Words.{Word, plain, words}
 use Rattle.iv_lex.specs.Tokens.{tokens_of}
-use Rattle.iv_parse.specs.Words.{Statement}
+use Rattle.iv_parse.specs.Types.{Statement}
 use Rattle.iv_parse.specs.Statements.{Reads}
 
 -- the words are these statements, each with its semicolon
@@ -31,3 +31,30 @@ pub record IsScript (text : List ℕ) (statements : List Statement) (fault : Opt
   pub whole : AreStatements (words text run) statements
   pub longest : ¬ (BeginsStatement (words text left))
   pub place : fault ≡ first_place left (tokens_of text).fault
+
+-- ---- where a script ends too soon
+
+-- No statement begins with these words up to so many and with the one after them, whatever follows; where there are no more words,
+-- none is these words.
+abbrev pub NoneBegins : List Word → ℕ → Type 0
+NoneBegins ws count = (others : List Word) → take (suc count) others ≡ take (suc count) ws → ¬ (BeginsStatement others)
+
+-- These tokens are statements up to a place, and then none begins with the tokens up to the word and with it. Both count tokens.
+pub record IsEnd (text : List ℕ) (tokens : List Token) (statements : List Statement) (place word : ℕ) : Type 0 where
+  pub run : List Token
+  pub whole : tokens ≡ run ++ drop place tokens
+  pub are : AreStatements (words text run) statements
+  pub order : place ≤ word
+  pub none : NoneBegins (words text (drop place tokens)) (word - place)
+
+-- The fault of a script: the statements before it, the place where the tokens after them begin, and the place of the first word
+-- that can't stand where it does. Where no token is left that place is the lexical fault, or else the end of the text.
+pub record IsFault (text : List ℕ) (statements : List Statement) (at word : ℕ) : Type 0 where
+  pub run : List Token
+  pub left : List Token
+  pub count : ℕ
+  pub tokens : (tokens_of text).tokens ≡ run ++ left
+  pub whole : AreStatements (words text run) statements
+  pub at_is : Some at ≡ first_place left (tokens_of text).fault
+  pub word_is : word ≡ unwrap_or (first_place (drop count left) (tokens_of text).fault) (length text)
+  pub none : NoneBegins (words text left) count

@@ -2,10 +2,10 @@
 use Rattle.std.specs.Prelude.{◌≡◌, List, [], ◌∷◌, ◌++◌}
 use Rattle.iv_lex.specs.declared.kind.TokenKind.TheVariants as kind
 use Rattle.iv_lex.specs.Words.{Word, name, plain}
-use Rattle.iv_parse.specs.Words.{Statement, ConstraintList}
-use Rattle.iv_parse.specs.Words.statement.{DropTrigger, StartTransaction, Commit, Rollback, Savepoint, Release, RollbackTo, SetConstraints}
-use Rattle.iv_parse.specs.Words.statement
-use Rattle.iv_parse.specs.Words.constraints.{All, Named}
+use Rattle.iv_parse.specs.Types.{Statement, ConstraintList}
+use Rattle.iv_parse.specs.Types.statement.{DropTrigger, StartTransaction, Commit, Rollback, Savepoint, Release, RollbackTo, SetConstraints}
+use Rattle.iv_parse.specs.Types.statement
+use Rattle.iv_parse.specs.Types.constraints.{All, Named}
 use Rattle.iv_parse_data.specs.Series.{Optional}
 use Rattle.iv_parse.specs.Triggers.{IsTrigger}
 use Rattle.iv_parse_data.specs.Tables.{mode_kind, IsCreateTable, IsAlterTable}

@@ -3,13 +3,13 @@ use Rattle.std.specs.Prelude.{◌≡◌, ◌⊎◌, ℕ, List, [], ◌∷◌, �
 use Rattle.iv_lex.specs.declared.kind.TokenKind.{TokenKind}
 use Rattle.iv_lex.specs.declared.kind.TokenKind.TheVariants as kind
 use Rattle.iv_lex.specs.Words.{Word, name, quoted, plain}
-use Rattle.iv_parse.specs.Words.{Side, Condition, ActionTime, TriggerEvent, Granularity, TransitionName, Referencing, TriggerAction, TriggerDefinition}
-use Rattle.iv_parse.specs.Words.side
-use Rattle.iv_parse.specs.Words.time as action_time
-use Rattle.iv_parse.specs.Words.event
-use Rattle.iv_parse.specs.Words.granularity
-use Rattle.iv_parse.specs.Words.transition
-use Rattle.iv_parse.specs.Words.action
+use Rattle.iv_parse.specs.Types.{Side, Condition, ActionTime, TriggerEvent, Granularity, TransitionName, Referencing, TriggerAction, TriggerDefinition}
+use Rattle.iv_parse.specs.Types.side
+use Rattle.iv_parse.specs.Types.time as action_time
+use Rattle.iv_parse.specs.Types.event
+use Rattle.iv_parse.specs.Types.granularity
+use Rattle.iv_parse.specs.Types.transition
+use Rattle.iv_parse.specs.Types.action
 use Rattle.iv_parse_data.specs.Series.{Sequence, Maybe, InParentheses, Optional}
 use Rattle.iv_parse_data.specs.Data.{Names, IsShallow, IsShallowCondition, IsInsert, IsUpdate, IsDelete}
 

@@ -1,219 +1,209 @@
 //! The actions of a trigger.
-ghost use Rattle.std.specs.Prelude.{◌≡◌, IfOk, ℕ, List, Some, length};
-ghost use Rattle.iv_lex.specs.Words.{words};
-ghost use Rattle.iv_parse_terms.specs.Seen.{with_words};
-ghost use Rattle.iv_parse_data.specs.readers.Series.{read_sequence};
-ghost use Rattle.iv_parse.specs.readers.Triggers.{read_set_variable, read_signal, read_other_action, read_delete_action, read_update_action, read_action, read_ended_action, some_actions, read_block, read_single, read_body};
+ghost use Rattle.iv_parse_terms.specs.Reading.{Reads};
+ghost use Rattle.iv_parse_data.specs.readers.Series.{read_all};
+ghost use Rattle.iv_parse.specs.readers.Triggers.{read_set_value, read_set_column, read_set_variable, read_signal, read_set_action, read_other_action, read_delete_rule, read_update_rule, read_insert_rule, read_delete_action, read_action, read_ended_action, read_with_semicolon, some_actions, read_block, read_single, read_body};
 
-use iv_lex::{Token, TokenKind};
+use iv_lex::TokenKind;
 use iv_parse_data::{Parse, delete, insert, quoted, update};
-use iv_parse_terms::{after, name};
-use iv_syntax::{Expression, TriggerAction};
+use iv_parse_terms::{Cursor, Source, Stop};
+use iv_syntax::{Expression, Name, TriggerAction};
 use sqlite_items::Items;
-use std::alloc::{AllocError, Global};
+
+// SET of a row variable's column, from the equals sign on.
+fn set_value(
+    source: &Source<'_>,
+    cursor: &mut Cursor,
+    variable: Name,
+    column: Name,
+) -> Result<TriggerAction, Stop>
+    ensures { Reads (read_set_value variable column) source.now cursor.old result cursor.new }
+{
+    if cursor.accept(source, TokenKind::Equals) {
+        let value = Expression::parse(source, cursor)?;
+        return Ok(TriggerAction::Set(variable, column, value));
+    }
+    Err(Stop::NoMatch)
+}
+
+// SET of a row variable's column, from the period on.
+fn set_column(
+    source: &Source<'_>,
+    cursor: &mut Cursor,
+    variable: Name,
+) -> Result<TriggerAction, Stop>
+    ensures { Reads (read_set_column variable) source.now cursor.old result cursor.new }
+{
+    if cursor.accept(source, TokenKind::Period) {
+        let column = cursor.name(source)?;
+        return set_value(source, cursor, variable, column);
+    }
+    Err(Stop::NoMatch)
+}
 
 // SET of a row variable's column, from the variable on.
 #[tactic(auto, unfolding(crate::specs::readers::Triggers::read_set_variable))]
-fn set_variable<'a>(
-    alloc: Global,
-    text: &str,
-    tokens: &'a [Token],
-) -> Result<Option<(TriggerAction, &'a [Token])>, AllocError>
-    ensures { IfOk result (λ r. with_words text.now r
-        ≡ read_set_variable (words text.now tokens.now)) }
+fn set_variable(source: &Source<'_>, cursor: &mut Cursor) -> Result<TriggerAction, Stop>
+    ensures { Reads read_set_variable source.now cursor.old result cursor.new }
 {
-    let Some((variable, rest)) = name(alloc, text, tokens)? else {
-        return Ok(None);
-    };
-    let Some(rest) = after(TokenKind::Period, rest) else {
-        return Ok(None);
-    };
-    let Some((column, rest)) = name(alloc, text, rest)? else {
-        return Ok(None);
-    };
-    let Some(rest) = after(TokenKind::Equals, rest) else {
-        return Ok(None);
-    };
-    match Expression::parse(alloc, text, rest)? {
-        Some((value, rest)) => Ok(Some((TriggerAction::Set(variable, column, value), rest))),
-        None => Ok(None),
-    }
+    let variable = cursor.name(source)?;
+    set_column(source, cursor, variable)
 }
 
 #[tactic(auto, unfolding(crate::specs::readers::Triggers::read_signal))]
-fn signal<'a>(
-    alloc: Global,
-    text: &str,
-    tokens: &'a [Token],
-) -> Result<Option<(TriggerAction, &'a [Token])>, AllocError>
-    ensures { IfOk result (λ r. with_words text.now r ≡ read_signal (words text.now tokens.now)) }
+fn signal(source: &Source<'_>, cursor: &mut Cursor) -> Result<TriggerAction, Stop>
+    ensures { Reads read_signal source.now cursor.old result cursor.new }
 {
-    match quoted(alloc, text, tokens)? {
-        Some((message, rest)) => Ok(Some((TriggerAction::Signal(message), rest))),
-        None => Ok(None),
-    }
+    let message = quoted(source, cursor)?;
+    Ok(TriggerAction::Signal(message))
 }
 
-#[tactic(auto, unfolding(crate::specs::readers::Triggers::read_other_action))]
-fn other_action<'a>(
-    alloc: Global,
-    text: &str,
-    tokens: &'a [Token],
-) -> Result<Option<(TriggerAction, &'a [Token])>, AllocError>
-    ensures { IfOk result (λ r. with_words text.now r
-        ≡ read_other_action (words text.now tokens.now)) }
+fn set_action(source: &Source<'_>, cursor: &mut Cursor) -> Result<TriggerAction, Stop>
+    ensures { Reads read_set_action source.now cursor.old result cursor.new }
 {
-    if let Some(rest) = after(TokenKind::Signal, tokens) {
-        return signal(alloc, text, rest);
+    if cursor.accept(source, TokenKind::Set) {
+        return set_variable(source, cursor);
     }
-    match after(TokenKind::Set, tokens) {
-        Some(rest) => set_variable(alloc, text, rest),
-        None => Ok(None),
+    Err(Stop::NoMatch)
+}
+
+// An action that is none of the data statements.
+#[tactic(auto, unfolding(crate::specs::readers::Triggers::read_other_action))]
+fn other_action(source: &Source<'_>, cursor: &mut Cursor) -> Result<TriggerAction, Stop>
+    ensures { Reads read_other_action source.now cursor.old result cursor.new }
+{
+    if cursor.accept(source, TokenKind::Signal) {
+        return signal(source, cursor);
     }
+    set_action(source, cursor)
+}
+
+fn delete_rule(source: &Source<'_>, cursor: &mut Cursor) -> Result<TriggerAction, Stop>
+    ensures { Reads read_delete_rule source.now cursor.old result cursor.new }
+{
+    let delete = delete(source, cursor)?;
+    Ok(TriggerAction::Delete(delete))
+}
+
+fn update_rule(source: &Source<'_>, cursor: &mut Cursor) -> Result<TriggerAction, Stop>
+    ensures { Reads read_update_rule source.now cursor.old result cursor.new }
+{
+    let update = update(source, cursor)?;
+    Ok(TriggerAction::Update(update))
+}
+
+fn insert_rule(source: &Source<'_>, cursor: &mut Cursor) -> Result<TriggerAction, Stop>
+    ensures { Reads read_insert_rule source.now cursor.old result cursor.new }
+{
+    let insert = insert(source, cursor)?;
+    Ok(TriggerAction::Insert(insert))
 }
 
 #[tactic(auto, unfolding(crate::specs::readers::Triggers::read_delete_action))]
-fn delete_action<'a>(
-    alloc: Global,
-    text: &str,
-    tokens: &'a [Token],
-) -> Result<Option<(TriggerAction, &'a [Token])>, AllocError>
-    ensures { IfOk result (λ r. with_words text.now r
-        ≡ read_delete_action (words text.now tokens.now)) }
+fn delete_action(source: &Source<'_>, cursor: &mut Cursor) -> Result<TriggerAction, Stop>
+    ensures { Reads read_delete_action source.now cursor.old result cursor.new }
 {
-    let Some(rest) = after(TokenKind::Delete, tokens) else {
-        return other_action(alloc, text, tokens);
-    };
-    match delete(alloc, text, rest)? {
-        Some((delete, rest)) => Ok(Some((TriggerAction::Delete(delete), rest))),
-        None => Ok(None),
+    if cursor.accept(source, TokenKind::Delete) {
+        return delete_rule(source, cursor);
     }
-}
-
-#[tactic(auto, unfolding(crate::specs::readers::Triggers::read_update_action))]
-fn update_action<'a>(
-    alloc: Global,
-    text: &str,
-    tokens: &'a [Token],
-) -> Result<Option<(TriggerAction, &'a [Token])>, AllocError>
-    ensures { IfOk result (λ r. with_words text.now r
-        ≡ read_update_action (words text.now tokens.now)) }
-{
-    let Some(rest) = after(TokenKind::Update, tokens) else {
-        return delete_action(alloc, text, tokens);
-    };
-    match update(alloc, text, rest)? {
-        Some((update, rest)) => Ok(Some((TriggerAction::Update(update), rest))),
-        None => Ok(None),
-    }
+    other_action(source, cursor)
 }
 
 #[tactic(auto, unfolding(crate::specs::readers::Triggers::read_action))]
-fn action<'a>(
-    alloc: Global,
-    text: &str,
-    tokens: &'a [Token],
-) -> Result<Option<(TriggerAction, &'a [Token])>, AllocError>
-    ensures { IfOk result (λ r. with_words text.now r ≡ read_action (words text.now tokens.now)) }
+fn action(source: &Source<'_>, cursor: &mut Cursor) -> Result<TriggerAction, Stop>
+    ensures { Reads read_action source.now cursor.old result cursor.new }
 {
-    let Some(rest) = after(TokenKind::Insert, tokens) else {
-        return update_action(alloc, text, tokens);
-    };
-    match insert(alloc, text, rest)? {
-        Some((insert, rest)) => Ok(Some((TriggerAction::Insert(insert), rest))),
-        None => Ok(None),
+    if cursor.accept(source, TokenKind::Insert) {
+        return insert_rule(source, cursor);
     }
+    if cursor.accept(source, TokenKind::Update) {
+        return update_rule(source, cursor);
+    }
+    delete_action(source, cursor)
+}
+
+#[tactic(auto, unfolding(crate::specs::readers::Triggers::read_with_semicolon))]
+fn with_semicolon(source: &Source<'_>, cursor: &mut Cursor) -> Result<TriggerAction, Stop>
+    ensures { Reads read_with_semicolon source.now cursor.old result cursor.new }
+{
+    let action = action(source, cursor)?;
+    if cursor.accept(source, TokenKind::Semicolon) {
+        return Ok(action);
+    }
+    drop(action);
+    Err(Stop::NoMatch)
+}
+
+// An action with its semicolon; none where END is next.
+fn ended_action(source: &Source<'_>, cursor: &mut Cursor) -> Result<Option<TriggerAction>, Stop>
+    ensures { Reads read_ended_action source.now cursor.old result cursor.new }
+{
+    if cursor.is_at(source, TokenKind::End) {
+        return Ok(None);
+    }
+    let action = with_semicolon(source, cursor)?;
+    Ok(Some(action))
 }
 
 // Actions with their semicolons, up to END.
-fn actions<'a>(
-    alloc: Global,
-    text: &str,
-    tokens: &'a [Token],
-) -> Result<Option<(Items<TriggerAction>, &'a [Token])>, AllocError>
-    ensures { IfOk result (λ r. with_words text.now r
-        ≡ read_sequence read_ended_action (length (words text.now tokens.now))
-        (words text.now tokens.now)) }
+fn actions(source: &Source<'_>, cursor: &mut Cursor) -> Result<Items<TriggerAction>, Stop>
+    ensures { Reads (read_all read_ended_action) source.now cursor.old result cursor.new }
 {
-    let mut items = Items::new(alloc);
-    let mut rest = tokens;
-    let mut most = tokens.len();
-    while let None = after(TokenKind::End, rest) {
-        if most == 0 {
-            return Ok(None);
-        }
-        let Some((item, others)) = action(alloc, text, rest)? else {
-            return Ok(None);
+    let mut items = Items::new(source.alloc());
+    loop {
+        let place = cursor.place();
+        let Some(item) = ended_action(source, cursor)? else {
+            cursor.go_back(place);
+            return Ok(items);
         };
         items.push(item)?;
-        let Some(others) = after(TokenKind::Semicolon, others) else {
-            return Ok(None);
-        };
-        rest = others;
-        most -= 1;
     }
-    Ok(Some((items, rest)))
 }
 
-fn some_actions<'a>(
+fn some_actions(
+    source: &Source<'_>,
+    cursor: &mut Cursor,
     actions: Items<TriggerAction>,
-    tokens: &'a [Token],
-) -> Option<(Items<TriggerAction>, &'a [Token])>
-    ensures { (text : List ℕ)
-        → with_words text result ≡ some_actions actions (words text tokens.now) }
+) -> Result<Items<TriggerAction>, Stop>
+    ensures { Reads (some_actions actions) source.now cursor.old result cursor.new }
 {
     if actions.is_empty() {
-        return None;
+        return Err(Stop::NoMatch);
     }
-    let rest = after(TokenKind::End, tokens)?;
-    Some((actions, rest))
+    if cursor.accept(source, TokenKind::End) {
+        return Ok(actions);
+    }
+    Err(Stop::NoMatch)
 }
 
 // BEGIN ATOMIC, from ATOMIC on.
 #[tactic(auto, unfolding(crate::specs::readers::Triggers::read_block))]
-fn block<'a>(
-    alloc: Global,
-    text: &str,
-    tokens: &'a [Token],
-) -> Result<Option<(Items<TriggerAction>, &'a [Token])>, AllocError>
-    ensures { IfOk result (λ r. with_words text.now r ≡ read_block (words text.now tokens.now)) }
+fn block(source: &Source<'_>, cursor: &mut Cursor) -> Result<Items<TriggerAction>, Stop>
+    ensures { Reads read_block source.now cursor.old result cursor.new }
 {
-    let Some(rest) = after(TokenKind::Atomic, tokens) else {
-        return Ok(None);
-    };
-    match actions(alloc, text, rest)? {
-        Some((found, rest)) => Ok(some_actions(found, rest)),
-        None => Ok(None),
+    if cursor.accept(source, TokenKind::Atomic) {
+        let found = actions(source, cursor)?;
+        return some_actions(source, cursor, found);
     }
+    Err(Stop::NoMatch)
 }
 
 #[tactic(auto, unfolding(crate::specs::readers::Triggers::read_single))]
-fn single<'a>(
-    alloc: Global,
-    text: &str,
-    tokens: &'a [Token],
-) -> Result<Option<(Items<TriggerAction>, &'a [Token])>, AllocError>
-    ensures { IfOk result (λ r. with_words text.now r ≡ read_single (words text.now tokens.now)) }
+fn single(source: &Source<'_>, cursor: &mut Cursor) -> Result<Items<TriggerAction>, Stop>
+    ensures { Reads read_single source.now cursor.old result cursor.new }
 {
-    let Some((action, rest)) = action(alloc, text, tokens)? else {
-        return Ok(None);
-    };
-    let mut actions = Items::new(alloc);
+    let action = action(source, cursor)?;
+    let mut actions = Items::new(source.alloc());
     actions.push(action)?;
-    Ok(Some((actions, rest)))
+    Ok(actions)
 }
 
 /// The body of a trigger: an action, or BEGIN ATOMIC and actions.
 #[tactic(auto, unfolding(crate::specs::readers::Triggers::read_body))]
-pub fn body<'a>(
-    alloc: Global,
-    text: &str,
-    tokens: &'a [Token],
-) -> Result<Option<(Items<TriggerAction>, &'a [Token])>, AllocError>
-    ensures { IfOk result (λ r. with_words text.now r ≡ read_body (words text.now tokens.now)) }
+pub fn body(source: &Source<'_>, cursor: &mut Cursor) -> Result<Items<TriggerAction>, Stop>
+    ensures { Reads read_body source.now cursor.old result cursor.new }
 {
-    match after(TokenKind::Begin, tokens) {
-        Some(rest) => block(alloc, text, rest),
-        None => single(alloc, text, tokens),
+    if cursor.accept(source, TokenKind::Begin) {
+        return block(source, cursor);
     }
+    single(source, cursor)
 }

@@ -1,19 +1,27 @@
 //! Scripts.
-ghost use Rattle.std.specs.Prelude.{◌≡◌, IfOk, ◌≤◌, ◌-◌, length, drop, option_map};
+ghost use Rattle.std.specs.Prelude.{◌≡◌, IfOk, IfSome, length, drop, max, option_map, unwrap_or};
 ghost use Rattle.iv_lex.specs.Tokens.{tokens_of};
-ghost use Rattle.iv_parse.specs.Script.{first_place, IsScript};
+ghost use Rattle.iv_parse.specs.Script.{first_place, IsScript, IsEnd, IsFault};
 
 use crate::statement::statement;
 use iv_lex::{Token, tokens};
+use iv_parse_terms::{Cursor, Source, Stop, Wanted};
 use iv_syntax::Statement;
 use sqlite_items::Items;
 use std::alloc::{AllocError, Global};
 
-/// Where a script ceases to be statements: the byte offset, from 0, of the first token after them, or of
-/// the lexical fault where no token comes first.
+/// Where a script ceases to be statements. Places are byte offsets, from 0.
 #[derive(Clone, Copy, Debug, PartialEq, Eq)]
 pub struct SyntaxFault {
+    /// Where the first token after the statements begins, or the lexical fault where no token comes first.
     pub at: usize,
+    /// Where the first word begins that can't stand where it does: no statement begins with the words from `at` up to
+    /// it and with it. The text's end where the text ends within a statement.
+    pub word: usize,
+    /// What might have stood there.
+    pub wanted: Wanted,
+    /// Whether what is read there is deeper than `DEEPEST_TREE`.
+    pub too_deep: bool,
 }
 
 /// The statements of a script, and the fault where it ends too soon.
@@ -47,6 +55,55 @@ impl Parsed {
     }
 }
 
+// The end of the longest run of whole statements: how many tokens come before it, and before the first word that
+// can't stand where it does.
+#[derive(Clone, Copy)]
+struct End {
+    place: usize,
+    word: usize,
+    wanted: Wanted,
+    too_deep: bool,
+}
+
+fn end_of(place: usize, cursor: &Cursor, too_deep: bool) -> End
+    ensures place { result.place ≡ place }
+    ensures word { result.word ≡ max cursor.now.furthest place }
+{
+    End {
+        place,
+        word: cursor.furthest().max(place),
+        wanted: cursor.wanted(),
+        too_deep,
+    }
+}
+
+// The longest run of whole statements of these tokens, and where it ends.
+fn run(alloc: Global, text: &str, tokens: &[Token]) -> Result<(Items<Statement>, End), AllocError>
+    ensures { IfOk result (λ p. IsEnd text.now tokens.now p.0 p.1.place p.1.word) }
+{
+    let source = Source::new(alloc, text, tokens);
+    let mut statements = Items::new(alloc);
+    let mut place = 0;
+    loop {
+        let mut cursor = Cursor::new(place);
+        match statement(&source, &mut cursor) {
+            Ok(found) => {
+                statements.push(found)?;
+                place = cursor.place();
+            }
+            Err(Stop::NoMatch) => return Ok((statements, end_of(place, &cursor, false))),
+            Err(Stop::TooDeep) => return Ok((statements, end_of(place, &cursor, true))),
+            Err(Stop::NoMemory) => return Err(AllocError),
+        }
+    }
+}
+
+fn from(tokens: &[Token], place: usize) -> &[Token]
+    ensures { result.now ≡ drop place tokens.now }
+{
+    &tokens[place.min(tokens.len())..]
+}
+
 fn first_place(tokens: &[Token], fault: Option<usize>) -> Option<usize>
     ensures { result ≡ first_place tokens.now fault }
 {
@@ -56,44 +113,29 @@ fn first_place(tokens: &[Token], fault: Option<usize>) -> Option<usize>
     }
 }
 
-fn last(tokens: &[Token], count: usize) -> &[Token]
-    requires { count ≤ length tokens.now }
-    ensures { result.now ≡ drop (length tokens.now - count) tokens.now }
+fn fault_of(text: &str, tokens: &[Token], lexical: Option<usize>, end: End) -> Option<SyntaxFault>
+    ensures at { option_map (λ f. f.at) result ≡ first_place (drop end.place tokens.now) lexical }
+    ensures word { IfSome result (λ f. f.word
+        ≡ unwrap_or (first_place (drop end.word tokens.now) lexical) (length text.now)) }
 {
-    &tokens[tokens.len() - count..]
-}
-
-// The longest run of whole statements of these tokens, and the place where it ends too soon.
-fn run(
-    alloc: Global,
-    text: &str,
-    tokens: &[Token],
-    fault: Option<usize>,
-) -> Result<(Items<Statement>, Option<usize>), AllocError>
-    requires tokens { tokens.now ≡ (tokens_of text.now).tokens }
-    requires fault { fault ≡ (tokens_of text.now).fault }
-    ensures { IfOk result (λ p. IsScript text.now p.0 p.1) }
-{
-    let mut statements = Items::new(alloc);
-    let mut left = tokens;
-    while let Some((statement, rest)) = statement(alloc, text, left)? {
-        statements.push(statement)?;
-        left = last(left, rest.len());
-    }
-    let place = first_place(left, fault);
-    Ok((statements, place))
+    let at = first_place(from(tokens, end.place), lexical)?;
+    let word = first_place(from(tokens, end.word), lexical).unwrap_or(text.len());
+    Some(SyntaxFault {
+        at,
+        word,
+        wanted: end.wanted,
+        too_deep: end.too_deep,
+    })
 }
 
 /// The longest run of whole statements of a text, and the fault where more than white space and comments
 /// follow it.
 pub fn script(alloc: Global, text: &str) -> Result<Parsed, AllocError>
-    ensures { IfOk result (λ p. IsScript text.now p.statements (option_map (λ f. f.at) p.fault)) }
+    ensures script { IfOk result (λ p. IsScript text.now p.statements (option_map (λ f. f.at) p.fault)) }
+    ensures word { IfOk result (λ p. IfSome p.fault (λ f. IsFault text.now p.statements f.at f.word)) }
 {
     let lexed = tokens(alloc, text)?;
-    let (statements, place) = run(alloc, text, lexed.tokens.as_slice(), lexed.fault)?;
-    let fault = match place {
-        Some(at) => Some(SyntaxFault { at }),
-        None => None,
-    };
+    let (statements, end) = run(alloc, text, lexed.tokens.as_slice())?;
+    let fault = fault_of(text, lexed.tokens.as_slice(), lexed.fault, end);
     Ok(Parsed { statements, fault })
 }

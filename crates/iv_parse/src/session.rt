@@ -1,175 +1,139 @@
 //! Statements about transactions, savepoints and constraint modes.
-ghost use Rattle.std.specs.Prelude.{◌≡◌, IfOk, ℕ, List, Some};
-ghost use Rattle.iv_lex.specs.Words.{words};
-ghost use Rattle.iv_parse_terms.specs.Seen.{with_words};
-ghost use Rattle.iv_parse.specs.readers.Statements.{read_drop, read_start, read_commit, read_to, read_rollback_rest, read_rollback, read_savepoint, read_release, read_list, read_set, read_savepoint_rule, read_session_rule};
+ghost use Rattle.iv_parse_terms.specs.Reading.{Reads};
+ghost use Rattle.iv_parse.specs.readers.Statements.{read_start, read_commit, read_to, read_rollback, read_savepoint, read_release, read_list, read_modes, read_set, read_mode_rule, read_savepoint_rule, read_session_rule};
 
-use iv_lex::{Token, TokenKind};
-use iv_parse_data::{mode, series, skip};
-use iv_parse_terms::{after, name};
+use iv_lex::TokenKind;
+use iv_parse_data::{mode, series};
+use iv_parse_terms::{Cursor, Source, Stop};
 use iv_syntax::{ConstraintList, Name, Statement};
-use std::alloc::{AllocError, Global};
 
 #[tactic(auto, unfolding(crate::specs::readers::Statements::read_start))]
-fn start(tokens: &[Token]) -> Option<(Statement, &[Token])>
-    ensures { (text : List ℕ) → with_words text result ≡ read_start (words text tokens.now) }
+fn start(source: &Source<'_>, cursor: &mut Cursor) -> Result<Statement, Stop>
+    ensures { Reads read_start source.now cursor.old result cursor.new }
 {
-    let rest = after(TokenKind::Transaction, tokens)?;
-    Some((Statement::StartTransaction, rest))
+    if cursor.accept(source, TokenKind::Transaction) {
+        return Ok(Statement::StartTransaction);
+    }
+    Err(Stop::NoMatch)
 }
 
 #[tactic(auto, unfolding(crate::specs::readers::Statements::read_commit))]
-fn commit(tokens: &[Token]) -> (Statement, &[Token])
-    ensures { (text : List ℕ)
-        → with_words text (Some result) ≡ read_commit (words text tokens.now) }
+fn commit(source: &Source<'_>, cursor: &mut Cursor) -> Result<Statement, Stop>
+    ensures { Reads read_commit source.now cursor.old result cursor.new }
 {
-    (Statement::Commit, skip(TokenKind::Work, tokens))
+    cursor.accept(source, TokenKind::Work);
+    Ok(Statement::Commit)
 }
 
 #[tactic(auto, unfolding(crate::specs::readers::Statements::read_to))]
-fn rollback_to<'a>(
-    alloc: Global,
-    text: &str,
-    tokens: &'a [Token],
-) -> Result<Option<(Statement, &'a [Token])>, AllocError>
-    ensures { IfOk result (λ r. with_words text.now r ≡ read_to (words text.now tokens.now)) }
+fn rollback_to(source: &Source<'_>, cursor: &mut Cursor) -> Result<Statement, Stop>
+    ensures { Reads read_to source.now cursor.old result cursor.new }
 {
-    let Some(rest) = after(TokenKind::Savepoint, tokens) else {
-        return Ok(None);
-    };
-    match name(alloc, text, rest)? {
-        Some((name, rest)) => Ok(Some((Statement::RollbackTo(name), rest))),
-        None => Ok(None),
+    if cursor.accept(source, TokenKind::Savepoint) {
+        let name = cursor.name(source)?;
+        return Ok(Statement::RollbackTo(name));
     }
+    Err(Stop::NoMatch)
 }
 
 #[tactic(auto, unfolding(crate::specs::readers::Statements::read_rollback))]
-fn rollback<'a>(
-    alloc: Global,
-    text: &str,
-    tokens: &'a [Token],
-) -> Result<Option<(Statement, &'a [Token])>, AllocError>
-    ensures { IfOk result (λ r. with_words text.now r ≡ read_rollback (words text.now tokens.now)) }
+fn rollback(source: &Source<'_>, cursor: &mut Cursor) -> Result<Statement, Stop>
+    ensures { Reads read_rollback source.now cursor.old result cursor.new }
 {
-    let tokens = skip(TokenKind::Work, tokens);
-    match after(TokenKind::To, tokens) {
-        Some(rest) => rollback_to(alloc, text, rest),
-        None => Ok(Some((Statement::Rollback, tokens))),
+    cursor.accept(source, TokenKind::Work);
+    if cursor.accept(source, TokenKind::To) {
+        return rollback_to(source, cursor);
     }
+    Ok(Statement::Rollback)
 }
 
 // SAVEPOINT, from the name on.
 #[tactic(auto, unfolding(crate::specs::readers::Statements::read_savepoint))]
-fn savepoint<'a>(
-    alloc: Global,
-    text: &str,
-    tokens: &'a [Token],
-) -> Result<Option<(Statement, &'a [Token])>, AllocError>
-    ensures { IfOk result (λ r. with_words text.now r
-        ≡ read_savepoint (words text.now tokens.now)) }
+fn savepoint(source: &Source<'_>, cursor: &mut Cursor) -> Result<Statement, Stop>
+    ensures { Reads read_savepoint source.now cursor.old result cursor.new }
 {
-    match name(alloc, text, tokens)? {
-        Some((name, rest)) => Ok(Some((Statement::Savepoint(name), rest))),
-        None => Ok(None),
-    }
+    let name = cursor.name(source)?;
+    Ok(Statement::Savepoint(name))
 }
 
 #[tactic(auto, unfolding(crate::specs::readers::Statements::read_release))]
-fn release<'a>(
-    alloc: Global,
-    text: &str,
-    tokens: &'a [Token],
-) -> Result<Option<(Statement, &'a [Token])>, AllocError>
-    ensures { IfOk result (λ r. with_words text.now r ≡ read_release (words text.now tokens.now)) }
+fn release(source: &Source<'_>, cursor: &mut Cursor) -> Result<Statement, Stop>
+    ensures { Reads read_release source.now cursor.old result cursor.new }
 {
-    let Some(rest) = after(TokenKind::Savepoint, tokens) else {
-        return Ok(None);
-    };
-    match name(alloc, text, rest)? {
-        Some((name, rest)) => Ok(Some((Statement::Release(name), rest))),
-        None => Ok(None),
+    if cursor.accept(source, TokenKind::Savepoint) {
+        let name = cursor.name(source)?;
+        return Ok(Statement::Release(name));
     }
+    Err(Stop::NoMatch)
 }
 
-fn constraint_list<'a>(
-    alloc: Global,
-    text: &str,
-    tokens: &'a [Token],
-) -> Result<Option<(ConstraintList, &'a [Token])>, AllocError>
-    ensures { IfOk result (λ r. with_words text.now r ≡ read_list (words text.now tokens.now)) }
+// ALL, or names of constraints.
+fn constraint_list(source: &Source<'_>, cursor: &mut Cursor) -> Result<ConstraintList, Stop>
+    ensures { Reads read_list source.now cursor.old result cursor.new }
 {
-    if let Some(rest) = after(TokenKind::All, tokens) {
-        return Ok(Some((ConstraintList::All, rest)));
+    if cursor.accept(source, TokenKind::All) {
+        return Ok(ConstraintList::All);
     }
-    match series::<Name>(alloc, text, tokens)? {
-        Some((names, rest)) => Ok(Some((ConstraintList::Named(names), rest))),
-        None => Ok(None),
-    }
+    let names = series::<Name>(source, cursor)?;
+    Ok(ConstraintList::Named(names))
 }
 
+// SET CONSTRAINTS, from the names on.
+fn modes(source: &Source<'_>, cursor: &mut Cursor) -> Result<Statement, Stop>
+    ensures { Reads read_modes source.now cursor.old result cursor.new }
+{
+    let list = constraint_list(source, cursor)?;
+    let mode = mode(source, cursor)?;
+    Ok(Statement::SetConstraints(list, mode))
+}
+
+// SET CONSTRAINTS, from CONSTRAINTS on.
 #[tactic(auto, unfolding(crate::specs::readers::Statements::read_set))]
-fn set_constraints<'a>(
-    alloc: Global,
-    text: &str,
-    tokens: &'a [Token],
-) -> Result<Option<(Statement, &'a [Token])>, AllocError>
-    ensures { IfOk result (λ r. with_words text.now r ≡ read_set (words text.now tokens.now)) }
+fn set_constraints(source: &Source<'_>, cursor: &mut Cursor) -> Result<Statement, Stop>
+    ensures { Reads read_set source.now cursor.old result cursor.new }
 {
-    let Some(rest) = after(TokenKind::Constraints, tokens) else {
-        return Ok(None);
-    };
-    let Some((list, rest)) = constraint_list(alloc, text, rest)? else {
-        return Ok(None);
-    };
-    match mode(rest) {
-        Some((mode, rest)) => Ok(Some((Statement::SetConstraints(list, mode), rest))),
-        None => {
-            drop(list);
-            Ok(None)
-        }
+    if cursor.accept(source, TokenKind::Constraints) {
+        return modes(source, cursor);
     }
+    Err(Stop::NoMatch)
+}
+
+fn set_statement(source: &Source<'_>, cursor: &mut Cursor) -> Result<Statement, Stop>
+    ensures { Reads read_mode_rule source.now cursor.old result cursor.new }
+{
+    if cursor.accept(source, TokenKind::Set) {
+        return set_constraints(source, cursor);
+    }
+    Err(Stop::NoMatch)
 }
 
 // A statement about savepoints or constraint modes.
 #[tactic(auto, unfolding(crate::specs::readers::Statements::read_savepoint_rule))]
-fn savepoint_statement<'a>(
-    alloc: Global,
-    text: &str,
-    tokens: &'a [Token],
-) -> Result<Option<(Statement, &'a [Token])>, AllocError>
-    ensures { IfOk result (λ r. with_words text.now r
-        ≡ read_savepoint_rule (words text.now tokens.now)) }
+fn savepoint_statement(source: &Source<'_>, cursor: &mut Cursor) -> Result<Statement, Stop>
+    ensures { Reads read_savepoint_rule source.now cursor.old result cursor.new }
 {
-    if let Some(rest) = after(TokenKind::Savepoint, tokens) {
-        return savepoint(alloc, text, rest);
+    if cursor.accept(source, TokenKind::Savepoint) {
+        return savepoint(source, cursor);
     }
-    if let Some(rest) = after(TokenKind::Release, tokens) {
-        return release(alloc, text, rest);
+    if cursor.accept(source, TokenKind::Release) {
+        return release(source, cursor);
     }
-    match after(TokenKind::Set, tokens) {
-        Some(rest) => set_constraints(alloc, text, rest),
-        None => Ok(None),
-    }
+    set_statement(source, cursor)
 }
 
 /// A statement about transactions, savepoints or constraint modes.
 #[tactic(auto, unfolding(crate::specs::readers::Statements::read_session_rule))]
-pub fn session_statement<'a>(
-    alloc: Global,
-    text: &str,
-    tokens: &'a [Token],
-) -> Result<Option<(Statement, &'a [Token])>, AllocError>
-    ensures { IfOk result (λ r. with_words text.now r
-        ≡ read_session_rule (words text.now tokens.now)) }
+pub fn session_statement(source: &Source<'_>, cursor: &mut Cursor) -> Result<Statement, Stop>
+    ensures { Reads read_session_rule source.now cursor.old result cursor.new }
 {
-    if let Some(rest) = after(TokenKind::Commit, tokens) {
-        return Ok(Some(commit(rest)));
+    if cursor.accept(source, TokenKind::Commit) {
+        return commit(source, cursor);
     }
-    if let Some(rest) = after(TokenKind::Rollback, tokens) {
-        return rollback(alloc, text, rest);
+    if cursor.accept(source, TokenKind::Rollback) {
+        return rollback(source, cursor);
     }
-    if let Some(rest) = after(TokenKind::Start, tokens) {
-        return Ok(start(rest));
+    if cursor.accept(source, TokenKind::Start) {
+        return start(source, cursor);
     }
-    savepoint_statement(alloc, text, tokens)
+    savepoint_statement(source, cursor)
 }

@@ -1,177 +1,131 @@
 //! Statements.
-ghost use Rattle.std.specs.Prelude.{◌≡◌, IfOk};
-ghost use Rattle.iv_lex.specs.Words.{words};
-ghost use Rattle.iv_parse_terms.specs.Seen.{with_words};
-ghost use Rattle.iv_parse.specs.readers.Statements.{read_drop, read_insert_rule, read_update_rule, read_delete_rule, read_select_rule, read_create, read_definition_rule, read_rule, read_statement};
+ghost use Rattle.iv_parse_terms.specs.Reading.{Reads};
+ghost use Rattle.iv_parse.specs.readers.Statements.{read_drop, read_insert_rule, read_update_rule, read_delete_rule, read_select_rule, read_create_trigger, read_create, read_definition_rule, read_query_rule, read_rule, read_statement};
 
 use crate::session::session_statement;
 use crate::trigger::create_trigger;
-use iv_lex::{Token, TokenKind};
+use iv_lex::TokenKind;
 use iv_parse_data::{alter_table, create_table, delete, insert, select, update};
-use iv_parse_terms::{after, name};
+use iv_parse_terms::{Cursor, Source, Stop};
 use iv_syntax::Statement;
-use std::alloc::{AllocError, Global};
 
 #[tactic(auto, unfolding(crate::specs::readers::Statements::read_drop))]
-fn drop_trigger<'a>(
-    alloc: Global,
-    text: &str,
-    tokens: &'a [Token],
-) -> Result<Option<(Statement, &'a [Token])>, AllocError>
-    ensures { IfOk result (λ r. with_words text.now r ≡ read_drop (words text.now tokens.now)) }
+fn drop_trigger(source: &Source<'_>, cursor: &mut Cursor) -> Result<Statement, Stop>
+    ensures { Reads read_drop source.now cursor.old result cursor.new }
 {
-    let Some(rest) = after(TokenKind::Trigger, tokens) else {
-        return Ok(None);
-    };
-    match name(alloc, text, rest)? {
-        Some((name, rest)) => Ok(Some((Statement::DropTrigger(name), rest))),
-        None => Ok(None),
+    if cursor.accept(source, TokenKind::Trigger) {
+        let name = cursor.name(source)?;
+        return Ok(Statement::DropTrigger(name));
     }
+    Err(Stop::NoMatch)
 }
 
 #[tactic(auto, unfolding(crate::specs::readers::Statements::read_insert_rule))]
-fn insert_statement<'a>(
-    alloc: Global,
-    text: &str,
-    tokens: &'a [Token],
-) -> Result<Option<(Statement, &'a [Token])>, AllocError>
-    ensures { IfOk result (λ r. with_words text.now r
-        ≡ read_insert_rule (words text.now tokens.now)) }
+fn insert_statement(source: &Source<'_>, cursor: &mut Cursor) -> Result<Statement, Stop>
+    ensures { Reads read_insert_rule source.now cursor.old result cursor.new }
 {
-    match insert(alloc, text, tokens)? {
-        Some((insert, rest)) => Ok(Some((Statement::Insert(insert), rest))),
-        None => Ok(None),
-    }
+    let insert = insert(source, cursor)?;
+    Ok(Statement::Insert(insert))
 }
 
 #[tactic(auto, unfolding(crate::specs::readers::Statements::read_update_rule))]
-fn update_statement<'a>(
-    alloc: Global,
-    text: &str,
-    tokens: &'a [Token],
-) -> Result<Option<(Statement, &'a [Token])>, AllocError>
-    ensures { IfOk result (λ r. with_words text.now r
-        ≡ read_update_rule (words text.now tokens.now)) }
+fn update_statement(source: &Source<'_>, cursor: &mut Cursor) -> Result<Statement, Stop>
+    ensures { Reads read_update_rule source.now cursor.old result cursor.new }
 {
-    match update(alloc, text, tokens)? {
-        Some((update, rest)) => Ok(Some((Statement::Update(update), rest))),
-        None => Ok(None),
-    }
+    let update = update(source, cursor)?;
+    Ok(Statement::Update(update))
 }
 
 #[tactic(auto, unfolding(crate::specs::readers::Statements::read_delete_rule))]
-fn delete_statement<'a>(
-    alloc: Global,
-    text: &str,
-    tokens: &'a [Token],
-) -> Result<Option<(Statement, &'a [Token])>, AllocError>
-    ensures { IfOk result (λ r. with_words text.now r
-        ≡ read_delete_rule (words text.now tokens.now)) }
+fn delete_statement(source: &Source<'_>, cursor: &mut Cursor) -> Result<Statement, Stop>
+    ensures { Reads read_delete_rule source.now cursor.old result cursor.new }
 {
-    match delete(alloc, text, tokens)? {
-        Some((delete, rest)) => Ok(Some((Statement::Delete(delete), rest))),
-        None => Ok(None),
-    }
+    let delete = delete(source, cursor)?;
+    Ok(Statement::Delete(delete))
 }
 
 #[tactic(auto, unfolding(crate::specs::readers::Statements::read_select_rule))]
-fn select_statement<'a>(
-    alloc: Global,
-    text: &str,
-    tokens: &'a [Token],
-) -> Result<Option<(Statement, &'a [Token])>, AllocError>
-    ensures { IfOk result (λ r. with_words text.now r
-        ≡ read_select_rule (words text.now tokens.now)) }
+fn select_statement(source: &Source<'_>, cursor: &mut Cursor) -> Result<Statement, Stop>
+    ensures { Reads read_select_rule source.now cursor.old result cursor.new }
 {
-    match select(alloc, text, tokens)? {
-        Some((select, rest)) => Ok(Some((Statement::Select(select), rest))),
-        None => Ok(None),
+    let select = select(source, cursor)?;
+    Ok(Statement::Select(select))
+}
+
+// CREATE TRIGGER, from TRIGGER on.
+fn trigger_statement(source: &Source<'_>, cursor: &mut Cursor) -> Result<Statement, Stop>
+    ensures { Reads read_create_trigger source.now cursor.old result cursor.new }
+{
+    if cursor.accept(source, TokenKind::Trigger) {
+        let trigger = create_trigger(source, cursor)?;
+        return Ok(Statement::CreateTrigger(trigger));
     }
+    Err(Stop::NoMatch)
 }
 
 #[tactic(auto, unfolding(crate::specs::readers::Statements::read_create))]
-fn create<'a>(
-    alloc: Global,
-    text: &str,
-    tokens: &'a [Token],
-) -> Result<Option<(Statement, &'a [Token])>, AllocError>
-    ensures { IfOk result (λ r. with_words text.now r ≡ read_create (words text.now tokens.now)) }
+fn create(source: &Source<'_>, cursor: &mut Cursor) -> Result<Statement, Stop>
+    ensures { Reads read_create source.now cursor.old result cursor.new }
 {
-    if let Some(rest) = after(TokenKind::Table, tokens) {
-        return create_table(alloc, text, rest);
+    if cursor.accept(source, TokenKind::Table) {
+        return create_table(source, cursor);
     }
-    let Some(rest) = after(TokenKind::Trigger, tokens) else {
-        return Ok(None);
-    };
-    match create_trigger(alloc, text, rest)? {
-        Some((trigger, rest)) => Ok(Some((Statement::CreateTrigger(trigger), rest))),
-        None => Ok(None),
-    }
+    trigger_statement(source, cursor)
 }
 
 // A statement that is none about data.
-fn definition<'a>(
-    alloc: Global,
-    text: &str,
-    tokens: &'a [Token],
-) -> Result<Option<(Statement, &'a [Token])>, AllocError>
-    ensures { IfOk result (λ r. with_words text.now r
-        ≡ read_definition_rule (words text.now tokens.now)) }
+#[tactic(auto, unfolding(crate::specs::readers::Statements::read_definition_rule))]
+fn definition(source: &Source<'_>, cursor: &mut Cursor) -> Result<Statement, Stop>
+    ensures { Reads read_definition_rule source.now cursor.old result cursor.new }
 {
-    if let Some(rest) = after(TokenKind::Create, tokens) {
-        return create(alloc, text, rest);
+    if cursor.accept(source, TokenKind::Create) {
+        return create(source, cursor);
     }
-    if let Some(rest) = after(TokenKind::Alter, tokens) {
-        return alter_table(alloc, text, rest);
+    if cursor.accept(source, TokenKind::Alter) {
+        return alter_table(source, cursor);
     }
-    if let Some(rest) = after(TokenKind::Drop, tokens) {
-        return drop_trigger(alloc, text, rest);
+    if cursor.accept(source, TokenKind::Drop) {
+        return drop_trigger(source, cursor);
     }
-    session_statement(alloc, text, tokens)
+    session_statement(source, cursor)
+}
+
+// A statement that changes no row.
+fn query(source: &Source<'_>, cursor: &mut Cursor) -> Result<Statement, Stop>
+    ensures { Reads read_query_rule source.now cursor.old result cursor.new }
+{
+    if cursor.accept(source, TokenKind::Select) {
+        return select_statement(source, cursor);
+    }
+    definition(source, cursor)
 }
 
 // A statement without its semicolon.
-fn rule<'a>(
-    alloc: Global,
-    text: &str,
-    tokens: &'a [Token],
-) -> Result<Option<(Statement, &'a [Token])>, AllocError>
-    ensures { IfOk result (λ r. with_words text.now r ≡ read_rule (words text.now tokens.now)) }
+#[tactic(auto, unfolding(crate::specs::readers::Statements::read_rule))]
+fn rule(source: &Source<'_>, cursor: &mut Cursor) -> Result<Statement, Stop>
+    ensures { Reads read_rule source.now cursor.old result cursor.new }
 {
-    if let Some(rest) = after(TokenKind::Insert, tokens) {
-        return insert_statement(alloc, text, rest);
+    if cursor.accept(source, TokenKind::Insert) {
+        return insert_statement(source, cursor);
     }
-    if let Some(rest) = after(TokenKind::Update, tokens) {
-        return update_statement(alloc, text, rest);
+    if cursor.accept(source, TokenKind::Update) {
+        return update_statement(source, cursor);
     }
-    if let Some(rest) = after(TokenKind::Delete, tokens) {
-        return delete_statement(alloc, text, rest);
+    if cursor.accept(source, TokenKind::Delete) {
+        return delete_statement(source, cursor);
     }
-    if let Some(rest) = after(TokenKind::Select, tokens) {
-        return select_statement(alloc, text, rest);
-    }
-    definition(alloc, text, tokens)
+    query(source, cursor)
 }
 
-/// The statement at the front of the tokens of `text` and the tokens after its semicolon; none where no
-/// statement begins there.
+/// The statement at the cursor, with its semicolon.
 #[tactic(auto, unfolding(crate::specs::readers::Statements::read_statement))]
-pub fn statement<'a>(
-    alloc: Global,
-    text: &str,
-    tokens: &'a [Token],
-) -> Result<Option<(Statement, &'a [Token])>, AllocError>
-    ensures { IfOk result (λ r. with_words text.now r
-        ≡ read_statement (words text.now tokens.now)) }
+pub fn statement(source: &Source<'_>, cursor: &mut Cursor) -> Result<Statement, Stop>
+    ensures { Reads read_statement source.now cursor.old result cursor.new }
 {
-    let Some((statement, rest)) = rule(alloc, text, tokens)? else {
-        return Ok(None);
-    };
-    match after(TokenKind::Semicolon, rest) {
-        Some(rest) => Ok(Some((statement, rest))),
-        None => {
-            drop(statement);
-            Ok(None)
-        }
+    let statement = rule(source, cursor)?;
+    if cursor.accept(source, TokenKind::Semicolon) {
+        return Ok(statement);
     }
+    drop(statement);
+    Err(Stop::NoMatch)
 }

@@ -1,232 +1,205 @@
 //! CREATE TRIGGER.
-ghost use Rattle.std.specs.Prelude.{◌≡◌, IfOk, ℕ, List};
-ghost use Rattle.iv_lex.specs.Words.{words};
-ghost use Rattle.iv_parse_terms.specs.Seen.{with_words};
-ghost use Rattle.iv_parse.specs.readers.Triggers.{some_items, read_referencing, read_each, read_granularity, read_when, read_action_time, read_update_columns, read_update_event, read_other_event, read_event, with_on, read_occasion, read_middle, trigger_of, read_trigger_rest, read_trigger};
+ghost use Rattle.std.specs.Prelude.{◌≡◌};
+ghost use Rattle.iv_parse_terms.specs.Reading.{MakesAs, Reads};
+ghost use Rattle.iv_parse.specs.readers.Triggers.{some_items, read_items, read_referencing, read_each, read_for_each, read_granularity, read_when, read_action_time, read_update_columns, read_update_event, read_delete_event, read_other_event, read_event, with_on, read_occasion, read_middle, trigger_of, read_trigger_rest, read_trigger};
 
 use crate::action::body;
-use iv_lex::{Token, TokenKind};
+use iv_lex::TokenKind;
 use iv_parse_data::{enclosed_condition, sequence, series};
-use iv_parse_terms::{after, name};
+use iv_parse_terms::{Cursor, Source, Stop};
 use iv_syntax::{
     ActionTime, Condition, Granularity, Name, Referencing, TriggerAction, TriggerDefinition,
     TriggerEvent,
 };
 use sqlite_items::Items;
-use std::alloc::{AllocError, Global};
 
-fn some_items<'a>(
-    items: Items<Referencing>,
-    tokens: &'a [Token],
-) -> Option<(Items<Referencing>, &'a [Token])>
-    ensures { (text : List ℕ) → with_words text result ≡ some_items items (words text tokens.now) }
+fn some_items(items: Items<Referencing>) -> Result<Items<Referencing>, Stop>
+    ensures { MakesAs (λ rs. rs) (some_items items) result }
 {
     if items.is_empty() {
-        None
+        Err(Stop::NoMatch)
     } else {
-        Some((items, tokens))
+        Ok(items)
     }
+}
+
+// What stands after REFERENCING.
+fn items(source: &Source<'_>, cursor: &mut Cursor) -> Result<Items<Referencing>, Stop>
+    ensures { Reads read_items source.now cursor.old result cursor.new }
+{
+    let items = sequence::<Referencing>(source, cursor)?;
+    some_items(items)
 }
 
 #[tactic(auto, unfolding(crate::specs::readers::Triggers::read_referencing))]
-fn referencing<'a>(
-    alloc: Global,
-    text: &str,
-    tokens: &'a [Token],
-) -> Result<Option<(Items<Referencing>, &'a [Token])>, AllocError>
-    ensures { IfOk result (λ r. with_words text.now r
-        ≡ read_referencing (words text.now tokens.now)) }
+fn referencing(source: &Source<'_>, cursor: &mut Cursor) -> Result<Items<Referencing>, Stop>
+    ensures { Reads read_referencing source.now cursor.old result cursor.new }
 {
-    let Some(rest) = after(TokenKind::Referencing, tokens) else {
-        return Ok(Some((Items::new(alloc), tokens)));
-    };
-    match sequence::<Referencing>(alloc, text, rest)? {
-        Some((items, rest)) => Ok(some_items(items, rest)),
-        None => Ok(None),
+    if cursor.accept(source, TokenKind::Referencing) {
+        return items(source, cursor);
     }
+    Ok(Items::new(source.alloc()))
 }
 
 #[tactic(auto, unfolding(crate::specs::readers::Triggers::read_each))]
-fn each(tokens: &[Token]) -> Option<(Granularity, &[Token])>
-    ensures { (text : List ℕ) → with_words text result ≡ read_each (words text tokens.now) }
+fn each(source: &Source<'_>, cursor: &mut Cursor) -> Result<Granularity, Stop>
+    ensures { Reads read_each source.now cursor.old result cursor.new }
 {
-    if let Some(rest) = after(TokenKind::Row, tokens) {
-        return Some((Granularity::Row, rest));
+    if cursor.accept(source, TokenKind::Row) {
+        return Ok(Granularity::Row);
     }
-    match after(TokenKind::Statement, tokens) {
-        Some(rest) => Some((Granularity::Statement, rest)),
-        None => None,
+    if cursor.accept(source, TokenKind::Statement) {
+        return Ok(Granularity::Statement);
     }
+    Err(Stop::NoMatch)
+}
+
+// FOR EACH, from EACH on.
+fn for_each(source: &Source<'_>, cursor: &mut Cursor) -> Result<Granularity, Stop>
+    ensures { Reads read_for_each source.now cursor.old result cursor.new }
+{
+    if cursor.accept(source, TokenKind::Each) {
+        return each(source, cursor);
+    }
+    Err(Stop::NoMatch)
 }
 
 // FOR EACH and a granularity; STATEMENT where they are left out.
 #[tactic(auto, unfolding(crate::specs::readers::Triggers::read_granularity))]
-fn granularity(tokens: &[Token]) -> Option<(Granularity, &[Token])>
-    ensures { (text : List ℕ) → with_words text result ≡ read_granularity (words text tokens.now) }
+fn granularity(source: &Source<'_>, cursor: &mut Cursor) -> Result<Granularity, Stop>
+    ensures { Reads read_granularity source.now cursor.old result cursor.new }
 {
-    let Some(rest) = after(TokenKind::For, tokens) else {
-        return Some((Granularity::Statement, tokens));
-    };
-    let rest = after(TokenKind::Each, rest)?;
-    each(rest)
+    if cursor.accept(source, TokenKind::For) {
+        return for_each(source, cursor);
+    }
+    Ok(Granularity::Statement)
 }
 
 #[tactic(auto, unfolding(crate::specs::readers::Triggers::read_when))]
-fn when<'a>(
-    alloc: Global,
-    text: &str,
-    tokens: &'a [Token],
-) -> Result<Option<(Option<Condition>, &'a [Token])>, AllocError>
-    ensures { IfOk result (λ r. with_words text.now r ≡ read_when (words text.now tokens.now)) }
+fn when(source: &Source<'_>, cursor: &mut Cursor) -> Result<Option<Condition>, Stop>
+    ensures { Reads read_when source.now cursor.old result cursor.new }
 {
-    let Some(rest) = after(TokenKind::When, tokens) else {
-        return Ok(Some((None, tokens)));
-    };
-    match enclosed_condition(alloc, text, rest)? {
-        Some((condition, rest)) => Ok(Some((Some(condition), rest))),
-        None => Ok(None),
+    if cursor.accept(source, TokenKind::When) {
+        let condition = enclosed_condition(source, cursor)?;
+        return Ok(Some(condition));
     }
+    Ok(None)
 }
 
 #[tactic(auto, unfolding(crate::specs::readers::Triggers::read_action_time))]
-fn action_time(tokens: &[Token]) -> Option<(ActionTime, &[Token])>
-    ensures { (text : List ℕ) → with_words text result ≡ read_action_time (words text tokens.now) }
+fn action_time(source: &Source<'_>, cursor: &mut Cursor) -> Result<ActionTime, Stop>
+    ensures { Reads read_action_time source.now cursor.old result cursor.new }
 {
-    if let Some(rest) = after(TokenKind::Before, tokens) {
-        return Some((ActionTime::Before, rest));
+    if cursor.accept(source, TokenKind::Before) {
+        return Ok(ActionTime::Before);
     }
-    let rest = after(TokenKind::After, tokens)?;
-    Some((ActionTime::After, rest))
+    if cursor.accept(source, TokenKind::After) {
+        return Ok(ActionTime::After);
+    }
+    Err(Stop::NoMatch)
 }
 
 // OF and the columns, where they are written.
 #[tactic(auto, unfolding(crate::specs::readers::Triggers::read_update_columns))]
-fn update_columns<'a>(
-    alloc: Global,
-    text: &str,
-    tokens: &'a [Token],
-) -> Result<Option<(Items<Name>, &'a [Token])>, AllocError>
-    ensures { IfOk result (λ r. with_words text.now r
-        ≡ read_update_columns (words text.now tokens.now)) }
+fn update_columns(source: &Source<'_>, cursor: &mut Cursor) -> Result<Items<Name>, Stop>
+    ensures { Reads read_update_columns source.now cursor.old result cursor.new }
 {
-    match after(TokenKind::Of, tokens) {
-        Some(rest) => series::<Name>(alloc, text, rest),
-        None => Ok(Some((Items::new(alloc), tokens))),
+    if cursor.accept(source, TokenKind::Of) {
+        return series::<Name>(source, cursor);
     }
+    Ok(Items::new(source.alloc()))
 }
 
 // UPDATE, from the columns on.
 #[tactic(auto, unfolding(crate::specs::readers::Triggers::read_update_event))]
-fn update_event<'a>(
-    alloc: Global,
-    text: &str,
-    tokens: &'a [Token],
-) -> Result<Option<((TriggerEvent, Items<Name>), &'a [Token])>, AllocError>
-    ensures { IfOk result (λ r. with_words text.now r
-        ≡ read_update_event (words text.now tokens.now)) }
+fn update_event(
+    source: &Source<'_>,
+    cursor: &mut Cursor,
+) -> Result<(TriggerEvent, Items<Name>), Stop>
+    ensures { Reads read_update_event source.now cursor.old result cursor.new }
 {
-    match update_columns(alloc, text, tokens)? {
-        Some((columns, rest)) => Ok(Some(((TriggerEvent::Update, columns), rest))),
-        None => Ok(None),
-    }
+    let columns = update_columns(source, cursor)?;
+    Ok((TriggerEvent::Update, columns))
 }
 
-#[tactic(auto, unfolding(crate::specs::readers::Triggers::read_other_event))]
-fn other_event<'a>(
-    alloc: Global,
-    text: &str,
-    tokens: &'a [Token],
-) -> Result<Option<((TriggerEvent, Items<Name>), &'a [Token])>, AllocError>
-    ensures { IfOk result (λ r. with_words text.now r
-        ≡ read_other_event (words text.now tokens.now)) }
+fn delete_event(
+    source: &Source<'_>,
+    cursor: &mut Cursor,
+) -> Result<(TriggerEvent, Items<Name>), Stop>
+    ensures { Reads read_delete_event source.now cursor.old result cursor.new }
 {
-    if let Some(rest) = after(TokenKind::Update, tokens) {
-        return update_event(alloc, text, rest);
+    if cursor.accept(source, TokenKind::Delete) {
+        return Ok((TriggerEvent::Delete, Items::new(source.alloc())));
     }
-    match after(TokenKind::Delete, tokens) {
-        Some(rest) => Ok(Some(((TriggerEvent::Delete, Items::new(alloc)), rest))),
-        None => Ok(None),
+    Err(Stop::NoMatch)
+}
+
+// UPDATE or DELETE.
+#[tactic(auto, unfolding(crate::specs::readers::Triggers::read_other_event))]
+fn other_event(
+    source: &Source<'_>,
+    cursor: &mut Cursor,
+) -> Result<(TriggerEvent, Items<Name>), Stop>
+    ensures { Reads read_other_event source.now cursor.old result cursor.new }
+{
+    if cursor.accept(source, TokenKind::Update) {
+        return update_event(source, cursor);
     }
+    delete_event(source, cursor)
 }
 
 // The event, and the columns of UPDATE OF.
 #[tactic(auto, unfolding(crate::specs::readers::Triggers::read_event))]
-fn event<'a>(
-    alloc: Global,
-    text: &str,
-    tokens: &'a [Token],
-) -> Result<Option<((TriggerEvent, Items<Name>), &'a [Token])>, AllocError>
-    ensures { IfOk result (λ r. with_words text.now r ≡ read_event (words text.now tokens.now)) }
+fn event(source: &Source<'_>, cursor: &mut Cursor) -> Result<(TriggerEvent, Items<Name>), Stop>
+    ensures { Reads read_event source.now cursor.old result cursor.new }
 {
-    match after(TokenKind::Insert, tokens) {
-        Some(rest) => Ok(Some(((TriggerEvent::Insert, Items::new(alloc)), rest))),
-        None => other_event(alloc, text, tokens),
+    if cursor.accept(source, TokenKind::Insert) {
+        return Ok((TriggerEvent::Insert, Items::new(source.alloc())));
     }
+    other_event(source, cursor)
 }
 
 // ON, after the time and the event with its columns.
-fn with_on<'a>(
+fn with_on(
+    source: &Source<'_>,
+    cursor: &mut Cursor,
     time: ActionTime,
     event: (TriggerEvent, Items<Name>),
-    tokens: &'a [Token],
-) -> Option<((ActionTime, TriggerEvent, Items<Name>), &'a [Token])>
-    ensures { (text : List ℕ)
-        → with_words text result ≡ with_on time event (words text tokens.now) }
+) -> Result<(ActionTime, TriggerEvent, Items<Name>), Stop>
+    ensures { Reads (with_on time event) source.now cursor.old result cursor.new }
 {
-    match after(TokenKind::On, tokens) {
-        Some(rest) => {
-            let (event, columns) = event;
-            Some(((time, event, columns), rest))
-        }
-        None => None,
+    let (event, columns) = event;
+    if cursor.accept(source, TokenKind::On) {
+        return Ok((time, event, columns));
     }
+    Err(Stop::NoMatch)
 }
 
 // The time, the event with its columns, and ON.
 #[tactic(auto, unfolding(crate::specs::readers::Triggers::read_occasion))]
-fn occasion<'a>(
-    alloc: Global,
-    text: &str,
-    tokens: &'a [Token],
-) -> Result<Option<((ActionTime, TriggerEvent, Items<Name>), &'a [Token])>, AllocError>
-    ensures { IfOk result (λ r. with_words text.now r ≡ read_occasion (words text.now tokens.now)) }
+fn occasion(
+    source: &Source<'_>,
+    cursor: &mut Cursor,
+) -> Result<(ActionTime, TriggerEvent, Items<Name>), Stop>
+    ensures { Reads read_occasion source.now cursor.old result cursor.new }
 {
-    let Some((time, rest)) = action_time(tokens) else {
-        return Ok(None);
-    };
-    match event(alloc, text, rest)? {
-        Some((event, rest)) => Ok(with_on(time, event, rest)),
-        None => Ok(None),
-    }
+    let time = action_time(source, cursor)?;
+    let event = event(source, cursor)?;
+    with_on(source, cursor, time, event)
 }
 
 // What is between the table and the body.
 #[tactic(auto, unfolding(crate::specs::readers::Triggers::read_middle))]
-fn middle<'a>(
-    alloc: Global,
-    text: &str,
-    tokens: &'a [Token],
-) -> Result<
-    Option<
-        (
-            (Items<Referencing>, Granularity, Option<Condition>),
-            &'a [Token],
-        ),
-    >,
-    AllocError,
->
-    ensures { IfOk result (λ r. with_words text.now r ≡ read_middle (words text.now tokens.now)) }
+fn middle(
+    source: &Source<'_>,
+    cursor: &mut Cursor,
+) -> Result<(Items<Referencing>, Granularity, Option<Condition>), Stop>
+    ensures { Reads read_middle source.now cursor.old result cursor.new }
 {
-    let Some((referencing, rest)) = referencing(alloc, text, tokens)? else {
-        return Ok(None);
-    };
-    let Some((granularity, rest)) = granularity(rest) else {
-        return Ok(None);
-    };
-    match when(alloc, text, rest)? {
-        Some((when, rest)) => Ok(Some(((referencing, granularity, when), rest))),
-        None => Ok(None),
-    }
+    let referencing = referencing(source, cursor)?;
+    let granularity = granularity(source, cursor)?;
+    let when = when(source, cursor)?;
+    Ok((referencing, granularity, when))
 }
 
 fn trigger_of(
@@ -255,53 +228,33 @@ fn trigger_of(
 
 // CREATE TRIGGER, from what follows the table on.
 #[tactic(auto, unfolding(crate::specs::readers::Triggers::read_trigger_rest))]
-fn trigger_rest<'a>(
-    alloc: Global,
-    text: &str,
+fn trigger_rest(
+    source: &Source<'_>,
+    cursor: &mut Cursor,
     name: Name,
     occasion: (ActionTime, TriggerEvent, Items<Name>),
     table: Name,
-    tokens: &'a [Token],
-) -> Result<Option<(TriggerDefinition, &'a [Token])>, AllocError>
-    ensures { IfOk result (λ r. with_words text.now r
-        ≡ read_trigger_rest name occasion table (words text.now tokens.now)) }
+) -> Result<TriggerDefinition, Stop>
+    ensures { Reads (read_trigger_rest name occasion table) source.now cursor.old result
+        cursor.new }
 {
-    let Some((found, rest)) = middle(alloc, text, tokens)? else {
-        return Ok(None);
-    };
-    match body(alloc, text, rest) {
-        Ok(Some((body, rest))) => {
-            let trigger = trigger_of(name, occasion, table, found, body);
-            Ok(Some((trigger, rest)))
-        }
-        Ok(None) => {
+    let found = middle(source, cursor)?;
+    match body(source, cursor) {
+        Ok(body) => Ok(trigger_of(name, occasion, table, found, body)),
+        Err(stop) => {
             drop(found);
-            Ok(None)
-        }
-        Err(refused) => {
-            drop(found);
-            Err(refused)
+            Err(stop)
         }
     }
 }
 
 /// CREATE TRIGGER, from the name on.
 #[tactic(auto, unfolding(crate::specs::readers::Triggers::read_trigger))]
-pub fn create_trigger<'a>(
-    alloc: Global,
-    text: &str,
-    tokens: &'a [Token],
-) -> Result<Option<(TriggerDefinition, &'a [Token])>, AllocError>
-    ensures { IfOk result (λ r. with_words text.now r ≡ read_trigger (words text.now tokens.now)) }
+pub fn create_trigger(source: &Source<'_>, cursor: &mut Cursor) -> Result<TriggerDefinition, Stop>
+    ensures { Reads read_trigger source.now cursor.old result cursor.new }
 {
-    let Some((trigger, rest)) = name(alloc, text, tokens)? else {
-        return Ok(None);
-    };
-    let Some((occasion, rest)) = occasion(alloc, text, rest)? else {
-        return Ok(None);
-    };
-    match name(alloc, text, rest)? {
-        Some((table, rest)) => trigger_rest(alloc, text, trigger, occasion, table, rest),
-        None => Ok(None),
-    }
+    let trigger = cursor.name(source)?;
+    let occasion = occasion(source, cursor)?;
+    let table = cursor.name(source)?;
+    trigger_rest(source, cursor, trigger, occasion, table)
 }

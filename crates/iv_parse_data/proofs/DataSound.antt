@@ -2,11 +2,11 @@
 use Rattle.std.proofs.Common.{ℕ, Some, None, List, [], ◌∷◌, refl}
 use Rattle.iv_lex.specs.declared.kind.TokenKind.TheVariants as kind
 use Rattle.iv_lex.specs.Words.{Word, name, plain}
-use Rattle.iv_parse_data.specs.Words.given.{Value, Default}
-use Rattle.iv_parse_data.specs.Words.source
-use Rattle.iv_parse_data.specs.Words.select_list
-use Rattle.iv_parse_data.specs.Words.select
-use Rattle.iv_parse_data.specs.Words.insert.{DefaultValues, Rows}
+use Rattle.iv_parse_data.specs.Types.given.{Value, Default}
+use Rattle.iv_parse_data.specs.Types.source
+use Rattle.iv_parse_data.specs.Types.select_list
+use Rattle.iv_parse_data.specs.Types.select
+use Rattle.iv_parse_data.specs.Types.insert.{DefaultValues, Rows}
 use Rattle.iv_parse_terms.proofs.Theorems.{expression_front, condition_front, from_front}
 use Rattle.iv_parse_data.specs.Series.{Series, Maybe, InParentheses}
 use Rattle.iv_parse_data.specs.readers.Series.{read_series, read_closed}

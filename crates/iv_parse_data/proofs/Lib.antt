@@ -2,9 +2,11 @@ pub mod Fronts
 pub mod FirstNumber
 pub mod Complete
 pub mod Loops
+pub mod Boths
 pub mod DataSound
 pub mod DataComplete
 pub mod OptionalSound
 pub mod OptionalComplete
 pub mod TableSound
+pub mod Taking
 pub mod TableComplete

@@ -1,19 +1,62 @@
 -- One part of a series more.
-use Rattle.std.proofs.Common.{◌≡◌, ℕ, zero, suc, ◌-◌, ◌<◌, Option, Some, None, List, [], ◌∷◌, ◌++◌, length, refl, sym, ◌∙◌, ap, arith, append_assoc, append-nil}
+use Rattle.std.proofs.Common.{◌≡◌, ℕ, Bool, if◌then◌else◌, zero, suc, ◌-◌, ◌<◌, ◌≤◌, true, false, Option, Some, None, List, [], ◌∷◌, ◌++◌, length, take, drop, Result, Ok, Err, refl, sym, ◌∙◌, ap, subst, arith, append_assoc, append-nil, length-drop}
+use Rattle.std.proofs.lemmas.Option.{none-some, same_Some}
+use Rattle.std.specs.Result.{IsErr, IsErrAnd}
+use Rattle.iv_lex.specs.declared.kind.TokenKind.{TokenKind}
 use Rattle.iv_lex.specs.declared.kind.TokenKind.TheVariants as kind
 use Rattle.iv_lex.specs.Words.{Word}
-use Rattle.iv_parse_terms.specs.After.{after, if_some, then_read}
-use Rattle.iv_parse_data.specs.readers.Series.{read_more, read_series, read_sequence, with_first}
+use Rattle.iv_parse_terms.specs.After.{after, is_word, if_some, then_read}
+use Rattle.iv_parse_terms.specs.declared.stop.Stop.{Stop}
+use Rattle.iv_parse_terms.specs.Reading.{At, Other, Like, ahead, GivesAs, Reads, Tries}
+use Rattle.iv_parse_terms.proofs.Rules.{told, stop_in, stopped}
+use Rattle.iv_parse_data.specs.readers.Series.{read_more, read_series, read_sequence, read_all, with_first}
+
+-- ---- the place rises, and what is left gets less
+
+shorter_by : (b : Bool) (ws rest : List Word) (w : Word) → (if b then Some ws else None) ≡ Some rest → length rest < length (w ∷ ws)
+shorter_by true ws rest w h = let e = ap length (same_Some ws rest h) in omega (arith, e)
+shorter_by false ws rest w h = absurd (none-some rest h)
+
+pub after_shorter : (k : TokenKind) (ws rest : List Word) → after k ws ≡ Some rest → length rest < length ws
+after_shorter k [] rest h = absurd (none-some rest h)
+after_shorter k (w ∷ ws) rest h = shorter_by (is_word k w) ws rest w h
+
+left_less : (p q : ℕ) (ws : List Word) → p ≤ q → length (drop q ws) ≤ length (drop p ws)
+left_less p q ws h = let e = length-drop p ws in let f = length-drop q ws in omega (arith, h, e, f)
 
 module _ {A : Type 0} where
+  pub rises : (rule : List Word → Option (A × List Word)) (all : List Word) (c n : At) (r : Result A Stop) → Reads rule all c r n → (o : Other) → Like all n o → c.place ≤ n.place
+  rises rule all c n r h o l =
+      let p = h (record { words = o.words; most = n.place }) (record { same = l.same; within = omega arith }) in
+      p.0.within
+
+  -- a word and a part take words
+  pub fewer : (rule : List Word → Option (A × List Word)) (all : List Word) (c m n : At) (k : TokenKind) (r : Result A Stop) → Tries (after k) all c true m → Reads rule all m r n
+      → length all - n.place < length all - c.place
+  fewer rule all c m n k r a h =
+      let mine : Other = record { words = all; most = n.place } in
+      let own : Like all n mine = record { same = refl; within = omega arith } in
+      let up = rises rule all m n r h mine own in
+      let q = a mine (h mine own).0 in
+      let s = after_shorter k (drop c.place all) (drop m.place all) q.1 in
+      let e = length-drop c.place all in
+      let f = length-drop m.place all in
+      omega (arith, up, s, e, f)
+
   -- these parts before those that were found
   abbrev pub preceded : List A → Option (List A × List Word) → Option (List A × List Word)
   preceded items None = None
   preceded items (Some p) = Some (items ++ p.0, p.1)
 
   -- these are the first parts of all that is found, and the words that are left have the others
-  pub record Along (part : List Word → Option (A × List Word)) (items : List A) (n : ℕ) (ws : List Word) (all : Option (List A × List Word)) : Type 0 where
-    pub is : preceded items (read_more part n ws) ≡ all
+  pub record Rest (part : List Word → Option (A × List Word)) (items : List A) (ws : List Word) (whole : Option (List A × List Word)) : Type 0 where
+    pub most : ℕ
+    pub enough : length ws ≤ most
+    pub is : preceded items (read_more part most ws) ≡ whole
+
+  -- so it is in all words that are like these
+  abbrev pub Along : (List Word → Option (A × List Word)) → List Word → At → List A → At → Type 0
+  Along part all start items c = (o : Other) → Like all c o → Like all start o × Rest part items (ahead c o) (read_series part (ahead start o))
 
   first_preceded : (a : A) (o : Option (List A × List Word)) → preceded (a ∷ []) o ≡ then_read o (with_first a)
   first_preceded a None = refl
@@ -23,93 +66,170 @@ module _ {A : Type 0} where
   next_preceded items a None = refl
   next_preceded items a (Some p) = ap (λ z. Some (z, p.1)) (append_assoc items (a ∷ []) p.0)
 
-  pub along_first : (part : List Word → Option (A × List Word)) (ws rest : List Word) (a : A) → Some (a, rest) ≡ part ws → Along part (a ∷ []) (length rest) rest (read_series part ws)
-  along_first part ws rest a h = record {
-    is = first_preceded a (read_more part (length rest) rest) ∙ ap (λ o. then_read o (λ b more. then_read (read_more part (length more) more) (with_first b))) h;
-  }
+  pub begun : (part : List Word → Option (A × List Word)) (all : List Word) (start c : At) (a : A) (old items : List A) → old ≡ [] → items ≡ old ++ a ∷ []
+      → Reads part all start (Ok a) c → Along part all start items c
+  begun part all start c a old items d e h o l =
+      let p = h o l in
+      let rest = ahead c o in (
+        p.0,
+        record {
+          most = length rest;
+          enough = omega arith;
+          is = ap (λ i. preceded i (read_more part (length rest) rest)) (e ∙ ap (λ i. i ++ a ∷ []) d)
+              ∙ (first_preceded a (read_more part (length rest) rest) ∙ ap (λ r. then_read r (λ b more. then_read (read_more part (length more) more) (with_first b))) (sym p.1));
+        },
+      )
 
-  pub along_begun : (part : List Word → Option (A × List Word)) (ws rest : List Word) (old items : List A) (a : A) (n : ℕ) → old ≡ [] → items ≡ old ++ a ∷ [] → n ≡ length rest → Some (a, rest) ≡ part ws → Along part items n rest (read_series part ws)
-  along_begun part ws rest old items a n d e f h = rw (e, d, f) (along_first part ws rest a h)
-
-  -- no first part
-  pub series_none : (part : List Word → Option (A × List Word)) (ws : List Word) → None ≡ part ws → None ≡ read_series part ws
-  series_none part ws h = ap (λ o. then_read o (λ b more. then_read (read_more part (length more) more) (with_first b))) h
-
-  -- no comma follows
-  pub along_end : (part : List Word → Option (A × List Word)) (items : List A) (n : ℕ) (ws : List Word) (all : Option (List A × List Word)) → Along part items n ws all → None ≡ after kind.Comma ws → Some (items, ws) ≡ all
-  along_end part items zero ws all along h =
-      ap (λ z. Some (z, ws)) (sym (append-nil items)) ∙ ap (λ o. preceded items (if_some o (λ rest. None) (Some ([], ws)))) h ∙ along.is
-  along_end part items (suc n) ws all along h =
-      ap (λ z. Some (z, ws)) (sym (append-nil items))
-      ∙ ap (λ o. preceded items (if_some o (λ rest. then_read (part rest) (λ a others. then_read (read_more part n others) (with_first a))) (Some ([], ws)))) h
-      ∙ along.is
-
-  -- there are more commas than words
-  pub along_zero : (part : List Word → Option (A × List Word)) (items : List A) (n : ℕ) (ws rest : List Word) (all : Option (List A × List Word)) → Along part items n ws all → n ≡ 0 → Some rest ≡ after kind.Comma ws → None ≡ all
-  along_zero part items zero ws rest all along z h = ap (λ o. preceded items (if_some o (λ others. None) (Some ([], ws)))) h ∙ along.is
-  along_zero part items (suc n) ws rest all along z h = absurd (omega arith)
-
-  -- no part follows the comma
-  pub along_none : (part : List Word → Option (A × List Word)) (items : List A) (n : ℕ) (ws rest : List Word) (all : Option (List A × List Word)) → Along part items n ws all → 0 < n → Some rest ≡ after kind.Comma ws → None ≡ part rest → None ≡ all
-  along_none part items zero ws rest all along z h g = absurd (omega arith)
-  along_none part items (suc n) ws rest all along z h g =
-      ap (λ o. preceded items (then_read o (λ a others. then_read (read_more part n others) (with_first a)))) g
-      ∙ ap (λ o. preceded items (if_some o (λ others. then_read (part others) (λ a more. then_read (read_more part n more) (with_first a))) (Some ([], ws)))) h
-      ∙ along.is
-
-  pub along_more : (part : List Word → Option (A × List Word)) (items : List A) (n : ℕ) (ws rest left : List Word) (a : A) (all : Option (List A × List Word)) → Along part items n ws all → 0 < n → Some rest ≡ after kind.Comma ws → Some (a, left) ≡ part rest
-      → Along part (items ++ a ∷ []) (n - 1) left all
-  along_more part items zero ws rest left a all along z h g = absurd (omega arith)
-  along_more part items (suc n) ws rest left a all along z h g =
-      let e : suc n - 1 ≡ n = omega arith in
+  rest_more : (part : List Word → Option (A × List Word)) (items : List A) (a : A) (ws inner left : List Word) (whole : Option (List A × List Word)) (n : ℕ)
+      → length ws ≤ n → preceded items (read_more part n ws) ≡ whole → after kind.Comma ws ≡ Some inner → part inner ≡ Some (a, left) → length left ≤ length inner → Rest part (items ++ a ∷ []) left whole
+  rest_more part items a ws inner left whole zero l e h g f =
+      let s = after_shorter kind.Comma ws inner h in absurd (omega (arith, s, l))
+  rest_more part items a ws inner left whole (suc n) l e h g f =
+      let s = after_shorter kind.Comma ws inner h in
       record {
-        is = ap (λ m. preceded (items ++ a ∷ []) (read_more part m left)) e
-            ∙ next_preceded items a (read_more part n left)
-            ∙ ap (λ o. preceded items (then_read o (λ b others. then_read (read_more part n others) (with_first b)))) g
-            ∙ ap (λ o. preceded items (if_some o (λ others. then_read (part others) (λ b more. then_read (read_more part n more) (with_first b))) (Some ([], ws)))) h
-            ∙ along.is;
+        most = n;
+        enough = omega (arith, s, l, f);
+        is = next_preceded items a (read_more part n left)
+            ∙ (ap (λ r. preceded items (then_read r (λ b others. then_read (read_more part n others) (with_first b)))) (sym g)
+            ∙ (ap (λ r. preceded items (if_some r (λ others. then_read (part others) (λ b more. then_read (read_more part n more) (with_first b))) (Some ([], ws)))) (sym h)
+            ∙ e));
       }
 
-module _ {A : Type 0} where
-  -- these are the first parts of all that is found one after the other, and the words that are left have the others
-  pub record Amid (part : List Word → Option (Option A × List Word)) (items : List A) (n : ℕ) (ws : List Word) (all : Option (List A × List Word)) : Type 0 where
-    pub is : preceded items (read_sequence part n ws) ≡ all
+  pub next : (part : List Word → Option (A × List Word)) (all : List Word) (start c m n : At) (a : A) (items more : List A) → Along part all start items c
+      → Tries (after kind.Comma) all c true m → Reads part all m (Ok a) n → more ≡ items ++ a ∷ [] → Along part all start more n
+  next part all start c m n a items more along comma h e o l =
+      let p = h o l in
+      let q = comma o p.0 in
+      let s = along o q.0 in
+      let f = left_less m.place n.place o.words (rises part all m n (Ok a) h o l) in (
+        s.0,
+        subst (λ i. Rest part i (ahead n o) (read_series part (ahead start o))) (sym e)
+            (rest_more part items a (ahead c o) (ahead m o) (ahead n o) (read_series part (ahead start o)) s.1.most s.1.enough s.1.is q.1 p.1 f),
+      )
+
+  rest_end : (part : List Word → Option (A × List Word)) (items : List A) (ws : List Word) (whole : Option (List A × List Word)) (n : ℕ)
+      → preceded items (read_more part n ws) ≡ whole → after kind.Comma ws ≡ None → whole ≡ Some (items, ws)
+  rest_end part items ws whole zero e h =
+      sym e ∙ (ap (λ r. preceded items (if_some r (λ rest. None) (Some ([], ws)))) h ∙ ap (λ z. Some (z, ws)) (append-nil items))
+  rest_end part items ws whole (suc n) e h =
+      sym e ∙ (ap (λ r. preceded items (if_some r (λ rest. then_read (part rest) (λ a others. then_read (read_more part n others) (with_first a))) (Some ([], ws)))) h
+      ∙ ap (λ z. Some (z, ws)) (append-nil items))
+
+  pub ended : (part : List Word → Option (A × List Word)) (all : List Word) (start c n : At) (items : List A) → Along part all start items c
+      → Tries (after kind.Comma) all c false n → Reads (read_series part) all start (Ok items) n
+  ended part all start c n items along comma o l =
+      let q = comma o l in
+      let s = along o q.0 in
+      (s.0, rest_end part items (ahead c o) (read_series part (ahead start o)) s.1.most s.1.is q.1.0 ∙ ap (λ w. Some (items, w)) (sym q.1.1))
+
+  rest_none : (part : List Word → Option (A × List Word)) (items : List A) (ws inner : List Word) (whole : Option (List A × List Word)) (n : ℕ)
+      → preceded items (read_more part n ws) ≡ whole → after kind.Comma ws ≡ Some inner → part inner ≡ None → whole ≡ None
+  rest_none part items ws inner whole zero e h g = sym e ∙ ap (λ r. preceded items (if_some r (λ rest. None) (Some ([], ws)))) h
+  rest_none part items ws inner whole (suc n) e h g =
+      sym e ∙ (ap (λ r. preceded items (if_some r (λ rest. then_read (part rest) (λ a others. then_read (read_more part n others) (with_first a))) (Some ([], ws)))) h
+      ∙ ap (λ r. preceded items (then_read r (λ a others. then_read (read_more part n others) (with_first a)))) g)
+
+  pub series_told : (part : List Word → Option (A × List Word)) (all : List Word) (start c m n : At) (items : List A) (r : Result (List A) Stop) (e : Stop) → Along part all start items c
+      → Tries (after kind.Comma) all c true m → Reads part all m (Err e) n → IsErr r × IsErrAnd r (λ y. y ≡ e) → Reads (read_series part) all start r n
+  series_told part all start c m n items r e along comma h i o l =
+      let p = h o l in
+      let q = comma o p.0 in
+      let s = along o q.0 in (
+        s.0,
+        told (λ x. x) r e (read_series part (ahead start o)) (ahead n o) i
+            (stop_in e (part (ahead m o)) (read_series part (ahead start o)) (rest_none part items (ahead c o) (ahead m o) (read_series part (ahead start o)) s.1.most s.1.is q.1)
+            (stopped (λ x. x) e (part (ahead m o)) (ahead n o) p.1)),
+      )
+
+  -- ---- parts one after the other
+
+  -- these are the first parts of all that is found, and the words that are left have the others
+  pub record Others (part : List Word → Option (Option A × List Word)) (items : List A) (ws : List Word) (whole : Option (List A × List Word)) : Type 0 where
+    pub most : ℕ
+    pub enough : length ws ≤ most
+    pub is : preceded items (read_sequence part most ws) ≡ whole
+
+  abbrev pub Amid : (List Word → Option (Option A × List Word)) → List Word → At → List A → At → Type 0
+  Amid part all start items c = (o : Other) → Like all c o → Like all start o × Others part items (ahead c o) (read_all part (ahead start o))
+
+  abbrev pub Takes : (List Word → Option (Option A × List Word)) → Type 0
+  Takes part = (ws rest : List Word) (a : A) → part ws ≡ Some (Some a, rest) → length rest < length ws
 
   all_preceded : (o : Option (List A × List Word)) → preceded [] o ≡ o
   all_preceded None = refl
   all_preceded (Some p) = refl
 
-  pub amid_start : (part : List Word → Option (Option A × List Word)) (n : ℕ) (ws : List Word) → Amid part [] n ws (read_sequence part n ws)
-  amid_start part n ws = record { is = all_preceded (read_sequence part n ws) }
+  pub amid_start : (part : List Word → Option (Option A × List Word)) (all : List Word) (start : At) (items : List A) → items ≡ [] → Amid part all start items start
+  amid_start part all start items e o l = (
+    l,
+    record {
+      most = length (ahead start o);
+      enough = omega arith;
+      is = ap (λ i. preceded i (read_all part (ahead start o))) e ∙ all_preceded (read_all part (ahead start o));
+    },
+  )
 
-  -- nothing is read
-  pub amid_none : (part : List Word → Option (Option A × List Word)) (items : List A) (n : ℕ) (ws : List Word) (all : Option (List A × List Word)) → Amid part items n ws all → None ≡ part ws → None ≡ all
-  amid_none part items zero ws all amid h = ap (λ o. preceded items (then_read o (λ o rest. if_some o (λ a. None) (Some ([], ws))))) h ∙ amid.is
-  amid_none part items (suc n) ws all amid h =
-      ap (λ o. preceded items (then_read o (λ o rest. if_some o (λ a. then_read (read_sequence part n rest) (with_first a)) (Some ([], ws))))) h ∙ amid.is
+  others_none : (part : List Word → Option (Option A × List Word)) (items : List A) (ws : List Word) (whole : Option (List A × List Word)) (n : ℕ)
+      → preceded items (read_sequence part n ws) ≡ whole → part ws ≡ None → whole ≡ None
+  others_none part items ws whole zero e h = sym e ∙ ap (λ r. preceded items (then_read r (λ o rest. if_some o (λ a. None) (Some ([], ws))))) h
+  others_none part items ws whole (suc n) e h =
+      sym e ∙ ap (λ r. preceded items (then_read r (λ o rest. if_some o (λ a. then_read (read_sequence part n rest) (with_first a)) (Some ([], ws))))) h
 
-  -- no further part begins
-  pub amid_end : (part : List Word → Option (Option A × List Word)) (items : List A) (n : ℕ) (ws rest : List Word) (all : Option (List A × List Word)) → Amid part items n ws all → Some (None, rest) ≡ part ws → Some (items, ws) ≡ all
-  amid_end part items zero ws rest all amid h =
-      ap (λ z. Some (z, ws)) (sym (append-nil items))
-      ∙ ap (λ o. preceded items (then_read o (λ o rest. if_some o (λ a. None) (Some ([], ws))))) h ∙ amid.is
-  amid_end part items (suc n) ws rest all amid h =
-      ap (λ z. Some (z, ws)) (sym (append-nil items))
-      ∙ ap (λ o. preceded items (then_read o (λ o rest. if_some o (λ a. then_read (read_sequence part n rest) (with_first a)) (Some ([], ws))))) h ∙ amid.is
+  pub amid_told : (part : List Word → Option (Option A × List Word)) (all : List Word) (start c n : At) (items : List A) (r : Result (List A) Stop) (e : Stop) → Amid part all start items c
+      → Reads part all c (Err e) n → IsErr r × IsErrAnd r (λ y. y ≡ e) → Reads (read_all part) all start r n
+  amid_told part all start c n items r e amid h i o l =
+      let p = h o l in
+      let s = amid o p.0 in (
+        s.0,
+        told (λ x. x) r e (read_all part (ahead start o)) (ahead n o) i
+            (stop_in e (part (ahead c o)) (read_all part (ahead start o)) (others_none part items (ahead c o) (read_all part (ahead start o)) s.1.most s.1.is)
+            (stopped (λ x. x) e (part (ahead c o)) (ahead n o) p.1)),
+      )
 
-  -- there are more parts than words
-  pub amid_zero : (part : List Word → Option (Option A × List Word)) (items : List A) (n : ℕ) (ws rest : List Word) (a : A) (all : Option (List A × List Word)) → Amid part items n ws all → n ≡ 0 → Some (Some a, rest) ≡ part ws → None ≡ all
-  amid_zero part items zero ws rest a all amid z h = ap (λ o. preceded items (then_read o (λ o rest. if_some o (λ a. None) (Some ([], ws))))) h ∙ amid.is
-  amid_zero part items (suc n) ws rest a all amid z h = absurd (omega arith)
+  others_end : (part : List Word → Option (Option A × List Word)) (items : List A) (ws rest : List Word) (whole : Option (List A × List Word)) (n : ℕ)
+      → preceded items (read_sequence part n ws) ≡ whole → part ws ≡ Some (None, rest) → whole ≡ Some (items, ws)
+  others_end part items ws rest whole zero e h =
+      sym e ∙ (ap (λ r. preceded items (then_read r (λ o rest. if_some o (λ a. None) (Some ([], ws))))) h ∙ ap (λ z. Some (z, ws)) (append-nil items))
+  others_end part items ws rest whole (suc n) e h =
+      sym e ∙ (ap (λ r. preceded items (then_read r (λ o rest. if_some o (λ a. then_read (read_sequence part n rest) (with_first a)) (Some ([], ws))))) h ∙ ap (λ z. Some (z, ws)) (append-nil items))
 
-  pub amid_more : (part : List Word → Option (Option A × List Word)) (items : List A) (n : ℕ) (ws left : List Word) (a : A) (all : Option (List A × List Word)) → Amid part items n ws all → 0 < n → Some (Some a, left) ≡ part ws
-      → Amid part (items ++ a ∷ []) (n - 1) left all
-  amid_more part items zero ws left a all amid z h = absurd (omega arith)
-  amid_more part items (suc n) ws left a all amid z h =
-      let e : suc n - 1 ≡ n = omega arith in
-      record {
-        is = ap (λ m. preceded (items ++ a ∷ []) (read_sequence part m left)) e
-            ∙ next_preceded items a (read_sequence part n left)
-            ∙ ap (λ o. preceded items (then_read o (λ o rest. if_some o (λ b. then_read (read_sequence part n rest) (with_first b)) (Some ([], ws))))) h
-            ∙ amid.is;
-      }
+  -- no further part begins: back at its place
+  pub amid_end : (part : List Word → Option (Option A × List Word)) (all : List Word) (start c n m : At) (items : List A) (p : ℕ) → Amid part all start items c
+      → Reads part all c (Ok None) n → p ≡ c.place → m ≡ record { place = p; furthest = n.furthest } → Reads (read_all part) all start (Ok items) m
+  amid_end part all start c n m items p amid h e f o l =
+      let place = ap (λ (x : At). x.place) f ∙ e in
+      let wide : Other = record { words = o.words; most = n.place } in
+      let q = h wide (record { same = subst (λ (x : At). take (suc x.furthest) o.words ≡ take (suc x.furthest) all) f l.same; within = omega arith }) in
+      let here : Like all c o = record { same = q.0.same; within = subst (λ x. x ≤ o.most) place l.within } in
+      let s = amid o here in
+      (s.0, others_end part items (ahead c o) (ahead n o) (read_all part (ahead start o)) s.1.most s.1.is q.1 ∙ ap (λ x. Some (items, drop x o.words)) (sym place))
+
+  others_more : (part : List Word → Option (Option A × List Word)) (items : List A) (a : A) (ws left : List Word) (whole : Option (List A × List Word)) (n : ℕ)
+      → length ws ≤ n → preceded items (read_sequence part n ws) ≡ whole → part ws ≡ Some (Some a, left) → length left < length ws → Others part (items ++ a ∷ []) left whole
+  others_more part items a ws left whole zero l e h f = absurd (omega (arith, l, f))
+  others_more part items a ws left whole (suc n) l e h f = record {
+    most = n;
+    enough = omega (arith, l, f);
+    is = next_preceded items a (read_sequence part n left)
+        ∙ (ap (λ r. preceded items (then_read r (λ o rest. if_some o (λ b. then_read (read_sequence part n rest) (with_first b)) (Some ([], ws))))) (sym h) ∙ e);
+  }
+
+  pub amid_next : (part : List Word → Option (Option A × List Word)) (all : List Word) (start c n : At) (a : A) (items more : List A) → Takes part → Amid part all start items c
+      → Reads part all c (Ok (Some a)) n → more ≡ items ++ a ∷ [] → Amid part all start more n
+  amid_next part all start c n a items more takes amid h e o l =
+      let p = h o l in
+      let s = amid o p.0 in (
+        s.0,
+        subst (λ i. Others part i (ahead n o) (read_all part (ahead start o))) (sym e)
+            (others_more part items a (ahead c o) (ahead n o) (read_all part (ahead start o)) s.1.most s.1.enough s.1.is p.1 (takes (ahead c o) (ahead n o) a p.1)),
+      )
+
+  -- a part takes words
+  pub amid_fewer : (part : List Word → Option (Option A × List Word)) (all : List Word) (c n : At) (a : A) → Takes part → Reads part all c (Ok (Some a)) n → length all - n.place < length all - c.place
+  amid_fewer part all c n a takes h =
+      let mine : Other = record { words = all; most = n.place } in
+      let own : Like all n mine = record { same = refl; within = omega arith } in
+      let s = takes (drop c.place all) (drop n.place all) a (h mine own).1 in
+      let e = length-drop c.place all in
+      let f = length-drop n.place all in
+      omega (arith, s, e, f)

@@ -5,16 +5,16 @@ use Rattle.iv_lex.specs.declared.kind.TokenKind.TheVariants as kind
 use Rattle.iv_lex.specs.Words.{Word, name, number, plain}
 use Rattle.iv_syntax.specs.declared.tree.Sign.{Sign}
 use Rattle.iv_syntax.specs.declared.tree.Sign.TheVariants as sign
-use Rattle.iv_parse_data.specs.Words.{ConstraintMode, Literal, ColumnType, ConstraintTime, MatchType, NullTreatment, ReferentialAction, References, ColumnRule, ColumnConstraint, TableRule, TableConstraint, ColumnDefinition, TableElement}
-use Rattle.iv_parse_data.specs.Words.mode.{Immediate, Deferred}
-use Rattle.iv_parse_data.specs.Words.literal
-use Rattle.iv_parse_data.specs.Words.type.{Integer, Varchar}
-use Rattle.iv_parse_data.specs.Words.matching.{Simple, Full}
-use Rattle.iv_parse_data.specs.Words.nulls.{Distinct, NotDistinct}
-use Rattle.iv_parse_data.specs.Words.referential_action.{NoAction, Restrict, Cascade, SetNull, SetDefault}
-use Rattle.iv_parse_data.specs.Words.column_rule
-use Rattle.iv_parse_data.specs.Words.table_rule
-use Rattle.iv_parse_data.specs.Words.element.{Column, Constraint}
+use Rattle.iv_parse_data.specs.Types.{ConstraintMode, Literal, ColumnType, ConstraintTime, MatchType, NullTreatment, ReferentialAction, References, ColumnRule, ColumnConstraint, TableRule, TableConstraint, ColumnDefinition, TableElement}
+use Rattle.iv_parse_data.specs.Types.mode.{Immediate, Deferred}
+use Rattle.iv_parse_data.specs.Types.literal
+use Rattle.iv_parse_data.specs.Types.type.{Integer, Varchar}
+use Rattle.iv_parse_data.specs.Types.matching.{Simple, Full}
+use Rattle.iv_parse_data.specs.Types.nulls.{Distinct, NotDistinct}
+use Rattle.iv_parse_data.specs.Types.referential_action.{NoAction, Restrict, Cascade, SetNull, SetDefault}
+use Rattle.iv_parse_data.specs.Types.column_rule
+use Rattle.iv_parse_data.specs.Types.table_rule
+use Rattle.iv_parse_data.specs.Types.element.{Column, Constraint}
 use Rattle.iv_parse_terms.specs.After.{after, after_name, if_some, then_read, same}
 use Rattle.iv_parse_terms.specs.Expressions.{sign_kind}
 use Rattle.iv_parse_data.specs.Series.{Series, Sequence, Maybe, InParentheses}
@@ -324,6 +324,7 @@ column_reads c type default constraints rest p q s e =
     (sequence_complete IsColumnConstraint EndsConstraint read_column_constraint constraint_parts c.constraints constraints rest s (element_ends rest e) (no_constraint rest e))
 
 key_complete : Reads_all (InParentheses Names) Anything read_key
+unfolding read_key
 key_complete = enclosed_complete Names (λ rest. Anything rest × (after kind.Comma rest ≡ None)) (read_series read_name) names_complete (λ ws. (tt, refl))
 
 -- a list of names doesn't begin with NULLS

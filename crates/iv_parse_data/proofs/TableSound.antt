@@ -3,16 +3,16 @@ use Rattle.std.proofs.Common.{◌≡◌, inl, inr, ℕ, true, false, Option, Som
 use Rattle.iv_lex.specs.declared.kind.TokenKind.{TokenKind}
 use Rattle.iv_lex.specs.declared.kind.TokenKind.TheVariants as kind
 use Rattle.iv_lex.specs.Words.{Word, name, plain}
-use Rattle.iv_parse_data.specs.Words.{ConstraintMode, MatchType, NullTreatment, ReferentialAction, ColumnRule}
-use Rattle.iv_parse_data.specs.Words.mode.{Immediate, Deferred}
-use Rattle.iv_parse_data.specs.Words.literal
-use Rattle.iv_parse_data.specs.Words.type.{Integer, Varchar}
-use Rattle.iv_parse_data.specs.Words.matching.{Simple, Full}
-use Rattle.iv_parse_data.specs.Words.nulls.{Distinct, NotDistinct}
-use Rattle.iv_parse_data.specs.Words.referential_action.{NoAction, Restrict, Cascade, SetNull, SetDefault}
-use Rattle.iv_parse_data.specs.Words.column_rule
-use Rattle.iv_parse_data.specs.Words.table_rule
-use Rattle.iv_parse_data.specs.Words.element.{Column, Constraint}
+use Rattle.iv_parse_data.specs.Types.{ConstraintMode, MatchType, NullTreatment, ReferentialAction, ColumnRule}
+use Rattle.iv_parse_data.specs.Types.mode.{Immediate, Deferred}
+use Rattle.iv_parse_data.specs.Types.literal
+use Rattle.iv_parse_data.specs.Types.type.{Integer, Varchar}
+use Rattle.iv_parse_data.specs.Types.matching.{Simple, Full}
+use Rattle.iv_parse_data.specs.Types.nulls.{Distinct, NotDistinct}
+use Rattle.iv_parse_data.specs.Types.referential_action.{NoAction, Restrict, Cascade, SetNull, SetDefault}
+use Rattle.iv_parse_data.specs.Types.column_rule
+use Rattle.iv_parse_data.specs.Types.table_rule
+use Rattle.iv_parse_data.specs.Types.element.{Column, Constraint}
 use Rattle.iv_parse_terms.specs.Expressions.{sign_kind}
 use Rattle.iv_parse_terms.specs.readers.Expressions.{after_sign}
 use Rattle.iv_parse_data.specs.Series.{Series, Sequence, Maybe, InParentheses, InEitherOrder}
@@ -196,7 +196,7 @@ column_constraint_of_good called rule ws n (Some r) p q =
 column_constraint_of_good called rule ws None None p q = done_good _ ws None (ap (λ z. z ++ (rule ++ [])) p ∙ append-nil rule ∙ q)
 column_constraint_of_good called rule ws (Some n) None p q = nothing_good _ ws
 
-column_constraint_good : (ws : List Word) → Good (Maybe IsColumnConstraint) ws (read_column_constraint ws)
+pub column_constraint_good : (ws : List Word) → Good (Maybe IsColumnConstraint) ws (read_column_constraint ws)
 unfolding read_column_constraint
 column_constraint_good ws =
     then_good (Maybe IsConstraintName) _ ws (read_constraint_name ws) _ (constraint_name_good ws)
@@ -216,6 +216,7 @@ column_good n ws =
     (column_constraints_good more) (λ cs constraints r. (type, default, constraints, p, q, r, refl))))
 
 key_good : (ws : List Word) → Good (InParentheses Names) ws (read_key ws)
+unfolding read_key
 key_good ws = enclosed_good Names (read_series read_name) names_good ws
 
 table_rule_good : (ws : List Word) → Good IsTableRule ws (read_table_rule ws)

@@ -2,12 +2,12 @@
 use Rattle.std.specs.Prelude.{◌≡◌, ◌≤◌, ℕ, Option, Some, None, List, [], ◌∷◌, ◌++◌}
 use Rattle.iv_lex.specs.declared.kind.TokenKind.TheVariants as kind
 use Rattle.iv_lex.specs.Words.{Word, name, plain}
-use Rattle.iv_parse_data.specs.Words.{Expression, ValueOrDefault, InsertSource, Insert, Condition, RangeName, SelectList, Assignment, Update, Delete, Select}
-use Rattle.iv_parse_data.specs.Words.given.{Value, Default}
-use Rattle.iv_parse_data.specs.Words.source
-use Rattle.iv_parse_data.specs.Words.insert.{DefaultValues, Rows}
-use Rattle.iv_parse_data.specs.Words.select_list
-use Rattle.iv_parse_data.specs.Words.select
+use Rattle.iv_parse_data.specs.Types.{Expression, ValueOrDefault, InsertSource, Insert, Condition, RangeName, SelectList, Assignment, Update, Delete, Select}
+use Rattle.iv_parse_data.specs.Types.given.{Value, Default}
+use Rattle.iv_parse_data.specs.Types.source
+use Rattle.iv_parse_data.specs.Types.insert.{DefaultValues, Rows}
+use Rattle.iv_parse_data.specs.Types.select_list
+use Rattle.iv_parse_data.specs.Types.select
 use Rattle.iv_parse_terms.specs.Expressions.{IsExpression}
 use Rattle.iv_syntax.specs.Trees.{depth, condition_depth}
 use Rattle.iv_parse_terms.specs.Conditions.{IsCondition, IsFrom}

@@ -1,4 +1,4 @@
-pub mod Words
+pub mod Types
 pub mod Series
 pub mod Data
 pub mod Tables

@@ -3,16 +3,16 @@ use Rattle.std.specs.Prelude.{◌≡◌, ◌⊎◌, ℕ, Bool, true, false, Opti
 use Rattle.iv_lex.specs.declared.kind.TokenKind.{TokenKind}
 use Rattle.iv_lex.specs.declared.kind.TokenKind.TheVariants as kind
 use Rattle.iv_lex.specs.Words.{Word, name, number, quoted, plain}
-use Rattle.iv_parse_data.specs.Words.{ConstraintMode, Literal, ColumnType, ConstraintTime, MatchType, NullTreatment, ReferentialAction, References, ColumnRule, ColumnConstraint, TableRule, TableConstraint, ColumnDefinition, TableElement}
-use Rattle.iv_parse_data.specs.Words.mode.{Immediate, Deferred}
-use Rattle.iv_parse_data.specs.Words.literal
-use Rattle.iv_parse_data.specs.Words.type.{Integer, Varchar}
-use Rattle.iv_parse_data.specs.Words.matching.{Simple, Full}
-use Rattle.iv_parse_data.specs.Words.nulls.{Distinct, NotDistinct}
-use Rattle.iv_parse_data.specs.Words.referential_action.{NoAction, Restrict, Cascade, SetNull, SetDefault}
-use Rattle.iv_parse_data.specs.Words.column_rule
-use Rattle.iv_parse_data.specs.Words.table_rule
-use Rattle.iv_parse_data.specs.Words.element.{Column, Constraint}
+use Rattle.iv_parse_data.specs.Types.{ConstraintMode, Literal, ColumnType, ConstraintTime, MatchType, NullTreatment, ReferentialAction, References, ColumnRule, ColumnConstraint, TableRule, TableConstraint, ColumnDefinition, TableElement}
+use Rattle.iv_parse_data.specs.Types.mode.{Immediate, Deferred}
+use Rattle.iv_parse_data.specs.Types.literal
+use Rattle.iv_parse_data.specs.Types.type.{Integer, Varchar}
+use Rattle.iv_parse_data.specs.Types.matching.{Simple, Full}
+use Rattle.iv_parse_data.specs.Types.nulls.{Distinct, NotDistinct}
+use Rattle.iv_parse_data.specs.Types.referential_action.{NoAction, Restrict, Cascade, SetNull, SetDefault}
+use Rattle.iv_parse_data.specs.Types.column_rule
+use Rattle.iv_parse_data.specs.Types.table_rule
+use Rattle.iv_parse_data.specs.Types.element.{Column, Constraint}
 use Rattle.iv_parse_terms.specs.Expressions.{sign_kind}
 use Rattle.iv_parse_data.specs.Series.{Series, Sequence, Maybe, InParentheses, InEitherOrder}
 use Rattle.iv_parse_data.specs.Data.{Names, IsColumnList, IsShallowCondition}

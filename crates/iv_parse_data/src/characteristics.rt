@@ -1,102 +1,89 @@
 //! Names and characteristics of constraints: when they are checked.
-ghost use Rattle.std.specs.Prelude.{◌≡◌, IfOk, ℕ, List, Option};
-ghost use Rattle.iv_lex.specs.Words.{words};
-ghost use Rattle.iv_parse_terms.specs.Seen.{with_words};
+ghost use Rattle.std.specs.Prelude.{Option};
+ghost use Rattle.iv_parse_terms.specs.Reading.{Reads};
 ghost use Rattle.iv_parse_data.specs.readers.Series.{read_either_order};
 ghost use Rattle.iv_parse_data.specs.readers.Tables.{read_constraint_name, read_deferrable, read_mode, read_initially, read_time};
 
-use iv_lex::{Token, TokenKind};
-use iv_parse_terms::{after, name};
+use iv_lex::TokenKind;
+use iv_parse_terms::{Cursor, Source, Stop};
 use iv_syntax::{ConstraintMode, ConstraintTime, Name};
-use std::alloc::{AllocError, Global};
 
 /// CONSTRAINT and a name, where they are given.
 #[tactic(auto, unfolding(crate::specs::readers::Tables::read_constraint_name))]
-pub fn constraint_name<'a>(
-    alloc: Global,
-    text: &str,
-    tokens: &'a [Token],
-) -> Result<Option<(Option<Name>, &'a [Token])>, AllocError>
-    ensures { IfOk result (λ r. with_words text.now r
-        ≡ read_constraint_name (words text.now tokens.now)) }
+pub fn constraint_name(source: &Source<'_>, cursor: &mut Cursor) -> Result<Option<Name>, Stop>
+    ensures { Reads read_constraint_name source.now cursor.old result cursor.new }
 {
-    let Some(rest) = after(TokenKind::Constraint, tokens) else {
-        return Ok(Some((None, tokens)));
-    };
-    match name(alloc, text, rest)? {
-        Some((name, rest)) => Ok(Some((Some(name), rest))),
-        None => Ok(None),
+    if cursor.accept(source, TokenKind::Constraint) {
+        let name = cursor.name(source)?;
+        return Ok(Some(name));
     }
+    Ok(None)
 }
 
 // [ NOT ] DEFERRABLE, where it is given.
 #[tactic(auto, unfolding(crate::specs::readers::Tables::read_deferrable))]
-fn deferrable(tokens: &[Token]) -> Option<(Option<bool>, &[Token])>
-    ensures { (text : List ℕ) → with_words text result ≡ read_deferrable (words text tokens.now) }
+fn deferrable(source: &Source<'_>, cursor: &mut Cursor) -> Result<Option<bool>, Stop>
+    ensures { Reads read_deferrable source.now cursor.old result cursor.new }
 {
-    if let Some(rest) = after(TokenKind::Deferrable, tokens) {
-        return Some((Some(true), rest));
+    if cursor.accept(source, TokenKind::Deferrable) {
+        return Ok(Some(true));
     }
-    let Some(rest) = after(TokenKind::Not, tokens) else {
-        return Some((None, tokens));
-    };
-    match after(TokenKind::Deferrable, rest) {
-        Some(rest) => Some((Some(false), rest)),
-        None => Some((None, tokens)),
+    if cursor.accept_both(source, TokenKind::Not, TokenKind::Deferrable) {
+        return Ok(Some(false));
     }
+    Ok(None)
 }
 
 /// DEFERRED or IMMEDIATE.
 #[tactic(auto, unfolding(crate::specs::readers::Tables::read_mode))]
-pub fn mode(tokens: &[Token]) -> Option<(ConstraintMode, &[Token])>
-    ensures { (text : List ℕ) → with_words text result ≡ read_mode (words text tokens.now) }
+pub fn mode(source: &Source<'_>, cursor: &mut Cursor) -> Result<ConstraintMode, Stop>
+    ensures { Reads read_mode source.now cursor.old result cursor.new }
 {
-    if let Some(rest) = after(TokenKind::Deferred, tokens) {
-        return Some((ConstraintMode::Deferred, rest));
+    if cursor.accept(source, TokenKind::Deferred) {
+        return Ok(ConstraintMode::Deferred);
     }
-    match after(TokenKind::Immediate, tokens) {
-        Some(rest) => Some((ConstraintMode::Immediate, rest)),
-        None => None,
+    if cursor.accept(source, TokenKind::Immediate) {
+        return Ok(ConstraintMode::Immediate);
     }
+    Err(Stop::NoMatch)
 }
 
 // INITIALLY and a mode, where they are given.
 #[tactic(auto, unfolding(crate::specs::readers::Tables::read_initially))]
-fn initially(tokens: &[Token]) -> Option<(Option<ConstraintMode>, &[Token])>
-    ensures { (text : List ℕ) → with_words text result ≡ read_initially (words text tokens.now) }
+fn initially(source: &Source<'_>, cursor: &mut Cursor) -> Result<Option<ConstraintMode>, Stop>
+    ensures { Reads read_initially source.now cursor.old result cursor.new }
 {
-    let Some(rest) = after(TokenKind::Initially, tokens) else {
-        return Some((None, tokens));
-    };
-    let (mode, rest) = mode(rest)?;
-    Some((Some(mode), rest))
+    if cursor.accept(source, TokenKind::Initially) {
+        let mode = mode(source, cursor)?;
+        return Ok(Some(mode));
+    }
+    Ok(None)
 }
 
-fn time_parts(tokens: &[Token]) -> Option<((Option<bool>, Option<ConstraintMode>), &[Token])>
-    ensures { (text : List ℕ)
-        → with_words text result
-        ≡ read_either_order read_deferrable read_initially (words text tokens.now) }
+fn time_parts(
+    source: &Source<'_>,
+    cursor: &mut Cursor,
+) -> Result<(Option<bool>, Option<ConstraintMode>), Stop>
+    ensures { Reads (read_either_order read_deferrable read_initially) source.now cursor.old result
+        cursor.new }
 {
-    let (before, rest) = deferrable(tokens)?;
-    let (mode, rest) = initially(rest)?;
-    match before {
-        Some(deferrable) => Some(((Some(deferrable), mode), rest)),
-        None => {
-            let (after, rest) = deferrable(rest)?;
-            Some(((after, mode), rest))
-        }
+    let before = deferrable(source, cursor)?;
+    let mode = initially(source, cursor)?;
+    if let Some(deferrable) = before {
+        return Ok((Some(deferrable), mode));
     }
+    let after = deferrable(source, cursor)?;
+    Ok((after, mode))
 }
 
 /// The constraint characteristics, as far as they are given.
 #[tactic(auto, unfolding(crate::specs::readers::Tables::read_time))]
-pub fn time(tokens: &[Token]) -> Option<(ConstraintTime, &[Token])>
-    ensures { (text : List ℕ) → with_words text result ≡ read_time (words text tokens.now) }
+pub fn time(source: &Source<'_>, cursor: &mut Cursor) -> Result<ConstraintTime, Stop>
+    ensures { Reads read_time source.now cursor.old result cursor.new }
 {
-    let ((deferrable, initially), rest) = time_parts(tokens)?;
-    let time = ConstraintTime {
+    let (deferrable, initially) = time_parts(source, cursor)?;
+    Ok(ConstraintTime {
         deferrable,
         initially,
-    };
-    Some((time, rest))
+    })
 }

@@ -1,292 +1,288 @@
 //! Constraints of columns and tables.
-ghost use Rattle.std.specs.Prelude.{◌≡◌, IfOk, ℕ, List, true};
-ghost use Rattle.iv_lex.specs.Words.{words};
+ghost use Rattle.std.specs.Prelude.{◌≡◌, true};
 ghost use Rattle.iv_parse_terms.specs.After.{is_plain};
-ghost use Rattle.iv_parse_terms.specs.Seen.{with_words};
-ghost use Rattle.iv_parse_data.specs.readers.Series.{read_either_order};
-ghost use Rattle.iv_parse_data.specs.readers.Tables.{read_match_type, read_match, read_set_action, read_strict_action, read_referential_action, read_on, read_actions, read_reference_columns, read_references, read_null_treatment, read_null_rule, read_primary_rule, read_unique_column, read_plain_rule, read_condition_rule, read_column_rule, column_constraint_of, read_column_constraint, read_key, read_primary_key, read_foreign_key, read_check_rule, read_unique_key, read_unique_rule, read_table_rule, read_table_constraint};
+ghost use Rattle.iv_parse_terms.specs.Reading.{Reads};
+ghost use Rattle.iv_parse_data.specs.readers.Tables.{read_match_type, read_match, read_set_action, read_no_action, read_strict_action, read_referential_action, read_on, read_actions, read_reference_columns, read_references, read_distinct, read_not_distinct, read_null_treatment, read_null_rule, read_key_rule, read_primary_rule, read_unique_column, read_plain_rule, read_condition_rule, read_column_rule, column_constraint_of, read_column_constraint, read_key, read_primary_key, read_reference, read_foreign_key, read_check_rule, read_unique_key, read_unique_rule, read_table_rule, read_table_constraint};
 
 use crate::characteristics::{constraint_name, time};
 use crate::inserting::column_list;
 use crate::parts::ParseSome;
 use crate::repeated::enclosed_series;
 use crate::selecting::enclosed_condition;
-use iv_lex::{Token, TokenKind};
-use iv_parse_terms::{after, name};
+use iv_lex::TokenKind;
+use iv_parse_terms::{Cursor, Source, Stop};
 use iv_syntax::{
-    ColumnConstraint, ColumnRule, Condition, MatchType, Name, NullTreatment, References,
-    ReferentialAction, TableConstraint, TableRule,
+    ColumnConstraint, ColumnRule, MatchType, Name, NullTreatment, References, ReferentialAction,
+    TableConstraint, TableRule,
 };
 use sqlite_items::Items;
-use std::alloc::{AllocError, Global};
 
 #[tactic(auto, unfolding(crate::specs::readers::Tables::read_match_type))]
-fn match_type(tokens: &[Token]) -> Option<(MatchType, &[Token])>
-    ensures { (text : List ℕ) → with_words text result ≡ read_match_type (words text tokens.now) }
+fn match_type(source: &Source<'_>, cursor: &mut Cursor) -> Result<MatchType, Stop>
+    ensures { Reads read_match_type source.now cursor.old result cursor.new }
 {
-    if let Some(rest) = after(TokenKind::Simple, tokens) {
-        return Some((MatchType::Simple, rest));
+    if cursor.accept(source, TokenKind::Simple) {
+        return Ok(MatchType::Simple);
     }
-    match after(TokenKind::Full, tokens) {
-        Some(rest) => Some((MatchType::Full, rest)),
-        None => None,
+    if cursor.accept(source, TokenKind::Full) {
+        return Ok(MatchType::Full);
     }
+    Err(Stop::NoMatch)
 }
 
 // MATCH and its type, where they are given.
 #[tactic(auto, unfolding(crate::specs::readers::Tables::read_match))]
-fn matching(tokens: &[Token]) -> Option<(Option<MatchType>, &[Token])>
-    ensures { (text : List ℕ) → with_words text result ≡ read_match (words text tokens.now) }
+fn matching(source: &Source<'_>, cursor: &mut Cursor) -> Result<Option<MatchType>, Stop>
+    ensures { Reads read_match source.now cursor.old result cursor.new }
 {
-    let Some(rest) = after(TokenKind::Match, tokens) else {
-        return Some((None, tokens));
-    };
-    let (found, rest) = match_type(rest)?;
-    Some((Some(found), rest))
+    if cursor.accept(source, TokenKind::Match) {
+        let found = match_type(source, cursor)?;
+        return Ok(Some(found));
+    }
+    Ok(None)
 }
 
-fn set_action(tokens: &[Token]) -> Option<(ReferentialAction, &[Token])>
-    ensures { (text : List ℕ) → with_words text result ≡ read_set_action (words text tokens.now) }
+// SET and its action, from the action on.
+fn set_action(source: &Source<'_>, cursor: &mut Cursor) -> Result<ReferentialAction, Stop>
+    ensures { Reads read_set_action source.now cursor.old result cursor.new }
 {
-    if let Some(rest) = after(TokenKind::Null, tokens) {
-        return Some((ReferentialAction::SetNull, rest));
+    if cursor.accept(source, TokenKind::Null) {
+        return Ok(ReferentialAction::SetNull);
     }
-    match after(TokenKind::Default, tokens) {
-        Some(rest) => Some((ReferentialAction::SetDefault, rest)),
-        None => None,
+    if cursor.accept(source, TokenKind::Default) {
+        return Ok(ReferentialAction::SetDefault);
     }
+    Err(Stop::NoMatch)
+}
+
+// NO ACTION, from ACTION on.
+fn no_action(source: &Source<'_>, cursor: &mut Cursor) -> Result<ReferentialAction, Stop>
+    ensures { Reads read_no_action source.now cursor.old result cursor.new }
+{
+    if cursor.accept(source, TokenKind::Action) {
+        return Ok(ReferentialAction::NoAction);
+    }
+    Err(Stop::NoMatch)
 }
 
 #[tactic(auto, unfolding(crate::specs::readers::Tables::read_strict_action))]
-fn strict_action(tokens: &[Token]) -> Option<(ReferentialAction, &[Token])>
-    ensures { (text : List ℕ)
-        → with_words text result ≡ read_strict_action (words text tokens.now) }
+fn strict_action(source: &Source<'_>, cursor: &mut Cursor) -> Result<ReferentialAction, Stop>
+    ensures { Reads read_strict_action source.now cursor.old result cursor.new }
 {
-    if let Some(rest) = after(TokenKind::No, tokens) {
-        return match after(TokenKind::Action, rest) {
-            Some(rest) => Some((ReferentialAction::NoAction, rest)),
-            None => None,
-        };
+    if cursor.accept(source, TokenKind::No) {
+        return no_action(source, cursor);
     }
-    match after(TokenKind::Restrict, tokens) {
-        Some(rest) => Some((ReferentialAction::Restrict, rest)),
-        None => None,
+    if cursor.accept(source, TokenKind::Restrict) {
+        return Ok(ReferentialAction::Restrict);
     }
+    Err(Stop::NoMatch)
 }
 
 #[tactic(auto, unfolding(crate::specs::readers::Tables::read_referential_action))]
-fn action(tokens: &[Token]) -> Option<(ReferentialAction, &[Token])>
-    ensures { (text : List ℕ)
-        → with_words text result ≡ read_referential_action (words text tokens.now) }
+fn action(source: &Source<'_>, cursor: &mut Cursor) -> Result<ReferentialAction, Stop>
+    ensures { Reads read_referential_action source.now cursor.old result cursor.new }
 {
-    if let Some(rest) = after(TokenKind::Cascade, tokens) {
-        return Some((ReferentialAction::Cascade, rest));
+    if cursor.accept(source, TokenKind::Cascade) {
+        return Ok(ReferentialAction::Cascade);
     }
-    if let Some(rest) = after(TokenKind::Set, tokens) {
-        return set_action(rest);
+    if cursor.accept(source, TokenKind::Set) {
+        return set_action(source, cursor);
     }
-    strict_action(tokens)
+    strict_action(source, cursor)
 }
 
 // ON, the event and an action, where they are given.
 #[tactic(auto, unfolding(crate::specs::readers::Tables::read_on))]
-fn on(event: TokenKind, tokens: &[Token]) -> Option<(Option<ReferentialAction>, &[Token])>
+fn on(
+    source: &Source<'_>,
+    cursor: &mut Cursor,
+    event: TokenKind,
+) -> Result<Option<ReferentialAction>, Stop>
     requires { is_plain event ≡ true }
-    ensures { (text : List ℕ) → with_words text result ≡ read_on event (words text tokens.now) }
+    ensures { Reads (read_on event) source.now cursor.old result cursor.new }
 {
-    let Some(rest) = after(TokenKind::On, tokens) else {
-        return Some((None, tokens));
-    };
-    let Some(rest) = after(event, rest) else {
-        return Some((None, tokens));
-    };
-    let (found, rest) = action(rest)?;
-    Some((Some(found), rest))
+    if cursor.accept_both(source, TokenKind::On, event) {
+        let found = action(source, cursor)?;
+        return Ok(Some(found));
+    }
+    Ok(None)
 }
 
+// What happens on DELETE and on UPDATE, in either order.
 #[tactic(auto, unfolding(crate::specs::readers::Tables::read_actions))]
 fn actions(
-    tokens: &[Token],
-) -> Option<
-    (
-        (Option<ReferentialAction>, Option<ReferentialAction>),
-        &[Token],
-    ),
->
-    ensures { (text : List ℕ) → with_words text result ≡ read_actions (words text tokens.now) }
+    source: &Source<'_>,
+    cursor: &mut Cursor,
+) -> Result<(Option<ReferentialAction>, Option<ReferentialAction>), Stop>
+    ensures { Reads read_actions source.now cursor.old result cursor.new }
 {
-    let (before, rest) = on(TokenKind::Delete, tokens)?;
-    let (update, rest) = on(TokenKind::Update, rest)?;
-    match before {
-        Some(delete) => Some(((Some(delete), update), rest)),
-        None => {
-            let (delete, rest) = on(TokenKind::Delete, rest)?;
-            Some(((delete, update), rest))
-        }
+    let before = on(source, cursor, TokenKind::Delete)?;
+    let update = on(source, cursor, TokenKind::Update)?;
+    if let Some(delete) = before {
+        return Ok((Some(delete), update));
     }
+    let delete = on(source, cursor, TokenKind::Delete)?;
+    Ok((delete, update))
 }
 
 // REFERENCES, from the columns on.
 #[tactic(auto, unfolding(crate::specs::readers::Tables::read_reference_columns))]
-fn reference_columns<'a>(
-    alloc: Global,
-    text: &str,
+fn reference_columns(
+    source: &Source<'_>,
+    cursor: &mut Cursor,
     table: Name,
-    tokens: &'a [Token],
-) -> Result<Option<(References, &'a [Token])>, AllocError>
-    ensures { IfOk result (λ r. with_words text.now r
-        ≡ read_reference_columns table (words text.now tokens.now)) }
+) -> Result<References, Stop>
+    ensures { Reads (read_reference_columns table) source.now cursor.old result cursor.new }
 {
-    let Some((columns, rest)) = column_list(alloc, text, tokens)? else {
-        return Ok(None);
-    };
-    let Some((matching, rest)) = matching(rest) else {
-        return Ok(None);
-    };
-    let Some(((on_delete, on_update), rest)) = actions(rest) else {
-        return Ok(None);
-    };
-    let references = References {
+    let columns = column_list(source, cursor)?;
+    let matching = matching(source, cursor)?;
+    let (on_delete, on_update) = actions(source, cursor)?;
+    Ok(References {
         table,
         columns,
         matching,
         on_delete,
         on_update,
-    };
-    Ok(Some((references, rest)))
+    })
 }
 
 // REFERENCES, from the table on.
 #[tactic(auto, unfolding(crate::specs::readers::Tables::read_references))]
-fn references<'a>(
-    alloc: Global,
-    text: &str,
-    tokens: &'a [Token],
-) -> Result<Option<(References, &'a [Token])>, AllocError>
-    ensures { IfOk result (λ r. with_words text.now r
-        ≡ read_references (words text.now tokens.now)) }
+fn references(source: &Source<'_>, cursor: &mut Cursor) -> Result<References, Stop>
+    ensures { Reads read_references source.now cursor.old result cursor.new }
 {
-    match name(alloc, text, tokens)? {
-        Some((table, rest)) => reference_columns(alloc, text, table, rest),
-        None => Ok(None),
+    let table = cursor.name(source)?;
+    reference_columns(source, cursor, table)
+}
+
+// NULLS NOT DISTINCT, from DISTINCT on.
+fn distinct(source: &Source<'_>, cursor: &mut Cursor) -> Result<NullTreatment, Stop>
+    ensures { Reads read_distinct source.now cursor.old result cursor.new }
+{
+    if cursor.accept(source, TokenKind::Distinct) {
+        return Ok(NullTreatment::NotDistinct);
     }
+    Err(Stop::NoMatch)
+}
+
+// NULLS NOT DISTINCT, from NOT on.
+fn not_distinct(source: &Source<'_>, cursor: &mut Cursor) -> Result<NullTreatment, Stop>
+    ensures { Reads read_not_distinct source.now cursor.old result cursor.new }
+{
+    if cursor.accept(source, TokenKind::Not) {
+        return distinct(source, cursor);
+    }
+    Err(Stop::NoMatch)
 }
 
 // NULLS NOT DISTINCT, where it is written.
 #[tactic(auto, unfolding(crate::specs::readers::Tables::read_null_treatment))]
-fn null_treatment(tokens: &[Token]) -> Option<(NullTreatment, &[Token])>
-    ensures { (text : List ℕ)
-        → with_words text result ≡ read_null_treatment (words text tokens.now) }
+fn null_treatment(source: &Source<'_>, cursor: &mut Cursor) -> Result<NullTreatment, Stop>
+    ensures { Reads read_null_treatment source.now cursor.old result cursor.new }
 {
-    let Some(rest) = after(TokenKind::Nulls, tokens) else {
-        return Some((NullTreatment::Distinct, tokens));
-    };
-    let rest = after(TokenKind::Not, rest)?;
-    let rest = after(TokenKind::Distinct, rest)?;
-    Some((NullTreatment::NotDistinct, rest))
+    if cursor.accept(source, TokenKind::Nulls) {
+        return not_distinct(source, cursor);
+    }
+    Ok(NullTreatment::Distinct)
 }
 
 // NOT NULL, from NULL on.
 #[tactic(auto, unfolding(crate::specs::readers::Tables::read_null_rule))]
-fn null_rule(tokens: &[Token]) -> Option<(Option<ColumnRule>, &[Token])>
-    ensures { (text : List ℕ) → with_words text result ≡ read_null_rule (words text tokens.now) }
+fn null_rule(source: &Source<'_>, cursor: &mut Cursor) -> Result<Option<ColumnRule>, Stop>
+    ensures { Reads read_null_rule source.now cursor.old result cursor.new }
 {
-    let rest = after(TokenKind::Null, tokens)?;
-    Some((Some(ColumnRule::NotNull), rest))
+    if cursor.accept(source, TokenKind::Null) {
+        return Ok(Some(ColumnRule::NotNull));
+    }
+    Err(Stop::NoMatch)
+}
+
+// PRIMARY KEY, from KEY on.
+fn key_rule(source: &Source<'_>, cursor: &mut Cursor) -> Result<Option<ColumnRule>, Stop>
+    ensures { Reads read_key_rule source.now cursor.old result cursor.new }
+{
+    if cursor.accept(source, TokenKind::Key) {
+        return Ok(Some(ColumnRule::PrimaryKey));
+    }
+    Err(Stop::NoMatch)
 }
 
 #[tactic(auto, unfolding(crate::specs::readers::Tables::read_primary_rule))]
-fn primary_rule(tokens: &[Token]) -> Option<(Option<ColumnRule>, &[Token])>
-    ensures { (text : List ℕ) → with_words text result ≡ read_primary_rule (words text tokens.now) }
+fn primary_rule(source: &Source<'_>, cursor: &mut Cursor) -> Result<Option<ColumnRule>, Stop>
+    ensures { Reads read_primary_rule source.now cursor.old result cursor.new }
 {
-    let Some(rest) = after(TokenKind::Primary, tokens) else {
-        return Some((None, tokens));
-    };
-    let rest = after(TokenKind::Key, rest)?;
-    Some((Some(ColumnRule::PrimaryKey), rest))
+    if cursor.accept(source, TokenKind::Primary) {
+        return key_rule(source, cursor);
+    }
+    Ok(None)
 }
 
 // UNIQUE of a column, from what follows the word on.
 #[tactic(auto, unfolding(crate::specs::readers::Tables::read_unique_column))]
-fn unique_column(tokens: &[Token]) -> Option<(Option<ColumnRule>, &[Token])>
-    ensures { (text : List ℕ)
-        → with_words text result ≡ read_unique_column (words text tokens.now) }
+fn unique_column(source: &Source<'_>, cursor: &mut Cursor) -> Result<Option<ColumnRule>, Stop>
+    ensures { Reads read_unique_column source.now cursor.old result cursor.new }
 {
-    let (nulls, rest) = null_treatment(tokens)?;
-    Some((Some(ColumnRule::Unique(nulls)), rest))
+    let nulls = null_treatment(source, cursor)?;
+    Ok(Some(ColumnRule::Unique(nulls)))
 }
 
 // A rule that begins with NOT, UNIQUE or PRIMARY, where one begins.
 #[tactic(auto, unfolding(crate::specs::readers::Tables::read_plain_rule))]
-fn plain_rule(tokens: &[Token]) -> Option<(Option<ColumnRule>, &[Token])>
-    ensures { (text : List ℕ) → with_words text result ≡ read_plain_rule (words text tokens.now) }
+fn plain_rule(source: &Source<'_>, cursor: &mut Cursor) -> Result<Option<ColumnRule>, Stop>
+    ensures { Reads read_plain_rule source.now cursor.old result cursor.new }
 {
-    if let Some(rest) = after(TokenKind::Not, tokens) {
-        return null_rule(rest);
+    if cursor.accept(source, TokenKind::Not) {
+        return null_rule(source, cursor);
     }
-    if let Some(rest) = after(TokenKind::Unique, tokens) {
-        return unique_column(rest);
+    if cursor.accept(source, TokenKind::Unique) {
+        return unique_column(source, cursor);
     }
-    primary_rule(tokens)
+    primary_rule(source, cursor)
 }
 
 // CHECK or a rule of plain words, where one begins.
 #[tactic(auto, unfolding(crate::specs::readers::Tables::read_condition_rule))]
-fn condition_rule<'a>(
-    alloc: Global,
-    text: &str,
-    tokens: &'a [Token],
-) -> Result<Option<(Option<ColumnRule>, &'a [Token])>, AllocError>
-    ensures { IfOk result (λ r. with_words text.now r
-        ≡ read_condition_rule (words text.now tokens.now)) }
+fn condition_rule(source: &Source<'_>, cursor: &mut Cursor) -> Result<Option<ColumnRule>, Stop>
+    ensures { Reads read_condition_rule source.now cursor.old result cursor.new }
 {
-    let Some(rest) = after(TokenKind::Check, tokens) else {
-        return Ok(plain_rule(tokens));
-    };
-    match enclosed_condition(alloc, text, rest)? {
-        Some((condition, rest)) => Ok(Some((Some(ColumnRule::Check(condition)), rest))),
-        None => Ok(None),
+    if cursor.accept(source, TokenKind::Check) {
+        let condition = enclosed_condition(source, cursor)?;
+        return Ok(Some(ColumnRule::Check(condition)));
     }
+    plain_rule(source, cursor)
 }
 
 // The rule of a column's constraint, where one begins.
 #[tactic(auto, unfolding(crate::specs::readers::Tables::read_column_rule))]
-fn column_rule<'a>(
-    alloc: Global,
-    text: &str,
-    tokens: &'a [Token],
-) -> Result<Option<(Option<ColumnRule>, &'a [Token])>, AllocError>
-    ensures { IfOk result (λ r. with_words text.now r
-        ≡ read_column_rule (words text.now tokens.now)) }
+fn column_rule(source: &Source<'_>, cursor: &mut Cursor) -> Result<Option<ColumnRule>, Stop>
+    ensures { Reads read_column_rule source.now cursor.old result cursor.new }
 {
-    let Some(rest) = after(TokenKind::References, tokens) else {
-        return condition_rule(alloc, text, tokens);
-    };
-    match references(alloc, text, rest)? {
-        Some((references, rest)) => Ok(Some((Some(ColumnRule::References(references)), rest))),
-        None => Ok(None),
+    if cursor.accept(source, TokenKind::References) {
+        let references = references(source, cursor)?;
+        return Ok(Some(ColumnRule::References(references)));
     }
+    condition_rule(source, cursor)
 }
 
-fn column_constraint_of<'a>(
+fn column_constraint_of(
+    source: &Source<'_>,
+    cursor: &mut Cursor,
     name: Option<Name>,
     rule: Option<ColumnRule>,
-    tokens: &'a [Token],
-) -> Option<(Option<ColumnConstraint>, &'a [Token])>
-    ensures { (text : List ℕ)
-        → with_words text result ≡ column_constraint_of name rule (words text tokens.now) }
+) -> Result<Option<ColumnConstraint>, Stop>
+    ensures { Reads (column_constraint_of name rule) source.now cursor.old result cursor.new }
 {
     let Some(rule) = rule else {
         return match name {
-            Some(_) => None,
-            None => Some((None, tokens)),
+            Some(_) => Err(Stop::NoMatch),
+            None => Ok(None),
         };
     };
-    match time(tokens) {
-        Some((time, rest)) => Some((Some(ColumnConstraint { name, rule, time }), rest)),
-        None => {
+    match time(source, cursor) {
+        Ok(time) => Ok(Some(ColumnConstraint { name, rule, time })),
+        Err(stop) => {
             drop(rule);
-            None
+            Err(stop)
         }
     }
 }
@@ -294,165 +290,119 @@ fn column_constraint_of<'a>(
 impl ParseSome for ColumnConstraint {
     ghost found_some = { read_column_constraint };
 
+    fn takes_a_word() {}
+
     #[tactic(auto, unfolding(crate::specs::readers::Tables::read_column_constraint))]
-    fn parse_some<'a>(
-        alloc: Global,
-        text: &str,
-        tokens: &'a [Token],
-    ) -> Result<Option<(Option<ColumnConstraint>, &'a [Token])>, AllocError> {
-        let Some((name, rest)) = constraint_name(alloc, text, tokens)? else {
-            return Ok(None);
-        };
-        match column_rule(alloc, text, rest)? {
-            Some((rule, rest)) => Ok(column_constraint_of(name, rule, rest)),
-            None => Ok(None),
-        }
+    fn parse_some(
+        source: &Source<'_>,
+        cursor: &mut Cursor,
+    ) -> Result<Option<ColumnConstraint>, Stop> {
+        let name = constraint_name(source, cursor)?;
+        let rule = column_rule(source, cursor)?;
+        column_constraint_of(source, cursor, name, rule)
     }
 }
 
-fn key<'a>(
-    alloc: Global,
-    text: &str,
-    tokens: &'a [Token],
-) -> Result<Option<(Items<Name>, &'a [Token])>, AllocError>
-    ensures { IfOk result (λ r. with_words text.now r ≡ read_key (words text.now tokens.now)) }
+#[tactic(auto, unfolding(crate::specs::readers::Tables::read_key))]
+fn key(source: &Source<'_>, cursor: &mut Cursor) -> Result<Items<Name>, Stop>
+    ensures { Reads read_key source.now cursor.old result cursor.new }
 {
-    enclosed_series::<Name>(alloc, text, tokens)
+    enclosed_series::<Name>(source, cursor)
 }
 
 #[tactic(auto, unfolding(crate::specs::readers::Tables::read_primary_key))]
-fn primary_key<'a>(
-    alloc: Global,
-    text: &str,
-    tokens: &'a [Token],
-) -> Result<Option<(TableRule, &'a [Token])>, AllocError>
-    ensures { IfOk result (λ r. with_words text.now r
-        ≡ read_primary_key (words text.now tokens.now)) }
+fn primary_key(source: &Source<'_>, cursor: &mut Cursor) -> Result<TableRule, Stop>
+    ensures { Reads read_primary_key source.now cursor.old result cursor.new }
 {
-    let Some(rest) = after(TokenKind::Key, tokens) else {
-        return Ok(None);
-    };
-    match key(alloc, text, rest)? {
-        Some((names, rest)) => Ok(Some((TableRule::PrimaryKey(names), rest))),
-        None => Ok(None),
+    if cursor.accept(source, TokenKind::Key) {
+        let names = key(source, cursor)?;
+        return Ok(TableRule::PrimaryKey(names));
     }
+    Err(Stop::NoMatch)
+}
+
+// FOREIGN KEY, from REFERENCES on.
+fn reference(
+    source: &Source<'_>,
+    cursor: &mut Cursor,
+    names: Items<Name>,
+) -> Result<TableRule, Stop>
+    ensures { Reads (read_reference names) source.now cursor.old result cursor.new }
+{
+    if cursor.accept(source, TokenKind::References) {
+        let references = references(source, cursor)?;
+        return Ok(TableRule::ForeignKey(names, references));
+    }
+    Err(Stop::NoMatch)
 }
 
 #[tactic(auto, unfolding(crate::specs::readers::Tables::read_foreign_key))]
-fn foreign_key<'a>(
-    alloc: Global,
-    text: &str,
-    tokens: &'a [Token],
-) -> Result<Option<(TableRule, &'a [Token])>, AllocError>
-    ensures { IfOk result (λ r. with_words text.now r
-        ≡ read_foreign_key (words text.now tokens.now)) }
+fn foreign_key(source: &Source<'_>, cursor: &mut Cursor) -> Result<TableRule, Stop>
+    ensures { Reads read_foreign_key source.now cursor.old result cursor.new }
 {
-    let Some(rest) = after(TokenKind::Key, tokens) else {
-        return Ok(None);
-    };
-    let Some((names, rest)) = key(alloc, text, rest)? else {
-        return Ok(None);
-    };
-    let Some(rest) = after(TokenKind::References, rest) else {
-        return Ok(None);
-    };
-    match references(alloc, text, rest)? {
-        Some((references, rest)) => Ok(Some((TableRule::ForeignKey(names, references), rest))),
-        None => Ok(None),
+    if cursor.accept(source, TokenKind::Key) {
+        let names = key(source, cursor)?;
+        return reference(source, cursor, names);
     }
+    Err(Stop::NoMatch)
 }
 
 #[tactic(auto, unfolding(crate::specs::readers::Tables::read_check_rule))]
-fn check_rule<'a>(
-    alloc: Global,
-    text: &str,
-    tokens: &'a [Token],
-) -> Result<Option<(TableRule, &'a [Token])>, AllocError>
-    ensures { IfOk result (λ r. with_words text.now r
-        ≡ read_check_rule (words text.now tokens.now)) }
+fn check_rule(source: &Source<'_>, cursor: &mut Cursor) -> Result<TableRule, Stop>
+    ensures { Reads read_check_rule source.now cursor.old result cursor.new }
 {
-    let Some(rest) = after(TokenKind::Check, tokens) else {
-        return Ok(None);
-    };
-    match enclosed_condition(alloc, text, rest)? {
-        Some((condition, rest)) => Ok(Some((TableRule::Check(condition), rest))),
-        None => Ok(None),
+    if cursor.accept(source, TokenKind::Check) {
+        let condition = enclosed_condition(source, cursor)?;
+        return Ok(TableRule::Check(condition));
     }
+    Err(Stop::NoMatch)
 }
 
 // UNIQUE of a table, from what follows the word on.
 #[tactic(auto, unfolding(crate::specs::readers::Tables::read_unique_key))]
-fn unique_key<'a>(
-    alloc: Global,
-    text: &str,
-    tokens: &'a [Token],
-) -> Result<Option<(TableRule, &'a [Token])>, AllocError>
-    ensures { IfOk result (λ r. with_words text.now r
-        ≡ read_unique_key (words text.now tokens.now)) }
+fn unique_key(source: &Source<'_>, cursor: &mut Cursor) -> Result<TableRule, Stop>
+    ensures { Reads read_unique_key source.now cursor.old result cursor.new }
 {
-    let Some((nulls, rest)) = null_treatment(tokens) else {
-        return Ok(None);
-    };
-    match key(alloc, text, rest)? {
-        Some((names, rest)) => Ok(Some((TableRule::Unique(nulls, names), rest))),
-        None => Ok(None),
-    }
+    let nulls = null_treatment(source, cursor)?;
+    let names = key(source, cursor)?;
+    Ok(TableRule::Unique(nulls, names))
 }
 
 #[tactic(auto, unfolding(crate::specs::readers::Tables::read_unique_rule))]
-fn unique_rule<'a>(
-    alloc: Global,
-    text: &str,
-    tokens: &'a [Token],
-) -> Result<Option<(TableRule, &'a [Token])>, AllocError>
-    ensures { IfOk result (λ r. with_words text.now r
-        ≡ read_unique_rule (words text.now tokens.now)) }
+fn unique_rule(source: &Source<'_>, cursor: &mut Cursor) -> Result<TableRule, Stop>
+    ensures { Reads read_unique_rule source.now cursor.old result cursor.new }
 {
-    match after(TokenKind::Unique, tokens) {
-        Some(rest) => unique_key(alloc, text, rest),
-        None => check_rule(alloc, text, tokens),
+    if cursor.accept(source, TokenKind::Unique) {
+        return unique_key(source, cursor);
     }
+    check_rule(source, cursor)
 }
 
 #[tactic(auto, unfolding(crate::specs::readers::Tables::read_table_rule))]
-fn table_rule<'a>(
-    alloc: Global,
-    text: &str,
-    tokens: &'a [Token],
-) -> Result<Option<(TableRule, &'a [Token])>, AllocError>
-    ensures { IfOk result (λ r. with_words text.now r
-        ≡ read_table_rule (words text.now tokens.now)) }
+fn table_rule(source: &Source<'_>, cursor: &mut Cursor) -> Result<TableRule, Stop>
+    ensures { Reads read_table_rule source.now cursor.old result cursor.new }
 {
-    if let Some(rest) = after(TokenKind::Primary, tokens) {
-        return primary_key(alloc, text, rest);
+    if cursor.accept(source, TokenKind::Primary) {
+        return primary_key(source, cursor);
     }
-    if let Some(rest) = after(TokenKind::Foreign, tokens) {
-        return foreign_key(alloc, text, rest);
+    if cursor.accept(source, TokenKind::Foreign) {
+        return foreign_key(source, cursor);
     }
-    unique_rule(alloc, text, tokens)
+    unique_rule(source, cursor)
 }
 
 /// A constraint of a table.
 #[tactic(auto, unfolding(crate::specs::readers::Tables::read_table_constraint))]
-pub fn table_constraint<'a>(
-    alloc: Global,
-    text: &str,
-    tokens: &'a [Token],
-) -> Result<Option<(TableConstraint, &'a [Token])>, AllocError>
-    ensures { IfOk result (λ r. with_words text.now r
-        ≡ read_table_constraint (words text.now tokens.now)) }
+pub fn table_constraint(source: &Source<'_>, cursor: &mut Cursor) -> Result<TableConstraint, Stop>
+    ensures { Reads read_table_constraint source.now cursor.old result cursor.new }
 {
-    let Some((name, rest)) = constraint_name(alloc, text, tokens)? else {
-        return Ok(None);
-    };
-    let Some((rule, rest)) = table_rule(alloc, text, rest)? else {
-        return Ok(None);
-    };
-    match time(rest) {
-        Some((time, rest)) => Ok(Some((TableConstraint { name, rule, time }, rest))),
-        None => {
+    let name = constraint_name(source, cursor)?;
+    let rule = table_rule(source, cursor)?;
+    match time(source, cursor) {
+        Ok(time) => Ok(TableConstraint { name, rule, time }),
+        Err(stop) => {
             drop(rule);
-            Ok(None)
+            Err(stop)
         }
     }
 }

@@ -1,28 +1,21 @@
 //! INSERT.
-ghost use Rattle.std.specs.Prelude.{◌≡◌, IfOk};
-ghost use Rattle.iv_lex.specs.Words.{words};
-ghost use Rattle.iv_parse_terms.specs.Seen.{with_words};
-ghost use Rattle.iv_parse_data.specs.readers.Data.{read_shallow, read_value, read_tuple, read_column_list, read_select_source, read_source, read_insert_rows, read_insert_into, read_insert};
+ghost use Rattle.iv_parse_terms.specs.Reading.{Reads};
+ghost use Rattle.iv_parse_data.specs.readers.Data.{read_shallow, read_value, read_tuple, read_column_list, read_select_source, read_query_source, read_source, read_insert_rows, read_default_values, read_insert_into, read_insert};
 
 use crate::parts::Parse;
 use crate::repeated::{closed_series, enclosed_series, series};
 use crate::selecting::{from, select_list};
-use iv_lex::{Token, TokenKind};
-use iv_parse_terms::{after, name, read_expression};
+use iv_lex::TokenKind;
+use iv_parse_terms::{Cursor, Source, Stop, read_expression};
 use iv_syntax::{Expression, Insert, InsertSource, Name, ValueOrDefault};
 use sqlite_items::Items;
-use std::alloc::{AllocError, Global};
 
 impl Parse for Expression {
     ghost found = { read_shallow };
 
     #[tactic(auto, unfolding(crate::specs::readers::Data::read_shallow))]
-    fn parse<'a>(
-        alloc: Global,
-        text: &str,
-        tokens: &'a [Token],
-    ) -> Result<Option<(Expression, &'a [Token])>, AllocError> {
-        read_expression(alloc, text, tokens)
+    fn parse(source: &Source<'_>, cursor: &mut Cursor) -> Result<Expression, Stop> {
+        read_expression(source, cursor)
     }
 }
 
@@ -30,18 +23,12 @@ impl Parse for ValueOrDefault {
     ghost found = { read_value };
 
     #[tactic(auto, unfolding(crate::specs::readers::Data::read_value))]
-    fn parse<'a>(
-        alloc: Global,
-        text: &str,
-        tokens: &'a [Token],
-    ) -> Result<Option<(ValueOrDefault, &'a [Token])>, AllocError> {
-        if let Some(rest) = after(TokenKind::Default, tokens) {
-            return Ok(Some((ValueOrDefault::Default, rest)));
+    fn parse(source: &Source<'_>, cursor: &mut Cursor) -> Result<ValueOrDefault, Stop> {
+        if cursor.accept(source, TokenKind::Default) {
+            return Ok(ValueOrDefault::Default);
         }
-        match Expression::parse(alloc, text, tokens)? {
-            Some((value, rest)) => Ok(Some((ValueOrDefault::Value(value), rest))),
-            None => Ok(None),
-        }
+        let value = Expression::parse(source, cursor)?;
+        Ok(ValueOrDefault::Value(value))
     }
 }
 
@@ -49,134 +36,95 @@ impl Parse for Items<ValueOrDefault> {
     ghost found = { read_tuple };
 
     #[tactic(auto, unfolding(crate::specs::readers::Data::read_tuple))]
-    fn parse<'a>(
-        alloc: Global,
-        text: &str,
-        tokens: &'a [Token],
-    ) -> Result<Option<(Items<ValueOrDefault>, &'a [Token])>, AllocError> {
-        enclosed_series(alloc, text, tokens)
+    fn parse(source: &Source<'_>, cursor: &mut Cursor) -> Result<Items<ValueOrDefault>, Stop> {
+        enclosed_series::<ValueOrDefault>(source, cursor)
     }
 }
 
 /// Names between parentheses, where they are given.
 #[tactic(auto, unfolding(crate::specs::readers::Data::read_column_list))]
-pub fn column_list<'a>(
-    alloc: Global,
-    text: &str,
-    tokens: &'a [Token],
-) -> Result<Option<(Option<Items<Name>>, &'a [Token])>, AllocError>
-    ensures { IfOk result (λ r. with_words text.now r
-        ≡ read_column_list (words text.now tokens.now)) }
+pub fn column_list(source: &Source<'_>, cursor: &mut Cursor) -> Result<Option<Items<Name>>, Stop>
+    ensures { Reads read_column_list source.now cursor.old result cursor.new }
 {
-    let Some(rest) = after(TokenKind::LeftParenthesis, tokens) else {
-        return Ok(Some((None, tokens)));
-    };
-    match closed_series::<Name>(alloc, text, rest)? {
-        Some((names, rest)) => Ok(Some((Some(names), rest))),
-        None => Ok(None),
+    if cursor.accept(source, TokenKind::LeftParenthesis) {
+        let names = closed_series::<Name>(source, cursor)?;
+        return Ok(Some(names));
     }
+    Ok(None)
 }
 
 #[tactic(auto, unfolding(crate::specs::readers::Data::read_select_source))]
-fn select_source<'a>(
-    alloc: Global,
-    text: &str,
-    tokens: &'a [Token],
-) -> Result<Option<(InsertSource, &'a [Token])>, AllocError>
-    ensures { IfOk result (λ r. with_words text.now r
-        ≡ read_select_source (words text.now tokens.now)) }
+fn select_source(source: &Source<'_>, cursor: &mut Cursor) -> Result<InsertSource, Stop>
+    ensures { Reads read_select_source source.now cursor.old result cursor.new }
 {
-    let Some((list, rest)) = select_list(alloc, text, tokens)? else {
-        return Ok(None);
-    };
-    match from(alloc, text, rest)? {
-        Some(((range, filter), rest)) => Ok(Some((
-            InsertSource::Select(list, range, filter),
-            rest,
-        ))),
-        None => Ok(None),
-    }
+    let list = select_list(source, cursor)?;
+    let (range, filter) = from(source, cursor)?;
+    Ok(InsertSource::Select(list, range, filter))
 }
 
-#[tactic(auto, unfolding(crate::specs::readers::Data::read_source))]
-fn source<'a>(
-    alloc: Global,
-    text: &str,
-    tokens: &'a [Token],
-) -> Result<Option<(InsertSource, &'a [Token])>, AllocError>
-    ensures { IfOk result (λ r. with_words text.now r ≡ read_source (words text.now tokens.now)) }
+// SELECT and what follows.
+fn query_source(source: &Source<'_>, cursor: &mut Cursor) -> Result<InsertSource, Stop>
+    ensures { Reads read_query_source source.now cursor.old result cursor.new }
 {
-    let Some(rest) = after(TokenKind::Values, tokens) else {
-        return match after(TokenKind::Select, tokens) {
-            Some(rest) => select_source(alloc, text, rest),
-            None => Ok(None),
-        };
-    };
-    match series::<Items<ValueOrDefault>>(alloc, text, rest)? {
-        Some((tuples, rest)) => Ok(Some((InsertSource::Values(tuples), rest))),
-        None => Ok(None),
+    if cursor.accept(source, TokenKind::Select) {
+        return select_source(source, cursor);
     }
+    Err(Stop::NoMatch)
+}
+
+// VALUES and tuples, or a SELECT.
+#[tactic(auto, unfolding(crate::specs::readers::Data::read_source))]
+fn rows_source(source: &Source<'_>, cursor: &mut Cursor) -> Result<InsertSource, Stop>
+    ensures { Reads read_source source.now cursor.old result cursor.new }
+{
+    if cursor.accept(source, TokenKind::Values) {
+        let tuples = series::<Items<ValueOrDefault>>(source, cursor)?;
+        return Ok(InsertSource::Values(tuples));
+    }
+    query_source(source, cursor)
 }
 
 #[tactic(auto, unfolding(crate::specs::readers::Data::read_insert_rows))]
-fn insert_rows<'a>(
-    alloc: Global,
-    text: &str,
-    table: Name,
-    tokens: &'a [Token],
-) -> Result<Option<(Insert, &'a [Token])>, AllocError>
-    ensures { IfOk result (λ r. with_words text.now r
-        ≡ read_insert_rows table (words text.now tokens.now)) }
+fn insert_rows(source: &Source<'_>, cursor: &mut Cursor, table: Name) -> Result<Insert, Stop>
+    ensures { Reads (read_insert_rows table) source.now cursor.old result cursor.new }
 {
-    let Some((columns, rest)) = column_list(alloc, text, tokens)? else {
-        return Ok(None);
-    };
-    match source(alloc, text, rest)? {
-        Some((source, rest)) => Ok(Some((
-            Insert::Rows {
-                table,
-                columns,
-                source,
-            },
-            rest,
-        ))),
-        None => Ok(None),
+    let columns = column_list(source, cursor)?;
+    let rows = rows_source(source, cursor)?;
+    Ok(Insert::Rows {
+        table,
+        columns,
+        source: rows,
+    })
+}
+
+// DEFAULT VALUES, from VALUES on.
+fn default_values(source: &Source<'_>, cursor: &mut Cursor, table: Name) -> Result<Insert, Stop>
+    ensures { Reads (read_default_values table) source.now cursor.old result cursor.new }
+{
+    if cursor.accept(source, TokenKind::Values) {
+        return Ok(Insert::DefaultValues(table));
     }
+    Err(Stop::NoMatch)
 }
 
 #[tactic(auto, unfolding(crate::specs::readers::Data::read_insert_into))]
-fn insert_into<'a>(
-    alloc: Global,
-    text: &str,
-    table: Name,
-    tokens: &'a [Token],
-) -> Result<Option<(Insert, &'a [Token])>, AllocError>
-    ensures { IfOk result (λ r. with_words text.now r
-        ≡ read_insert_into table (words text.now tokens.now)) }
+fn insert_into(source: &Source<'_>, cursor: &mut Cursor, table: Name) -> Result<Insert, Stop>
+    ensures { Reads (read_insert_into table) source.now cursor.old result cursor.new }
 {
-    let Some(rest) = after(TokenKind::Default, tokens) else {
-        return insert_rows(alloc, text, table, tokens);
-    };
-    match after(TokenKind::Values, rest) {
-        Some(rest) => Ok(Some((Insert::DefaultValues(table), rest))),
-        None => Ok(None),
+    if cursor.accept(source, TokenKind::Default) {
+        return default_values(source, cursor, table);
     }
+    insert_rows(source, cursor, table)
 }
 
 /// INSERT, from INTO on.
 #[tactic(auto, unfolding(crate::specs::readers::Data::read_insert))]
-pub fn insert<'a>(
-    alloc: Global,
-    text: &str,
-    tokens: &'a [Token],
-) -> Result<Option<(Insert, &'a [Token])>, AllocError>
-    ensures { IfOk result (λ r. with_words text.now r ≡ read_insert (words text.now tokens.now)) }
+pub fn insert(source: &Source<'_>, cursor: &mut Cursor) -> Result<Insert, Stop>
+    ensures { Reads read_insert source.now cursor.old result cursor.new }
 {
-    let Some(rest) = after(TokenKind::Into, tokens) else {
-        return Ok(None);
-    };
-    match name(alloc, text, rest)? {
-        Some((table, rest)) => insert_into(alloc, text, table, rest),
-        None => Ok(None),
+    if cursor.accept(source, TokenKind::Into) {
+        let table = cursor.name(source)?;
+        return insert_into(source, cursor, table);
     }
+    Err(Stop::NoMatch)
 }

@@ -1,26 +1,21 @@
 //! Parts of the grammar.
-ghost use Rattle.std.specs.Prelude.{◌≡◌, IfOk};
-ghost use Rattle.iv_lex.specs.Words.{words};
-ghost use Rattle.iv_parse_terms.specs.Seen.{with_words};
+ghost use Rattle.std.specs.Prelude.{◌≡◌, ◌<◌, Some, List, length};
+ghost use Rattle.iv_lex.specs.Words.{Word};
+ghost use Rattle.iv_parse_terms.specs.Reading.{Reads};
 
-use iv_lex::Token;
+use iv_parse_terms::{Cursor, Source, Stop};
 use iv_syntax::Name;
-use std::alloc::{AllocError, Global};
 
-/// A part of the grammar that is read from the front of tokens.
+/// A part of the grammar.
 pub trait Parse: Sized {
     ghost use Rattle.std.specs.Prelude.{List, Option};
     ghost use Rattle.iv_lex.specs.Words.{Word};
 
     ghost found: { List Word → Option (Self × List Word) };
 
-    /// The part at the front and the tokens after it; none where there is no such part.
-    fn parse<'a>(
-        alloc: Global,
-        text: &str,
-        tokens: &'a [Token],
-    ) -> Result<Option<(Self, &'a [Token])>, AllocError>
-        ensures { IfOk result (λ r. with_words text.now r ≡ found (words text.now tokens.now)) };
+    /// The part at the cursor.
+    fn parse(source: &Source<'_>, cursor: &mut Cursor) -> Result<Self, Stop>
+        ensures { Reads found source.now cursor.old result cursor.new };
 }
 
 impl Parse for Name {
@@ -28,12 +23,8 @@ impl Parse for Name {
 
     ghost found = { after_name };
 
-    fn parse<'a>(
-        alloc: Global,
-        text: &str,
-        tokens: &'a [Token],
-    ) -> Result<Option<(Name, &'a [Token])>, AllocError> {
-        iv_parse_terms::name(alloc, text, tokens)
+    fn parse(source: &Source<'_>, cursor: &mut Cursor) -> Result<Name, Stop> {
+        cursor.name(source)
     }
 }
 
@@ -44,13 +35,12 @@ pub trait ParseSome: Sized {
 
     ghost found_some: { List Word → Option (Option Self × List Word) };
 
-    /// The part at the front, where one begins there, and the tokens after it; none where one begins that
-    /// is not whole.
-    fn parse_some<'a>(
-        alloc: Global,
-        text: &str,
-        tokens: &'a [Token],
-    ) -> Result<Option<(Option<Self>, &'a [Token])>, AllocError>
-        ensures { IfOk result (λ r. with_words text.now r
-            ≡ found_some (words text.now tokens.now)) };
+    /// Each part takes a word at least. It does nothing: its contract is what counts.
+    fn takes_a_word()
+        ensures { (ws rest : List Word) (part : Self) → found_some ws ≡ Some (Some part, rest)
+            → length rest < length ws };
+
+    /// The part at the cursor, where one begins there.
+    fn parse_some(source: &Source<'_>, cursor: &mut Cursor) -> Result<Option<Self>, Stop>
+        ensures { Reads found_some source.now cursor.old result cursor.new };
 }

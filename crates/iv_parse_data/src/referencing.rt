@@ -1,62 +1,60 @@
 //! Items of REFERENCING.
-ghost use Rattle.std.specs.Prelude.{◌≡◌, IfOk, ℕ, List, Some};
-ghost use Rattle.iv_lex.specs.Words.{words};
-ghost use Rattle.iv_parse_terms.specs.Seen.{with_words};
-ghost use Rattle.iv_parse_data.specs.readers.Items.{read_transition, read_referencing_item_of, read_referencing_item};
+ghost use Rattle.iv_parse_terms.specs.Reading.{Reads};
+ghost use Rattle.iv_parse_data.specs.readers.Items.{read_transition, read_transition_name, read_referencing_item_of, read_referencing_item};
 
 use crate::parts::ParseSome;
-use crate::repeated::skip;
 use iv_expr::Side;
-use iv_lex::{Token, TokenKind};
-use iv_parse_terms::{after, name};
-use iv_syntax::{Referencing, TransitionName};
-use std::alloc::{AllocError, Global};
+use iv_lex::TokenKind;
+use iv_parse_terms::{Cursor, Source, Stop};
+use iv_syntax::{Name, Referencing, TransitionName};
 
 // [ ROW | TABLE ]
 #[tactic(auto, unfolding(crate::specs::readers::Items::read_transition))]
-fn transition(tokens: &[Token]) -> (TransitionName, &[Token])
-    ensures { (text : List ℕ)
-        → with_words text (Some result) ≡ read_transition (words text tokens.now) }
+fn transition(source: &Source<'_>, cursor: &mut Cursor) -> Result<TransitionName, Stop>
+    ensures { Reads read_transition source.now cursor.old result cursor.new }
 {
-    match after(TokenKind::Table, tokens) {
-        Some(rest) => (TransitionName::Table, rest),
-        None => (TransitionName::Row, skip(TokenKind::Row, tokens)),
+    if cursor.accept(source, TokenKind::Table) {
+        return Ok(TransitionName::Table);
     }
+    cursor.accept(source, TokenKind::Row);
+    Ok(TransitionName::Row)
+}
+
+// [ AS ] and a name.
+fn transition_name(source: &Source<'_>, cursor: &mut Cursor) -> Result<Name, Stop>
+    ensures { Reads read_transition_name source.now cursor.old result cursor.new }
+{
+    cursor.accept(source, TokenKind::As);
+    cursor.name(source)
 }
 
 // An item, after OLD or NEW.
 #[tactic(auto, unfolding(crate::specs::readers::Items::read_referencing_item_of))]
-fn item_of<'a>(
-    alloc: Global,
-    text: &str,
+fn item_of(
+    source: &Source<'_>,
+    cursor: &mut Cursor,
     side: Side,
-    tokens: &'a [Token],
-) -> Result<Option<(Option<Referencing>, &'a [Token])>, AllocError>
-    ensures { IfOk result (λ r. with_words text.now r
-        ≡ read_referencing_item_of side (words text.now tokens.now)) }
+) -> Result<Option<Referencing>, Stop>
+    ensures { Reads (read_referencing_item_of side) source.now cursor.old result cursor.new }
 {
-    let (what, rest) = transition(tokens);
-    match name(alloc, text, skip(TokenKind::As, rest))? {
-        Some((name, rest)) => Ok(Some((Some(Referencing { side, what, name }), rest))),
-        None => Ok(None),
-    }
+    let what = transition(source, cursor)?;
+    let name = transition_name(source, cursor)?;
+    Ok(Some(Referencing { side, what, name }))
 }
 
 impl ParseSome for Referencing {
     ghost found_some = { read_referencing_item };
 
+    fn takes_a_word() {}
+
     #[tactic(auto, unfolding(crate::specs::readers::Items::read_referencing_item))]
-    fn parse_some<'a>(
-        alloc: Global,
-        text: &str,
-        tokens: &'a [Token],
-    ) -> Result<Option<(Option<Referencing>, &'a [Token])>, AllocError> {
-        if let Some(rest) = after(TokenKind::Old, tokens) {
-            return item_of(alloc, text, Side::Old, rest);
+    fn parse_some(source: &Source<'_>, cursor: &mut Cursor) -> Result<Option<Referencing>, Stop> {
+        if cursor.accept(source, TokenKind::Old) {
+            return item_of(source, cursor, Side::Old);
         }
-        match after(TokenKind::New, tokens) {
-            Some(rest) => item_of(alloc, text, Side::New, rest),
-            None => Ok(Some((None, tokens))),
+        if cursor.accept(source, TokenKind::New) {
+            return item_of(source, cursor, Side::New);
         }
+        Ok(None)
     }
 }

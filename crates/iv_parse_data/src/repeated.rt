@@ -1,115 +1,70 @@
-//! Series of parts, and words that may be left out.
-ghost use Rattle.std.specs.Prelude.{◌≡◌, IfOk, ℕ, List, true, length};
-ghost use Rattle.iv_parse_terms.specs.After.{is_plain};
-ghost use Rattle.iv_lex.specs.Words.{words};
-ghost use Rattle.iv_parse_terms.specs.Seen.{with_words};
-ghost use Rattle.iv_parse_data.specs.readers.Series.{read_series, read_closed, read_enclosed, read_sequence, skip};
+//! Series of parts.
+ghost use Rattle.std.specs.Prelude.{length};
+ghost use Rattle.iv_parse_terms.specs.Reading.{Reads, ahead};
+ghost use Rattle.iv_parse_data.specs.readers.Series.{read_series, read_closed, read_enclosed, read_all};
 
 use crate::parts::{Parse, ParseSome};
-use iv_lex::{Token, TokenKind};
-use iv_parse_terms::after;
+use iv_lex::TokenKind;
+use iv_parse_terms::{Cursor, Source, Stop};
 use sqlite_items::Items;
-use std::alloc::{AllocError, Global};
 
 /// Parts with a comma between any two.
-pub fn series<'a, T: Parse + Drop>(
-    alloc: Global,
-    text: &str,
-    tokens: &'a [Token],
-) -> Result<Option<(Items<T>, &'a [Token])>, AllocError>
-    ensures { IfOk result (λ r. with_words text.now r
-        ≡ read_series T.found (words text.now tokens.now)) }
+pub fn series<T: Parse + Drop>(source: &Source<'_>, cursor: &mut Cursor) -> Result<Items<T>, Stop>
+    ensures { Reads (read_series T.found) source.now cursor.old result cursor.new }
 {
-    let Some((first, rest)) = T::parse(alloc, text, tokens)? else {
-        return Ok(None);
-    };
-    let mut items = Items::new(alloc);
+    let first = T::parse(source, cursor)?;
+    let mut items = Items::new(source.alloc());
     items.push(first)?;
-    let mut rest = rest;
-    let mut most = rest.len();
-    while let Some(others) = after(TokenKind::Comma, rest) {
-        if most == 0 {
-            return Ok(None);
-        }
-        let Some((item, others)) = T::parse(alloc, text, others)? else {
-            return Ok(None);
-        };
+    while cursor.accept(source, TokenKind::Comma) {
+        let item = T::parse(source, cursor)?;
         items.push(item)?;
-        rest = others;
-        most -= 1;
     }
-    Ok(Some((items, rest)))
+    Ok(items)
 }
 
 /// A series and the parenthesis that closes.
-pub fn closed_series<'a, T: Parse + Drop>(
-    alloc: Global,
-    text: &str,
-    tokens: &'a [Token],
-) -> Result<Option<(Items<T>, &'a [Token])>, AllocError>
-    ensures { IfOk result (λ r. with_words text.now r
-        ≡ read_closed (read_series T.found) (words text.now tokens.now)) }
+pub fn closed_series<T: Parse + Drop>(
+    source: &Source<'_>,
+    cursor: &mut Cursor,
+) -> Result<Items<T>, Stop>
+    ensures { Reads (read_closed (read_series T.found)) source.now cursor.old result cursor.new }
 {
-    let Some((items, rest)) = series::<T>(alloc, text, tokens)? else {
-        return Ok(None);
-    };
-    match after(TokenKind::RightParenthesis, rest) {
-        Some(rest) => Ok(Some((items, rest))),
-        None => Ok(None),
+    let items = series::<T>(source, cursor)?;
+    if cursor.accept(source, TokenKind::RightParenthesis) {
+        return Ok(items);
     }
+    Err(Stop::NoMatch)
 }
 
 /// A series between parentheses.
-pub fn enclosed_series<'a, T: Parse + Drop>(
-    alloc: Global,
-    text: &str,
-    tokens: &'a [Token],
-) -> Result<Option<(Items<T>, &'a [Token])>, AllocError>
-    ensures { IfOk result (λ r. with_words text.now r
-        ≡ read_enclosed (read_series T.found) (words text.now tokens.now)) }
+pub fn enclosed_series<T: Parse + Drop>(
+    source: &Source<'_>,
+    cursor: &mut Cursor,
+) -> Result<Items<T>, Stop>
+    ensures { Reads (read_enclosed (read_series T.found)) source.now cursor.old result
+        cursor.new }
 {
-    match after(TokenKind::LeftParenthesis, tokens) {
-        Some(rest) => closed_series::<T>(alloc, text, rest),
-        None => Ok(None),
+    if cursor.accept(source, TokenKind::LeftParenthesis) {
+        return closed_series::<T>(source, cursor);
     }
+    Err(Stop::NoMatch)
 }
 
 /// Parts one after the other, up to where none begins.
-pub fn sequence<'a, T: ParseSome + Drop>(
-    alloc: Global,
-    text: &str,
-    tokens: &'a [Token],
-) -> Result<Option<(Items<T>, &'a [Token])>, AllocError>
-    ensures { IfOk result (λ r. with_words text.now r
-        ≡ read_sequence T.found_some (length (words text.now tokens.now))
-        (words text.now tokens.now)) }
+pub fn sequence<T: ParseSome + Drop>(
+    source: &Source<'_>,
+    cursor: &mut Cursor,
+) -> Result<Items<T>, Stop>
+    ensures { Reads (read_all T.found_some) source.now cursor.old result cursor.new }
 {
-    let mut items = Items::new(alloc);
-    let mut rest = tokens;
-    let mut most = tokens.len();
+    T::takes_a_word();
+    let mut items = Items::new(source.alloc());
     loop {
-        let Some((found, others)) = T::parse_some(alloc, text, rest)? else {
-            return Ok(None);
+        let place = cursor.place();
+        let Some(item) = T::parse_some(source, cursor)? else {
+            cursor.go_back(place);
+            return Ok(items);
         };
-        let Some(item) = found else {
-            return Ok(Some((items, rest)));
-        };
-        if most == 0 {
-            return Ok(None);
-        }
         items.push(item)?;
-        rest = others;
-        most -= 1;
-    }
-}
-
-/// The tokens after a word that may be left out.
-pub fn skip(kind: TokenKind, tokens: &[Token]) -> &[Token]
-    requires { is_plain kind ≡ true }
-    ensures { (text : List ℕ) → words text result.now ≡ skip kind (words text tokens.now) }
-{
-    match after(kind, tokens) {
-        Some(rest) => rest,
-        None => tokens,
     }
 }

@@ -1,243 +1,196 @@
 //! SELECT, UPDATE and DELETE.
-ghost use Rattle.std.specs.Prelude.{◌≡◌, IfOk};
-ghost use Rattle.iv_lex.specs.Words.{words};
-ghost use Rattle.iv_parse_terms.specs.Seen.{with_words};
-ghost use Rattle.iv_parse_data.specs.readers.Data.{read_shallow_condition, read_check, read_shallow_from, read_select_list, read_assignment, read_where, read_assignments, read_update, read_delete, read_count, read_query, read_select};
+ghost use Rattle.iv_parse_terms.specs.Reading.{Reads};
+ghost use Rattle.iv_parse_data.specs.readers.Data.{read_shallow_condition, read_closed_check, read_check, read_shallow_from, read_select_list, read_assigned, read_assignment, read_where, read_assignments, read_update, read_delete_from, read_delete, read_counted, read_star, read_count, read_query, read_select};
 
 use crate::parts::Parse;
 use crate::repeated::series;
-use iv_lex::{Token, TokenKind};
-use iv_parse_terms::{after, name, read_condition, read_from};
+use iv_lex::TokenKind;
+use iv_parse_terms::{Cursor, Source, Stop, read_condition, read_from};
 use iv_syntax::{
     Assignment, Condition, Delete, Expression, Name, RangeName, Select, SelectList, Update,
     ValueOrDefault,
 };
-use std::alloc::{AllocError, Global};
 
 /// FROM, a table, its alias and WHERE with a condition.
 #[tactic(auto, unfolding(crate::specs::readers::Data::read_shallow_from))]
-pub fn from<'a>(
-    alloc: Global,
-    text: &str,
-    tokens: &'a [Token],
-) -> Result<Option<((RangeName, Option<Condition>), &'a [Token])>, AllocError>
-    ensures { IfOk result (λ r. with_words text.now r
-        ≡ read_shallow_from (words text.now tokens.now)) }
+pub fn from(
+    source: &Source<'_>,
+    cursor: &mut Cursor,
+) -> Result<(RangeName, Option<Condition>), Stop>
+    ensures { Reads read_shallow_from source.now cursor.old result cursor.new }
 {
-    read_from(alloc, text, tokens)
+    read_from(source, cursor)
 }
 
 #[tactic(auto, unfolding(crate::specs::readers::Data::read_shallow_condition))]
-fn condition<'a>(
-    alloc: Global,
-    text: &str,
-    tokens: &'a [Token],
-) -> Result<Option<(Condition, &'a [Token])>, AllocError>
-    ensures { IfOk result (λ r. with_words text.now r
-        ≡ read_shallow_condition (words text.now tokens.now)) }
+fn condition(source: &Source<'_>, cursor: &mut Cursor) -> Result<Condition, Stop>
+    ensures { Reads read_shallow_condition source.now cursor.old result cursor.new }
 {
-    read_condition(alloc, text, tokens)
+    read_condition(source, cursor)
+}
+
+// A condition and the parenthesis that closes.
+fn closed_condition(source: &Source<'_>, cursor: &mut Cursor) -> Result<Condition, Stop>
+    ensures { Reads read_closed_check source.now cursor.old result cursor.new }
+{
+    let condition = condition(source, cursor)?;
+    if cursor.accept(source, TokenKind::RightParenthesis) {
+        return Ok(condition);
+    }
+    drop(condition);
+    Err(Stop::NoMatch)
 }
 
 /// The condition between parentheses.
 #[tactic(auto, unfolding(crate::specs::readers::Data::read_check))]
-pub fn enclosed_condition<'a>(
-    alloc: Global,
-    text: &str,
-    tokens: &'a [Token],
-) -> Result<Option<(Condition, &'a [Token])>, AllocError>
-    ensures { IfOk result (λ r. with_words text.now r ≡ read_check (words text.now tokens.now)) }
+pub fn enclosed_condition(source: &Source<'_>, cursor: &mut Cursor) -> Result<Condition, Stop>
+    ensures { Reads read_check source.now cursor.old result cursor.new }
 {
-    let Some(rest) = after(TokenKind::LeftParenthesis, tokens) else {
-        return Ok(None);
-    };
-    let Some((condition, rest)) = condition(alloc, text, rest)? else {
-        return Ok(None);
-    };
-    match after(TokenKind::RightParenthesis, rest) {
-        Some(rest) => Ok(Some((condition, rest))),
-        None => {
-            drop(condition);
-            Ok(None)
-        }
+    if cursor.accept(source, TokenKind::LeftParenthesis) {
+        return closed_condition(source, cursor);
     }
+    Err(Stop::NoMatch)
 }
 
 /// What a SELECT gives of each row.
 #[tactic(auto, unfolding(crate::specs::readers::Data::read_select_list))]
-pub fn select_list<'a>(
-    alloc: Global,
-    text: &str,
-    tokens: &'a [Token],
-) -> Result<Option<(SelectList, &'a [Token])>, AllocError>
-    ensures { IfOk result (λ r. with_words text.now r
-        ≡ read_select_list (words text.now tokens.now)) }
+pub fn select_list(source: &Source<'_>, cursor: &mut Cursor) -> Result<SelectList, Stop>
+    ensures { Reads read_select_list source.now cursor.old result cursor.new }
 {
-    if let Some(rest) = after(TokenKind::Asterisk, tokens) {
-        return Ok(Some((SelectList::Star, rest)));
+    if cursor.accept(source, TokenKind::Asterisk) {
+        return Ok(SelectList::Star);
     }
-    match series::<Expression>(alloc, text, tokens)? {
-        Some((values, rest)) => Ok(Some((SelectList::Values(values), rest))),
-        None => Ok(None),
-    }
+    let values = series::<Expression>(source, cursor)?;
+    Ok(SelectList::Values(values))
 }
 
 impl Parse for Assignment {
     ghost found = { read_assignment };
 
     #[tactic(auto, unfolding(crate::specs::readers::Data::read_assignment))]
-    fn parse<'a>(
-        alloc: Global,
-        text: &str,
-        tokens: &'a [Token],
-    ) -> Result<Option<(Assignment, &'a [Token])>, AllocError> {
-        let Some((column, rest)) = name(alloc, text, tokens)? else {
-            return Ok(None);
-        };
-        let Some(rest) = after(TokenKind::Equals, rest) else {
-            return Ok(None);
-        };
-        match ValueOrDefault::parse(alloc, text, rest)? {
-            Some((value, rest)) => Ok(Some((Assignment { column, value }, rest))),
-            None => Ok(None),
-        }
+    fn parse(source: &Source<'_>, cursor: &mut Cursor) -> Result<Assignment, Stop> {
+        let column = cursor.name(source)?;
+        assigned(source, cursor, column)
     }
+}
+
+// An assignment, from the equals sign on.
+fn assigned(source: &Source<'_>, cursor: &mut Cursor, column: Name) -> Result<Assignment, Stop>
+    ensures { Reads (read_assigned column) source.now cursor.old result cursor.new }
+{
+    if cursor.accept(source, TokenKind::Equals) {
+        let value = ValueOrDefault::parse(source, cursor)?;
+        return Ok(Assignment { column, value });
+    }
+    Err(Stop::NoMatch)
 }
 
 // WHERE and a condition, where they are given.
 #[tactic(auto, unfolding(crate::specs::readers::Data::read_where))]
-fn filter<'a>(
-    alloc: Global,
-    text: &str,
-    tokens: &'a [Token],
-) -> Result<Option<(Option<Condition>, &'a [Token])>, AllocError>
-    ensures { IfOk result (λ r. with_words text.now r ≡ read_where (words text.now tokens.now)) }
+fn filter(source: &Source<'_>, cursor: &mut Cursor) -> Result<Option<Condition>, Stop>
+    ensures { Reads read_where source.now cursor.old result cursor.new }
 {
-    let Some(rest) = after(TokenKind::Where, tokens) else {
-        return Ok(Some((None, tokens)));
-    };
-    match condition(alloc, text, rest)? {
-        Some((condition, rest)) => Ok(Some((Some(condition), rest))),
-        None => Ok(None),
+    if cursor.accept(source, TokenKind::Where) {
+        let condition = condition(source, cursor)?;
+        return Ok(Some(condition));
     }
+    Ok(None)
 }
 
 // UPDATE, from the first assignment on.
 #[tactic(auto, unfolding(crate::specs::readers::Data::read_assignments))]
-fn assignments<'a>(
-    alloc: Global,
-    text: &str,
-    table: Name,
-    tokens: &'a [Token],
-) -> Result<Option<(Update, &'a [Token])>, AllocError>
-    ensures { IfOk result (λ r. with_words text.now r
-        ≡ read_assignments table (words text.now tokens.now)) }
+fn assignments(source: &Source<'_>, cursor: &mut Cursor, table: Name) -> Result<Update, Stop>
+    ensures { Reads (read_assignments table) source.now cursor.old result cursor.new }
 {
-    let Some((assignments, rest)) = series::<Assignment>(alloc, text, tokens)? else {
-        return Ok(None);
-    };
-    let Some((filter, rest)) = filter(alloc, text, rest)? else {
-        return Ok(None);
-    };
-    let update = Update {
+    let assignments = series::<Assignment>(source, cursor)?;
+    let filter = filter(source, cursor)?;
+    Ok(Update {
         table,
         assignments,
         filter,
-    };
-    Ok(Some((update, rest)))
+    })
 }
 
 /// UPDATE, from the table on.
 #[tactic(auto, unfolding(crate::specs::readers::Data::read_update))]
-pub fn update<'a>(
-    alloc: Global,
-    text: &str,
-    tokens: &'a [Token],
-) -> Result<Option<(Update, &'a [Token])>, AllocError>
-    ensures { IfOk result (λ r. with_words text.now r ≡ read_update (words text.now tokens.now)) }
+pub fn update(source: &Source<'_>, cursor: &mut Cursor) -> Result<Update, Stop>
+    ensures { Reads read_update source.now cursor.old result cursor.new }
 {
-    let Some((table, rest)) = name(alloc, text, tokens)? else {
-        return Ok(None);
-    };
-    match after(TokenKind::Set, rest) {
-        Some(rest) => assignments(alloc, text, table, rest),
-        None => Ok(None),
+    let table = cursor.name(source)?;
+    if cursor.accept(source, TokenKind::Set) {
+        return assignments(source, cursor, table);
     }
+    Err(Stop::NoMatch)
 }
 
 /// DELETE, from FROM on.
 #[tactic(auto, unfolding(crate::specs::readers::Data::read_delete))]
-pub fn delete<'a>(
-    alloc: Global,
-    text: &str,
-    tokens: &'a [Token],
-) -> Result<Option<(Delete, &'a [Token])>, AllocError>
-    ensures { IfOk result (λ r. with_words text.now r ≡ read_delete (words text.now tokens.now)) }
+pub fn delete(source: &Source<'_>, cursor: &mut Cursor) -> Result<Delete, Stop>
+    ensures { Reads read_delete source.now cursor.old result cursor.new }
 {
-    let Some(rest) = after(TokenKind::From, tokens) else {
-        return Ok(None);
-    };
-    let Some((table, rest)) = name(alloc, text, rest)? else {
-        return Ok(None);
-    };
-    match filter(alloc, text, rest)? {
-        Some((filter, rest)) => Ok(Some((Delete { table, filter }, rest))),
-        None => Ok(None),
+    if cursor.accept(source, TokenKind::From) {
+        return delete_from(source, cursor);
     }
+    Err(Stop::NoMatch)
+}
+
+// DELETE, from the table on.
+fn delete_from(source: &Source<'_>, cursor: &mut Cursor) -> Result<Delete, Stop>
+    ensures { Reads read_delete_from source.now cursor.old result cursor.new }
+{
+    let table = cursor.name(source)?;
+    let filter = filter(source, cursor)?;
+    Ok(Delete { table, filter })
+}
+
+// COUNT, from the parenthesis that closes on.
+fn counted(source: &Source<'_>, cursor: &mut Cursor) -> Result<Select, Stop>
+    ensures { Reads read_counted source.now cursor.old result cursor.new }
+{
+    if cursor.accept(source, TokenKind::RightParenthesis) {
+        let (range, filter) = from(source, cursor)?;
+        return Ok(Select::Count(range, filter));
+    }
+    Err(Stop::NoMatch)
+}
+
+// COUNT, from the asterisk on.
+fn star(source: &Source<'_>, cursor: &mut Cursor) -> Result<Select, Stop>
+    ensures { Reads read_star source.now cursor.old result cursor.new }
+{
+    if cursor.accept(source, TokenKind::Asterisk) {
+        return counted(source, cursor);
+    }
+    Err(Stop::NoMatch)
 }
 
 // SELECT COUNT, from the parenthesis on.
 #[tactic(auto, unfolding(crate::specs::readers::Data::read_count))]
-fn count<'a>(
-    alloc: Global,
-    text: &str,
-    tokens: &'a [Token],
-) -> Result<Option<(Select, &'a [Token])>, AllocError>
-    ensures { IfOk result (λ r. with_words text.now r ≡ read_count (words text.now tokens.now)) }
+fn count(source: &Source<'_>, cursor: &mut Cursor) -> Result<Select, Stop>
+    ensures { Reads read_count source.now cursor.old result cursor.new }
 {
-    let Some(rest) = after(TokenKind::LeftParenthesis, tokens) else {
-        return Ok(None);
-    };
-    let Some(rest) = after(TokenKind::Asterisk, rest) else {
-        return Ok(None);
-    };
-    let Some(rest) = after(TokenKind::RightParenthesis, rest) else {
-        return Ok(None);
-    };
-    match from(alloc, text, rest)? {
-        Some(((range, filter), rest)) => Ok(Some((Select::Count(range, filter), rest))),
-        None => Ok(None),
+    if cursor.accept(source, TokenKind::LeftParenthesis) {
+        return star(source, cursor);
     }
+    Err(Stop::NoMatch)
 }
 
 #[tactic(auto, unfolding(crate::specs::readers::Data::read_query))]
-fn query<'a>(
-    alloc: Global,
-    text: &str,
-    tokens: &'a [Token],
-) -> Result<Option<(Select, &'a [Token])>, AllocError>
-    ensures { IfOk result (λ r. with_words text.now r ≡ read_query (words text.now tokens.now)) }
+fn query(source: &Source<'_>, cursor: &mut Cursor) -> Result<Select, Stop>
+    ensures { Reads read_query source.now cursor.old result cursor.new }
 {
-    let Some((list, rest)) = select_list(alloc, text, tokens)? else {
-        return Ok(None);
-    };
-    match from(alloc, text, rest)? {
-        Some(((range, filter), rest)) => Ok(Some((Select::Rows(list, range, filter), rest))),
-        None => Ok(None),
-    }
+    let list = select_list(source, cursor)?;
+    let (range, filter) = from(source, cursor)?;
+    Ok(Select::Rows(list, range, filter))
 }
 
 /// SELECT, from its list on.
 #[tactic(auto, unfolding(crate::specs::readers::Data::read_select))]
-pub fn select<'a>(
-    alloc: Global,
-    text: &str,
-    tokens: &'a [Token],
-) -> Result<Option<(Select, &'a [Token])>, AllocError>
-    ensures { IfOk result (λ r. with_words text.now r ≡ read_select (words text.now tokens.now)) }
+pub fn select(source: &Source<'_>, cursor: &mut Cursor) -> Result<Select, Stop>
+    ensures { Reads read_select source.now cursor.old result cursor.new }
 {
-    match after(TokenKind::Count, tokens) {
-        Some(rest) => count(alloc, text, rest),
-        None => query(alloc, text, tokens),
+    if cursor.accept(source, TokenKind::Count) {
+        return count(source, cursor);
     }
+    query(source, cursor)
 }

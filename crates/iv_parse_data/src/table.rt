@@ -1,145 +1,103 @@
 //! CREATE TABLE and ALTER TABLE.
-ghost use Rattle.std.specs.Prelude.{◌≡◌, IfOk, ℕ, List};
-ghost use Rattle.iv_lex.specs.Words.{words};
-ghost use Rattle.iv_parse_terms.specs.Seen.{with_words};
-ghost use Rattle.iv_parse_data.specs.readers.Tables.{read_column, read_column_constraints, read_column_element, read_element, read_elements, read_create_table, read_alter};
+ghost use Rattle.iv_parse_terms.specs.Reading.{Reads};
+ghost use Rattle.iv_parse_data.specs.readers.Tables.{read_column, read_column_constraints, read_column_element, read_element, read_elements, read_create_table, read_add, read_alter};
 
 use crate::constraint::table_constraint;
 use crate::parts::Parse;
 use crate::repeated::{enclosed_series, sequence};
 use crate::types::{column_type, default};
-use iv_lex::{Token, TokenKind};
-use iv_parse_terms::{after, name};
+use iv_lex::TokenKind;
+use iv_parse_terms::{Cursor, Source, Stop};
 use iv_syntax::{ColumnConstraint, ColumnDefinition, Name, Statement, TableElement};
 use sqlite_items::Items;
-use std::alloc::{AllocError, Global};
 
 #[tactic(auto, unfolding(crate::specs::readers::Tables::read_column_constraints))]
-fn column_constraints<'a>(
-    alloc: Global,
-    text: &str,
-    tokens: &'a [Token],
-) -> Result<Option<(Items<ColumnConstraint>, &'a [Token])>, AllocError>
-    ensures { IfOk result (λ r. with_words text.now r
-        ≡ read_column_constraints (words text.now tokens.now)) }
+fn column_constraints(
+    source: &Source<'_>,
+    cursor: &mut Cursor,
+) -> Result<Items<ColumnConstraint>, Stop>
+    ensures { Reads read_column_constraints source.now cursor.old result cursor.new }
 {
-    sequence::<ColumnConstraint>(alloc, text, tokens)
+    sequence::<ColumnConstraint>(source, cursor)
 }
 
 // A column, from its type on.
 #[tactic(auto, unfolding(crate::specs::readers::Tables::read_column))]
-fn column<'a>(
-    alloc: Global,
-    text: &str,
-    name: Name,
-    tokens: &'a [Token],
-) -> Result<Option<(ColumnDefinition, &'a [Token])>, AllocError>
-    ensures { IfOk result (λ r. with_words text.now r
-        ≡ read_column name (words text.now tokens.now)) }
+fn column(source: &Source<'_>, cursor: &mut Cursor, name: Name) -> Result<ColumnDefinition, Stop>
+    ensures { Reads (read_column name) source.now cursor.old result cursor.new }
 {
-    let Some((kind, rest)) = column_type(tokens) else {
-        return Ok(None);
-    };
-    let Some((default, rest)) = default(alloc, text, rest)? else {
-        return Ok(None);
-    };
-    let Some((constraints, rest)) = column_constraints(alloc, text, rest)? else {
-        return Ok(None);
-    };
-    let column = ColumnDefinition {
+    let kind = column_type(source, cursor)?;
+    let default = default(source, cursor)?;
+    let constraints = column_constraints(source, cursor)?;
+    Ok(ColumnDefinition {
         name,
         kind,
         default,
         constraints,
-    };
-    Ok(Some((column, rest)))
+    })
 }
 
 #[tactic(auto, unfolding(crate::specs::readers::Tables::read_column_element))]
-fn column_element<'a>(
-    alloc: Global,
-    text: &str,
+fn column_element(
+    source: &Source<'_>,
+    cursor: &mut Cursor,
     name: Name,
-    tokens: &'a [Token],
-) -> Result<Option<(TableElement, &'a [Token])>, AllocError>
-    ensures { IfOk result (λ r. with_words text.now r
-        ≡ read_column_element name (words text.now tokens.now)) }
+) -> Result<TableElement, Stop>
+    ensures { Reads (read_column_element name) source.now cursor.old result cursor.new }
 {
-    match column(alloc, text, name, tokens)? {
-        Some((column, rest)) => Ok(Some((TableElement::Column(column), rest))),
-        None => Ok(None),
-    }
+    let column = column(source, cursor, name)?;
+    Ok(TableElement::Column(column))
 }
 
 impl Parse for TableElement {
     ghost found = { read_element };
 
     #[tactic(auto, unfolding(crate::specs::readers::Tables::read_element))]
-    fn parse<'a>(
-        alloc: Global,
-        text: &str,
-        tokens: &'a [Token],
-    ) -> Result<Option<(TableElement, &'a [Token])>, AllocError> {
-        if let Some((name, rest)) = name(alloc, text, tokens)? {
-            return column_element(alloc, text, name, rest);
+    fn parse(source: &Source<'_>, cursor: &mut Cursor) -> Result<TableElement, Stop> {
+        if let Some(name) = cursor.accept_name(source)? {
+            return column_element(source, cursor, name);
         }
-        match table_constraint(alloc, text, tokens)? {
-            Some((constraint, rest)) => Ok(Some((TableElement::Constraint(constraint), rest))),
-            None => Ok(None),
-        }
+        let constraint = table_constraint(source, cursor)?;
+        Ok(TableElement::Constraint(constraint))
     }
 }
 
 #[tactic(auto, unfolding(crate::specs::readers::Tables::read_elements))]
-fn elements<'a>(
-    alloc: Global,
-    text: &str,
-    tokens: &'a [Token],
-) -> Result<Option<(Items<TableElement>, &'a [Token])>, AllocError>
-    ensures { IfOk result (λ r. with_words text.now r ≡ read_elements (words text.now tokens.now)) }
+fn elements(source: &Source<'_>, cursor: &mut Cursor) -> Result<Items<TableElement>, Stop>
+    ensures { Reads read_elements source.now cursor.old result cursor.new }
 {
-    enclosed_series::<TableElement>(alloc, text, tokens)
+    enclosed_series::<TableElement>(source, cursor)
 }
 
 /// CREATE TABLE, from the name on.
 #[tactic(auto, unfolding(crate::specs::readers::Tables::read_create_table))]
-pub fn create_table<'a>(
-    alloc: Global,
-    text: &str,
-    tokens: &'a [Token],
-) -> Result<Option<(Statement, &'a [Token])>, AllocError>
-    ensures { IfOk result (λ r. with_words text.now r
-        ≡ read_create_table (words text.now tokens.now)) }
+pub fn create_table(source: &Source<'_>, cursor: &mut Cursor) -> Result<Statement, Stop>
+    ensures { Reads read_create_table source.now cursor.old result cursor.new }
 {
-    let Some((name, rest)) = name(alloc, text, tokens)? else {
-        return Ok(None);
-    };
-    match elements(alloc, text, rest)? {
-        Some((elements, rest)) => Ok(Some((Statement::CreateTable { name, elements }, rest))),
-        None => Ok(None),
+    let name = cursor.name(source)?;
+    let elements = elements(source, cursor)?;
+    Ok(Statement::CreateTable { name, elements })
+}
+
+// ALTER TABLE, from ADD on.
+fn add(source: &Source<'_>, cursor: &mut Cursor, table: Name) -> Result<Statement, Stop>
+    ensures { Reads (read_add table) source.now cursor.old result cursor.new }
+{
+    if cursor.accept(source, TokenKind::Add) {
+        let constraint = table_constraint(source, cursor)?;
+        return Ok(Statement::AlterTable { table, constraint });
     }
+    Err(Stop::NoMatch)
 }
 
 /// ALTER TABLE, from TABLE on.
 #[tactic(auto, unfolding(crate::specs::readers::Tables::read_alter))]
-pub fn alter_table<'a>(
-    alloc: Global,
-    text: &str,
-    tokens: &'a [Token],
-) -> Result<Option<(Statement, &'a [Token])>, AllocError>
-    ensures { IfOk result (λ r. with_words text.now r ≡ read_alter (words text.now tokens.now)) }
+pub fn alter_table(source: &Source<'_>, cursor: &mut Cursor) -> Result<Statement, Stop>
+    ensures { Reads read_alter source.now cursor.old result cursor.new }
 {
-    let Some(rest) = after(TokenKind::Table, tokens) else {
-        return Ok(None);
-    };
-    let Some((table, rest)) = name(alloc, text, rest)? else {
-        return Ok(None);
-    };
-    let Some(rest) = after(TokenKind::Add, rest) else {
-        return Ok(None);
-    };
-    match table_constraint(alloc, text, rest)? {
-        Some((constraint, rest)) => Ok(Some((Statement::AlterTable { table, constraint }, rest))),
-        None => Ok(None),
+    if cursor.accept(source, TokenKind::Table) {
+        let table = cursor.name(source)?;
+        return add(source, cursor, table);
     }
+    Err(Stop::NoMatch)
 }

@@ -1,145 +1,139 @@
 //! The types of columns, literals and defaults.
-ghost use Rattle.std.specs.Prelude.{◌≡◌, IfOk, ℕ, List, Option};
-ghost use Rattle.iv_lex.specs.Words.{words};
-ghost use Rattle.iv_parse_terms.specs.Seen.{with_words};
-ghost use Rattle.iv_parse_data.specs.readers.Tables.{read_number, read_quoted, read_length, read_varying, read_varchar, read_type, text_or_null, read_literal, read_default};
+ghost use Rattle.std.specs.Prelude.{Option};
+ghost use Rattle.iv_parse_terms.specs.Reading.{Reads};
+ghost use Rattle.iv_parse_data.specs.readers.Tables.{read_number, read_quoted, read_closed_length, read_length, read_varying, read_character, read_varchar, read_type, text_or_null, number_or_text, read_literal, read_default};
 
-use iv_lex::{Token, TokenKind, unquoted_text};
-use iv_parse_terms::{after, sign};
+use iv_lex::TokenKind;
+use iv_parse_terms::{Cursor, Source, Stop};
 use iv_syntax::{ColumnType, Literal};
 use iv_value::Text;
-use std::alloc::{AllocError, Global};
 
-fn number(tokens: &[Token]) -> Option<(u64, &[Token])>
-    ensures { (text : List ℕ) → with_words text result ≡ read_number (words text tokens.now) }
+fn number(source: &Source<'_>, cursor: &mut Cursor) -> Result<u64, Stop>
+    ensures { Reads read_number source.now cursor.old result cursor.new }
 {
-    let [first, rest @ ..] = tokens else {
-        return None;
+    let Some(number) = cursor.accept_number(source) else {
+        return Err(Stop::NoMatch);
     };
-    match first.kind {
-        TokenKind::Number(value) => Some((value, rest)),
-        _ => None,
-    }
+    Ok(number)
 }
 
-/// The text at the front and the tokens after it.
-pub fn quoted<'a>(
-    alloc: Global,
-    text: &str,
-    tokens: &'a [Token],
-) -> Result<Option<(Text, &'a [Token])>, AllocError>
-    ensures { IfOk result (λ r. with_words text.now r ≡ read_quoted (words text.now tokens.now)) }
+/// A text.
+pub fn quoted(source: &Source<'_>, cursor: &mut Cursor) -> Result<Text, Stop>
+    ensures { Reads read_quoted source.now cursor.old result cursor.new }
 {
-    let [first, rest @ ..] = tokens else {
-        return Ok(None);
+    let Some(quoted) = cursor.accept_quoted(source)? else {
+        return Err(Stop::NoMatch);
     };
-    match first.kind {
-        TokenKind::Quoted => match unquoted_text(alloc, text, *first)? {
-            Some(quoted) => Ok(Some((quoted, rest))),
-            None => Ok(None),
-        },
-        _ => Ok(None),
+    Ok(quoted)
+}
+
+// The number of a length and the parenthesis that closes.
+fn closed_length(source: &Source<'_>, cursor: &mut Cursor) -> Result<ColumnType, Stop>
+    ensures { Reads read_closed_length source.now cursor.old result cursor.new }
+{
+    let value = number(source, cursor)?;
+    if cursor.accept(source, TokenKind::RightParenthesis) {
+        return Ok(ColumnType::Varchar(value));
     }
+    Err(Stop::NoMatch)
 }
 
 // The number between parentheses.
 #[tactic(auto, unfolding(crate::specs::readers::Tables::read_length))]
-fn length(tokens: &[Token]) -> Option<(ColumnType, &[Token])>
-    ensures { (text : List ℕ) → with_words text result ≡ read_length (words text tokens.now) }
+fn length(source: &Source<'_>, cursor: &mut Cursor) -> Result<ColumnType, Stop>
+    ensures { Reads read_length source.now cursor.old result cursor.new }
 {
-    let rest = after(TokenKind::LeftParenthesis, tokens)?;
-    let (value, rest) = number(rest)?;
-    let rest = after(TokenKind::RightParenthesis, rest)?;
-    Some((ColumnType::Varchar(value), rest))
+    if cursor.accept(source, TokenKind::LeftParenthesis) {
+        return closed_length(source, cursor);
+    }
+    Err(Stop::NoMatch)
 }
 
-fn varying(tokens: &[Token]) -> Option<(ColumnType, &[Token])>
-    ensures { (text : List ℕ) → with_words text result ≡ read_varying (words text tokens.now) }
+fn varying(source: &Source<'_>, cursor: &mut Cursor) -> Result<ColumnType, Stop>
+    ensures { Reads read_varying source.now cursor.old result cursor.new }
 {
-    let rest = after(TokenKind::Varying, tokens)?;
-    length(rest)
+    if cursor.accept(source, TokenKind::Varying) {
+        return length(source, cursor);
+    }
+    Err(Stop::NoMatch)
+}
+
+fn character(source: &Source<'_>, cursor: &mut Cursor) -> Result<ColumnType, Stop>
+    ensures { Reads read_character source.now cursor.old result cursor.new }
+{
+    if cursor.accept(source, TokenKind::Character) {
+        return varying(source, cursor);
+    }
+    if cursor.accept(source, TokenKind::Char) {
+        return varying(source, cursor);
+    }
+    Err(Stop::NoMatch)
 }
 
 #[tactic(auto, unfolding(crate::specs::readers::Tables::read_varchar))]
-fn varchar(tokens: &[Token]) -> Option<(ColumnType, &[Token])>
-    ensures { (text : List ℕ) → with_words text result ≡ read_varchar (words text tokens.now) }
+fn varchar(source: &Source<'_>, cursor: &mut Cursor) -> Result<ColumnType, Stop>
+    ensures { Reads read_varchar source.now cursor.old result cursor.new }
 {
-    if let Some(rest) = after(TokenKind::Varchar, tokens) {
-        return length(rest);
+    if cursor.accept(source, TokenKind::Varchar) {
+        return length(source, cursor);
     }
-    if let Some(rest) = after(TokenKind::Character, tokens) {
-        return varying(rest);
-    }
-    match after(TokenKind::Char, tokens) {
-        Some(rest) => varying(rest),
-        None => None,
-    }
+    character(source, cursor)
 }
 
 /// The type of a column.
 #[tactic(auto, unfolding(crate::specs::readers::Tables::read_type))]
-pub fn column_type(tokens: &[Token]) -> Option<(ColumnType, &[Token])>
-    ensures { (text : List ℕ) → with_words text result ≡ read_type (words text tokens.now) }
+pub fn column_type(source: &Source<'_>, cursor: &mut Cursor) -> Result<ColumnType, Stop>
+    ensures { Reads read_type source.now cursor.old result cursor.new }
 {
-    if let Some(rest) = after(TokenKind::Integer, tokens) {
-        return Some((ColumnType::Integer, rest));
+    if cursor.accept(source, TokenKind::Integer) {
+        return Ok(ColumnType::Integer);
     }
-    if let Some(rest) = after(TokenKind::Int, tokens) {
-        return Some((ColumnType::Integer, rest));
+    if cursor.accept(source, TokenKind::Int) {
+        return Ok(ColumnType::Integer);
     }
-    varchar(tokens)
+    varchar(source, cursor)
 }
 
-fn text_or_null<'a>(
-    alloc: Global,
-    text: &str,
-    tokens: &'a [Token],
-) -> Result<Option<(Literal, &'a [Token])>, AllocError>
-    ensures { IfOk result (λ r. with_words text.now r ≡ text_or_null (words text.now tokens.now)) }
+fn text_or_null(source: &Source<'_>, cursor: &mut Cursor) -> Result<Literal, Stop>
+    ensures { Reads text_or_null source.now cursor.old result cursor.new }
 {
-    if let Some((value, rest)) = quoted(alloc, text, tokens)? {
-        return Ok(Some((Literal::Text(value), rest)));
+    if let Some(value) = cursor.accept_quoted(source)? {
+        return Ok(Literal::Text(value));
     }
-    match after(TokenKind::Null, tokens) {
-        Some(rest) => Ok(Some((Literal::Null, rest))),
-        None => Ok(None),
+    if cursor.accept(source, TokenKind::Null) {
+        return Ok(Literal::Null);
     }
+    Err(Stop::NoMatch)
+}
+
+fn unsigned(source: &Source<'_>, cursor: &mut Cursor) -> Result<Literal, Stop>
+    ensures { Reads number_or_text source.now cursor.old result cursor.new }
+{
+    if let Some(value) = cursor.accept_number(source) {
+        return Ok(Literal::Number(None, value));
+    }
+    text_or_null(source, cursor)
 }
 
 #[tactic(auto, unfolding(crate::specs::readers::Tables::read_literal))]
-fn literal<'a>(
-    alloc: Global,
-    text: &str,
-    tokens: &'a [Token],
-) -> Result<Option<(Literal, &'a [Token])>, AllocError>
-    ensures { IfOk result (λ r. with_words text.now r ≡ read_literal (words text.now tokens.now)) }
+fn literal(source: &Source<'_>, cursor: &mut Cursor) -> Result<Literal, Stop>
+    ensures { Reads read_literal source.now cursor.old result cursor.new }
 {
-    if let Some((sign, rest)) = sign(tokens) {
-        return match number(rest) {
-            Some((value, rest)) => Ok(Some((Literal::Number(Some(sign), value), rest))),
-            None => Ok(None),
-        };
+    if let Some(sign) = cursor.accept_sign(source) {
+        let value = number(source, cursor)?;
+        return Ok(Literal::Number(Some(sign), value));
     }
-    if let Some((value, rest)) = number(tokens) {
-        return Ok(Some((Literal::Number(None, value), rest)));
-    }
-    text_or_null(alloc, text, tokens)
+    unsigned(source, cursor)
 }
 
 /// DEFAULT and a literal, where they are given.
 #[tactic(auto, unfolding(crate::specs::readers::Tables::read_default))]
-pub fn default<'a>(
-    alloc: Global,
-    text: &str,
-    tokens: &'a [Token],
-) -> Result<Option<(Option<Literal>, &'a [Token])>, AllocError>
-    ensures { IfOk result (λ r. with_words text.now r ≡ read_default (words text.now tokens.now)) }
+pub fn default(source: &Source<'_>, cursor: &mut Cursor) -> Result<Option<Literal>, Stop>
+    ensures { Reads read_default source.now cursor.old result cursor.new }
 {
-    let Some(rest) = after(TokenKind::Default, tokens) else {
-        return Ok(Some((None, tokens)));
-    };
-    match literal(alloc, text, rest)? {
-        Some((literal, rest)) => Ok(Some((Some(literal), rest))),
-        None => Ok(None),
+    if cursor.accept(source, TokenKind::Default) {
+        let literal = literal(source, cursor)?;
+        return Ok(Some(literal));
     }
+    Ok(None)
 }

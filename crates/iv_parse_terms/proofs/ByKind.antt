@@ -6,7 +6,7 @@ use Rattle.iv_lex.specs.declared.kind.TokenKind.{TokenKind}
 use Rattle.iv_lex.specs.declared.kind.TokenKind.TheVariants as kind
 use Rattle.iv_lex.specs.Words.{Word, folded_text, unquoted_text, word_by, words}
 use Rattle.iv_lex.specs.declared.token.Token.{Token}
-use Rattle.iv_parse_terms.specs.Words.expression.{Text}
+use Rattle.iv_parse_terms.specs.Types.expression.{Text}
 use Rattle.iv_parse_terms.specs.After.{after_name}
 use Rattle.iv_parse_terms.specs.readers.Expressions.{simple, column_from}
 use Rattle.iv_parse_terms.specs.readers.Conditions.{after_comparison}

@@ -4,9 +4,9 @@ use Rattle.std.proofs.Common.{◌∙◌, ap, arith, append_assoc}
 use Rattle.std.proofs.lemmas.Bool.{le-leb}
 use Rattle.iv_lex.specs.declared.kind.TokenKind.TheVariants as kind
 use Rattle.iv_lex.specs.Words.{Word, name, plain}
-use Rattle.iv_parse_terms.specs.Words.{Sign, Expression}
-use Rattle.iv_parse_terms.specs.Words.sign
-use Rattle.iv_parse_terms.specs.Words.expression.{Number, Text, Null, Column}
+use Rattle.iv_parse_terms.specs.Types.{Sign, Expression}
+use Rattle.iv_parse_terms.specs.Types.sign
+use Rattle.iv_parse_terms.specs.Types.expression.{Number, Text, Null, Column}
 use Rattle.iv_syntax.specs.declared.tree.ColumnName.{ColumnName}
 use Rattle.iv_syntax.specs.Trees.{group, signed, product, sum, depth}
 use Rattle.iv_parse_terms.specs.After.{after, after_name, if_some, then_read}

@@ -2,11 +2,11 @@
 use Rattle.std.specs.Prelude.{◌≡◌, ℕ, ◌+◌, ◌≤◌, zero, suc, Option, Some, None, List, [], ◌∷◌, ◌++◌, refl}
 use Rattle.std.proofs.Common.{inl, inr, sym, ◌∙◌, ap, arith, append_assoc}
 use Rattle.std.proofs.lemmas.Bool.{le-leb}
-use Rattle.iv_parse_terms.specs.Words.{Comparison, Sign, RangeName, Expression, Condition}
-use Rattle.iv_parse_terms.specs.Words.comparison
-use Rattle.iv_parse_terms.specs.Words.sign
-use Rattle.iv_parse_terms.specs.Words.expression.{Number, Text, Null, Column}
-use Rattle.iv_parse_terms.specs.Words.condition.{Compare, IsNull, IsNotNull, Exists}
+use Rattle.iv_parse_terms.specs.Types.{Comparison, Sign, RangeName, Expression, Condition}
+use Rattle.iv_parse_terms.specs.Types.comparison
+use Rattle.iv_parse_terms.specs.Types.sign
+use Rattle.iv_parse_terms.specs.Types.expression.{Number, Text, Null, Column}
+use Rattle.iv_parse_terms.specs.Types.condition.{Compare, IsNull, IsNotNull, Exists}
 use Rattle.iv_lex.specs.declared.kind.TokenKind.TheVariants as kind
 use Rattle.iv_lex.specs.Words.{Word, name, plain}
 use Rattle.iv_syntax.specs.declared.tree.ColumnName.{ColumnName}

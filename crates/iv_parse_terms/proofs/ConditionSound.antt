@@ -3,9 +3,9 @@ use Rattle.std.specs.Prelude.{◌≡◌, ℕ, ◌≤◌, zero, suc, nat_le, Bool
 use Rattle.std.proofs.Common.{inl, inr, sym, ◌∙◌, ap, arith, append_assoc}
 use Rattle.std.proofs.lemmas.Bool.{leb-true}
 use Rattle.std.proofs.lemmas.Option.{none-some, same_Some}
-use Rattle.iv_parse_terms.specs.Words.{Comparison, RangeName, Expression, Condition}
-use Rattle.iv_parse_terms.specs.Words.comparison
-use Rattle.iv_parse_terms.specs.Words.condition.{Compare, IsNull, IsNotNull, Exists}
+use Rattle.iv_parse_terms.specs.Types.{Comparison, RangeName, Expression, Condition}
+use Rattle.iv_parse_terms.specs.Types.comparison
+use Rattle.iv_parse_terms.specs.Types.condition.{Compare, IsNull, IsNotNull, Exists}
 use Rattle.iv_lex.specs.declared.kind.TokenKind.TheVariants as kind
 use Rattle.iv_lex.specs.Words.{Word, name, plain}
 use Rattle.iv_parse_terms.specs.declared.item.Item.{Item}

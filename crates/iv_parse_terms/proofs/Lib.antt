@@ -1,4 +1,7 @@
 pub mod Exact
+pub mod Likes
+pub mod Rules
+pub mod Sources
 pub mod Fronts
 pub mod ByKind
 pub mod Steps

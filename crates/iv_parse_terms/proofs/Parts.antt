@@ -6,8 +6,8 @@ use Rattle.std.proofs.lemmas.Option.{none-some, same_Some}
 use Rattle.iv_lex.specs.declared.kind.TokenKind.{TokenKind}
 use Rattle.iv_lex.specs.declared.kind.TokenKind.TheVariants as kind
 use Rattle.iv_lex.specs.Words.{Word, name, number, quoted, plain}
-use Rattle.iv_parse_terms.specs.Words.{Sign}
-use Rattle.iv_parse_terms.specs.Words.sign
+use Rattle.iv_parse_terms.specs.Types.{Sign}
+use Rattle.iv_parse_terms.specs.Types.sign
 use Rattle.iv_parse_terms.specs.After.{is_word, after, after_name, if_some}
 use Rattle.iv_parse_terms.specs.Expressions.{sign_kind}
 use Rattle.iv_parse_terms.specs.readers.Expressions.{after_sign}

@@ -5,8 +5,8 @@ use Rattle.std.proofs.lemmas.Bool.{leb-true}
 use Rattle.iv_lex.specs.declared.kind.TokenKind.{TokenKind}
 use Rattle.iv_lex.specs.declared.kind.TokenKind.TheVariants as kind
 use Rattle.iv_lex.specs.Words.{Word, name, number, quoted, plain}
-use Rattle.iv_parse_terms.specs.Words.{Sign, Expression}
-use Rattle.iv_parse_terms.specs.Words.expression.{Null}
+use Rattle.iv_parse_terms.specs.Types.{Sign, Expression}
+use Rattle.iv_parse_terms.specs.Types.expression.{Null}
 use Rattle.iv_syntax.specs.Trees.{group, signed, product, sum, depth}
 use Rattle.iv_parse_terms.specs.After.{same, after, after_name, then_read}
 use Rattle.iv_parse_terms.specs.Expressions.{Rule, expression, term, factor, primary, sign_kind, spelling, Formed}

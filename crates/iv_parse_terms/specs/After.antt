@@ -36,6 +36,22 @@ after_name (number n ∷ ws) = None
 after_name (quoted t ∷ ws) = None
 after_name (plain k ∷ ws) = None
 
+-- the number at the front, and the words after it
+abbrev pub after_number : List Word → Option (ℕ × List Word)
+after_number (number n ∷ ws) = Some (n, ws)
+after_number [] = None
+after_number (name n ∷ ws) = None
+after_number (quoted t ∷ ws) = None
+after_number (plain k ∷ ws) = None
+
+-- the text at the front, and the words after it
+abbrev pub after_quoted : List Word → Option (List ℕ × List Word)
+after_quoted (quoted t ∷ ws) = Some (t, ws)
+after_quoted [] = None
+after_quoted (name n ∷ ws) = None
+after_quoted (number t ∷ ws) = None
+after_quoted (plain k ∷ ws) = None
+
 -- the function of what there is, or else the other value
 abbrev pub if_some : {A B : Type 0} → Option A → (A → B) → B → B
 if_some None f other = other

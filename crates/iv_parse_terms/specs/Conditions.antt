@@ -1,8 +1,8 @@
 -- Which words are which search condition.
 use Rattle.std.specs.Prelude.{◌≡◌, ℕ, ◌⊎◌, Option, Some, None, List, [], ◌∷◌, ◌++◌}
-use Rattle.iv_parse_terms.specs.Words.{Comparison, RangeName, Condition}
-use Rattle.iv_parse_terms.specs.Words.comparison
-use Rattle.iv_parse_terms.specs.Words.condition.{Compare, IsNull, IsNotNull, Exists}
+use Rattle.iv_parse_terms.specs.Types.{Comparison, RangeName, Condition}
+use Rattle.iv_parse_terms.specs.Types.comparison
+use Rattle.iv_parse_terms.specs.Types.condition.{Compare, IsNull, IsNotNull, Exists}
 use Rattle.iv_lex.specs.declared.kind.TokenKind.{TokenKind}
 use Rattle.iv_lex.specs.declared.kind.TokenKind.TheVariants as kind
 use Rattle.iv_lex.specs.Words.{Word, name, plain}

@@ -3,9 +3,9 @@ use Rattle.std.specs.Prelude.{◌≡◌, ℕ, Option, Some, None, List, [], ◌�
 use Rattle.iv_lex.specs.declared.kind.TokenKind.{TokenKind}
 use Rattle.iv_lex.specs.declared.kind.TokenKind.TheVariants as kind
 use Rattle.iv_lex.specs.Words.{Word, name, number, quoted, plain}
-use Rattle.iv_parse_terms.specs.Words.{Sign, Expression}
-use Rattle.iv_parse_terms.specs.Words.sign
-use Rattle.iv_parse_terms.specs.Words.expression.{Number, Text, Null, Column}
+use Rattle.iv_parse_terms.specs.Types.{Sign, Expression}
+use Rattle.iv_parse_terms.specs.Types.sign
+use Rattle.iv_parse_terms.specs.Types.expression.{Number, Text, Null, Column}
 use Rattle.iv_syntax.specs.Trees.{group, signed, product, sum}
 use Rattle.iv_parse_terms.specs.After.{after}
 

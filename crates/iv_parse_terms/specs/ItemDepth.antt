@@ -1,6 +1,6 @@
 -- How deep an item is.
 use Rattle.std.specs.Prelude.{ℕ, Option, Some, None}
-use Rattle.iv_parse_terms.specs.Words.{Condition}
+use Rattle.iv_parse_terms.specs.Types.{Condition}
 use Rattle.iv_parse_terms.specs.declared.item.Item.{Item}
 use Rattle.iv_parse_terms.specs.declared.item.Item.TheVariants.{Value, Truth}
 use Rattle.iv_syntax.specs.Trees.{depth, condition_depth}

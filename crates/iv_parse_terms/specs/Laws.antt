@@ -1,7 +1,7 @@
 -- What is read of expressions, conditions and FROM, against the grammar.
 use Rattle.std.specs.Prelude.{◌≡◌, ◌≤◌, Option, Some, List, ◌++◌}
 use Rattle.iv_lex.specs.Words.{Word}
-use Rattle.iv_parse_terms.specs.Words.{Expression, RangeName, Condition}
+use Rattle.iv_parse_terms.specs.Types.{Expression, RangeName, Condition}
 use Rattle.iv_syntax.specs.declared.limits.TheConstants.{DEEPEST_TREE}
 use Rattle.iv_parse_terms.specs.ItemDepth.{where_depth}
 use Rattle.iv_parse_terms.specs.Expressions.{IsExpression, EndsExpression}

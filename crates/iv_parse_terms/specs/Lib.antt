@@ -1,5 +1,6 @@
-pub mod Words
+pub mod Types
 pub mod After
+pub mod Reading
 pub mod Expressions
 pub mod Seen
 pub mod Conditions

@@ -1,15 +1,11 @@
--- What the code's results of conditions are among the definitions.
-use Rattle.std.specs.Prelude.{ℕ, Option, Some, None, List}
-use Rattle.iv_lex.specs.Words.{Word, words}
-use Rattle.iv_parse_terms.specs.Words.{Condition}
+-- What the results of the code for conditions are among the definitions.
+use Rattle.iv_parse_terms.specs.Types.{Condition}
 use Rattle.iv_parse_terms.specs.declared.condition_part.ConditionPart.{ConditionPart}
+use Rattle.iv_parse_terms.specs.declared.item.Item.{Item}
 use Rattle.iv_parse_terms.specs.declared.item_part.ItemPart.{ItemPart}
-use Rattle.iv_parse_terms.specs.readers.Conditions.{FoundItem}
 
-abbrev pub item_found : List ℕ → Option ItemPart → FoundItem
-item_found text None = None
-item_found text (Some p) = Some (p.item, words text p.rest.now)
+abbrev pub item_in : ItemPart → Item
+item_in p = p.item
 
-abbrev pub condition_found : List ℕ → Option ConditionPart → Option (Condition × List Word)
-condition_found text None = None
-condition_found text (Some p) = Some (p.tree, words text p.rest.now)
+abbrev pub condition_in : ConditionPart → Condition
+condition_in p = p.tree

@@ -1,277 +1,235 @@
-//! Conditions read from tokens.
-ghost use Rattle.std.specs.Prelude.{◌≡◌, ℕ, ◌-◌, ◌≤◌, ◌<◌, IfOk};
-ghost use Rattle.iv_lex.specs.Words.{words};
-ghost use Rattle.iv_parse_terms.specs.readers.Conditions.{exists_by, more_by, read_lead, lead_factor as lead_factor_of, read_test, read_negation, read_operand, read_chain, read_item, read_from as from, read_condition as read};
-ghost use Rattle.iv_parse_terms.specs.Seen.{with_words};
-ghost use Rattle.iv_parse_terms.specs.SeenItem.{item_found};
-ghost use Rattle.iv_parse_terms.specs.SeenFrom.{from_found};
+//! Conditions, read from words.
+ghost use Rattle.std.specs.Prelude.{◌≤◌, ◌-◌, ◌<◌};
+ghost use Rattle.iv_parse_terms.specs.readers.Conditions.{as_item, after_star, after_select as select_at, exists_by, more_by, read_lead, lead_factor as lead_factor_of, read_test, read_negation, read_operand, read_chain, read_item, read_from as from, read_condition as read};
+ghost use Rattle.iv_parse_terms.specs.readers.Expressions.{read_primary, signed_from, simple as simple_at};
+ghost use Rattle.iv_parse_terms.specs.Reading.{Reads, ReadsAs, only};
+ghost use Rattle.iv_parse_terms.specs.SeenItem.{item_in};
+ghost use Rattle.iv_parse_terms.specs.SeenFrom.{from_in};
 
-use crate::condition_part::ConditionPart;
-use crate::expression::{factor, simple};
+use crate::cursor::Cursor;
+use crate::expression::{signed_factor, simple};
 use crate::from::{close_exists, range, with_where, without_where};
 use crate::from_part::FromPart;
-use crate::front::{after, select, sign};
 use crate::item::Connective;
 use crate::item_part::ItemPart;
-use crate::predicate::{
-    close_item, connective_after, discard, go_on, join_found, negate, truth, value_item,
-};
-use iv_lex::{Token, TokenKind};
-use iv_syntax::{Condition, DEEPEST_TREE, RangeName};
-use std::alloc::{AllocError, Global};
+use crate::predicate::{accept_connective, close_item, go_on, join, negate, truth, value_item};
+use crate::source::Source;
+use crate::stop::Stop;
+use iv_lex::TokenKind;
+use iv_syntax::{Condition, DEEPEST_TREE, RangeName, Sign};
+
+// SELECT *
+fn select_star(source: &Source<'_>, cursor: &mut Cursor) -> Result<(), Stop>
+    ensures { Reads (only after_star) source.now cursor.old result cursor.new }
+{
+    if cursor.accept(source, TokenKind::Select) {
+        return cursor.expect(source, TokenKind::Asterisk);
+    }
+    Err(Stop::NoMatch)
+}
+
+// ( SELECT *
+fn select(source: &Source<'_>, cursor: &mut Cursor) -> Result<(), Stop>
+    ensures { Reads (only select_at) source.now cursor.old result cursor.new }
+{
+    if cursor.accept(source, TokenKind::LeftParenthesis) {
+        return select_star(source, cursor);
+    }
+    Err(Stop::NoMatch)
+}
+
+// A factor, from what follows its sign on, as an item.
+fn value_signed(
+    source: &Source<'_>,
+    cursor: &mut Cursor,
+    limit: u8,
+    sign: Sign,
+) -> Result<ItemPart, Stop>
+    requires { limit ≤ DEEPEST_TREE }
+    ensures { ReadsAs item_in (λ ws. as_item (signed_from limit (read_primary limit) sign ws))
+        source.now cursor.old result cursor.new }
+{
+    let value = signed_factor(source, cursor, limit, sign)?;
+    Ok(value_item(value))
+}
+
+// A number, a text, NULL or a column, as an item.
+fn value_simple(source: &Source<'_>, cursor: &mut Cursor) -> Result<ItemPart, Stop>
+    ensures { ReadsAs item_in (λ ws. as_item (simple_at ws)) source.now cursor.old result
+        cursor.new }
+{
+    let value = simple(source, cursor)?;
+    Ok(value_item(value))
+}
 
 // What comes first in a test.
 #[cycle(condition)]
-fn lead<'a>(
-    alloc: Global,
-    limit: u8,
-    text: &str,
-    tokens: &'a [Token],
-) -> Result<Option<ItemPart<'a>>, AllocError>
+fn lead(source: &Source<'_>, cursor: &mut Cursor, limit: u8) -> Result<ItemPart, Stop>
     requires { limit ≤ DEEPEST_TREE }
-    ensures { IfOk result (λ r. item_found text.now r
-        ≡ read_lead limit (words text.now tokens.now)) }
+    ensures { ReadsAs item_in (read_lead limit) source.now cursor.old result cursor.new }
 {
     if limit == 0 {
-        return Ok(None);
+        return Err(Stop::TooDeep);
     }
-    if let Some(rest) = after(TokenKind::LeftParenthesis, tokens) {
-        return match item(alloc, limit - 1, &*text, rest)? {
-            Some(inside) => close_item(alloc, limit, inside),
-            None => Ok(None),
-        };
+    if cursor.accept(&*source, TokenKind::LeftParenthesis) {
+        let inside = item(&*source, &mut *cursor, limit - 1)?;
+        return close_item(&*source, &mut *cursor, limit, inside);
     }
-    match after(TokenKind::Exists, tokens) {
-        Some(rest) => exists(alloc, limit, &*text, rest),
-        None => Ok(value_item(simple(alloc, &*text, tokens)?)),
+    if cursor.accept(&*source, TokenKind::Exists) {
+        return exists(&*source, &mut *cursor, limit);
     }
+    value_simple(&*source, &mut *cursor)
 }
 
-// EXISTS; the tokens are those after it.
+// EXISTS, from the parenthesis on.
 #[cycle(condition)]
-fn exists<'a>(
-    alloc: Global,
-    limit: u8,
-    text: &str,
-    tokens: &'a [Token],
-) -> Result<Option<ItemPart<'a>>, AllocError>
+fn exists(source: &Source<'_>, cursor: &mut Cursor, limit: u8) -> Result<ItemPart, Stop>
     requires low { limit ≤ DEEPEST_TREE }
     requires some { 0 < limit }
-    ensures { IfOk result (λ r. item_found text.now r
-        ≡ exists_by limit (read_item (limit - 1)) (words text.now tokens.now)) }
+    ensures { ReadsAs item_in (exists_by limit (read_item (limit - 1))) source.now cursor.old
+        result cursor.new }
 {
-    let Some(rest) = select(tokens) else {
-        return Ok(None);
-    };
-    match from_range(alloc, limit - 1, &*text, rest)? {
-        Some(found) => close_exists(alloc, limit, found),
-        None => Ok(None),
-    }
+    select(&*source, &mut *cursor)?;
+    let found = from_range(&*source, &mut *cursor, limit - 1)?;
+    close_exists(&*source, &mut *cursor, limit, found)
 }
 
 // FROM, a table, its alias and WHERE with a condition.
 #[cycle(condition)]
-fn from_range<'a>(
-    alloc: Global,
-    limit: u8,
-    text: &str,
-    tokens: &'a [Token],
-) -> Result<Option<FromPart<'a>>, AllocError>
+fn from_range(source: &Source<'_>, cursor: &mut Cursor, limit: u8) -> Result<FromPart, Stop>
     requires { limit ≤ DEEPEST_TREE }
-    ensures { IfOk result (λ r. from_found text.now r ≡ from limit (words text.now tokens.now)) }
+    ensures { ReadsAs from_in (from limit) source.now cursor.old result cursor.new }
 {
-    let Some(rest) = after(TokenKind::From, tokens) else {
-        return Ok(None);
-    };
-    let Some((range, rest)) = range(alloc, &*text, rest)? else {
-        return Ok(None);
-    };
-    match after(TokenKind::Where, rest) {
-        Some(rest) => with_where(range, item(alloc, limit, &*text, rest)),
-        None => Ok(Some(without_where(range, rest))),
+    cursor.expect(&*source, TokenKind::From)?;
+    let range = range(&*source, &mut *cursor)?;
+    if cursor.accept(&*source, TokenKind::Where) {
+        let found = item(&*source, &mut *cursor, limit)?;
+        return with_where(range, found);
     }
+    Ok(without_where(range))
 }
 
 // The factor that comes first in a test, or a condition.
 #[cycle(condition)]
-fn lead_factor<'a>(
-    alloc: Global,
-    limit: u8,
-    text: &str,
-    tokens: &'a [Token],
-) -> Result<Option<ItemPart<'a>>, AllocError>
+fn lead_factor(source: &Source<'_>, cursor: &mut Cursor, limit: u8) -> Result<ItemPart, Stop>
     requires { limit ≤ DEEPEST_TREE }
-    ensures { IfOk result (λ r. item_found text.now r
-        ≡ lead_factor_of limit (words text.now tokens.now)) }
+    ensures { ReadsAs item_in (lead_factor_of limit) source.now cursor.old result cursor.new }
 {
-    match sign(tokens) {
-        Some(_) => Ok(value_item(factor(alloc, limit, &*text, tokens)?)),
-        None => lead(alloc, limit, &*text, tokens),
+    if let Some(sign) = cursor.accept_sign(&*source) {
+        return value_signed(&*source, &mut *cursor, limit, sign);
     }
+    lead(&*source, &mut *cursor, limit)
 }
 
 #[cycle(condition)]
-fn test<'a>(
-    alloc: Global,
-    limit: u8,
-    text: &str,
-    tokens: &'a [Token],
-) -> Result<Option<ItemPart<'a>>, AllocError>
+fn test(source: &Source<'_>, cursor: &mut Cursor, limit: u8) -> Result<ItemPart, Stop>
     requires { limit ≤ DEEPEST_TREE }
-    ensures { IfOk result (λ r. item_found text.now r
-        ≡ read_test limit (words text.now tokens.now)) }
+    ensures { ReadsAs item_in (read_test limit) source.now cursor.old result cursor.new }
 {
-    match lead_factor(alloc, limit, &*text, tokens)? {
-        Some(found) => go_on(alloc, limit, &*text, found),
-        None => Ok(None),
-    }
+    let found = lead_factor(&*source, &mut *cursor, limit)?;
+    go_on(&*source, &mut *cursor, limit, found)
 }
 
 #[cycle(condition)]
-fn negation<'a>(
-    alloc: Global,
-    limit: u8,
-    text: &str,
-    tokens: &'a [Token],
-) -> Result<Option<ItemPart<'a>>, AllocError>
+fn negation(source: &Source<'_>, cursor: &mut Cursor, limit: u8) -> Result<ItemPart, Stop>
     requires { limit ≤ DEEPEST_TREE }
-    ensures { IfOk result (λ r. item_found text.now r
-        ≡ read_negation limit (words text.now tokens.now)) }
+    ensures { ReadsAs item_in (read_negation limit) source.now cursor.old result cursor.new }
 {
-    let Some(rest) = after(TokenKind::Not, tokens) else {
-        return test(alloc, limit, &*text, tokens);
-    };
-    match test(alloc, limit, &*text, rest)? {
-        Some(found) => negate(alloc, limit, found),
-        None => Ok(None),
+    if cursor.accept(&*source, TokenKind::Not) {
+        let found = test(&*source, &mut *cursor, limit)?;
+        return negate(source.alloc(), limit, found);
     }
+    test(&*source, &mut *cursor, limit)
 }
 
 // What AND or OR stands between: negations, or conjunctions.
 #[cycle(condition)]
-fn operand<'a>(
-    alloc: Global,
+fn operand(
+    source: &Source<'_>,
+    cursor: &mut Cursor,
     limit: u8,
     connective: Connective,
-    text: &str,
-    tokens: &'a [Token],
-) -> Result<Option<ItemPart<'a>>, AllocError>
+) -> Result<ItemPart, Stop>
     requires { limit ≤ DEEPEST_TREE }
-    ensures { IfOk result (λ r. item_found text.now r
-        ≡ read_operand connective limit (words text.now tokens.now)) }
+    ensures { ReadsAs item_in (read_operand connective limit) source.now cursor.old result
+        cursor.new }
 {
     match connective {
-        Connective::And => negation(alloc, limit, &*text, tokens),
-        Connective::Or => chain(alloc, limit, Connective::And, &*text, tokens),
+        Connective::And => negation(&*source, &mut *cursor, limit),
+        Connective::Or => chain(&*source, &mut *cursor, limit, Connective::And),
     }
 }
 
 // The operands that follow, of which there are at most so many.
 #[cycle(condition)]
-fn operands<'a>(
-    alloc: Global,
+fn operands(
+    source: &Source<'_>,
+    cursor: &mut Cursor,
     limit: u8,
     most: u8,
     connective: Connective,
-    text: &str,
-    left: ItemPart<'a>,
-) -> Result<Option<ItemPart<'a>>, AllocError>
+    left: ItemPart,
+) -> Result<ItemPart, Stop>
     requires low { limit ≤ DEEPEST_TREE }
     requires few { most ≤ DEEPEST_TREE }
-    ensures { IfOk result (λ r. item_found text.now r
-        ≡ more_by connective limit (read_operand connective limit) most left.entry.item
-        (words text.now left.entry.rest.now)) }
+    ensures { ReadsAs item_in (more_by connective limit (read_operand connective limit) most
+        left.item) source.now cursor.old result cursor.new }
 {
-    let Some(rest) = connective_after(connective, &left) else {
-        return Ok(Some(left));
-    };
+    if !accept_connective(&*source, &mut *cursor, connective, &left) {
+        return Ok(left);
+    }
     if most == 0 {
-        return Ok(discard(left));
+        drop(left);
+        return Err(Stop::TooDeep);
     }
-    let right = operand(alloc, limit, connective, &*text, rest);
-    match join_found(alloc, limit, connective, left, right)? {
-        Some(found) => operands(alloc, limit, most - 1, connective, &*text, found),
-        None => Ok(None),
-    }
+    let right = operand(&*source, &mut *cursor, limit, connective)?;
+    let both = join(source.alloc(), limit, connective, left, right)?;
+    operands(&*source, &mut *cursor, limit, most - 1, connective, both)
 }
 
 // Operands with AND or with OR between them.
 #[cycle(condition)]
-fn chain<'a>(
-    alloc: Global,
+fn chain(
+    source: &Source<'_>,
+    cursor: &mut Cursor,
     limit: u8,
     connective: Connective,
-    text: &str,
-    tokens: &'a [Token],
-) -> Result<Option<ItemPart<'a>>, AllocError>
+) -> Result<ItemPart, Stop>
     requires { limit ≤ DEEPEST_TREE }
-    ensures { IfOk result (λ r. item_found text.now r
-        ≡ read_chain connective limit (words text.now tokens.now)) }
+    ensures { ReadsAs item_in (read_chain connective limit) source.now cursor.old result
+        cursor.new }
 {
-    match operand(alloc, limit, connective, &*text, tokens)? {
-        Some(left) => operands(alloc, limit, limit, connective, &*text, left),
-        None => Ok(None),
-    }
+    let left = operand(&*source, &mut *cursor, limit, connective)?;
+    operands(&*source, &mut *cursor, limit, limit, connective, left)
 }
 
 // A value or a condition.
 #[cycle(condition)]
-fn item<'a>(
-    alloc: Global,
-    limit: u8,
-    text: &str,
-    tokens: &'a [Token],
-) -> Result<Option<ItemPart<'a>>, AllocError>
+fn item(source: &Source<'_>, cursor: &mut Cursor, limit: u8) -> Result<ItemPart, Stop>
     requires { limit ≤ DEEPEST_TREE }
-    ensures { IfOk result (λ r. item_found text.now r
-        ≡ read_item limit (words text.now tokens.now)) }
+    ensures { ReadsAs item_in (read_item limit) source.now cursor.old result cursor.new }
 {
-    chain(alloc, limit, Connective::Or, &*text, tokens)
+    chain(&*source, &mut *cursor, limit, Connective::Or)
 }
 
-/// The condition at the front of the tokens of `text`, as long as it can be, and the tokens after
-/// it. `None` where there is none, or where its tree is deeper than `DEEPEST_TREE`.
-pub fn read_condition<'a>(
-    alloc: Global,
-    text: &str,
-    tokens: &'a [Token],
-) -> Result<Option<(Condition, &'a [Token])>, AllocError>
-    ensures { IfOk result (λ r. with_words text.now r ≡ read DEEPEST_TREE (words text.now tokens.now)) }
+/// The condition at the cursor, as long as it can be.
+pub fn read_condition(source: &Source<'_>, cursor: &mut Cursor) -> Result<Condition, Stop>
+    ensures { Reads (read DEEPEST_TREE) source.now cursor.old result cursor.new }
 {
-    let Some(found) = item(alloc, DEEPEST_TREE, text, tokens)? else {
-        return Ok(None);
-    };
-    match truth(found) {
-        Some(
-            ConditionPart {
-                tree,
-                depth: _,
-                rest,
-            },
-        ) => Ok(Some((tree, rest))),
-        None => Ok(None),
-    }
+    let found = item(source, cursor, DEEPEST_TREE)?;
+    let condition = truth(found)?;
+    let (tree, _) = condition.into_parts();
+    Ok(tree)
 }
 
-/// FROM, a table, its alias and WHERE with a condition at the front of the tokens of `text`, as long
-/// as they can be, and the tokens after them. `None` where there is no FROM, or where the condition is
-/// deeper than `DEEPEST_TREE`.
-pub fn read_from<'a>(
-    alloc: Global,
-    text: &str,
-    tokens: &'a [Token],
-) -> Result<Option<((RangeName, Option<Condition>), &'a [Token])>, AllocError>
-    ensures { IfOk result (λ r. with_words text.now r ≡ from DEEPEST_TREE (words text.now tokens.now)) }
+/// FROM, a table, its alias and WHERE with a condition at the cursor, as long as they can be.
+pub fn read_from(
+    source: &Source<'_>,
+    cursor: &mut Cursor,
+) -> Result<(RangeName, Option<Condition>), Stop>
+    ensures { Reads (from DEEPEST_TREE) source.now cursor.old result cursor.new }
 {
-    match from_range(alloc, DEEPEST_TREE, text, tokens)? {
-        Some(
-            FromPart {
-                range,
-                condition,
-                depth: _,
-                rest,
-            },
-        ) => Ok(Some(((range, condition), rest))),
-        None => Ok(None),
-    }
+    let found = from_range(source, cursor, DEEPEST_TREE)?;
+    let (range, condition, _) = found.into_parts();
+    Ok((range, condition))
 }

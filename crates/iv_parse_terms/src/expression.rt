@@ -1,79 +1,65 @@
-//! Expressions read from tokens.
-ghost use Rattle.std.specs.Prelude.{◌≡◌, ℕ, ◌+◌, ◌≤◌, max, List, IfOk, MatchOption};
-ghost use Rattle.iv_lex.specs.Words.{words};
+//! Expressions, read from words.
+ghost use Rattle.std.specs.Prelude.{◌≡◌, ◌+◌, ◌≤◌, max, MatchOption};
 ghost use Rattle.iv_syntax.specs.Trees.{group, signed, product, sum, depth as depth_of};
-ghost use Rattle.iv_parse_terms.specs.readers.Expressions.{column_from, simple as simple_at, close_group, fits, more_factors, more_terms, read_primary, read_factor, read_term, read_expression as read};
-ghost use Rattle.iv_parse_terms.specs.Seen.{expression_found, with_words};
+ghost use Rattle.iv_parse_terms.specs.readers.Expressions.{column_from, null_or_column, simple as simple_at, close_group, fits, signed_from, more_factors, more_terms, read_primary, read_factor, read_term, read_expression as read};
+ghost use Rattle.iv_parse_terms.specs.Reading.{MakesAs, Reads, ReadsAs};
+ghost use Rattle.iv_parse_terms.specs.Seen.{tree_in};
 
+use crate::cursor::Cursor;
 use crate::expression_part::ExpressionPart;
-use crate::front::{after, name, sign};
 use crate::make::{group_of, product_of, signed_of, sum_of};
-use iv_lex::{Token, TokenKind, unquoted_text};
+use crate::source::Source;
+use crate::stop::Stop;
+use iv_lex::TokenKind;
 use iv_syntax::{ColumnName, DEEPEST_TREE, Expression, Name, Sign};
-use std::alloc::{AllocError, Global};
+use std::alloc::Global;
 
 /// The expression in parentheses, where it is not too deep.
-pub fn make_group<'a>(
-    alloc: Global,
-    limit: u8,
-    inside: ExpressionPart<'a>,
-    rest: &'a [Token],
-) -> Result<Option<ExpressionPart<'a>>, AllocError>
-    ensures { (text : List ℕ)
-        → IfOk result (λ r. expression_found text r
-        ≡ fits limit (group inside.entry.tree) (words text rest.now)) }
+pub fn make_group(alloc: Global, limit: u8, inside: ExpressionPart) -> Result<ExpressionPart, Stop>
+    ensures { MakesAs tree_in (fits limit (group inside.tree)) result }
 {
     if inside.depth >= limit {
         drop(inside);
-        return Ok(None);
+        return Err(Stop::TooDeep);
     }
-    let ExpressionPart {
-        tree,
-        depth,
-        rest: _,
-    } = inside;
+    let (tree, depth) = inside.into_parts();
     let tree = group_of(alloc, tree)?;
-    Ok(Some(ExpressionPart {
+    Ok(ExpressionPart {
         tree,
         depth: depth + 1,
-        rest,
-    }))
+    })
 }
 
-fn make_signed<'a>(
+fn make_signed(
     alloc: Global,
     limit: u8,
     sign: Sign,
-    operand: ExpressionPart<'a>,
-) -> Result<Option<ExpressionPart<'a>>, AllocError>
-    ensures { (text : List ℕ)
-        → IfOk result (λ r. expression_found text r
-        ≡ fits limit (signed sign operand.entry.tree) (words text operand.entry.rest.now)) }
+    operand: ExpressionPart,
+) -> Result<ExpressionPart, Stop>
+    ensures { MakesAs tree_in (fits limit (signed sign operand.tree)) result }
 {
     if operand.depth >= limit {
         drop(operand);
-        return Ok(None);
+        return Err(Stop::TooDeep);
     }
-    let ExpressionPart { tree, depth, rest } = operand;
+    let (tree, depth) = operand.into_parts();
     let tree = signed_of(alloc, sign, tree)?;
-    Ok(Some(ExpressionPart {
+    Ok(ExpressionPart {
         tree,
         depth: depth + 1,
-        rest,
-    }))
+    })
 }
 
-// Two operands, the depth of what joins them and the tokens after it, where it is not too deep.
-fn fitting<'a>(
+// Two operands and the depth of what joins them, where it is not too deep.
+fn fitting(
     limit: u8,
-    left: ExpressionPart<'a>,
-    right: ExpressionPart<'a>,
-) -> Option<(Expression, Expression, u8, &'a [Token])>
+    left: ExpressionPart,
+    right: ExpressionPart,
+) -> Option<(Expression, Expression, u8)>
     ensures { MatchOption result
-        (limit ≤ max (depth_of left.entry.tree) (depth_of right.entry.tree))
-        (λ p. (p.0 ≡ left.entry.tree) × (p.1 ≡ right.entry.tree)
-        × (p.2 ≡ 1 + max (depth_of left.entry.tree) (depth_of right.entry.tree))
-        × (p.2 ≤ limit) × (p.3.now ≡ right.entry.rest.now)) }
+        (limit ≤ max (depth_of left.tree) (depth_of right.tree))
+        (λ p. (p.0 ≡ left.tree) × (p.1 ≡ right.tree)
+        × (p.2 ≡ 1 + max (depth_of left.tree) (depth_of right.tree)) × (p.2 ≤ limit)) }
 {
     let below = left.depth.max(right.depth);
     if below >= limit {
@@ -81,297 +67,233 @@ fn fitting<'a>(
         drop(right);
         return None;
     }
-    Some((left.tree, right.tree, below + 1, right.rest))
+    let (left, _) = left.into_parts();
+    let (right, _) = right.into_parts();
+    Some((left, right, below + 1))
 }
 
-fn make_product<'a>(
+fn make_product(
     alloc: Global,
     limit: u8,
-    left: ExpressionPart<'a>,
-    right: ExpressionPart<'a>,
-) -> Result<Option<ExpressionPart<'a>>, AllocError>
-    ensures { (text : List ℕ)
-        → IfOk result (λ r. expression_found text r
-        ≡ fits limit (product left.entry.tree right.entry.tree)
-        (words text right.entry.rest.now)) }
+    left: ExpressionPart,
+    right: ExpressionPart,
+) -> Result<ExpressionPart, Stop>
+    ensures { MakesAs tree_in (fits limit (product left.tree right.tree)) result }
 {
-    let Some((left, right, depth, rest)) = fitting(limit, left, right) else {
-        return Ok(None);
+    let Some((left, right, depth)) = fitting(limit, left, right) else {
+        return Err(Stop::TooDeep);
     };
     let tree = product_of(alloc, left, right)?;
-    Ok(Some(ExpressionPart { tree, depth, rest }))
+    Ok(ExpressionPart { tree, depth })
 }
 
-fn make_sum<'a>(
+fn make_sum(
     alloc: Global,
     limit: u8,
     sign: Sign,
-    left: ExpressionPart<'a>,
-    right: ExpressionPart<'a>,
-) -> Result<Option<ExpressionPart<'a>>, AllocError>
-    ensures { (text : List ℕ)
-        → IfOk result (λ r. expression_found text r
-        ≡ fits limit (sum sign left.entry.tree right.entry.tree)
-        (words text right.entry.rest.now)) }
+    left: ExpressionPart,
+    right: ExpressionPart,
+) -> Result<ExpressionPart, Stop>
+    ensures { MakesAs tree_in (fits limit (sum sign left.tree right.tree)) result }
 {
-    let Some((left, right, depth, rest)) = fitting(limit, left, right) else {
-        return Ok(None);
+    let Some((left, right, depth)) = fitting(limit, left, right) else {
+        return Err(Stop::TooDeep);
     };
     let tree = sum_of(alloc, sign, left, right)?;
-    Ok(Some(ExpressionPart { tree, depth, rest }))
+    Ok(ExpressionPart { tree, depth })
 }
 
-fn leaf<'a>(tree: Expression, rest: &'a [Token]) -> ExpressionPart<'a>
+fn leaf(tree: Expression) -> ExpressionPart
     requires { depth_of tree ≡ 1 }
-    ensures tree { result.tree ≡ tree }
-    ensures rest { result.rest.now ≡ rest.now }
+    ensures { result.tree ≡ tree }
 {
-    ExpressionPart {
-        tree,
-        depth: 1,
-        rest,
-    }
+    ExpressionPart { tree, depth: 1 }
 }
 
 // The column whose first name was read.
-fn column<'a>(
-    alloc: Global,
-    text: &str,
-    first: Name,
-    tokens: &'a [Token],
-) -> Result<Option<ExpressionPart<'a>>, AllocError>
-    ensures { IfOk result (λ r. expression_found text.now r
-        ≡ column_from first (words text.now tokens.now)) }
+fn column(source: &Source<'_>, cursor: &mut Cursor, first: Name) -> Result<ExpressionPart, Stop>
+    ensures { ReadsAs tree_in (column_from first) source.now cursor.old result cursor.new }
 {
-    let Some(rest) = after(TokenKind::Period, tokens) else {
+    if cursor.accept(source, TokenKind::Period) {
+        let name = cursor.name(source)?;
         let column = ColumnName {
-            qualifier: None,
-            name: first,
+            qualifier: Some(first),
+            name,
         };
-        return Ok(Some(leaf(Expression::Column(column), tokens)));
-    };
-    match name(alloc, text, rest)? {
-        Some((name, rest)) => {
-            let column = ColumnName {
-                qualifier: Some(first),
-                name,
-            };
-            Ok(Some(leaf(Expression::Column(column), rest)))
-        }
-        None => Ok(None),
+        return Ok(leaf(Expression::Column(column)));
     }
+    let column = ColumnName {
+        qualifier: None,
+        name: first,
+    };
+    Ok(leaf(Expression::Column(column)))
+}
+
+// NULL or a column.
+fn null_or_column(source: &Source<'_>, cursor: &mut Cursor) -> Result<ExpressionPart, Stop>
+    ensures { ReadsAs tree_in null_or_column source.now cursor.old result cursor.new }
+{
+    if cursor.accept(source, TokenKind::Null) {
+        return Ok(leaf(Expression::Null));
+    }
+    let first = cursor.name(source)?;
+    column(source, cursor, first)
 }
 
 /// A number, a text, NULL or a column.
-pub fn simple<'a>(
-    alloc: Global,
-    text: &str,
-    tokens: &'a [Token],
-) -> Result<Option<ExpressionPart<'a>>, AllocError>
-    ensures { IfOk result (λ r. expression_found text.now r
-        ≡ simple_at (words text.now tokens.now)) }
+pub fn simple(source: &Source<'_>, cursor: &mut Cursor) -> Result<ExpressionPart, Stop>
+    ensures { ReadsAs tree_in simple_at source.now cursor.old result cursor.new }
 {
-    let [first, rest @ ..] = tokens else {
-        return Ok(None);
-    };
-    match first.kind {
-        TokenKind::Number(number) => Ok(Some(leaf(Expression::Number(number), rest))),
-        TokenKind::Quoted => match unquoted_text(alloc, text, *first)? {
-            Some(quoted) => Ok(Some(leaf(Expression::Text(quoted), rest))),
-            None => Ok(None),
-        },
-        TokenKind::Null => Ok(Some(leaf(Expression::Null, rest))),
-        TokenKind::Name => match name(alloc, text, tokens)? {
-            Some((first, rest)) => column(alloc, text, first, rest),
-            None => Ok(None),
-        },
-        _ => Ok(None),
+    if let Some(number) = cursor.accept_number(source) {
+        return Ok(leaf(Expression::Number(number)));
     }
+    if let Some(quoted) = cursor.accept_quoted(source)? {
+        return Ok(leaf(Expression::Text(quoted)));
+    }
+    null_or_column(source, cursor)
 }
 
-fn close<'a>(
-    alloc: Global,
+fn close(
+    source: &Source<'_>,
+    cursor: &mut Cursor,
     limit: u8,
-    inside: ExpressionPart<'a>,
-) -> Result<Option<ExpressionPart<'a>>, AllocError>
-    ensures { (text : List ℕ) → IfOk result (λ r. expression_found text r
-        ≡ close_group limit inside.entry.tree (words text inside.entry.rest.now)) }
+    inside: ExpressionPart,
+) -> Result<ExpressionPart, Stop>
+    ensures { ReadsAs tree_in (close_group limit inside.tree) source.now cursor.old result
+        cursor.new }
 {
-    match after(TokenKind::RightParenthesis, inside.rest) {
-        Some(rest) => make_group(alloc, limit, inside, rest),
-        None => {
-            drop(inside);
-            Ok(None)
-        }
+    if cursor.accept(source, TokenKind::RightParenthesis) {
+        return make_group(source.alloc(), limit, inside);
     }
+    drop(inside);
+    Err(Stop::NoMatch)
 }
 
 /// A primary: a number, a text, NULL, a column or an expression in parentheses.
 #[cycle(expression)]
-pub fn primary<'a>(
-    alloc: Global,
-    limit: u8,
-    text: &str,
-    tokens: &'a [Token],
-) -> Result<Option<ExpressionPart<'a>>, AllocError>
+fn primary(source: &Source<'_>, cursor: &mut Cursor, limit: u8) -> Result<ExpressionPart, Stop>
     requires { limit ≤ DEEPEST_TREE }
-    ensures { IfOk result (λ r. expression_found text.now r
-        ≡ read_primary limit (words text.now tokens.now)) }
+    ensures { ReadsAs tree_in (read_primary limit) source.now cursor.old result cursor.new }
 {
     if limit == 0 {
-        return Ok(None);
+        return Err(Stop::TooDeep);
     }
-    match after(TokenKind::LeftParenthesis, tokens) {
-        Some(rest) => match expression(alloc, limit - 1, &*text, rest)? {
-            Some(inside) => close(alloc, limit, inside),
-            None => Ok(None),
-        },
-        None => simple(alloc, &*text, tokens),
+    if cursor.accept(&*source, TokenKind::LeftParenthesis) {
+        let inside = expression(&*source, &mut *cursor, limit - 1)?;
+        return close(&*source, &mut *cursor, limit, inside);
     }
+    simple(&*source, &mut *cursor)
 }
 
 /// A factor: a primary, with or without a sign.
 #[cycle(expression)]
-pub fn factor<'a>(
-    alloc: Global,
-    limit: u8,
-    text: &str,
-    tokens: &'a [Token],
-) -> Result<Option<ExpressionPart<'a>>, AllocError>
+fn factor(source: &Source<'_>, cursor: &mut Cursor, limit: u8) -> Result<ExpressionPart, Stop>
     requires { limit ≤ DEEPEST_TREE }
-    ensures { IfOk result (λ r. expression_found text.now r
-        ≡ read_factor limit (words text.now tokens.now)) }
+    ensures { ReadsAs tree_in (read_factor limit) source.now cursor.old result cursor.new }
 {
-    match sign(tokens) {
-        Some((sign, rest)) => match primary(alloc, limit, &*text, rest)? {
-            Some(operand) => make_signed(alloc, limit, sign, operand),
-            None => Ok(None),
-        },
-        None => primary(alloc, limit, &*text, tokens),
+    if let Some(sign) = cursor.accept_sign(&*source) {
+        let operand = primary(&*source, &mut *cursor, limit)?;
+        return make_signed(source.alloc(), limit, sign, operand);
     }
+    primary(&*source, &mut *cursor, limit)
 }
 
 /// The product of what was read and of the factors after it, each after an asterisk.
 #[cycle(expression)]
-pub fn factors<'a>(
-    alloc: Global,
+pub fn factors(
+    source: &Source<'_>,
+    cursor: &mut Cursor,
     limit: u8,
     most: u8,
-    text: &str,
-    left: ExpressionPart<'a>,
-) -> Result<Option<ExpressionPart<'a>>, AllocError>
+    left: ExpressionPart,
+) -> Result<ExpressionPart, Stop>
     requires low { limit ≤ DEEPEST_TREE }
     requires few { most ≤ DEEPEST_TREE }
-    ensures { IfOk result (λ r. expression_found text.now r
-        ≡ more_factors limit (read_factor limit) most left.entry.tree
-        (words text.now left.entry.rest.now)) }
+    ensures { ReadsAs tree_in (more_factors limit (read_factor limit) most left.tree) source.now
+        cursor.old result cursor.new }
 {
-    let Some(rest) = after(TokenKind::Asterisk, left.rest) else {
-        return Ok(Some(left));
-    };
+    if !cursor.accept(&*source, TokenKind::Asterisk) {
+        return Ok(left);
+    }
     if most == 0 {
         drop(left);
-        return Ok(None);
+        return Err(Stop::TooDeep);
     }
-    match factor(alloc, limit, &*text, rest)? {
-        Some(right) => match make_product(alloc, limit, left, right)? {
-            Some(both) => factors(alloc, limit, most - 1, &*text, both),
-            None => Ok(None),
-        },
-        None => {
-            drop(left);
-            Ok(None)
-        }
-    }
+    let right = factor(&*source, &mut *cursor, limit)?;
+    let both = make_product(source.alloc(), limit, left, right)?;
+    factors(&*source, &mut *cursor, limit, most - 1, both)
 }
 
 /// A term: factors with asterisks between them.
 #[cycle(expression)]
-pub fn term<'a>(
-    alloc: Global,
-    limit: u8,
-    text: &str,
-    tokens: &'a [Token],
-) -> Result<Option<ExpressionPart<'a>>, AllocError>
+fn term(source: &Source<'_>, cursor: &mut Cursor, limit: u8) -> Result<ExpressionPart, Stop>
     requires { limit ≤ DEEPEST_TREE }
-    ensures { IfOk result (λ r. expression_found text.now r
-        ≡ read_term limit (words text.now tokens.now)) }
+    ensures { ReadsAs tree_in (read_term limit) source.now cursor.old result cursor.new }
 {
-    match factor(alloc, limit, &*text, tokens)? {
-        Some(left) => factors(alloc, limit, limit, &*text, left),
-        None => Ok(None),
-    }
+    let left = factor(&*source, &mut *cursor, limit)?;
+    factors(&*source, &mut *cursor, limit, limit, left)
 }
 
 /// The sum of what was read and of the terms after it, each with its sign.
 #[cycle(expression)]
-pub fn terms<'a>(
-    alloc: Global,
+pub fn terms(
+    source: &Source<'_>,
+    cursor: &mut Cursor,
     limit: u8,
     most: u8,
-    text: &str,
-    left: ExpressionPart<'a>,
-) -> Result<Option<ExpressionPart<'a>>, AllocError>
+    left: ExpressionPart,
+) -> Result<ExpressionPart, Stop>
     requires low { limit ≤ DEEPEST_TREE }
     requires few { most ≤ DEEPEST_TREE }
-    ensures { IfOk result (λ r. expression_found text.now r
-        ≡ more_terms limit (read_term limit) most left.entry.tree
-        (words text.now left.entry.rest.now)) }
+    ensures { ReadsAs tree_in (more_terms limit (read_term limit) most left.tree) source.now
+        cursor.old result cursor.new }
 {
-    let Some((sign, rest)) = sign(left.rest) else {
-        return Ok(Some(left));
+    let Some(sign) = cursor.accept_sign(&*source) else {
+        return Ok(left);
     };
     if most == 0 {
         drop(left);
-        return Ok(None);
+        return Err(Stop::TooDeep);
     }
-    match term(alloc, limit, &*text, rest)? {
-        Some(right) => match make_sum(alloc, limit, sign, left, right)? {
-            Some(both) => terms(alloc, limit, most - 1, &*text, both),
-            None => Ok(None),
-        },
-        None => {
-            drop(left);
-            Ok(None)
-        }
-    }
+    let right = term(&*source, &mut *cursor, limit)?;
+    let both = make_sum(source.alloc(), limit, sign, left, right)?;
+    terms(&*source, &mut *cursor, limit, most - 1, both)
 }
 
 /// An expression: terms with signs between them.
 #[cycle(expression)]
-pub fn expression<'a>(
-    alloc: Global,
+pub fn expression(
+    source: &Source<'_>,
+    cursor: &mut Cursor,
     limit: u8,
-    text: &str,
-    tokens: &'a [Token],
-) -> Result<Option<ExpressionPart<'a>>, AllocError>
+) -> Result<ExpressionPart, Stop>
     requires { limit ≤ DEEPEST_TREE }
-    ensures { IfOk result (λ r. expression_found text.now r
-        ≡ read limit (words text.now tokens.now)) }
+    ensures { ReadsAs tree_in (read limit) source.now cursor.old result cursor.new }
 {
-    match term(alloc, limit, &*text, tokens)? {
-        Some(left) => terms(alloc, limit, limit, &*text, left),
-        None => Ok(None),
-    }
+    let left = term(&*source, &mut *cursor, limit)?;
+    terms(&*source, &mut *cursor, limit, limit, left)
 }
 
-/// The expression at the front of the tokens of `text`, as long as it can be, and the tokens after
-/// it. `None` where there is none, or where its tree is deeper than `DEEPEST_TREE`.
-pub fn read_expression<'a>(
-    alloc: Global,
-    text: &str,
-    tokens: &'a [Token],
-) -> Result<Option<(Expression, &'a [Token])>, AllocError>
-    ensures { IfOk result (λ r. with_words text.now r ≡ read DEEPEST_TREE (words text.now tokens.now)) }
+/// A factor, from what follows its sign on.
+pub fn signed_factor(
+    source: &Source<'_>,
+    cursor: &mut Cursor,
+    limit: u8,
+    sign: Sign,
+) -> Result<ExpressionPart, Stop>
+    requires { limit ≤ DEEPEST_TREE }
+    ensures { ReadsAs tree_in (signed_from limit (read_primary limit) sign) source.now cursor.old
+        result cursor.new }
 {
-    match expression(alloc, DEEPEST_TREE, text, tokens)? {
-        Some(
-            ExpressionPart {
-                tree,
-                depth: _,
-                rest,
-            },
-        ) => Ok(Some((tree, rest))),
-        None => Ok(None),
-    }
+    let operand = primary(source, cursor, limit)?;
+    make_signed(source.alloc(), limit, sign, operand)
+}
+
+/// The expression at the cursor, as long as it can be.
+pub fn read_expression(source: &Source<'_>, cursor: &mut Cursor) -> Result<Expression, Stop>
+    ensures { Reads (read DEEPEST_TREE) source.now cursor.old result cursor.new }
+{
+    let found = expression(source, cursor, DEEPEST_TREE)?;
+    let (tree, _) = found.into_parts();
+    Ok(tree)
 }

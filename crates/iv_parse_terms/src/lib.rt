@@ -3,18 +3,24 @@
 
 mod condition;
 mod condition_part;
+mod cursor;
 mod expression;
 mod expression_part;
 mod from;
 mod from_part;
-mod front;
 mod item;
 mod item_part;
 mod laws;
 mod make;
 mod predicate;
+mod source;
+mod stop;
+mod wanted;
 
 pub use condition::{read_condition, read_from};
+pub use cursor::Cursor;
 pub use expression::read_expression;
-pub use front::{after, name, sign};
 pub use laws::{condition_laws, expression_laws, from_laws};
+pub use source::Source;
+pub use stop::Stop;
+pub use wanted::{MOST_WANTED, Wanted};

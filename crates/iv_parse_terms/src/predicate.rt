@@ -1,364 +1,286 @@
-//! Predicates, parentheses, NOT, AND and OR over what was found.
-ghost use Rattle.std.specs.Prelude.{◌≡◌, ℕ, ◌+◌, ◌≤◌, List, IfOk, None};
-ghost use Rattle.iv_parse_terms.specs.declared.item.Item.TheVariants.{Truth};
-ghost use Rattle.iv_parse_terms.specs.After.{then_read};
-ghost use Rattle.iv_lex.specs.Words.{words};
-ghost use Rattle.iv_parse_terms.specs.ItemDepth.{item_depth};
+//! Predicates, parentheses, NOT, AND and OR over what was read.
+ghost use Rattle.std.specs.Prelude.{◌≡◌, ◌+◌, ◌≤◌, None};
+ghost use Rattle.iv_parse_terms.specs.declared.item.Item.TheVariants.{Value};
 ghost use Rattle.iv_syntax.specs.Trees.{condition_depth};
-ghost use Rattle.iv_parse_terms.specs.readers.Conditions.{FoundItem, as_item, condition_fits, on_value, enclose as enclosed_item, close_item as closed_item, null_test, comparison_from, predicate_from, value_test, negate as negated_item, after_truth, connection, connection_from, truth_alone};
-ghost use Rattle.iv_parse_terms.specs.Seen.{expression_found, rest_words};
-ghost use Rattle.iv_parse_terms.specs.SeenItem.{condition_found, item_found};
+ghost use Rattle.iv_parse_terms.specs.readers.Conditions.{condition_fits, on_value, enclose as enclosed_item, close_item as closed_item, not_null, is_null, null_test, comparison_from, predicate_from, value_test, negate as negated_item, after_truth, connection, connection_from, truth_alone};
+ghost use Rattle.iv_parse_terms.specs.Reading.{MakesAs, ReadsAs, Tries};
+ghost use Rattle.iv_parse_terms.specs.SeenItem.{condition_in, item_in};
 
 use crate::condition_part::ConditionPart;
+use crate::cursor::Cursor;
 use crate::expression::{expression, factors, make_group, terms};
 use crate::expression_part::ExpressionPart;
-use crate::front::{after, comparison};
 use crate::item::{Connective, Item};
 use crate::item_part::ItemPart;
 use crate::make::{connected_of, enclosed_of, negated_of};
+use crate::source::Source;
+use crate::stop::Stop;
 use iv_expr::Comparison;
-use iv_lex::{Token, TokenKind};
+use iv_lex::TokenKind;
 use iv_syntax::{Condition, DEEPEST_TREE};
-use std::alloc::{AllocError, Global};
+use std::alloc::Global;
 
-/// The value that was found, as an item.
-pub fn value_item(found: Option<ExpressionPart<'_>>) -> Option<ItemPart<'_>>
-    ensures { (text : List ℕ)
-        → item_found text result ≡ as_item (expression_found text found.entry) }
+/// The value that was read, as an item.
+pub fn value_item(value: ExpressionPart) -> ItemPart
+    ensures { result.item ≡ Value value.tree }
 {
-    match found {
-        Some(ExpressionPart { tree, depth, rest }) => Some(ItemPart {
-            item: Item::Value(tree),
-            depth,
-            rest,
-        }),
-        None => None,
+    let (tree, depth) = value.into_parts();
+    ItemPart {
+        item: Item::Value(tree),
+        depth,
     }
 }
 
 /// The condition, where it is not too deep; `below` is the depth of its deepest part.
-pub fn fit(limit: u8, tree: Condition, below: u8, rest: &[Token]) -> Option<ItemPart<'_>>
+pub fn fit(limit: u8, tree: Condition, below: u8) -> Result<ItemPart, Stop>
     requires { condition_depth tree ≡ 1 + below }
-    ensures { (text : List ℕ)
-        → item_found text result ≡ condition_fits limit tree (words text rest.now) }
+    ensures { MakesAs item_in (condition_fits limit tree) result }
 {
     if below >= limit {
         drop(tree);
-        return None;
+        return Err(Stop::TooDeep);
     }
-    Some(ItemPart {
+    Ok(ItemPart {
         item: Item::Truth(tree),
         depth: below + 1,
-        rest,
     })
 }
 
-fn enclose<'a>(
-    alloc: Global,
-    limit: u8,
-    inside: ItemPart<'a>,
-    rest: &'a [Token],
-) -> Result<Option<ItemPart<'a>>, AllocError>
-    ensures { (text : List ℕ)
-        → IfOk result (λ r. item_found text r
-        ≡ enclosed_item limit inside.entry.item (words text rest.now)) }
+fn enclose(alloc: Global, limit: u8, inside: ItemPart) -> Result<ItemPart, Stop>
+    ensures { MakesAs item_in (enclosed_item limit inside.item) result }
 {
-    let ItemPart {
-        item,
-        depth,
-        rest: _,
-    } = inside;
+    let (item, depth) = inside.into_parts();
     match item {
         Item::Value(tree) => {
-            let inside = ExpressionPart { tree, depth, rest };
-            Ok(value_item(make_group(alloc, limit, inside, rest)?))
+            let group = make_group(alloc, limit, ExpressionPart { tree, depth })?;
+            Ok(value_item(group))
         }
-        Item::Truth(tree) => Ok(fit(limit, enclosed_of(alloc, tree)?, depth, rest)),
+        Item::Truth(tree) => {
+            let tree = enclosed_of(alloc, tree)?;
+            fit(limit, tree, depth)
+        }
     }
 }
 
 /// The item in parentheses, where one closes.
-pub fn close_item<'a>(
-    alloc: Global,
+pub fn close_item(
+    source: &Source<'_>,
+    cursor: &mut Cursor,
     limit: u8,
-    inside: ItemPart<'a>,
-) -> Result<Option<ItemPart<'a>>, AllocError>
-    ensures { (text : List ℕ)
-        → IfOk result (λ r. item_found text r
-        ≡ closed_item limit inside.entry.item (words text inside.entry.rest.now)) }
+    inside: ItemPart,
+) -> Result<ItemPart, Stop>
+    ensures { ReadsAs item_in (closed_item limit inside.item) source.now cursor.old result
+        cursor.new }
 {
-    match after(TokenKind::RightParenthesis, inside.rest) {
-        Some(rest) => enclose(alloc, limit, inside, rest),
-        None => Ok(discard(inside)),
+    if cursor.accept(source, TokenKind::RightParenthesis) {
+        return enclose(source.alloc(), limit, inside);
     }
+    drop(inside);
+    Err(Stop::NoMatch)
 }
 
-// IS [NOT] NULL; the tokens are those after IS.
-fn test_null<'a>(limit: u8, value: ExpressionPart<'a>, tokens: &'a [Token]) -> Option<ItemPart<'a>>
-    ensures { (text : List ℕ)
-        → item_found text result ≡ null_test limit value.entry.tree (words text tokens.now) }
+// IS NOT NULL, from NULL on.
+fn test_not_null(
+    source: &Source<'_>,
+    cursor: &mut Cursor,
+    limit: u8,
+    value: ExpressionPart,
+) -> Result<ItemPart, Stop>
+    ensures { ReadsAs item_in (not_null limit value.tree) source.now cursor.old result
+        cursor.new }
 {
-    let ExpressionPart {
-        tree,
-        depth,
-        rest: _,
-    } = value;
-    if let Some(rest) = after(TokenKind::Not, tokens) {
-        return match after(TokenKind::Null, rest) {
-            Some(rest) => fit(limit, Condition::IsNotNull(tree), depth, rest),
-            None => {
-                drop(tree);
-                None
-            }
-        };
+    let (tree, depth) = value.into_parts();
+    if cursor.accept(source, TokenKind::Null) {
+        return fit(limit, Condition::IsNotNull(tree), depth);
     }
-    match after(TokenKind::Null, tokens) {
-        Some(rest) => fit(limit, Condition::IsNull(tree), depth, rest),
-        None => {
-            drop(tree);
-            None
-        }
-    }
+    drop(tree);
+    Err(Stop::NoMatch)
 }
 
-fn compare<'a>(
-    alloc: Global,
+// IS NULL, from NULL on.
+fn test_is_null(
+    source: &Source<'_>,
+    cursor: &mut Cursor,
+    limit: u8,
+    value: ExpressionPart,
+) -> Result<ItemPart, Stop>
+    ensures { ReadsAs item_in (is_null limit value.tree) source.now cursor.old result cursor.new }
+{
+    let (tree, depth) = value.into_parts();
+    if cursor.accept(source, TokenKind::Null) {
+        return fit(limit, Condition::IsNull(tree), depth);
+    }
+    drop(tree);
+    Err(Stop::NoMatch)
+}
+
+// IS [NOT] NULL, from what follows IS on.
+fn test_null(
+    source: &Source<'_>,
+    cursor: &mut Cursor,
+    limit: u8,
+    value: ExpressionPart,
+) -> Result<ItemPart, Stop>
+    ensures { ReadsAs item_in (null_test limit value.tree) source.now cursor.old result
+        cursor.new }
+{
+    if cursor.accept(source, TokenKind::Not) {
+        return test_not_null(source, cursor, limit, value);
+    }
+    test_is_null(source, cursor, limit, value)
+}
+
+fn compare(
+    source: &Source<'_>,
+    cursor: &mut Cursor,
     limit: u8,
     by: Comparison,
-    left: ExpressionPart<'a>,
-    text: &str,
-    tokens: &'a [Token],
-) -> Result<Option<ItemPart<'a>>, AllocError>
+    left: ExpressionPart,
+) -> Result<ItemPart, Stop>
     requires { limit ≤ DEEPEST_TREE }
-    ensures { IfOk result (λ r. item_found text.now r
-        ≡ comparison_from limit by left.entry.tree (words text.now tokens.now)) }
+    ensures { ReadsAs item_in (comparison_from limit by left.tree) source.now cursor.old result
+        cursor.new }
 {
-    match expression(alloc, limit, text, tokens)? {
-        Some(right) => {
-            let below = left.depth.max(right.depth);
-            Ok(fit(
-                limit,
-                Condition::Compare(by, left.tree, right.tree),
-                below,
-                right.rest,
-            ))
-        }
-        None => {
-            drop(left);
-            Ok(None)
-        }
-    }
+    let right = expression(source, cursor, limit)?;
+    let (left, first) = left.into_parts();
+    let (right, second) = right.into_parts();
+    let below = first.max(second);
+    fit(limit, Condition::Compare(by, left, right), below)
 }
 
 // The predicate that begins with this value, or the value alone.
-fn test_whole<'a>(
-    alloc: Global,
+fn test_whole(
+    source: &Source<'_>,
+    cursor: &mut Cursor,
     limit: u8,
-    text: &str,
-    value: ExpressionPart<'a>,
-) -> Result<Option<ItemPart<'a>>, AllocError>
+    value: ExpressionPart,
+) -> Result<ItemPart, Stop>
     requires { limit ≤ DEEPEST_TREE }
-    ensures { IfOk result (λ r. item_found text.now r
-        ≡ predicate_from limit value.entry.tree (words text.now value.entry.rest.now)) }
+    ensures { ReadsAs item_in (predicate_from limit value.tree) source.now cursor.old result
+        cursor.new }
 {
-    if let Some((by, rest)) = comparison(value.rest) {
-        return compare(alloc, limit, by, value, text, rest);
+    if let Some(by) = cursor.accept_comparison(source) {
+        return compare(source, cursor, limit, by, value);
     }
-    match after(TokenKind::Is, value.rest) {
-        Some(rest) => Ok(test_null(limit, value, rest)),
-        None => Ok(value_item(Some(value))),
+    if cursor.accept(source, TokenKind::Is) {
+        return test_null(source, cursor, limit, value);
     }
+    Ok(value_item(value))
 }
 
 // The test that begins with this factor, or the value alone.
-fn test_value<'a>(
-    alloc: Global,
+fn test_value(
+    source: &Source<'_>,
+    cursor: &mut Cursor,
     limit: u8,
-    text: &str,
-    value: ExpressionPart<'a>,
-) -> Result<Option<ItemPart<'a>>, AllocError>
+    value: ExpressionPart,
+) -> Result<ItemPart, Stop>
     requires { limit ≤ DEEPEST_TREE }
-    ensures { IfOk result (λ r. item_found text.now r
-        ≡ value_test limit value.entry.tree (words text.now value.entry.rest.now)) }
+    ensures { ReadsAs item_in (value_test limit value.tree) source.now cursor.old result
+        cursor.new }
 {
-    match factors(alloc, limit, limit, text, value)? {
-        Some(term) => match terms(alloc, limit, limit, text, term)? {
-            Some(whole) => test_whole(alloc, limit, text, whole),
-            None => Ok(None),
-        },
-        None => Ok(None),
-    }
+    let term = factors(source, cursor, limit, limit, value)?;
+    let whole = terms(source, cursor, limit, limit, term)?;
+    test_whole(source, cursor, limit, whole)
 }
 
 /// A value goes on to its test; a condition stays as it is.
-pub fn go_on<'a>(
-    alloc: Global,
+pub fn go_on(
+    source: &Source<'_>,
+    cursor: &mut Cursor,
     limit: u8,
-    text: &str,
-    found: ItemPart<'a>,
-) -> Result<Option<ItemPart<'a>>, AllocError>
+    found: ItemPart,
+) -> Result<ItemPart, Stop>
     requires { limit ≤ DEEPEST_TREE }
-    ensures { IfOk result (λ r. item_found text.now r
-        ≡ on_value (value_test limit) found.entry.item (words text.now found.entry.rest.now)) }
+    ensures { ReadsAs item_in (on_value (value_test limit) found.item) source.now cursor.old
+        result cursor.new }
 {
-    let ItemPart { item, depth, rest } = found;
+    let (item, depth) = found.into_parts();
     match item {
-        Item::Value(tree) => {
-            test_value(alloc, limit, text, ExpressionPart { tree, depth, rest })
-        }
-        Item::Truth(tree) => Ok(Some(ItemPart {
+        Item::Value(tree) => test_value(source, cursor, limit, ExpressionPart { tree, depth }),
+        Item::Truth(tree) => Ok(ItemPart {
             item: Item::Truth(tree),
             depth,
-            rest,
-        })),
+        }),
     }
 }
 
-/// NOT and the condition that was found after it.
-pub fn negate<'a>(
-    alloc: Global,
-    limit: u8,
-    found: ItemPart<'a>,
-) -> Result<Option<ItemPart<'a>>, AllocError>
-    ensures { (text : List ℕ)
-        → IfOk result (λ r. item_found text r
-        ≡ negated_item limit found.entry.item (words text found.entry.rest.now)) }
+/// NOT and the condition that was read after it.
+pub fn negate(alloc: Global, limit: u8, found: ItemPart) -> Result<ItemPart, Stop>
+    ensures { MakesAs item_in (negated_item limit found.item) result }
 {
-    let ItemPart { item, depth, rest } = found;
+    let (item, depth) = found.into_parts();
     match item {
-        Item::Truth(tree) => Ok(fit(limit, negated_of(alloc, tree)?, depth, rest)),
+        Item::Truth(tree) => {
+            let tree = negated_of(alloc, tree)?;
+            fit(limit, tree, depth)
+        }
         Item::Value(tree) => {
             drop(tree);
-            Ok(None)
+            Err(Stop::NoMatch)
         }
     }
 }
 
-/// The tokens after AND or OR, where it comes after a condition.
-pub fn connective_after<'a>(connective: Connective, found: &ItemPart<'a>) -> Option<&'a [Token]>
-    ensures { (text : List ℕ)
-        → rest_words text result
-        ≡ after_truth connective found.now.item (words text found.now.rest.now) }
+/// Goes past AND or OR, where it comes after a condition.
+pub fn accept_connective(
+    source: &Source<'_>,
+    cursor: &mut Cursor,
+    connective: Connective,
+    found: &ItemPart,
+) -> bool
+    ensures { Tries (after_truth connective found.now.item) source.now cursor.old result
+        cursor.new }
 {
-    let rest = found.rest;
     match (&found.item, connective) {
-        (Item::Truth(_), Connective::And) => after(TokenKind::And, rest),
-        (Item::Truth(_), Connective::Or) => after(TokenKind::Or, rest),
-        (Item::Value(_), _) => None,
+        (Item::Truth(_), Connective::And) => cursor.accept(source, TokenKind::And),
+        (Item::Truth(_), Connective::Or) => cursor.accept(source, TokenKind::Or),
+        (Item::Value(_), _) => false,
     }
 }
 
-/// The condition that was found, where it is no value.
-pub fn truth(found: ItemPart<'_>) -> Option<ConditionPart<'_>>
-    ensures { (text : List ℕ)
-        → condition_found text result
-        ≡ truth_alone found.entry.item (words text found.entry.rest.now) }
+/// The condition that was read, where it is no value.
+pub fn truth(found: ItemPart) -> Result<ConditionPart, Stop>
+    ensures { MakesAs condition_in (truth_alone found.item) result }
 {
-    let ItemPart { item, depth, rest } = found;
+    let (item, depth) = found.into_parts();
     match item {
-        Item::Truth(tree) => Some(ConditionPart { tree, depth, rest }),
+        Item::Truth(tree) => Ok(ConditionPart { tree, depth }),
         Item::Value(tree) => {
             drop(tree);
-            None
+            Err(Stop::NoMatch)
         }
     }
 }
 
-fn connect<'a>(
+fn connect(
     alloc: Global,
     limit: u8,
     connective: Connective,
-    left: ConditionPart<'a>,
-    right: ConditionPart<'a>,
-) -> Result<Option<ItemPart<'a>>, AllocError>
-    ensures { (text : List ℕ) → IfOk result (λ r. item_found text r
-        ≡ condition_fits limit (connection connective left.entry.tree right.entry.tree)
-        (words text right.entry.rest.now)) }
+    left: ConditionPart,
+    right: ConditionPart,
+) -> Result<ItemPart, Stop>
+    ensures { MakesAs item_in (condition_fits limit (connection connective left.tree right.tree))
+        result }
 {
-    let below = left.depth.max(right.depth);
-    let ConditionPart {
-        tree: left,
-        depth: _,
-        rest: _,
-    } = left;
-    let ConditionPart {
-        tree: right,
-        depth: _,
-        rest,
-    } = right;
+    let (left, first) = left.into_parts();
+    let (right, second) = right.into_parts();
+    let below = first.max(second);
     let tree = connected_of(alloc, connective, left, right)?;
-    Ok(fit(limit, tree, below, rest))
+    fit(limit, tree, below)
 }
 
-/// Nothing, in place of what was found.
-pub fn discard(found: ItemPart<'_>) -> Option<ItemPart<'_>>
-    ensures { result ≡ None }
-{
-    drop(found);
-    None
-}
-
-fn discard_condition(found: ConditionPart<'_>) -> Option<ItemPart<'_>>
-    ensures { result ≡ None }
-{
-    drop(found);
-    None
-}
-
-fn join_right<'a>(
+/// Two conditions with AND or OR between them.
+pub fn join(
     alloc: Global,
     limit: u8,
     connective: Connective,
-    left: ConditionPart<'a>,
-    right: ItemPart<'a>,
-) -> Result<Option<ItemPart<'a>>, AllocError>
-    ensures { (text : List ℕ) → IfOk result (λ r. item_found text r
-        ≡ connection_from connective limit (Truth left.entry.tree) right.entry.item
-        (words text right.entry.rest.now)) }
+    left: ItemPart,
+    right: ItemPart,
+) -> Result<ItemPart, Stop>
+    ensures { MakesAs item_in (connection_from connective limit left.item right.item) result }
 {
-    match truth(right) {
-        Some(right) => connect(alloc, limit, connective, left, right),
-        None => Ok(discard_condition(left)),
-    }
-}
-
-// Two conditions joined by AND or OR.
-fn join<'a>(
-    alloc: Global,
-    limit: u8,
-    connective: Connective,
-    left: ItemPart<'a>,
-    right: ItemPart<'a>,
-) -> Result<Option<ItemPart<'a>>, AllocError>
-    ensures { (text : List ℕ) → IfOk result (λ r. item_found text r
-        ≡ connection_from connective limit left.entry.item right.entry.item
-        (words text right.entry.rest.now)) }
-{
-    match truth(left) {
-        Some(left) => join_right(alloc, limit, connective, left, right),
-        None => Ok(discard(right)),
-    }
-}
-
-/// A condition joined by AND or OR to what was found after it.
-pub fn join_found<'a>(
-    alloc: Global,
-    limit: u8,
-    connective: Connective,
-    left: ItemPart<'a>,
-    right: Result<Option<ItemPart<'a>>, AllocError>,
-) -> Result<Option<ItemPart<'a>>, AllocError>
-    ensures { (text : List ℕ) (found : FoundItem)
-        → IfOk right.entry (λ o. item_found text o ≡ found)
-        → IfOk result (λ r. item_found text r
-        ≡ then_read found (connection_from connective limit left.entry.item)) }
-{
-    match right {
-        Ok(Some(right)) => join(alloc, limit, connective, left, right),
-        Ok(None) => Ok(discard(left)),
-        Err(refused) => {
-            drop(left);
-            Err(refused)
-        }
-    }
+    let left = truth(left)?;
+    let right = truth(right)?;
+    connect(alloc, limit, connective, left, right)
 }

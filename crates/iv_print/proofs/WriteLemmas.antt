@@ -65,3 +65,11 @@ wrote_step bytes xs rest all a b c w e p = record {
 pub wrote_all : (bytes rest : List ℕ) (a b : SinkState) → Wrote bytes rest a b → rest ≡ []
     → Writes a b (Ok tt) bytes
 wrote_all bytes rest a b w h = wrote_end bytes rest a b w (ap length h)
+
+-- and what is left is written at last
+pub wrote_last : (bytes rest last : List ℕ) (a b c : SinkState) (r : Result (Unit {0}) DeviceFault) → Wrote bytes rest a b → rest ≡ last
+    → Writes b c r last → Writes a c r bytes
+wrote_last bytes rest last a b c (Ok u) w e p =
+    let done : Wrote bytes [] a c = wrote_step bytes last [] rest a b c w (e ∙ sym (append-nil last)) p in
+    wrote_end bytes [] a c done refl
+wrote_last bytes rest last a b c (Err e) w q p = fails_then a b c w.works p

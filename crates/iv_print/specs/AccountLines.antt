@@ -22,7 +22,7 @@ use Rattle.iv_catalogue.specs.declared.cause.Refusal.{Refusal}
 use Rattle.iv_machine.specs.declared.answer.Answer.{Answer}
 use Rattle.iv_machine.specs.BeforeTriggers.{event_of_change}
 use Rattle.iv_account.specs.declared.entry.RowAction.{RowAction}
-use Rattle.iv_account.specs.declared.entry.Seen.{Seen}
+use Rattle.iv_account.specs.declared.entry.TriggerView.{TriggerView}
 use Rattle.iv_account.specs.declared.entry.Entry.{Entry}
 use Rattle.iv_account.specs.declared.entry.Entry.TheVariants.{Changed, Acted, Ran, Began, Ended, Faulted}
 use Rattle.iv_print.specs.Lines.{values_text, name_of, trigger_text, row_number_text}
@@ -109,7 +109,7 @@ action_lines s depth actions = flat_map (action_line s depth) actions
 -- ---- triggers
 
 -- A trigger with the rows that it saw, and one deeper a line for each change that it saw.
-abbrev pub ran_lines : Schema → ℕ → ℕ → Seen → List ℕ
+abbrev pub ran_lines : Schema → ℕ → ℕ → TriggerView → List ℕ
 ran_lines s depth id seen =
     indent depth
     ++ (codes "trigger"

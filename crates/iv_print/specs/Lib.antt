@@ -6,3 +6,6 @@ pub mod Writing
 pub mod Lines
 pub mod AccountLines
 pub mod WorkedAccounts
+pub mod Causes
+pub mod Json
+pub mod JsonAccounts

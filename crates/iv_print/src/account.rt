@@ -12,7 +12,7 @@ ghost use Rattle.iv_print.specs.AccountLines.{spaces, indent, table_name, column
 use crate::device::{DeviceFault, Sink};
 use crate::outcome::{write_borrowed, write_name, write_row_number, write_trigger, write_values};
 use crate::write::{write_all, write_number};
-use iv_account::{Entry, RowAction, Seen};
+use iv_account::{Entry, RowAction, TriggerView};
 use iv_catalogue::{
     Catalogue, Cause, Column, Constraint, ConstraintId, ForeignKey, Refusal, Rule, Table, TriggerId,
 };
@@ -240,7 +240,7 @@ fn write_ran<W: Sink>(
     catalogue: &Catalogue,
     depth: usize,
     id: TriggerId,
-    seen: &Seen,
+    seen: &TriggerView,
 ) -> Result<(), DeviceFault>
     ensures { Writes (W.state sink.old) (W.state sink.new) result
         (ran_lines catalogue.now depth id seen.now) }
@@ -527,8 +527,8 @@ fn write_entry<W: Sink>(
     }
 }
 
-// How deep the entry after this one is.
-fn depth_after(depth: usize, entry: &Entry) -> usize
+/// How deep the entry after this one is.
+pub(crate) fn depth_after(depth: usize, entry: &Entry) -> usize
     requires { depth < 2 ^ 64 - 1 }
     ensures { result ≡ depth_after depth entry.now }
 {

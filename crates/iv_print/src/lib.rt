@@ -1,14 +1,25 @@
-//! Outcomes and accounts as text, and the devices that text goes to and scripts come from.
+//! Outcomes and accounts as text and as JSON, and the devices that text goes to and scripts come from.
 #![tactic(auto, using(crate::proofs::WriteLemmas::writes_then))]
 
 mod account;
 mod buffered;
+mod cause;
 mod device;
+mod format;
+mod json;
+mod json_account;
 mod outcome;
 mod write;
 
 pub use account::write_account;
 pub use buffered::Buffered;
+pub use cause::{cause_name, cause_number, constraint_of, trigger_of};
 pub use device::{DeviceFault, Sink, Source, Std};
-pub use outcome::{cause_words, write_outcome};
+pub use format::{Format, Style};
+pub use json::{
+    write_json_bytes, write_json_text, write_key, write_member, write_number_member,
+    write_outcome_members, write_text_member,
+};
+pub use json_account::write_json_account;
+pub use outcome::{cause_words, signal_text, write_outcome};
 pub use write::{write_all, write_number};

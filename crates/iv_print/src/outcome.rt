@@ -207,8 +207,8 @@ pub(crate) fn write_trigger<W: Sink>(
     }
 }
 
-// The text of the SIGNAL at this place of a trigger's body, from 1; none where there is no SIGNAL.
-fn signal_text(catalogue: &Catalogue, id: TriggerId, place: u32) -> &str
+/// The text of the SIGNAL at this place of a trigger's body, from 1; none where there is no SIGNAL.
+pub fn signal_text(catalogue: &Catalogue, id: TriggerId, place: u32) -> &str
     ensures { result.now ≡
         signal_text (body_statement (trigger_numbered catalogue.now id) place) }
 {

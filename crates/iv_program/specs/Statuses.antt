@@ -5,6 +5,7 @@ use Rattle.iv_machine.specs.Bounds.{Bounds}
 use Rattle.iv_print.specs.Counts.{counted}
 use Rattle.iv_print.specs.Sinks.{SinkState, FailsOnce}
 use Rattle.iv_print.specs.Writing.{Writes}
+use Rattle.iv_print.specs.declared.format.Style.{Style}
 use Rattle.iv_print.specs.declared.device.DeviceFault.{DeviceFault}
 use Rattle.iv_script.specs.Lengths.{Fits}
 use Rattle.iv_script.specs.RunFaults.{run_fault_text}
@@ -18,11 +19,11 @@ use Rattle.iv_script.specs.declared.summary.Summary.{Summary}
 abbrev pub status_of : Summary → ℕ
 status_of summary = if (summary.refused == 0) && is_none summary.fault then 0 else 1
 
--- The transcript of these bytes under these limits was appended, with accounts where they are asked for, for some choice of statements
--- that were refused memory, and the status says whether all was accepted.
-pub record WroteTranscript (sure_back : Bool) (bytes : List ℕ) (limits : Bounds) (asked : Bool) (status : ℕ) (before after : SinkState) : Type 0 where
+-- The transcript of these bytes under these limits was appended, in this style, for some choice of statements that were refused memory,
+-- and the status says whether all was accepted.
+pub record WroteTranscript (sure_back : Bool) (bytes : List ℕ) (limits : Bounds) (style : Style) (status : ℕ) (before after : SinkState) : Type 0 where
   pub summary : Summary
-  pub ran : RanScript sure_back bytes limits asked summary before after
+  pub ran : RanScript sure_back bytes limits style summary before after
   pub status_is : status ≡ status_of summary
 
 -- What is known where a run did not end because of this fault: of the bytes of its script, of the

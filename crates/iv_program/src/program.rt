@@ -3,7 +3,7 @@ ghost use Rattle.std.specs.Prelude.{◌≤◌};
 
 use crate::running::{run_script, status};
 use iv_options::{Options, WordsError, options};
-use iv_print::write_all;
+use iv_print::{Format, Style, write_all};
 use iv_script::{RunFault, Sink, Std};
 use iv_step::Executor;
 use std::alloc::Global;
@@ -38,6 +38,12 @@ fn refuse_words<W: Sink, E: Sink>(error: WordsError, writer: &mut W, faults: &mu
     }
 }
 
+// What the transcript is written as.
+fn style_of(json: bool, explain: bool) -> Style {
+    let format = if json { Format::Json } else { Format::Words };
+    Style { format, explain }
+}
+
 // Runs the script of the file, or of standard input where there is none.
 fn run_options<X: Executor + Drop, H: Files + Input, W: Sink, E: Sink>(
     alloc: Global,
@@ -49,12 +55,13 @@ fn run_options<X: Executor + Drop, H: Files + Input, W: Sink, E: Sink>(
     ensures { result ≤ 2 }
 {
     let limits = options.limits;
+    let style = style_of(options.json, options.explain);
     let Some(file) = options.file else {
         let mut reader = Std::new(rt.reader());
         return run_script::<X, Std<H::Reader>, W, E>(
             alloc,
             limits,
-            options.explain,
+            style,
             &mut reader,
             writer,
             faults,
@@ -63,14 +70,7 @@ fn run_options<X: Executor + Drop, H: Files + Input, W: Sink, E: Sink>(
     match File::open(rt, file) {
         Ok(file) => {
             let mut reader = Std::new(file);
-            run_script::<X, Std<H::File>, W, E>(
-                alloc,
-                limits,
-                options.explain,
-                &mut reader,
-                writer,
-                faults,
-            )
+            run_script::<X, Std<H::File>, W, E>(alloc, limits, style, &mut reader, writer, faults)
         }
         Err(_) => status(faults, Err(RunFault::Read)),
     }

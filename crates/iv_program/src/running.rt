@@ -6,7 +6,7 @@ ghost use Rattle.iv_script.specs.Lengths.{Fits};
 ghost use Rattle.iv_program.specs.Statuses.{status_of, stop_line, Stopped, WritesLine, WroteTranscript};
 
 use iv_machine::Limits;
-use iv_print::write_all;
+use iv_print::{Style, write_all};
 use iv_script::{DeviceFault, LONGEST, RunFault, Sink, Source, Summary, run};
 use iv_step::Executor;
 use std::alloc::Global;
@@ -45,20 +45,19 @@ pub fn status<E: Sink>(faults: &mut E, done: Result<Summary, RunFault>) -> u8
     }
 }
 
-/// Runs the script that the reader gives, under these limits, and writes its transcript, with the account of each
-/// statement where that is asked for. The answer is the status: 0 where every statement was accepted, 1 where one was refused or the script has a fault, and 2 where it
+/// Runs the script that the reader gives, under these limits, and writes its transcript in this style. The answer is the status: 0 where every statement was accepted, 1 where one was refused or the script has a fault, and 2 where it
 /// did not run to its end, which alone has a line on `faults`.
 pub fn run_script<X: Executor + Drop, R: Source, W: Sink, E: Sink>(
     alloc: Global,
     limits: Limits,
-    explain: bool,
+    style: Style,
     reader: &mut R,
     writer: &mut W,
     faults: &mut E,
 ) -> u8
     // What was written is the transcript, and the status is 0 where all was accepted and else 1.
     ensures transcript { result < 2 → IfSome (R.remaining reader.old) (λ bytes.
-        WroteTranscript X.sure_store bytes limits explain result (W.state writer.old) (W.state writer.new)) }
+        WroteTranscript X.sure_store bytes limits style result (W.state writer.old) (W.state writer.new)) }
     ensures fits { result < 2 → IfSome (R.remaining reader.old) (λ bytes. Fits LONGEST bytes) }
     ensures bound { result ≤ 2 }
     // A run that did not reach its end wrote nothing, unless a write failed.
@@ -75,6 +74,6 @@ pub fn run_script<X: Executor + Drop, R: Source, W: Sink, E: Sink>(
         × WritesLine fault (E.state faults.old) (E.state faults.new) }
     ensures quiet { result < 2 → faults.new ≡ faults.old }
 {
-    let done = run::<X, R, W>(alloc, reader, writer, limits, explain);
+    let done = run::<X, R, W>(alloc, reader, writer, limits, style);
     status(faults, done)
 }

@@ -24,6 +24,6 @@ before_end : {X : Type 0} (p : X → Bool) (xs : List X) → nat_lt (position_or
 before_end p [] = refl
 before_end p (x ∷ xs) = passes p x xs (p x) refl (before_end p xs)
 
--- an item that passes is found where some item passes
+-- an item that passes is found if some item passes
 pub found : {X : Type 0} (p : X → Bool) (xs : List X) → is_some (position p xs) ≡ list_any p xs
 found p xs = some_where (nat_lt (position_or_len p xs) (length xs)) (position_or_len p xs) ∙ before_end p xs

@@ -1,4 +1,4 @@
--- Where nothing is told.
+-- When nothing is told.
 use Rattle.std.proofs.Common.{◌≡◌, refl, ℕ, zero, suc, Bool, true, false, not, List, [], ◌∷◌, Option, Some, None, is_some, option_map, slice_get}
 use Rattle.std.specs.Option.{option_or}
 use Rattle.iv_resolution.specs.Scopes.{NamedColumn, has_column}

@@ -3,34 +3,34 @@
 use Rattle.std.specs.Prelude.{ℕ, min, ◌-ℤ◌, pos, List, [], ◌∷◌, map, find, Option, Some, None, unwrap_or, position, slice_get}
 use Rattle.std.specs.List.{enumerate_from}
 use Rattle.std.specs.Str.{bytes_eq}
-use Rattle.iv_resolution.specs.Words.{Value, Kind, Expr, ColumnType, Literal, References, ColumnDefinition, TableElement, ValueOrDefault, SelectList, InsertSource, Insert, Assignment, Update, Delete, Select, ConstraintList, Statement, TriggerAction, TriggerDefinition, Column, Constraint, ForeignKey, Rule, Plan, QueryPlan, ConstraintSet, Setting, Outputs, InsertColumns, InsertRows, DataStatement, BodyStatement, Trigger}
-use Rattle.iv_resolution.specs.Words.value
-use Rattle.iv_resolution.specs.Words.kind
-use Rattle.iv_resolution.specs.Words.expr
-use Rattle.iv_resolution.specs.Words.sign
-use Rattle.iv_resolution.specs.Words.type
-use Rattle.iv_resolution.specs.Words.literal
-use Rattle.iv_resolution.specs.Words.matching.{Simple}
-use Rattle.iv_resolution.specs.Words.referential_action.{NoAction}
-use Rattle.iv_resolution.specs.Words.given
-use Rattle.iv_resolution.specs.Words.select_list as list
-use Rattle.iv_resolution.specs.Words.source
-use Rattle.iv_resolution.specs.Words.insert
-use Rattle.iv_resolution.specs.Words.select
-use Rattle.iv_resolution.specs.Words.constraints
-use Rattle.iv_resolution.specs.Words.statement
-use Rattle.iv_resolution.specs.Words.action
-use Rattle.iv_resolution.specs.Words.rule
-use Rattle.iv_resolution.specs.Words.plan
-use Rattle.iv_resolution.specs.Words.schema.{CreateTable, AddConstraint, CreateTrigger, DropTrigger}
-use Rattle.iv_resolution.specs.Words.query
-use Rattle.iv_resolution.specs.Words.transaction
-use Rattle.iv_resolution.specs.Words.set
-use Rattle.iv_resolution.specs.Words.outputs
-use Rattle.iv_resolution.specs.Words.insert_columns as listing
-use Rattle.iv_resolution.specs.Words.insert_rows as rows
-use Rattle.iv_resolution.specs.Words.data_statement
-use Rattle.iv_resolution.specs.Words.body
+use Rattle.iv_resolution.specs.Types.{Value, Kind, Expr, ColumnType, Literal, References, ColumnDefinition, TableElement, ValueOrDefault, SelectList, InsertSource, Insert, Assignment, Update, Delete, Select, ConstraintList, Statement, TriggerAction, TriggerDefinition, Column, Constraint, ForeignKey, Rule, Plan, QueryPlan, ConstraintSet, Setting, Outputs, InsertColumns, InsertRows, DataStatement, BodyStatement, Trigger}
+use Rattle.iv_resolution.specs.Types.value
+use Rattle.iv_resolution.specs.Types.kind
+use Rattle.iv_resolution.specs.Types.expr
+use Rattle.iv_resolution.specs.Types.sign
+use Rattle.iv_resolution.specs.Types.type
+use Rattle.iv_resolution.specs.Types.literal
+use Rattle.iv_resolution.specs.Types.matching.{Simple}
+use Rattle.iv_resolution.specs.Types.referential_action.{NoAction}
+use Rattle.iv_resolution.specs.Types.given
+use Rattle.iv_resolution.specs.Types.select_list as list
+use Rattle.iv_resolution.specs.Types.source
+use Rattle.iv_resolution.specs.Types.insert
+use Rattle.iv_resolution.specs.Types.select
+use Rattle.iv_resolution.specs.Types.constraints
+use Rattle.iv_resolution.specs.Types.statement
+use Rattle.iv_resolution.specs.Types.action
+use Rattle.iv_resolution.specs.Types.rule
+use Rattle.iv_resolution.specs.Types.plan
+use Rattle.iv_resolution.specs.Types.schema.{CreateTable, AddConstraint, CreateTrigger, DropTrigger}
+use Rattle.iv_resolution.specs.Types.query
+use Rattle.iv_resolution.specs.Types.transaction
+use Rattle.iv_resolution.specs.Types.set
+use Rattle.iv_resolution.specs.Types.outputs
+use Rattle.iv_resolution.specs.Types.insert_columns as listing
+use Rattle.iv_resolution.specs.Types.insert_rows as rows
+use Rattle.iv_resolution.specs.Types.data_statement
+use Rattle.iv_resolution.specs.Types.body
 use Rattle.iv_catalogue.specs.Catalogues.{Schema}
 use Rattle.iv_resolution.specs.Scopes.{NamedColumn, NamedRange, Names, named_columns, place_of, table_place, range_of, source_range}
 use Rattle.iv_resolution.specs.Terms.{integer_of, bound_expression, bound_condition, bound_filter}
@@ -44,7 +44,7 @@ use Rattle.iv_resolution.specs.Triggers.{subject_of, trigger_names, trigger_vari
 unfoldable pub table_id : Names → List ℕ → ℕ
 table_id names name = unwrap_or (table_place names.tables name) 0
 
--- the default of a column by its place; NULL where there is no such column
+-- the default of a column by its place; NULL if there is no such column
 unfoldable pub default_at : List Column → ℕ → Value
 default_at columns place = elim (slice_get columns place) [ Some c ↦ c.default | None ↦ value.Null ]
 

@@ -2,12 +2,12 @@
 -- searched", "Delete statement: searched", "Query specification").
 use Rattle.std.specs.Prelude.{ℕ, Bool, false, not, ◌&&◌, ◌||◌, ◌==◌, List, [], ◌∷◌, length, map, zip, Option, Some, None, is_some, slice_get}
 use Rattle.std.specs.List.{list_any}
-use Rattle.iv_resolution.specs.Words.{ColumnType, Condition, Expression, RangeName, ValueOrDefault, SelectList, InsertSource, Insert, Assignment, Update, Delete, Select, Column, Table}
-use Rattle.iv_resolution.specs.Words.given as value
-use Rattle.iv_resolution.specs.Words.select_list as list
-use Rattle.iv_resolution.specs.Words.source
-use Rattle.iv_resolution.specs.Words.insert
-use Rattle.iv_resolution.specs.Words.select
+use Rattle.iv_resolution.specs.Types.{ColumnType, Condition, Expression, RangeName, ValueOrDefault, SelectList, InsertSource, Insert, Assignment, Update, Delete, Select, Column, Table}
+use Rattle.iv_resolution.specs.Types.given as value
+use Rattle.iv_resolution.specs.Types.select_list as list
+use Rattle.iv_resolution.specs.Types.source
+use Rattle.iv_resolution.specs.Types.insert
+use Rattle.iv_resolution.specs.Types.select
 use Rattle.iv_resolution.specs.Scopes.{NamedColumn, NamedRange, Names, named_columns, type_named, table_place, source_columns, range_of, own_range}
 use Rattle.iv_resolution.specs.Terms.{is_integer_type, is_text_type, is_integer, is_text, misshaped_expression, misshaped_filter}
 
@@ -16,7 +16,7 @@ use Rattle.iv_resolution.specs.Terms.{is_integer_type, is_text_type, is_integer,
 abbrev pub is_table : Names → List ℕ → Bool
 is_table names name = is_some (table_place names.tables name)
 
--- its columns; none where there is no such table
+-- its columns; none if there is no such table
 abbrev pub stored_columns : List Table → List ℕ → List Column
 stored_columns tables name =
     elim (table_place tables name) [

@@ -3,14 +3,14 @@
 use Rattle.std.specs.Prelude.{ℕ, Bool, true, false, not, ◌&&◌, ◌||◌, ◌==◌, List, [], ◌∷◌, length, map, filter, filter_map, flat_map, find, zip, chars, Option, Some, None, nat_le, unwrap_or, option_map, slice_get}
 use Rattle.std.specs.List.{list_any, list_all}
 use Rattle.std.specs.Str.{bytes_eq}
-use Rattle.iv_resolution.specs.Words.{ConstraintMode, ColumnType, Literal, ConstraintTime, NullTreatment, References, ColumnRule, ColumnConstraint, ColumnDefinition, TableRule, TableConstraint, TableElement, Condition, Constraint, Rule}
-use Rattle.iv_resolution.specs.Words.mode
-use Rattle.iv_resolution.specs.Words.type
-use Rattle.iv_resolution.specs.Words.literal
-use Rattle.iv_resolution.specs.Words.column_rule
-use Rattle.iv_resolution.specs.Words.table_rule
-use Rattle.iv_resolution.specs.Words.element
-use Rattle.iv_resolution.specs.Words.rule
+use Rattle.iv_resolution.specs.Types.{ConstraintMode, ColumnType, Literal, ConstraintTime, NullTreatment, References, ColumnRule, ColumnConstraint, ColumnDefinition, TableRule, TableConstraint, TableElement, Condition, Constraint, Rule}
+use Rattle.iv_resolution.specs.Types.mode
+use Rattle.iv_resolution.specs.Types.type
+use Rattle.iv_resolution.specs.Types.literal
+use Rattle.iv_resolution.specs.Types.column_rule
+use Rattle.iv_resolution.specs.Types.table_rule
+use Rattle.iv_resolution.specs.Types.element
+use Rattle.iv_resolution.specs.Types.rule
 use Rattle.iv_catalogue.specs.Names.{is_among, generated_name}
 use Rattle.iv_catalogue.specs.Catalogues.{Schema}
 use Rattle.iv_resolution.specs.Scopes.{NamedColumn, named_columns, place_of, type_named, table_place}
@@ -89,7 +89,7 @@ constraints_of schema table = filter (λ k. k.table == table) schema.constraints
 abbrev pub says_deferred : ConstraintTime → Bool
 says_deferred t = elim t.initially [ Some m ↦ elim m [ mode.Deferred ↦ true | mode.Immediate ↦ false ] | None ↦ false ]
 
--- INITIALLY DEFERRED alone means DEFERRABLE
+-- INITIALLY DEFERRED by itself means DEFERRABLE
 abbrev pub is_deferrable : ConstraintTime → Bool
 is_deferrable t = unwrap_or t.deferrable (says_deferred t)
 

@@ -21,7 +21,7 @@ pub data Fault : Type 0 where
   in_use_fault : Item → Fault
   twice_fault : Item → Fault
 
--- what is told where the test says so
+-- what is told if the test says so
 abbrev pub told_if : {A : Type 0} → Bool → A → Option A
 told_if b x = if b then Some x else None
 

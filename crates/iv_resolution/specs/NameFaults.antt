@@ -1,20 +1,20 @@
 -- Names at fault: the first name of a statement that names nothing, and the first that is in use or comes twice. A statement deserves
--- Unknown or Duplicate where there is such a name, and the name is told with the refusal.
+-- Unknown or Duplicate if there is such a name, and the name is told with the refusal.
 use Rattle.std.specs.Prelude.{ℕ, ◌+◌, not, if◌then◌else◌, List, [], ◌∷◌, ◌++◌, length, map, slice_get, Option, Some, None, is_none, option_map}
 use Rattle.std.specs.Option.{option_or}
-use Rattle.iv_resolution.specs.Words.{Condition, Expression, RangeName, TableConstraint, TableElement, Assignment, ConstraintList, Delete, Insert, InsertSource, Select, SelectList, Statement, Update, ValueOrDefault, TriggerAction, TriggerDefinition, Cause}
-use Rattle.iv_resolution.specs.Words.condition
-use Rattle.iv_resolution.specs.Words.expression
-use Rattle.iv_resolution.specs.Words.constraints
-use Rattle.iv_resolution.specs.Words.element
-use Rattle.iv_resolution.specs.Words.insert
-use Rattle.iv_resolution.specs.Words.source
-use Rattle.iv_resolution.specs.Words.select
-use Rattle.iv_resolution.specs.Words.select_list as list
-use Rattle.iv_resolution.specs.Words.statement
-use Rattle.iv_resolution.specs.Words.given as value
-use Rattle.iv_resolution.specs.Words.action
-use Rattle.iv_resolution.specs.Words.cause.{Unknown, Duplicate}
+use Rattle.iv_resolution.specs.Types.{Condition, Expression, RangeName, TableConstraint, TableElement, Assignment, ConstraintList, Delete, Insert, InsertSource, Select, SelectList, Statement, Update, ValueOrDefault, TriggerAction, TriggerDefinition, Cause}
+use Rattle.iv_resolution.specs.Types.condition
+use Rattle.iv_resolution.specs.Types.expression
+use Rattle.iv_resolution.specs.Types.constraints
+use Rattle.iv_resolution.specs.Types.element
+use Rattle.iv_resolution.specs.Types.insert
+use Rattle.iv_resolution.specs.Types.source
+use Rattle.iv_resolution.specs.Types.select
+use Rattle.iv_resolution.specs.Types.select_list as list
+use Rattle.iv_resolution.specs.Types.statement
+use Rattle.iv_resolution.specs.Types.given as value
+use Rattle.iv_resolution.specs.Types.action
+use Rattle.iv_resolution.specs.Types.cause.{Unknown, Duplicate}
 use Rattle.iv_syntax.specs.Trees.{group, signed, product, sum, enclosed, negated, both, either, exists_where}
 use Rattle.iv_catalogue.specs.Names.{is_among}
 use Rattle.iv_catalogue.specs.Catalogues.{Schema, has_constraint, has_table, has_trigger}
@@ -151,7 +151,7 @@ abbrev pub unknown_in_table : Schema → List ℕ → List TableElement → Opti
 unknown_in_table schema name elements =
     first_of (λ k. unknown_in_rule schema (creating schema (created_table schema name elements)) (created_table schema name elements) k.rule) (written_constraints elements)
 
--- what is told of the table that an ALTER TABLE names; nothing where there is none, which is Unknown alone
+-- what is told of the table that an ALTER TABLE names; nothing if there is none, which is only Unknown
 abbrev pub told_of_altered : {A : Type 0} → Schema → List ℕ → (Altered → Option A) → Option A
 told_of_altered schema table tells =
     elim (table_place schema.tables table) [
@@ -227,12 +227,12 @@ duplicate_in_rule (foreign_key columns r) = option_or (column_twice columns) (co
 abbrev pub item_of_constraint : List ℕ → ℕ → WrittenConstraint → Item
 item_of_constraint table place k = elim k.name [ Some name ↦ constraint_item name | None ↦ generated_item table place ]
 
--- the constraint at this place, where its name is in use
+-- the constraint at this place, if its name is in use
 abbrev pub constraint_in_use : Schema → List ℕ → ℕ → WrittenConstraint → Option Fault
 constraint_in_use schema table place k =
     told_if (has_constraint schema (constraint_name table place k)) (in_use_fault (item_of_constraint table place k))
 
--- the constraint at this place, where its name is among those before it
+-- the constraint at this place, if its name is among those before it
 abbrev pub constraint_again : List ℕ → ℕ → List (List ℕ) → WrittenConstraint → Option Fault
 constraint_again table place before k = told_if (is_among before (constraint_name table place k)) (twice_fault (item_of_constraint table place k))
 
@@ -248,7 +248,7 @@ duplicate_in_constraints schema table place before (k ∷ constraints) =
     option_or (duplicate_in_constraint schema table place before k)
     (duplicate_in_constraints schema table (place + 1) (before ++ constraint_name table place k ∷ []) constraints)
 
--- the text of a CREATE TABLE up to the first column that comes again, where these columns stand before it
+-- the text of a CREATE TABLE up to the first column that comes again, if these columns stand before it
 abbrev pub before_column_again : List (List ℕ) → List TableElement → List TableElement
 before_column_again before [] = []
 before_column_again before (element.Column c ∷ elements) =
@@ -262,7 +262,7 @@ duplicate_in_table schema name elements =
     (option_or (duplicate_in_constraints schema name 1 [] (written_constraints (before_column_again [] elements)))
     (column_twice (map (λ c. c.name) (written_columns elements))))
 
--- the name of the constraint that an ALTER TABLE adds, where it is in use
+-- the name of the constraint that an ALTER TABLE adds, if it is in use
 abbrev pub addition_in_use : Schema → Altered → WrittenConstraint → Option Fault
 addition_in_use schema own k = constraint_in_use schema own.name (length (constraints_of schema own.table) + 1) k
 

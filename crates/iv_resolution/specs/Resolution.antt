@@ -1,8 +1,8 @@
 -- Resolution: what a statement deserves to be refused for, by cause, the least of these, and the plan of a statement that deserves none.
 use Rattle.std.specs.Prelude.{◌≡◌, ℕ, Bool, true, false, not, ◌||◌, List, [], ◌∷◌, find, Option, Some, None, is_some, is_ok, Result, Ok, Err, slice_get, MatchBool}
-use Rattle.iv_resolution.specs.Words.{Statement, Cause, Refusal, Plan}
-use Rattle.iv_resolution.specs.Words.statement
-use Rattle.iv_resolution.specs.Words.cause.{Unknown, Duplicate, SchemaFault, WrongShape, Limit}
+use Rattle.iv_resolution.specs.Types.{Statement, Cause, Refusal, Plan}
+use Rattle.iv_resolution.specs.Types.statement
+use Rattle.iv_resolution.specs.Types.cause.{Unknown, Duplicate, SchemaFault, WrongShape, Limit}
 use Rattle.iv_catalogue.specs.Catalogues.{Schema}
 use Rattle.iv_catalogue.specs.Refusals.{refusal_answer, out_of_memory, is_memory}
 use Rattle.iv_resolution.specs.Scopes.{table_place}
@@ -16,7 +16,7 @@ use Rattle.iv_resolution.specs.Bound.{bound}
 
 -- ---- ALTER TABLE of a table that is there
 
--- what is asked of the table that an ALTER TABLE names; false where there is none, which is Unknown alone
+-- what is asked of the table that an ALTER TABLE names; false if there is none, which is only Unknown
 abbrev pub of_altered : Schema → List ℕ → (Altered → Bool) → Bool
 of_altered schema table asks =
     elim (table_place schema.tables table) [
@@ -91,6 +91,6 @@ refused_or_planned None p = Ok p
 abbrev pub resolution : Schema → Statement → Result Plan Refusal
 resolution schema s = refused_or_planned (least schema s) (bound schema s)
 
--- The answer is the resolution; or memory was refused for a plan, which no trigger has to do with.
+-- The answer is the resolution; or the plan could not be allocated, with which no trigger has to do.
 abbrev pub Resolves : Schema → Statement → Result Plan Refusal → Type 0
 Resolves schema s r = MatchBool (is_memory r) ((r ≡ Err out_of_memory) × (is_ok (resolution schema s) ≡ true)) (r ≡ resolution schema s)

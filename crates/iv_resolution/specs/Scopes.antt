@@ -2,10 +2,10 @@
 use Rattle.std.specs.Prelude.{ℕ, ◌+◌, Bool, true, false, if◌then◌else◌, min, List, [], ◌∷◌, length, map, find, position, slice_get, Option, Some, None, is_some, unwrap_or, option_map}
 use Rattle.std.specs.Option.{option_or}
 use Rattle.std.specs.Str.{bytes_eq}
-use Rattle.iv_resolution.specs.Words.{Kind, Side, Range, ColumnType, ColumnName, RangeName, Column, Table}
-use Rattle.iv_resolution.specs.Words.kind
-use Rattle.iv_resolution.specs.Words.range
-use Rattle.iv_resolution.specs.Words.type
+use Rattle.iv_resolution.specs.Types.{Kind, Side, Range, ColumnType, ColumnName, RangeName, Column, Table}
+use Rattle.iv_resolution.specs.Types.kind
+use Rattle.iv_resolution.specs.Types.range
+use Rattle.iv_resolution.specs.Types.type
 use Rattle.iv_resolution.specs.declared.origin.Origin.{Origin}
 use Rattle.iv_resolution.specs.declared.origin.Origin.TheVariants.{Rows, Variable}
 
@@ -53,7 +53,7 @@ pub record NamedRange : Type 0 where
   pub columns : List NamedColumn
   pub origin : Origin
 
--- a row variable is seen by its name alone
+-- a row variable is seen only by its name
 abbrev pub is_rows : NamedRange → Bool
 is_rows r = elim r.origin [ Rows ↦ true | Variable side ↦ false ]
 
@@ -73,7 +73,7 @@ abbrev pub found_in : NamedRange → ℕ → List ℕ → Option Found
 found_in r outward name =
     option_map (λ kind. record { origin = r.origin; outward = count_outward r.origin outward; place = place_of r.columns name; kind = kind }) (type_named r.columns name)
 
--- A name alone: the innermost range that has such a column. Ranges are listed from the innermost outward.
+-- An unqualified name: the innermost range that has such a column. Ranges are listed from the innermost outward.
 abbrev pub unqualified : List ℕ → ℕ → List NamedRange → Option Found
 unqualified name outward [] = None
 unqualified name outward (r ∷ ranges) =
@@ -146,7 +146,7 @@ source_named names name = option_or (transition_source names name) (option_or (c
 unfoldable pub is_source : Names → List ℕ → Bool
 is_source names name = is_some (source_named names name)
 
--- the columns of what a FROM names; none where it names nothing
+-- the columns of what a FROM names; none if it names nothing
 unfoldable pub source_columns : Names → List ℕ → List NamedColumn
 source_columns names name = elim (source_named names name) [ Some s ↦ s.columns | None ↦ [] ]
 

@@ -1,8 +1,8 @@
 -- CREATE TABLE and ALTER TABLE: what each of their constraints is refused for ("Table definition", "Add table constraint definition").
 use Rattle.std.specs.Prelude.{ℕ, ◌+◌, Bool, true, false, not, ◌&&◌, ◌||◌, ◌==◌, List, [], ◌∷◌, length, filter, Some, None, nat_le, nat_lt}
 use Rattle.std.specs.List.{list_any}
-use Rattle.iv_resolution.specs.Words.{ColumnType, TableElement, Table}
-use Rattle.iv_resolution.specs.Words.type
+use Rattle.iv_resolution.specs.Types.{ColumnType, TableElement, Table}
+use Rattle.iv_resolution.specs.Types.type
 use Rattle.iv_catalogue.specs.Catalogues.{Schema}
 use Rattle.iv_catalogue.specs.declared.limits.TheConstants.{MOST_COLUMNS, MOST_CONSTRAINTS, MOST_TABLES, MOST_KEY_COLUMNS, MOST_CHARACTERS}
 use Rattle.iv_resolution.specs.Scopes.{NamedRange, Names, named_columns, own_range}
@@ -33,7 +33,7 @@ altered_at schema place t = record {
 abbrev pub creating : Schema → Altered → Names
 creating schema own = record { created = Some (record { name = own.name; columns = own.columns }); tables = schema.tables; transitions = []; subject = [] }
 
--- the tables of the catalogue alone
+-- only the tables of the catalogue
 abbrev pub table_names : Schema → Names
 table_names schema = record { created = None; tables = schema.tables; transitions = []; subject = [] }
 

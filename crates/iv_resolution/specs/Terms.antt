@@ -1,14 +1,14 @@
--- Value expressions and search conditions as they are written: a column that names nothing, where an integer meets a text, and what they
+-- Value expressions and search conditions as they are written: a column that names nothing, an integer that meets a text, and what they
 -- mean once every name is resolved ("Value expression", "Search condition").
 use Rattle.std.specs.Prelude.{min, ℤ, ℕ, Bool, true, false, not, ◌&&◌, ◌||◌, List, ◌∷◌, pos, Option, Some, None, is_none}
-use Rattle.iv_resolution.specs.Words.{Expr, Cond, ColumnType, Sign, ColumnName, Expression, Condition}
-use Rattle.iv_resolution.specs.Words.value
-use Rattle.iv_resolution.specs.Words.expr
-use Rattle.iv_resolution.specs.Words.cond
-use Rattle.iv_resolution.specs.Words.type
-use Rattle.iv_resolution.specs.Words.sign
-use Rattle.iv_resolution.specs.Words.expression
-use Rattle.iv_resolution.specs.Words.condition
+use Rattle.iv_resolution.specs.Types.{Expr, Cond, ColumnType, Sign, ColumnName, Expression, Condition}
+use Rattle.iv_resolution.specs.Types.value
+use Rattle.iv_resolution.specs.Types.expr
+use Rattle.iv_resolution.specs.Types.cond
+use Rattle.iv_resolution.specs.Types.type
+use Rattle.iv_resolution.specs.Types.sign
+use Rattle.iv_resolution.specs.Types.expression
+use Rattle.iv_resolution.specs.Types.condition
 use Rattle.iv_expr.specs.Trees.{plus, minus, times, not_c, and_c, or_c, exists_c}
 use Rattle.iv_syntax.specs.Trees.{group, signed, product, sum, enclosed, negated, both, either, exists_where}
 use Rattle.iv_syntax.specs.declared.limits.TheConstants.{GREATEST_INTEGER}

@@ -2,13 +2,13 @@
 use Rattle.std.specs.Prelude.{ℕ, Bool, true, false, not, ◌&&◌, ◌||◌, List, length, map, filter, find, Option, Some, None, nat_le, nat_lt, option_map}
 use Rattle.std.specs.List.{list_any}
 use Rattle.std.specs.Str.{bytes_eq}
-use Rattle.iv_resolution.specs.Words.{Side, TriggerEvent, Referencing, TriggerAction, TriggerDefinition}
-use Rattle.iv_resolution.specs.Words.side
-use Rattle.iv_resolution.specs.Words.time
-use Rattle.iv_resolution.specs.Words.event
-use Rattle.iv_resolution.specs.Words.granularity
-use Rattle.iv_resolution.specs.Words.transition as what
-use Rattle.iv_resolution.specs.Words.action
+use Rattle.iv_resolution.specs.Types.{Side, TriggerEvent, Referencing, TriggerAction, TriggerDefinition}
+use Rattle.iv_resolution.specs.Types.side
+use Rattle.iv_resolution.specs.Types.time
+use Rattle.iv_resolution.specs.Types.event
+use Rattle.iv_resolution.specs.Types.granularity
+use Rattle.iv_resolution.specs.Types.transition as what
+use Rattle.iv_resolution.specs.Types.action
 use Rattle.iv_catalogue.specs.Catalogues.{Schema}
 use Rattle.iv_catalogue.specs.declared.limits.TheConstants.{MOST_TRIGGERS, MOST_TRIGGERS_EVER, MOST_BODY_STATEMENTS}
 use Rattle.iv_resolution.specs.declared.origin.Origin.{Origin}
@@ -40,7 +40,7 @@ trigger_names schema t = record { created = None; tables = schema.tables; transi
 unfoldable pub trigger_variables : Schema → TriggerDefinition → List NamedRange
 trigger_variables schema t = row_variables (subject_of schema t) t.referencing
 
--- the row variable of that name; none where it is no row variable's name
+-- the row variable of that name; none if it is no row variable's name
 unfoldable pub variable_named : List NamedRange → List ℕ → Option Origin
 variable_named variables name = option_map (λ r. r.origin) (find (λ r. bytes_eq name r.name) variables)
 
@@ -90,7 +90,7 @@ abbrev pub is_old : Origin → Bool
 is_old Rows = false
 is_old (Variable s) = is_side side.Old s
 
--- SET changes the row variable NEW alone
+-- SET changes only the row variable NEW
 unfoldable pub sets_old : List NamedRange → TriggerAction → Bool
 sets_old variables (action.Set v column e) = elim (variable_named variables v) [ Some o ↦ is_old o | None ↦ false ]
 sets_old variables _ = false

@@ -1,43 +1,43 @@
 -- Worked statements: what each deserves over one catalogue, and what some of them mean. The SQL is above each.
 use Rattle.std.specs.Prelude.{◌≡◌, ℕ, false, List, [], ◌∷◌, map, codes, Option, Some, None, pos}
-use Rattle.iv_resolution.specs.Words.{Side, RangeName, Expression, Condition, Statement, ColumnType, ColumnRule, TableRule, TableElement, Literal, References, ConstraintTime, ActionTime, TriggerEvent, TransitionName, TriggerAction, Referencing}
-use Rattle.iv_resolution.specs.Words.value
-use Rattle.iv_resolution.specs.Words.kind
-use Rattle.iv_resolution.specs.Words.comparison.{Equal, Greater}
-use Rattle.iv_resolution.specs.Words.side.{Old, New}
-use Rattle.iv_resolution.specs.Words.range
-use Rattle.iv_resolution.specs.Words.expr
-use Rattle.iv_resolution.specs.Words.cond
-use Rattle.iv_resolution.specs.Words.sign.{Plus}
-use Rattle.iv_resolution.specs.Words.expression
-use Rattle.iv_resolution.specs.Words.condition
-use Rattle.iv_resolution.specs.Words.statement
-use Rattle.iv_resolution.specs.Words.insert
-use Rattle.iv_resolution.specs.Words.source
-use Rattle.iv_resolution.specs.Words.select
-use Rattle.iv_resolution.specs.Words.select_list as list
-use Rattle.iv_resolution.specs.Words.given
-use Rattle.iv_resolution.specs.Words.constraints
-use Rattle.iv_resolution.specs.Words.mode
-use Rattle.iv_resolution.specs.Words.type
-use Rattle.iv_resolution.specs.Words.column_rule
-use Rattle.iv_resolution.specs.Words.table_rule
-use Rattle.iv_resolution.specs.Words.element
-use Rattle.iv_resolution.specs.Words.literal
-use Rattle.iv_resolution.specs.Words.matching.{Simple}
-use Rattle.iv_resolution.specs.Words.nulls.{Distinct}
-use Rattle.iv_resolution.specs.Words.referential_action.{NoAction}
-use Rattle.iv_resolution.specs.Words.time
-use Rattle.iv_resolution.specs.Words.event
-use Rattle.iv_resolution.specs.Words.granularity.{Row}
-use Rattle.iv_resolution.specs.Words.transition as what
-use Rattle.iv_resolution.specs.Words.action
-use Rattle.iv_resolution.specs.Words.cause.{Unknown, Duplicate, SchemaFault, WrongShape, Limit}
-use Rattle.iv_resolution.specs.Words.rule
-use Rattle.iv_resolution.specs.Words.plan
-use Rattle.iv_resolution.specs.Words.query
-use Rattle.iv_resolution.specs.Words.schema.{CreateTable}
-use Rattle.iv_resolution.specs.Words.outputs
+use Rattle.iv_resolution.specs.Types.{Side, RangeName, Expression, Condition, Statement, ColumnType, ColumnRule, TableRule, TableElement, Literal, References, ConstraintTime, ActionTime, TriggerEvent, TransitionName, TriggerAction, Referencing}
+use Rattle.iv_resolution.specs.Types.value
+use Rattle.iv_resolution.specs.Types.kind
+use Rattle.iv_resolution.specs.Types.comparison.{Equal, Greater}
+use Rattle.iv_resolution.specs.Types.side.{Old, New}
+use Rattle.iv_resolution.specs.Types.range
+use Rattle.iv_resolution.specs.Types.expr
+use Rattle.iv_resolution.specs.Types.cond
+use Rattle.iv_resolution.specs.Types.sign.{Plus}
+use Rattle.iv_resolution.specs.Types.expression
+use Rattle.iv_resolution.specs.Types.condition
+use Rattle.iv_resolution.specs.Types.statement
+use Rattle.iv_resolution.specs.Types.insert
+use Rattle.iv_resolution.specs.Types.source
+use Rattle.iv_resolution.specs.Types.select
+use Rattle.iv_resolution.specs.Types.select_list as list
+use Rattle.iv_resolution.specs.Types.given
+use Rattle.iv_resolution.specs.Types.constraints
+use Rattle.iv_resolution.specs.Types.mode
+use Rattle.iv_resolution.specs.Types.type
+use Rattle.iv_resolution.specs.Types.column_rule
+use Rattle.iv_resolution.specs.Types.table_rule
+use Rattle.iv_resolution.specs.Types.element
+use Rattle.iv_resolution.specs.Types.literal
+use Rattle.iv_resolution.specs.Types.matching.{Simple}
+use Rattle.iv_resolution.specs.Types.nulls.{Distinct}
+use Rattle.iv_resolution.specs.Types.referential_action.{NoAction}
+use Rattle.iv_resolution.specs.Types.time
+use Rattle.iv_resolution.specs.Types.event
+use Rattle.iv_resolution.specs.Types.granularity.{Row}
+use Rattle.iv_resolution.specs.Types.transition as what
+use Rattle.iv_resolution.specs.Types.action
+use Rattle.iv_resolution.specs.Types.cause.{Unknown, Duplicate, SchemaFault, WrongShape, Limit}
+use Rattle.iv_resolution.specs.Types.rule
+use Rattle.iv_resolution.specs.Types.plan
+use Rattle.iv_resolution.specs.Types.query
+use Rattle.iv_resolution.specs.Types.schema.{CreateTable}
+use Rattle.iv_resolution.specs.Types.outputs
 use Rattle.iv_expr.specs.Trees.{exists_c}
 use Rattle.iv_syntax.specs.Trees.{signed, exists_where}
 use Rattle.iv_catalogue.specs.Names.{generated_name}

@@ -2,19 +2,19 @@
 -- ("Names and identifiers", "Literal").
 use Rattle.std.specs.Prelude.{ℕ, Bool, true, false, not, ◌&&◌, ◌||◌, ◌==◌, List, [], ◌∷◌, length, Option, Some, None, nat_le}
 use Rattle.std.specs.List.{list_all}
-use Rattle.iv_resolution.specs.Words.{Literal, ColumnDefinition, TableElement, ColumnName, RangeName, Expression, Condition, ValueOrDefault, SelectList, InsertSource, Insert, Assignment, Update, Delete, Select, ConstraintList, Statement, TriggerEvent, TriggerAction, TriggerDefinition}
-use Rattle.iv_resolution.specs.Words.literal
-use Rattle.iv_resolution.specs.Words.expression
-use Rattle.iv_resolution.specs.Words.condition
-use Rattle.iv_resolution.specs.Words.given as value
-use Rattle.iv_resolution.specs.Words.select_list as list
-use Rattle.iv_resolution.specs.Words.source
-use Rattle.iv_resolution.specs.Words.insert
-use Rattle.iv_resolution.specs.Words.select
-use Rattle.iv_resolution.specs.Words.constraints
-use Rattle.iv_resolution.specs.Words.statement
-use Rattle.iv_resolution.specs.Words.event
-use Rattle.iv_resolution.specs.Words.action
+use Rattle.iv_resolution.specs.Types.{Literal, ColumnDefinition, TableElement, ColumnName, RangeName, Expression, Condition, ValueOrDefault, SelectList, InsertSource, Insert, Assignment, Update, Delete, Select, ConstraintList, Statement, TriggerEvent, TriggerAction, TriggerDefinition}
+use Rattle.iv_resolution.specs.Types.literal
+use Rattle.iv_resolution.specs.Types.expression
+use Rattle.iv_resolution.specs.Types.condition
+use Rattle.iv_resolution.specs.Types.given as value
+use Rattle.iv_resolution.specs.Types.select_list as list
+use Rattle.iv_resolution.specs.Types.source
+use Rattle.iv_resolution.specs.Types.insert
+use Rattle.iv_resolution.specs.Types.select
+use Rattle.iv_resolution.specs.Types.constraints
+use Rattle.iv_resolution.specs.Types.statement
+use Rattle.iv_resolution.specs.Types.event
+use Rattle.iv_resolution.specs.Types.action
 use Rattle.iv_syntax.specs.Trees.{group, signed, product, sum, enclosed, negated, both, either, exists_where, depth, condition_depth}
 use Rattle.iv_syntax.specs.declared.limits.TheConstants.{GREATEST_INTEGER, DEEPEST_TREE, LONGEST_NAME}
 use Rattle.iv_resolution.specs.Constraints.{WrittenRule, not_null, unique, primary_key, check, foreign_key, WrittenConstraint, written_columns, written_constraints, table_constraint}
@@ -158,7 +158,7 @@ is_action (action.Delete d) = is_delete d
 is_action (action.Signal t) = true
 is_action (action.Set v column e) = is_name v && (is_name column && is_expression e)
 
--- UPDATE alone has a list of columns
+-- only UPDATE has a list of columns
 abbrev pub are_event_columns : TriggerEvent → List (List ℕ) → Bool
 are_event_columns event.Update columns = are_names columns
 are_event_columns _ columns = length columns == 0

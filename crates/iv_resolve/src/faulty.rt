@@ -4,7 +4,7 @@ ghost use Rattle.iv_resolution.specs.Resolution.{is_faulty};
 
 use iv_catalogue::Catalogue;
 use iv_resolve_table_causes::{faulty_addition, faulty_table};
-use iv_resolve_trigger_rules::faulty_trigger;
+use iv_resolve_triggers::faulty_trigger;
 use iv_syntax::Statement;
 use std::alloc::Global;
 

@@ -4,7 +4,13 @@
 mod faulty;
 mod limits;
 mod misshaped;
+mod names;
 mod planning;
 mod resolving;
+mod statements;
+mod tables;
+mod terms;
+mod triggers;
 
 pub use resolving::resolve;
+pub use statements::is_writable;

@@ -1,4 +1,4 @@
-//! The plans of statements. Each function takes memory for the plan alone.
+//! The plans of statements. Each function allocates only the plan.
 ghost use Rattle.std.specs.Prelude.{◌≡◌, [], IfOk, map};
 ghost use Rattle.iv_catalogue.specs.declared.plan.Plan.TheVariants as plan;
 ghost use Rattle.iv_catalogue.specs.declared.plan.SchemaPlan.TheVariants.{CreateTrigger};
@@ -83,7 +83,7 @@ pub fn plan_of_trigger(
     Ok(Plan::Schema(SchemaPlan::CreateTrigger(bound)))
 }
 
-/// The number of the trigger of that name; 0 where there is none.
+/// The number of the trigger of that name; 0 if there is none.
 #[tactic(auto, using(crate::proofs::Named::number_of))]
 pub fn trigger_id(catalogue: &Catalogue, name: &str) -> TriggerId
     ensures { result ≡ trigger_id catalogue.now name.now }

@@ -14,12 +14,12 @@ use iv_catalogue::{Catalogue, Cause, Plan, Refusal, SchemaPlan, TransactionPlan}
 use iv_resolve_changes::table_id;
 use iv_resolve_name_faults::{duplicate_name, unknown_name};
 use iv_resolve_scope::table_names;
-use iv_resolve_table_plans::{bound_alteration, bound_table};
+use iv_resolve_table_constraints::{bound_alteration, bound_table};
 use iv_syntax::Statement;
 use std::alloc::{AllocError, Global};
 
-// The least cause that the statement deserves. It takes no memory as seen from outside: where memory is refused, names are compared in
-// place.
+// The least cause that the statement deserves. It allocates nothing as seen from outside: if an allocation fails, names
+// are compared in place.
 fn least(alloc: Global, statement: &Statement, catalogue: &Catalogue) -> Option<Cause>
     ensures { result ≡ least catalogue.now statement.now }
 {
@@ -88,7 +88,7 @@ fn planned(alloc: Global, statement: &Statement, catalogue: &Catalogue) -> Resul
     }
 }
 
-/// The plan of a statement, or the least cause that it deserves. Memory is wanted for a plan alone.
+/// The plan of a statement, or the least cause that it deserves. Only a plan is allocated.
 pub fn resolve(alloc: Global, catalogue: &Catalogue, statement: &Statement) -> Result<Plan, Refusal>
     ensures { Resolves catalogue.now statement.now result }
 {

@@ -1,4 +1,5 @@
-//! Plans of INSERT, UPDATE, DELETE and SELECT. Each function takes memory for the plan alone, and time in proportion to the statement.
+//! Plans of INSERT, UPDATE, DELETE and SELECT. Each function allocates only the plan, and takes time in proportion to
+//! the statement.
 ghost use Rattle.std.specs.Prelude.{◌≡◌, ◌≤◌, ◌∷◌, [], IfOk, length, map};
 ghost use Rattle.iv_catalogue.specs.declared.plan.DataStatement.TheVariants as data_statement;
 ghost use Rattle.iv_catalogue.specs.declared.plan.InsertColumns.TheVariants as listing;
@@ -25,7 +26,7 @@ use iv_value::Value;
 use sqlite_items::Items;
 use std::alloc::{AllocError, Global};
 
-/// The table of that name; the first where there is none.
+/// The table of that name; the first if there is none.
 #[tactic(auto, unfolding(iv_resolution::specs::Bound::table_id))]
 pub fn table_id(names: &Names<'_>, name: &str) -> TableId
     requires { length names.now.tables.now ≤ MOST_TABLES }

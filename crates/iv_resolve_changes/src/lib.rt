@@ -1,4 +1,4 @@
-//! Where the values of INSERT, UPDATE, DELETE and SELECT don't suit their columns, and the plans of these statements.
+//! Values of INSERT, UPDATE, DELETE and SELECT that don't suit their columns, and the plans of these statements.
 #![tactic(auto)]
 
 mod binding;

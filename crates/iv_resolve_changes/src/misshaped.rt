@@ -1,5 +1,5 @@
-//! Values of INSERT, UPDATE, DELETE and SELECT that don't suit their columns. Nothing here takes memory; each function takes time in
-//! proportion to the statement.
+//! Values of INSERT, UPDATE, DELETE and SELECT that don't suit their columns. Nothing here allocates; each function
+//! takes time in proportion to the statement.
 ghost use Rattle.std.specs.Prelude.{◌≡◌, ◌≤◌, length};
 ghost use Rattle.std.specs.List.{list_any};
 ghost use Rattle.iv_resolution.specs.Changes.{list_clashes, misshaped_assignment, misshaped_delete, misshaped_insert, misshaped_list, misshaped_query, misshaped_select, misshaped_source, misshaped_tuple, misshaped_update, misshaped_value, target_types};

@@ -48,8 +48,8 @@ impl<'a> Targets<'a> {
         }
     }
 
-    /// The type of the column at this place: none where there is no such place, and none in it where
-    /// the name at that place names no column.
+    /// The type of the column at this place: none if there is no such place, and none in it if the name at that place
+    /// names no column.
     #[tactic(auto, unfolding(crate::specs::Targets::targets_seen))]
     pub fn type_at(&self, place: usize) -> Option<Option<ColumnType>>
         ensures { result ≡ slice_get (targets_seen self.now) place }

@@ -47,7 +47,7 @@ text_passed set elements i e c h g is new =
     ∙ sym (append_assoc (take i elements) (element.Column c ∷ []) (before_column_again (set ++ c.name ∷ []) (drop (i + 1) elements)))
     ∙ ap (λ l. l ++ before_column_again (set ++ c.name ∷ []) (drop (i + 1) elements)) (sym (taken_is elements i e (element.Column c) h g is))
 
--- the text ends where the column is among those before it
+-- the text ends if the column is among those before it
 pub text_found : (set : List (List ℕ)) (elements : List TableElement) (i : ℕ) (e : TableElement) (c : ColumnDefinition) → i < length elements → e ≡ get_or elements i e → e ≡ element.Column c
     → is_among set c.name ≡ true → take i elements ++ before_column_again set (drop i elements) ≡ take i elements
 text_found set elements i e c h g is there =

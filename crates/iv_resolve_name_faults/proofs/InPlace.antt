@@ -95,7 +95,7 @@ constraint_passed schema table place before after left rest k again a n e h =
     ∙ ap (λ names. duplicate_in_constraints schema table (place + 1) names rest)
     (sym (n ∙ ap (λ b. if b then before else before ++ constraint_name table place k ∷ []) (not_again again schema table place k h)))
 
--- where no fault is told, none is seen
+-- if no fault is told, none is seen
 pub none_seen : (o : Option NameFault) → is_some o ≡ false → option_map fault_seen o ≡ None
 none_seen None h = refl
 none_seen (Some f) h = cc

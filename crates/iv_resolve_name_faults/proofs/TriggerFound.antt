@@ -1,4 +1,4 @@
--- A trigger of a name is found where there is one.
+-- A trigger of a name is found if there is one.
 use Rattle.std.proofs.Common.{◌≡◌, Bool, true, false, List, [], ◌∷◌, refl, is_some, option_map, find}
 use Rattle.std.specs.List.{list_any}
 use Rattle.iv_catalogue.specs.declared.plan.Trigger.{Trigger}

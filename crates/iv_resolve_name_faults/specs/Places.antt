@@ -11,7 +11,7 @@ use Rattle.iv_resolution.specs.NameFaults.{constraint_in_use, duplicate_in_rule,
 abbrev pub constraint_names : List ℕ → ℕ → List WrittenConstraint → List (List ℕ)
 constraint_names table place constraints = map (λ k. constraint_name table k.0 k.1) (enumerate_from place constraints)
 
--- what is wrong with a constraint, where this says whether one before it has its name
+-- what is wrong with a constraint, if this says whether one before it has its name
 abbrev pub duplicate_where : Bool → Schema → List ℕ → ℕ → WrittenConstraint → Option Fault
 duplicate_where again schema table place k =
     option_or (constraint_in_use schema table place k)

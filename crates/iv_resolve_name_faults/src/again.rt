@@ -1,5 +1,5 @@
-//! The first name of a list that comes again. A set of names finds it in time near to the length of the list. Where memory for the set
-//! is refused it is looked for in place, in time in proportion to the square: so no call wants memory.
+//! The first name of a list that comes again. With a set of names the time is nearly linear in the list. If the set
+//! can't be allocated, it is looked for in place, in quadratic time. No call can fail for lack of memory.
 ghost use Rattle.std.specs.Prelude.{◌≡◌, ◌++◌, ◌∷◌, [], IfOk, if◌then◌else◌, map};
 ghost use Rattle.std.specs.Option.{option_copied};
 ghost use Rattle.iv_catalogue.specs.Names.{is_among};
@@ -9,7 +9,7 @@ use iv_resolve_scope::NameSet;
 use iv_syntax::Named;
 use std::alloc::{AllocError, Global};
 
-/// Whether a name is in the set. It is added where it isn't.
+/// Adds a name to the set, unless it is there, and tells whether it was.
 pub fn is_again(alloc: Global, set: &mut NameSet, name: &str) -> Result<bool, AllocError>
     ensures found { IfOk result (λ found. found ≡ is_among set.old name.now) }
     ensures names { IfOk result (λ found. set.new

@@ -1,5 +1,5 @@
-//! The first name of an INSERT, UPDATE, DELETE or SELECT that names nothing. Nothing here takes memory; each function takes time in
-//! proportion to the statement.
+//! The first name of an INSERT, UPDATE, DELETE or SELECT that names nothing. Nothing here allocates; each function
+//! takes time in proportion to the statement.
 ghost use Rattle.std.specs.Prelude.{◌≡◌, ◌≤◌, None, length, not, option_map};
 ghost use Rattle.iv_syntax.specs.declared.statement.SelectList.TheVariants.{Star};
 ghost use Rattle.iv_resolution.specs.Scopes.{has_column};
@@ -20,7 +20,7 @@ use iv_syntax::{
 };
 use sqlite_items::Items;
 
-/// The table that a statement changes, where it is none of the catalogue.
+/// The table that a statement changes, if the catalogue doesn't have it.
 pub fn unknown_in_target<'t>(names: &Names<'_>, table: &'t str) -> Option<NamedItem<'t>>
     ensures { option_map item_seen result
         ≡ unknown_in_target (names_seen names.now) table.entry.now }

@@ -1,5 +1,6 @@
-//! The first column of a CREATE TABLE that comes again, and the text before it. A set of names finds it in time near to the length of the
-//! text. Where memory for the set is refused it is looked for in place, in time in proportion to the square: so no call wants memory.
+//! The first column of a CREATE TABLE that comes again, and the text before it. With a set of names the time is nearly
+//! linear in the text. If the set can't be allocated, it is looked for in place, in quadratic time. No call can fail
+//! for lack of memory.
 ghost use Rattle.std.specs.Prelude.{◌≡◌, [], IfOk, map};
 ghost use Rattle.std.specs.Option.{option_copied};
 ghost use Rattle.iv_catalogue.specs.Names.{is_among};
@@ -12,7 +13,7 @@ use iv_resolve_scope::NameSet;
 use iv_syntax::TableElement;
 use std::alloc::{AllocError, Global};
 
-/// The first column that comes again, and the elements before it: all of them where no column does.
+/// The first column that comes again, and the elements before it: all of them if no column does.
 #[derive(Clone, Copy)]
 pub struct ColumnAgain<'t> {
     pub before: &'t [TableElement],

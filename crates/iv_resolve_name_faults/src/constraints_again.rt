@@ -1,5 +1,6 @@
-//! The constraints of a CREATE TABLE, in the order of the text: the first whose name is in use or comes again, or that has a column twice
-//! in a list. Where memory for a name or for the set of names is refused, names are compared in place: so no call wants memory.
+//! The constraints of a CREATE TABLE, in the order of the text: the first whose name is in use or comes again, or that
+//! has a column twice in a list. If a name or the set can't be allocated, names are compared in place. No call can fail
+//! for lack of memory.
 ghost use Rattle.std.specs.Prelude.{◌≡◌, ◌+◌, ◌-◌, ◌≤◌, ◌<◌, ◌++◌, ◌∷◌, [], Some, None, IfOk, if◌then◌else◌, length, option_map, take, unwrap_or};
 ghost use Rattle.std.specs.List.{list_any};
 ghost use Rattle.std.specs.Str.{bytes_eq};
@@ -19,7 +20,7 @@ use crate::lists::duplicate_in_rule;
 use iv_catalogue::{Catalogue, Constraint};
 use iv_resolve_scope::NameSet;
 use iv_resolve_table_constraints::{
-    Left, WrittenConstraint, are_same, count_constraints, generated, is_named,
+    Unread, WrittenConstraint, are_same, count_constraints, generated, is_named,
 };
 use iv_syntax::{Name, TableElement};
 use std::alloc::{AllocError, Global};
@@ -71,7 +72,7 @@ fn is_used(
     }
 }
 
-/// The constraint at this place, where its name is in use.
+/// The constraint at this place, if its name is in use.
 pub fn constraint_in_use<'t>(
     alloc: Global,
     catalogue: &Catalogue,
@@ -115,7 +116,7 @@ fn constraint_again<'t>(
     }
 }
 
-// What is wrong with the constraint at this place, where it is known whether one before it has its name.
+// What is wrong with the constraint at this place, if it is known whether one before it has its name.
 fn duplicate_in_constraint<'t>(
     alloc: Global,
     catalogue: &Catalogue,
@@ -167,7 +168,7 @@ fn duplicate_after<'t>(
         (written_constraints elements.entry.now)) }
 {
     let count = count_constraints(elements);
-    let mut left = Left::Outside(elements);
+    let mut left = Unread::Outside(elements);
     let mut place = 1u128;
     while let Some((constraint, rest)) = left.first() {
         let again = constraint_is_again(alloc, names, table, place, constraint.name)?;
@@ -203,7 +204,7 @@ fn comes_before(table: &str, elements: &[TableElement], place: u128, given: &Opt
         (constraint_names table.now 1 (take (place - 1) (written_constraints elements.now)))
         (unwrap_or given.now (generated_name table.now place)) }
 {
-    let mut left = Left::Outside(elements);
+    let mut left = Unread::Outside(elements);
     let mut other = 1u128;
     while other < place {
         match left.first() {
@@ -230,7 +231,7 @@ fn duplicate_in_place<'t>(
         table.entry.now 1 [] (written_constraints elements.entry.now) }
 {
     let count = count_constraints(elements);
-    let mut left = Left::Outside(elements);
+    let mut left = Unread::Outside(elements);
     let mut place = 1u128;
     while let Some((constraint, rest)) = left.first() {
         let again = comes_before(table, elements, place, constraint.name);

@@ -1,4 +1,5 @@
-//! The first new name of a statement that is in use or comes twice, or the first column that comes twice in a list. No call wants memory.
+//! The first new name of a statement that is in use or comes twice, or the first column that comes twice in a list. No
+//! call can fail for lack of memory.
 ghost use Rattle.std.specs.Prelude.{◌≡◌, ◌+◌, None, map, option_map};
 ghost use Rattle.std.specs.Option.{option_copied};
 ghost use Rattle.iv_catalogue.specs.Catalogues.{has_table, has_trigger};
@@ -209,7 +210,8 @@ fn added_rule_is_duplicate<'t>(
     duplicate_in_rule(alloc, &written.rule)
 }
 
-/// The name of the constraint that an ALTER TABLE adds where it is in use, or the first column that comes twice in its key.
+/// The name of the constraint that an ALTER TABLE adds if it is in use, or the first column that comes twice in its
+/// key.
 pub fn duplicate_in_alteration<'a>(
     alloc: Global,
     name: &str,

@@ -13,8 +13,8 @@ use iv_catalogue::{Catalogue, Cause};
 use iv_syntax::Statement;
 use std::alloc::Global;
 
-/// The first new name of the statement that is in use or comes twice, or the first column that comes twice in a list. It takes no
-/// memory as seen from outside: where memory for a set of names is refused, names are compared in place.
+/// The first new name of the statement that is in use or comes twice, or the first column that comes twice in a list.
+/// If a set of names can't be allocated, names are compared in place, so the call can't fail for lack of memory.
 pub fn duplicate_name<'a>(
     alloc: Global,
     catalogue: &'a Catalogue,
@@ -37,7 +37,7 @@ pub fn duplicate_name<'a>(
     }
 }
 
-/// The name that the refusal of a statement for this cause is about; none where the cause is no Unknown and no Duplicate.
+/// The name that the refusal of a statement for this cause is about; none unless the cause is Unknown or Duplicate.
 pub fn name_fault<'a>(
     alloc: Global,
     catalogue: &'a Catalogue,

@@ -31,7 +31,7 @@ pub enum NameFault<'a> {
     Twice(NamedItem<'a>),
 }
 
-/// The first of two, where it is there.
+/// The first of two, if it is there.
 pub fn first_item<'a>(
     first: Option<NamedItem<'a>>,
     second: Option<NamedItem<'a>>,

@@ -1,4 +1,4 @@
-//! Columns that come twice in a list. No call wants memory.
+//! Columns that come twice in a list. No call can fail for lack of memory.
 ghost use Rattle.std.specs.Prelude.{◌≡◌, option_map};
 ghost use Rattle.iv_resolution.specs.NameFaults.{column_twice, column_twice_listed, duplicate_in_rule};
 ghost use Rattle.iv_resolve_table_constraints.specs.Seen.{rule_seen};

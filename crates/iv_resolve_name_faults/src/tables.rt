@@ -1,5 +1,5 @@
-//! The first name of a CREATE TABLE or an ALTER TABLE that names nothing. Each function takes time in proportion to the names, and for
-//! each to the columns of its table, or near to the names where the columns are held in an index.
+//! The first name of a CREATE TABLE or an ALTER TABLE that names nothing. Each function takes time in proportion to the
+//! names times the columns of the table, or nearly to the names with an index of the columns.
 ghost use Rattle.std.specs.Prelude.{◌≡◌, None, [], not, option_map};
 ghost use Rattle.iv_resolution.specs.Constraints.{foreign_key, table_constraint, written_constraints};
 ghost use Rattle.iv_resolution.specs.Scopes.{has_column};
@@ -16,7 +16,7 @@ use crate::terms::{unknown_in_columns, unknown_in_condition};
 use iv_catalogue::{Catalogue, Table};
 use iv_resolve_scope::{ColumnIndex, Columns, Ranges, table_names, table_place};
 use iv_resolve_table_constraints::{
-    Left, Own, WrittenRule, own_columns, own_names, own_range, referenced, table_constraint,
+    Own, Unread, WrittenRule, own_columns, own_names, own_range, referenced, table_constraint,
 };
 use iv_syntax::{Condition, Name, References, TableConstraint, TableElement};
 use std::alloc::Global;
@@ -119,7 +119,7 @@ fn unknown_in_elements<'t, 'a>(
         (λ k. unknown_in_rule catalogue.now (names_of_own catalogue.now own.now)
         (own_seen catalogue.now own.now) k.rule) (written_constraints elements.entry.now) }
 {
-    let mut left = Left::Outside(elements);
+    let mut left = Unread::Outside(elements);
     while let Some((constraint, rest)) = left.first() {
         if let Some(item) = unknown_in_rule(own, catalogue, outside, &constraint.rule) {
             return Some(item);
@@ -129,8 +129,8 @@ fn unknown_in_elements<'t, 'a>(
     None
 }
 
-/// The first name of a CREATE TABLE that names nothing. Columns are found by an index; where memory for it is refused, one after
-/// another.
+/// The first name of a CREATE TABLE that names nothing. Columns are found by an index; if it can't be allocated, one
+/// after another.
 pub fn unknown_in_table<'t>(
     alloc: Global,
     catalogue: &Catalogue,
@@ -188,7 +188,7 @@ fn unknown_of_altered<'t>(
     }
 }
 
-/// The table of an ALTER TABLE where it isn't there, or the first name of its constraint that names nothing.
+/// The table of an ALTER TABLE if it isn't there, or the first name of its constraint that names nothing.
 pub fn unknown_in_alteration<'t>(
     catalogue: &Catalogue,
     name: &'t str,

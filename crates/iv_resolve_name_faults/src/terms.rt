@@ -1,5 +1,5 @@
-//! The first name in a value expression, a search condition or a list of columns that names nothing. Nothing here takes memory; each
-//! function takes time in proportion to what it looks through, and for each name to the ranges that it is inside of.
+//! The first name in an expression, a condition or a list of columns that names nothing. Nothing here allocates; each
+//! name takes time in proportion to the ranges that it is inside of.
 ghost use Rattle.std.specs.Prelude.{◌≡◌, ◌≤◌, length, option_map};
 ghost use Rattle.iv_resolution.specs.Terms.{unknown_column};
 ghost use Rattle.iv_resolve_scope.specs.Seen.{columns_seen, names_seen, ranges_seen};
@@ -57,7 +57,7 @@ pub fn unknown_in_expression<'t, 'a>(
     }
 }
 
-/// What a FROM names, where that is nothing.
+/// What a FROM names, if it names nothing.
 pub fn unknown_in_from<'t>(range: &'t RangeName, names: &Names<'_>) -> Option<NamedItem<'t>>
     requires { length names.now.tables.now ≤ MOST_TABLES }
     ensures { option_map item_seen result

@@ -12,7 +12,7 @@ use crate::item::{NamedItem, first_item};
 use crate::terms::{unknown_in_columns, unknown_in_expression, unknown_in_filter};
 use iv_catalogue::{Catalogue, MOST_TABLES};
 use iv_resolve_scope::{Names, Ranges, ReferencingIndex, ReferencingItems};
-use iv_resolve_trigger_rules::{names_among, subject, variable_named, variables};
+use iv_resolve_triggers::{names_among, subject, variable_named, variables};
 use iv_syntax::{TriggerAction, TriggerDefinition};
 use std::alloc::Global;
 
@@ -113,7 +113,7 @@ fn unknown_in_update_of<'t>(
     unknown_in_columns(&subject(trigger, catalogue), trigger.columns.as_slice())
 }
 
-// The first name of the trigger that names nothing, where the items of REFERENCING are given with an index or without.
+// The first name of the trigger that names nothing, with the items of REFERENCING in an index or without one.
 fn unknown_among<'t, 'a>(
     trigger: &'t TriggerDefinition,
     catalogue: &'a Catalogue,
@@ -134,8 +134,8 @@ fn unknown_among<'t, 'a>(
     )
 }
 
-/// The first name of a CREATE TRIGGER that names nothing. The items of REFERENCING are found by an index; where memory for it is
-/// refused, one after another.
+/// The first name of a CREATE TRIGGER that names nothing. The items of REFERENCING are found by an index; if it can't
+/// be allocated, one after another.
 pub fn unknown_in_trigger<'t>(
     alloc: Global,
     trigger: &'t TriggerDefinition,

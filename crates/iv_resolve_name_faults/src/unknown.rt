@@ -85,8 +85,8 @@ fn of_dropped<'t>(name: &'t Name, catalogue: &Catalogue) -> Option<NamedItem<'t>
     }
 }
 
-/// The first name of the statement that names nothing. It takes no memory as seen from outside: where memory for an index is refused,
-/// names are looked for in place.
+/// The first name of the statement that names nothing. If an index can't be allocated, names are looked for in place,
+/// so the call can't fail for lack of memory.
 pub fn unknown_name<'a>(
     alloc: Global,
     catalogue: &Catalogue,

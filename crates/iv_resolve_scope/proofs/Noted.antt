@@ -1,11 +1,11 @@
--- A map from names, to which a value is added where none of its name is there.
+-- A map from names, to which a value is added if none of its name is there.
 use Rattle.std.proofs.Common.{◌≡◌, ℕ, Bool, true, false, List, ◌∙◌, Option, Some, None, refl, sym, ap, cond, if◌then◌else◌, is_some}
 use Rattle.std.specs.Option.{option_or}
 use Rattle.std.specs.Str.{bytes_eq}
 use Rattle.std.specs.Cmp.Lexicographic.{bytes_decides}
 use Rattle.iv_catalogue.proofs.WrittenNames.{same_turned}
 
--- what was noted, with a value that is noted where none of its name is there
+-- what was noted, with a value that is noted if none of its name is there
 abbrev noted : {A : Type 0} → Option A → Bool → A → Option A
 noted o b x = option_or o (if b then Some x else None)
 

@@ -1,4 +1,4 @@
--- Row variables among the ranges: a name alone is none of their columns, and the count of ranges doesn't matter to them.
+-- Row variables among the ranges: an unqualified name is none of their columns, and the count of ranges doesn't matter to them.
 use Rattle.std.proofs.Common.{◌≡◌, refl, ap, ℕ, ◌+◌, true, false, ◌∙◌, List, [], ◌∷◌, cond, Option, Some, None}
 use Rattle.std.specs.Str.{bytes_eq}
 use Rattle.iv_expr.specs.declared.tree.Side.{Side}
@@ -32,7 +32,7 @@ pub any_count : (range name : List ℕ) (n m : ℕ) (columns : List NamedColumn)
 any_count range name n m columns [] = refl
 any_count range name n m columns (i ∷ items) = same_of_one range name n m columns i items i.what (λ k l. any_count range name k l columns items)
 
--- the column of a row variable, where there is one
+-- the column of a row variable, if there is one
 abbrev pub column_of : List NamedColumn → List ℕ → ℕ → Option Side → Option Found
 column_of columns name n None = None
 column_of columns name n (Some side) = found_in (record { name = []; columns = columns; origin = Variable side }) n name

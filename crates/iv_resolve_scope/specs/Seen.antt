@@ -9,7 +9,7 @@ use Rattle.iv_resolve_scope.specs.declared.columns.Columns.{Columns}
 use Rattle.iv_resolve_scope.specs.declared.columns.Columns.TheVariants.{Stored, Defined, Indexed}
 use Rattle.iv_resolve_scope.specs.declared.names.Created.{Created}
 use Rattle.iv_resolve_scope.specs.declared.names.Names.{Names}
-use Rattle.iv_resolve_scope.specs.declared.names.Source.{Source}
+use Rattle.iv_resolve_scope.specs.declared.names.FromSource.{FromSource}
 use Rattle.iv_resolve_scope.specs.declared.ranges.Found.{Found}
 use Rattle.iv_resolve_scope.specs.declared.ranges.Ranges.{Ranges}
 use Rattle.iv_resolve_scope.specs.declared.ranges.Ranges.TheVariants.{Nothing, Variables, Within'}
@@ -45,5 +45,5 @@ names_seen n = record {
   subject = columns_seen n.subject;
 }
 
-abbrev pub source_seen : Source → scope.Source
+abbrev pub source_seen : FromSource → scope.Source
 source_seen s = record { range = s.range; columns = columns_seen s.columns }

@@ -1,5 +1,5 @@
-//! What value expressions and search conditions mean, once every name in them is known to name something. Each function takes memory
-//! for the tree that it makes alone.
+//! What value expressions and search conditions mean, once every name in them is known to name something. Each function
+//! allocates only the tree that it makes.
 ghost use Rattle.std.specs.Prelude.{◌≡◌, ◌≤◌, IfOk, Ok, length, option_map};
 ghost use Rattle.iv_expr.specs.Trees.{and_c, exists_c, not_c, or_c, times};
 ghost use Rattle.iv_resolution.specs.Terms.{bound_column, bound_condition, bound_expression, bound_filter, bound_sign, bound_sum, integer_of};
@@ -15,7 +15,7 @@ use iv_value::Value;
 use sqlite_items::Boxed;
 use std::alloc::{AllocError, Global};
 
-/// The integer that a number is; the greatest where it is beyond that.
+/// The integer that a number is, or the greatest if the number is beyond it.
 #[tactic(auto, unfolding(iv_resolution::specs::Terms::integer_of))]
 pub fn integer_of(number: u64) -> i64
     ensures { result ≡ integer_of number }
@@ -35,8 +35,8 @@ fn bound_column(found: Option<Found>) -> Expr
     }
 }
 
-// Both, where the second is there. Here and below a generic function owns what falls where memory is refused, so that it is dropped by a
-// call, as in `boxes` of `iv_expr`.
+// Both, if the second is there. Here and below a generic function owns what falls if an allocation fails, so that it is
+// dropped by a call, as in `boxes` of `iv_expr`.
 fn pair<T: Drop>(a: T, b: Result<T, AllocError>) -> Result<(T, T), AllocError>
     ensures { IfOk result (λ p. (p.0 ≡ a) × (b ≡ Ok p.1)) }
 {

@@ -90,7 +90,7 @@ fn columns_of(alloc: Global, elements: &[TableElement]) -> Result<Vec<NamedColum
     Ok(columns)
 }
 
-// Notes a column, where none of its name is there.
+// Notes a column, if none of its name is there.
 fn note(
     alloc: Global,
     firsts: &mut BTreeMap<String, FirstColumn>,
@@ -133,7 +133,7 @@ fn firsts_of(
 }
 
 impl ColumnIndex {
-    /// The columns that the elements define. It takes memory for their names, and time near to the length of the text.
+    /// The columns that the elements define. It allocates their names, and takes nearly linear time.
     pub fn new(alloc: Global, elements: &[TableElement]) -> Result<ColumnIndex, AllocError>
         ensures { IfOk result (λ x. x ≡ defined_columns elements.now) }
     {

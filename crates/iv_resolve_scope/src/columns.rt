@@ -165,7 +165,7 @@ impl<'a> Columns<'a> {
         }
     }
 
-    /// The place of the first column of that name; 0 where there is none.
+    /// The place of the first column of that name; 0 if there is none.
     pub fn place_of(&self, name: &str) -> u32
         ensures { result ≡ place_of (columns_seen self.now) name.now }
     {

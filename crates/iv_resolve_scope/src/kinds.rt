@@ -1,4 +1,4 @@
-//! Where an integer meets a text, on the tree as it is written. Nothing here takes memory; each function takes time in proportion to
+//! Integers that meet texts, on the tree as written. Nothing here allocates; each function takes time in proportion to
 //! the tree, and for each name to the ranges that it is inside of.
 ghost use Rattle.std.specs.Prelude.{◌≡◌, ◌≤◌, length, option_map};
 ghost use Rattle.iv_resolution.specs.Changes.{clashes_with, kinds_clash};
@@ -80,7 +80,7 @@ fn clash<'a>(a: &Expression, b: &Expression, ranges: &'a Ranges<'a>) -> bool
         || (is_text(a, &*ranges) && is_integer(b, &*ranges))
 }
 
-/// Whether an integer meets a text in the value of a column of this type; a column that isn't there suits every value.
+/// Whether an integer meets a text in the value of a column of this type. A column that isn't there suits every value.
 #[tactic(auto, unfolding(iv_resolution::specs::Changes::clashes_with))]
 pub fn clashes_with<'a>(
     kind: Option<ColumnType>,
@@ -98,7 +98,7 @@ pub fn clashes_with<'a>(
     }
 }
 
-/// Whether an integer meets a text where a column of one type is put into a column of another.
+/// Whether an integer meets a text if a column of one type is put into a column of another.
 #[tactic(auto, unfolding(iv_resolution::specs::Changes::kinds_clash))]
 pub fn kinds_clash(into: Option<ColumnType>, from: ColumnType) -> bool
     ensures { result ≡ kinds_clash into from }

@@ -24,7 +24,7 @@ pub use kinds::{
 pub use lists::places_of;
 pub use name_set::NameSet;
 pub use names::{
-    Created, Names, Source, inside, is_source, source_columns, source_named, source_range,
+    Created, FromSource, Names, inside, is_source, source_columns, source_named, source_range,
     stored_columns, table_place,
 };
 pub use outside::table_names;

@@ -1,5 +1,5 @@
-//! A list of names of columns, in time in proportion to the names times the columns, or near to the names where the columns are held in
-//! an index.
+//! A list of names of columns. The time is the names times the columns, or nearly the names with an index of the
+//! columns.
 ghost use Rattle.std.specs.Prelude.{◌≡◌, IfOk};
 ghost use Rattle.iv_resolution.specs.Constraints.{places_of};
 ghost use Rattle.iv_resolve_scope.specs.Seen.{columns_seen};

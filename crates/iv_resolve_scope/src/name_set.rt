@@ -1,4 +1,5 @@
-//! A set of names. Where memory for a set is refused, whoever looks compares the names in place: so no cause wants memory.
+//! A set of names. If a set can't be allocated, whoever looks compares the names in place, so no cause fails for lack
+//! of memory.
 ghost use Rattle.std.specs.Prelude.{◌≡◌, [], ◌∷◌, ◌++◌, IfOk, not, if◌then◌else◌};
 ghost use Rattle.iv_catalogue.specs.Names.{is_among};
 
@@ -22,7 +23,7 @@ impl Model for NameSet {
 }
 
 impl NameSet {
-    /// No names. It takes no memory.
+    /// No names. It allocates nothing.
     pub fn new(alloc: Global) -> NameSet
         ensures { result ≡ [] }
     {
@@ -31,7 +32,7 @@ impl NameSet {
         }
     }
 
-    /// Adds a name, and says whether it is new.
+    /// Adds a name, and tells whether it is new.
     pub fn add(&mut self, alloc: Global, name: &str) -> Result<bool, AllocError>
         ensures new { IfOk result (λ added. added ≡ not (is_among self.old name.now)) }
         ensures names { IfOk result (λ added. self.new

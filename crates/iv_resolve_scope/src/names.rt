@@ -32,7 +32,7 @@ pub struct Names<'a> {
 
 /// What a FROM names, with its columns.
 #[derive(Clone, Copy)]
-pub struct Source<'a> {
+pub struct FromSource<'a> {
     pub range: Range,
     pub columns: Columns<'a>,
 }
@@ -45,7 +45,7 @@ pub fn table_place(tables: &[Table], name: &str) -> Option<usize>
     tables.iter().position(|table| name == table.name.as_str())
 }
 
-/// The columns of the table of that name; none where there is no such table.
+/// The columns of the table of that name; none if there is no such table.
 pub fn stored_columns<'a>(tables: &'a [Table], name: &str) -> &'a [Column]
     ensures { result.now ≡ stored_columns tables.now name.now }
 {
@@ -58,13 +58,13 @@ pub fn stored_columns<'a>(tables: &'a [Table], name: &str) -> &'a [Column]
     }
 }
 
-fn stored_source<'a>(tables: &'a [Table], name: &str) -> Option<Source<'a>>
+fn stored_source<'a>(tables: &'a [Table], name: &str) -> Option<FromSource<'a>>
     requires { length tables.now ≤ MOST_TABLES }
     ensures { option_map source_seen result ≡ stored_source tables.entry.now name.now }
 {
     match table_place(tables, name) {
         Some(place) => match tables.get(place) {
-            Some(table) => Some(Source {
+            Some(table) => Some(FromSource {
                 range: Range::Table(TableId::new(place as u32)),
                 columns: Columns::Stored(table.columns.as_slice()),
             }),
@@ -74,14 +74,14 @@ fn stored_source<'a>(tables: &'a [Table], name: &str) -> Option<Source<'a>>
     }
 }
 
-fn created_source<'a>(names: &Names<'a>, name: &str) -> Option<Source<'a>>
+fn created_source<'a>(names: &Names<'a>, name: &str) -> Option<FromSource<'a>>
     requires { length names.now.tables.now ≤ MOST_TABLES }
     ensures { option_map source_seen result ≡ created_source (names_seen names.now) name.now }
 {
     match names.created {
         Some(created) => {
             if name == created.name {
-                Some(Source {
+                Some(FromSource {
                     range: Range::Table(TableId::new(names.tables.len() as u32)),
                     columns: created.columns,
                 })
@@ -94,11 +94,11 @@ fn created_source<'a>(names: &Names<'a>, name: &str) -> Option<Source<'a>>
 }
 
 #[tactic(auto, using(crate::proofs::FirstItems::table_of_first))]
-fn transition_source<'a>(names: &Names<'a>, name: &str) -> Option<Source<'a>>
+fn transition_source<'a>(names: &Names<'a>, name: &str) -> Option<FromSource<'a>>
     ensures { option_map source_seen result ≡ transition_source (names_seen names.now) name.now }
 {
     match names.referencing.side(TransitionName::Table, name) {
-        Some(side) => Some(Source {
+        Some(side) => Some(FromSource {
             range: Range::Transition(side),
             columns: names.subject,
         }),
@@ -108,7 +108,7 @@ fn transition_source<'a>(names: &Names<'a>, name: &str) -> Option<Source<'a>>
 
 /// What a FROM names: a transition table before a table. It takes time in proportion to the tables.
 #[tactic(auto, unfolding(iv_resolution::specs::Scopes::source_named))]
-pub fn source_named<'a>(names: &Names<'a>, name: &str) -> Option<Source<'a>>
+pub fn source_named<'a>(names: &Names<'a>, name: &str) -> Option<FromSource<'a>>
     requires { length names.now.tables.now ≤ MOST_TABLES }
     ensures { option_map source_seen result ≡ source_named (names_seen names.now) name.now }
 {
@@ -130,7 +130,7 @@ pub fn is_source(names: &Names<'_>, name: &str) -> bool
     source_named(names, name).is_some()
 }
 
-/// The columns of what a FROM names; none where it names nothing.
+/// The columns of what a FROM names; none if it names nothing.
 #[tactic(auto, unfolding(iv_resolution::specs::Scopes::source_columns))]
 pub fn source_columns<'a>(names: &Names<'a>, name: &str) -> Columns<'a>
     requires { length names.now.tables.now ≤ MOST_TABLES }
@@ -142,7 +142,7 @@ pub fn source_columns<'a>(names: &Names<'a>, name: &str) -> Columns<'a>
     }
 }
 
-/// The range that a FROM names; the first table where it names nothing.
+/// The range that a FROM names; the first table if it names nothing.
 #[tactic(auto, unfolding(iv_resolution::specs::Scopes::source_range))]
 pub fn source_range(names: &Names<'_>, name: &str) -> Range
     requires { length names.now.tables.now ≤ MOST_TABLES }

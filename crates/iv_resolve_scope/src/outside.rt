@@ -8,7 +8,7 @@ use crate::names::Names;
 use crate::referencing::ReferencingItems;
 use iv_catalogue::{Catalogue, MOST_TABLES};
 
-/// The tables of the catalogue alone.
+/// Only the tables of the catalogue.
 pub fn table_names<'a>(catalogue: &'a Catalogue) -> Names<'a>
     ensures names { names_seen result ≡ table_names catalogue.entry.now }
     ensures tables { length result.tables.now ≤ MOST_TABLES }

@@ -8,7 +8,7 @@ use crate::referencing_index::{ReferencingIndex, names_what};
 use iv_expr::Side;
 use iv_syntax::{Referencing, TransitionName};
 
-/// The items of REFERENCING, with an index of them or without; none where there is no trigger.
+/// The items of REFERENCING, with an index of them or without; none if there is no trigger.
 #[derive(Clone, Copy)]
 pub enum ReferencingItems<'a> {
     Listed(&'a [Referencing]),

@@ -59,7 +59,7 @@ fn copies_of(alloc: Global, items: &[Referencing]) -> Result<Vec<Referencing>, A
     Ok(copies)
 }
 
-// Notes the side of a name, where none of that name is there.
+// Notes the side of a name, if none of that name is there.
 fn note(
     alloc: Global,
     sides: &mut BTreeMap<String, Side>,
@@ -97,7 +97,7 @@ fn sides_of(
 }
 
 impl ReferencingIndex {
-    /// The items. It takes memory for their names, and time near to the length of the text.
+    /// The items. It allocates their names, and takes nearly linear time.
     pub fn new(alloc: Global, items: &[Referencing]) -> Result<ReferencingIndex, AllocError>
         ensures { IfOk result (λ x. x ≡ items.now) }
     {

@@ -1,6 +1,6 @@
-//! Definitions of CREATE TABLE and ALTER TABLE that no schema can have. Indexes of the columns and of the keys find those of a CREATE
-//! TABLE in time near to the statement's length. Where memory for them is refused they are searched one after another, in time in
-//! proportion to its square: so no call wants memory.
+//! Definitions of CREATE TABLE and ALTER TABLE that no schema can have. With indexes of columns and keys the time is
+//! nearly linear in the statement. If an index can't be allocated, columns and keys are searched one after another, in
+//! quadratic time. No call can fail for lack of memory.
 ghost use Rattle.std.specs.Prelude.{◌≡◌};
 ghost use Rattle.std.specs.List.{list_any};
 ghost use Rattle.iv_resolution.specs.Constraints.{faulty_reference, foreign_key, is_reliable, table_constraint, written_constraints, written_keys};
@@ -18,7 +18,7 @@ use crate::references::faulty_reference;
 use iv_catalogue::Catalogue;
 use iv_resolve_scope::{ColumnIndex, Columns, has_exists};
 use iv_resolve_table_constraints::{
-    KeySets, Left, Own, WrittenConstraint, WrittenRule, is_contradictory, own_columns, own_name,
+    KeySets, Own, Unread, WrittenConstraint, WrittenRule, is_contradictory, own_columns, own_name,
     primary_key, referenced, reliable_sets, table_constraint,
 };
 use iv_syntax::{Name, References, TableConstraint, TableElement};
@@ -130,7 +130,7 @@ fn some_is_faulty<'a>(
     ensures { result ≡ list_any (faulty_constraint catalogue.now (own_seen catalogue.now own.now))
         (written_constraints elements.now) }
 {
-    let mut left = Left::Outside(elements);
+    let mut left = Unread::Outside(elements);
     while let Some((constraint, rest)) = left.first() {
         if faulty_constraint(own, catalogue, keys, &constraint) {
             return true;
@@ -157,8 +157,8 @@ fn some_is_faulty_among<'a>(
     some_is_faulty(own, catalogue, &keys, elements)
 }
 
-// The same of a table whose keys are those of the elements. The sets are found by an index; where memory for it is refused, one after
-// another.
+// The same of a table whose keys are those of the elements. The sets are found by an index; if it can't be allocated,
+// one after another.
 fn some_is_faulty_of<'a>(
     alloc: Global,
     own: &Own<'a>,
@@ -176,7 +176,7 @@ fn some_is_faulty_of<'a>(
     }
 }
 
-// Columns are found by an index; where memory for it is refused, one after another.
+// Columns are found by an index; if it can't be allocated, one after another.
 fn some_constraint_is_faulty(
     alloc: Global,
     catalogue: &Catalogue,
@@ -226,7 +226,7 @@ fn faulty_added<'a>(
         || faulty_constraint(own, catalogue, &OwnKeys::Searched, constraint)
 }
 
-/// Whether the constraint of an ALTER TABLE is at fault, or a second primary key; false where its table isn't there.
+/// Whether the constraint of an ALTER TABLE is at fault, or a second primary key; false if its table isn't there.
 pub fn faulty_addition(catalogue: &Catalogue, name: &str, constraint: &TableConstraint) -> bool
     ensures { result ≡ of_altered catalogue.now name.now
         (λ own. faulty_addition catalogue.now own (table_constraint constraint.now)) }

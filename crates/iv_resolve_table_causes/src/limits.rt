@@ -1,5 +1,5 @@
-//! Numbers in CREATE TABLE and ALTER TABLE that are beyond the limits. Nothing here takes memory; each function takes time in proportion
-//! to the statement.
+//! Numbers in CREATE TABLE and ALTER TABLE that are beyond the limits. Nothing here allocates; each function takes time
+//! in proportion to the statement.
 ghost use Rattle.std.specs.Prelude.{◌≡◌, ◌||◌, length, map, nat_lt};
 ghost use Rattle.std.specs.List.{list_any};
 ghost use Rattle.iv_catalogue.specs.declared.limits.TheConstants.{MOST_CONSTRAINTS};
@@ -103,8 +103,8 @@ fn many_constraints(elements: &[TableElement]) -> bool
     false
 }
 
-/// Whether a CREATE TABLE makes more tables than there may be, or its table has more columns or constraints, a type of a length, or
-/// a key of more columns than it may.
+/// Whether a CREATE TABLE makes one table too many, or its table has too many columns or constraints, a type that is
+/// too long, or a key of too many columns.
 pub fn table_beyond_limits(elements: &[TableElement], catalogue: &Catalogue) -> bool
     ensures { result ≡ table_beyond_limits catalogue.now elements.now }
 {
@@ -114,8 +114,7 @@ pub fn table_beyond_limits(elements: &[TableElement], catalogue: &Catalogue) -> 
                 || (has_type_beyond_limits(elements) || has_long_key(elements))))
 }
 
-/// Whether an ALTER TABLE adds a constraint to a table that has as many as it may, or a key of more columns than it may; false where
-/// there is no such table.
+/// Whether an ALTER TABLE adds one constraint too many, or a key of too many columns; false if there is no such table.
 pub fn addition_beyond_limits(
     table: &str,
     constraint: &TableConstraint,

@@ -1,4 +1,4 @@
-//! CHECKs of CREATE TABLE and ALTER TABLE in which an integer meets a text. Nothing here takes memory.
+//! CHECKs of CREATE TABLE and ALTER TABLE in which an integer meets a text. Nothing here allocates.
 ghost use Rattle.std.specs.Prelude.{◌≡◌, []};
 ghost use Rattle.std.specs.List.{list_any};
 ghost use Rattle.iv_resolution.specs.Constraints.{table_constraint, written_constraints};
@@ -12,7 +12,7 @@ use crate::altered::table_at;
 use iv_catalogue::Catalogue;
 use iv_resolve_scope::{ColumnIndex, Ranges, misshaped_condition};
 use iv_resolve_table_constraints::{
-    Left, Own, WrittenRule, own_names, own_range, table_constraint,
+    Own, Unread, WrittenRule, own_names, own_range, table_constraint,
 };
 use iv_syntax::{Condition, TableConstraint, TableElement};
 use std::alloc::Global;
@@ -62,7 +62,7 @@ fn some_is_misshaped<'a>(
     ensures { result ≡ list_any (λ k. misshaped_rule (names_of_own catalogue.now own.now)
         (own_seen catalogue.now own.now) k.rule) (written_constraints elements.now) }
 {
-    let mut left = Left::Outside(elements);
+    let mut left = Unread::Outside(elements);
     while let Some((constraint, rest)) = left.first() {
         if misshaped_rule(own, catalogue, outside, &constraint.rule) {
             return true;
@@ -72,8 +72,8 @@ fn some_is_misshaped<'a>(
     false
 }
 
-/// Whether an integer meets a text in a constraint of a CREATE TABLE. Columns are found by an index; where memory for it is refused, one
-/// after another.
+/// Whether an integer meets a text in a constraint of a CREATE TABLE. Columns are found by an index; if it can't be
+/// allocated, one after another.
 pub fn misshaped_table(
     alloc: Global,
     catalogue: &Catalogue,
@@ -95,7 +95,7 @@ pub fn misshaped_table(
     }
 }
 
-/// Whether an integer meets a text in the constraint of an ALTER TABLE; false where its table isn't there.
+/// Whether an integer meets a text in the constraint of an ALTER TABLE; false if its table isn't there.
 pub fn misshaped_addition(catalogue: &Catalogue, name: &str, constraint: &TableConstraint) -> bool
     ensures { result ≡ of_altered catalogue.now name.now
         (λ own. misshaped_rule (table_names catalogue.now) own

@@ -36,8 +36,8 @@ pub fn known_primary<'a>(
     }
 }
 
-/// Whether the table has a key of this set of columns that is NOT DEFERRABLE. Where memory for the set is refused, the keys are searched
-/// one after another.
+/// Whether the table has a key of this set of columns that is NOT DEFERRABLE. If the set can't be allocated, the keys
+/// are searched one after another.
 pub fn has_known_key<'a>(
     own: &Own<'a>,
     catalogue: &'a Catalogue,

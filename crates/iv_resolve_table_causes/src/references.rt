@@ -117,8 +117,8 @@ fn faulty_primary<'a>(
     }
 }
 
-/// Whether the pairs of columns differ in number or type, or the columns that are referred to are no key that is NOT DEFERRABLE. Where
-/// keys are searched it takes time in proportion to the constraints of the table that is referred to.
+/// Whether the pairs of columns differ in number or type, or the referenced columns are no key that is NOT DEFERRABLE.
+/// Without an index of keys it takes time in proportion to the constraints of the referenced table.
 pub fn faulty_reference<'a>(
     columns: &Columns<'_>,
     referencing: &[Name],

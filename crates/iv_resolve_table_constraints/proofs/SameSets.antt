@@ -1,4 +1,4 @@
--- Two sets of names are equal where they have the same names.
+-- Two sets of names are equal if they have the same names.
 use Rattle.std.proofs.Common.{◌≡◌, ℕ, Bool, true, false, ◌&&◌, ◌||◌, List, [], ◌∷◌, ◌∙◌, refl, sym, ap, map, not, cond, Option, drop, length, ◌≤◌, None, String, string_bytes}
 use mathlib.Core.Bool.{or-false}
 use Rattle.std.proofs.lemmas.Bool.{and_from, or_left, or_right}

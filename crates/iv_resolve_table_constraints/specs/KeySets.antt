@@ -16,7 +16,7 @@ set_cmp s t = slice_cmp string_cmp s.keys t.keys
 unfoldable pub HasNames : {Y : Type 0} → BTreeSet (String Y) → List (List ℕ) → Type 0
 HasNames set names = IsOrdered string_cmp set × ((name : List ℕ) → contains_text set name ≡ is_among names name)
 
--- a set of names is among the sets where p says so
+-- a set of names is among the sets if p says so
 unfoldable pub Finds : {Y : Type 0} → BTreeSet (BTreeSet (String Y)) → (List (List ℕ) → Bool) → Type 0
 Finds {Y} sets p = (set : BTreeSet (String Y)) (names : List (List ℕ)) → HasNames set names → contains set_cmp sets set ≡ p names
 

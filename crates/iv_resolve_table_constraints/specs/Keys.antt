@@ -28,7 +28,7 @@ abbrev pub is_sought : Sought → Key → Bool
 is_sought Primary k = k.is_primary
 is_sought (Reliable names) k = is_reliable names.now k
 
--- the key, where it is one of those that are looked for
+-- the key, if it is one of those that are looked for
 abbrev pub if_sought : Sought → Option Key → Option Key
 if_sought s o = elim o [ Some k ↦ if is_sought s k then Some k else None | None ↦ None ]
 

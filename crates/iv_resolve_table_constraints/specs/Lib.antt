@@ -1,4 +1,4 @@
 pub mod Seen
-pub mod Left
+pub mod Unread
 pub mod Keys
 pub mod KeySets

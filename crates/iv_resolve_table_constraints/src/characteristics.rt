@@ -13,7 +13,7 @@ fn says_deferred(time: ConstraintTime) -> bool
     }
 }
 
-/// Whether a constraint is DEFERRABLE: INITIALLY DEFERRED alone means it.
+/// Whether a constraint is DEFERRABLE: INITIALLY DEFERRED by itself means it.
 pub fn is_deferrable(time: ConstraintTime) -> bool
     ensures { result ≡ is_deferrable time }
 {

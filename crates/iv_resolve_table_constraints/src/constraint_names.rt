@@ -59,7 +59,7 @@ fn are_generated_alike(table: &str, left: u128, right: u128) -> bool
     first.format(left) == second.format(right)
 }
 
-/// Whether a name is that of the constraint at this place. It takes no memory.
+/// Whether a name is that of the constraint at this place. It allocates nothing.
 #[tactic(auto, using(iv_catalogue::proofs::WrittenNames::same_turned))]
 pub fn is_named(table: &str, place: u128, given: &Option<Name>, name: &str) -> bool
     ensures { result ≡ bytes_eq (unwrap_or given.now (generated_name table.now place)) name.now }
@@ -81,7 +81,7 @@ fn is_generated_for(table: &str, left: u128, given: &Option<Name>, right: u128) 
     }
 }
 
-/// Whether the constraints at these places have one name. It takes no memory.
+/// Whether the constraints at these places have one name. It allocates nothing.
 pub fn are_same(
     table: &str,
     left: u128,

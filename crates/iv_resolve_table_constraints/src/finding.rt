@@ -1,4 +1,4 @@
-//! The key that is looked for among those of a table. Nothing here takes memory.
+//! The key that is looked for among those of a table. Nothing here allocates.
 ghost use Rattle.std.specs.Prelude.{◌≡◌, [], ◌∷◌, filter_map, find, map, option_map};
 ghost use Rattle.std.specs.List.{list_any};
 ghost use Rattle.iv_resolution.specs.Constraints.{column_constraint, element_constraints, is_reliable, primary_key_of, table_constraint, written_constraints, written_keys};

@@ -1,5 +1,5 @@
-//! The sets of columns of a CREATE TABLE's keys, each found without a look at the others. They take memory for the names, and time near
-//! to the length of the text.
+//! The sets of columns of a CREATE TABLE's keys, each found without a look at the others. They allocate the names, and
+//! take nearly linear time.
 ghost use Rattle.std.specs.Prelude.{◌≡◌, ℕ, Bool, false, ◌||◌, List, [], ◌∷◌, IfOk, OnOk, Some, None};
 ghost use Rattle.std.specs.BTreeSet.{IsOrdered, contains_text};
 ghost use Rattle.std.specs.Str.{bytes_eq};
@@ -10,7 +10,7 @@ ghost use Rattle.iv_resolve_table_constraints.specs.KeySets.{Finds, Gains, HasNa
 ghost use Rattle.iv_resolve_table_constraints.specs.Seen.{constraint_seen};
 
 use crate::characteristics::is_deferrable;
-use crate::left::Left;
+use crate::unread::Unread;
 use crate::written::{WrittenConstraint, WrittenRule};
 use iv_syntax::{Name, TableElement};
 use std::alloc::{AllocError, Global};
@@ -84,7 +84,7 @@ fn add_keys(alloc: Global, sets: &mut KeySets, elements: &[TableElement]) -> Res
     ensures { OnOk result ((columns : List NamedColumn)
         → Gains sets.old sets.new (some_reliable columns (written_constraints elements.now))) }
 {
-    let mut left = Left::Outside(elements);
+    let mut left = Unread::Outside(elements);
     while let Some((constraint, rest)) = left.first() {
         add_key(alloc, sets, &constraint)?;
         left = rest;
@@ -102,7 +102,7 @@ pub fn reliable_sets(alloc: Global, elements: &[TableElement]) -> Result<KeySets
     Ok(sets)
 }
 
-/// Whether a set of columns is among them. It takes memory for the names, and time near to their length.
+/// Whether a set of columns is among them. It allocates the names, and takes nearly linear time.
 pub fn has_set(alloc: Global, sets: &KeySets, names: &[Name]) -> Result<bool, AllocError>
     ensures { IfOk result (λ found. (p : List (List ℕ) → Bool) → Finds sets.now p
         → found ≡ p names.now) }

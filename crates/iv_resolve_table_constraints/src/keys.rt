@@ -1,4 +1,4 @@
-//! The keys of a table, which a foreign key may refer to. Nothing here takes memory.
+//! The keys of a table, which a foreign key may refer to. Nothing here allocates.
 ghost use Rattle.std.specs.Prelude.{◌≡◌, length, map, option_map, slice_get};
 ghost use Rattle.std.specs.List.{list_all};
 ghost use Rattle.iv_catalogue.specs.Names.{is_among};
@@ -42,7 +42,7 @@ fn is_among(names: &[Name], name: &str) -> bool
     names.iter().any(|other| name == other.as_str())
 }
 
-// The name of the column at this place; empty where there is none.
+// The name of the column at this place; empty if there is none.
 fn name_at<'a>(columns: &'a [Column], place: u32) -> &'a str
     ensures { result.now ≡ name_at (named_columns columns.entry.now) place }
 {

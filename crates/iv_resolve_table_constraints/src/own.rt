@@ -1,4 +1,4 @@
-//! The table that constraints are of.
+//! The table that constraints are on.
 ghost use Rattle.std.specs.Prelude.{◌≡◌, ◌≤◌, [], length, option_map};
 ghost use Rattle.iv_resolution.specs.Constraints.{constraints_of, referenced, stored_reference};
 ghost use Rattle.iv_resolution.specs.Tables.{check_ranges};

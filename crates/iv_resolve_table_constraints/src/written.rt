@@ -1,4 +1,4 @@
-//! Constraints as they are written, inside a column or for themselves.
+//! Constraints as written, inside a column or on their own.
 ghost use Rattle.std.specs.Prelude.{◌≡◌, [], ◌∷◌};
 ghost use Rattle.iv_resolution.specs.Constraints.{column_constraint, rule_of_column, rule_of_table, table_constraint};
 ghost use Rattle.iv_resolve_table_constraints.specs.Seen.{constraint_seen, rule_seen};

@@ -4,11 +4,11 @@ ghost use Rattle.iv_resolution.specs.Bound.{bound_action, bound_trigger, table_i
 ghost use Rattle.iv_resolution.specs.Tables.{table_names};
 ghost use Rattle.iv_resolve_scope.specs.Seen.{names_seen, ranges_seen};
 
+use crate::{subject, trigger_names, variables};
 use iv_catalogue::{BodyStatement, Catalogue, MOST_TABLES, Setting, Trigger, TriggerId};
 use iv_expr::TableId;
 use iv_resolve_changes::{bound_delete, bound_insert, bound_update};
 use iv_resolve_scope::{Names, Ranges, bound_expression, bound_filter, places_of, table_place};
-use iv_resolve_trigger_rules::{subject, trigger_names, variables};
 use iv_syntax::{TriggerAction, TriggerDefinition};
 use sqlite_items::Items;
 use std::alloc::{AllocError, Global};
@@ -80,7 +80,7 @@ fn both<A: Drop, B: Drop>(
     Ok((a, b))
 }
 
-/// The plan of a CREATE TRIGGER, with the number that the trigger gets. It takes memory for the plan alone.
+/// The plan of a CREATE TRIGGER, with the number that the trigger gets. It allocates only the plan.
 pub fn bound_trigger<'a>(
     trigger: &'a TriggerDefinition,
     alloc: Global,

@@ -4,10 +4,10 @@ ghost use Rattle.std.specs.List.{list_any};
 ghost use Rattle.iv_resolution.specs.Triggers.{misshaped_action, misshaped_trigger};
 ghost use Rattle.iv_resolve_scope.specs.Seen.{names_seen, ranges_seen};
 
+use crate::{trigger_names, variables};
 use iv_catalogue::{Catalogue, MOST_TABLES};
 use iv_resolve_changes::{misshaped_delete, misshaped_insert, misshaped_update};
 use iv_resolve_scope::{Names, Ranges, clashes_with, misshaped_expression, misshaped_filter};
-use iv_resolve_trigger_rules::{trigger_names, variables};
 use iv_syntax::{TriggerAction, TriggerDefinition};
 
 #[tactic(auto, unfolding(iv_resolution::specs::Triggers::misshaped_action))]

@@ -1,3 +1,4 @@
+pub mod GeneratedNames
 pub mod Reading
 pub mod Runs
 pub mod Scripts

@@ -1,5 +1,5 @@
 -- One statement after another.
-use Rattle.std.proofs.Common.{◌≡◌, inl, inr, ℕ, ◌+◌, ◌≤◌, Bool, true, false, ◌&&◌, ◌||◌, if◌then◌else◌, List, [], ◌∷◌, ◌++◌, Option, None, Result, Ok, Err, ◌∙◌, sym, ap, subst, refl, append_assoc, append-nil, length, length-append, arith}
+use Rattle.std.proofs.Common.{◌≡◌, inl, inr, ℕ, ◌+◌, ◌≤◌, Bool, true, false, ◌&&◌, ◌||◌, if◌then◌else◌, List, [], ◌∷◌, ◌++◌, Option, None, Some, Result, Ok, Err, ◌∙◌, sym, ap, subst, refl, append_assoc, append-nil, length, length-append, arith}
 use Rattle.std.proofs.lemmas.Bool.{false≢true}
 use Rattle.std.specs.Io.KnownBytes.{Appends}
 use Rattle.std.proofs.KnownBytes.{Appends-trans, Appends-nil}
@@ -17,14 +17,12 @@ use Rattle.iv_resolution.specs.Resolution.{resolution}
 use Rattle.iv_step.specs.Step.{Executes, step, takes_no_memory}
 use Rattle.iv_step.specs.Sure.{is_rollback_to, never_refused}
 use Rattle.iv_step.specs.Telling.{Tells, commits, statement_told}
-use Rattle.iv_print.specs.AccountLines.{account_text}
-use Rattle.iv_print.specs.Lines.{line}
+use Rattle.iv_print.specs.declared.format.Style.{Style}
 use Rattle.iv_print.specs.Sinks.{SinkState, FailsNever}
 use Rattle.iv_print.specs.Writing.{Writes}
 use Rattle.iv_print.proofs.WriteLemmas.{never_then}
 use Rattle.iv_script.specs.declared.statements.Tally.{Tally}
-use Rattle.iv_script.specs.Transcript.{Memory, IsDue, AreDue, granted, denied, untold, Ran, following, outcome, lines, accepted_of, refused_of, run_from, told_with, memory_refusals, untold_accounts}
-use Rattle.iv_script.specs.Names.{name_line}
+use Rattle.iv_script.specs.Transcript.{Memory, IsDue, AreDue, granted, denied, untold, Ran, following, outcome, lines, outcome_lines, accepted_of, refused_of, run_from, told_with, memory_refusals, untold_accounts}
 use Rattle.iv_script.specs.Running.{RanOne, RanAll}
 
 -- ---- one statement
@@ -157,14 +155,14 @@ pub sure_of : (sure_back : Bool) (old : State) (st : Statement) (r : Result Answ
 sure_of sure_back old st r f g = one_of (takes_no_memory old st) sure_back (is_rollback_to st) (is_memory r) f g
 
 -- a statement's lines were written, and its outcome was counted
-pub ran_one : (sure_back asked : Bool) (n : ℕ) (old new : State) (st : Statement) (r : Result Answer Refusal) (account : Account) (tally tally_then : Tally) (before after : SinkState)
-    → Executes old st r new → (never_refused sure_back old st ≡ true → is_memory r ≡ false) → Tells asked old st r account
-    → Writes before after (Ok tt) (line n r new.schema ++ (account_text new.schema r account.entries ++ name_line asked new.schema st r))
+pub ran_one : (sure_back : Bool) (style : Style) (n : ℕ) (old new : State) (st : Statement) (r : Result Answer Refusal) (account : Account) (tally tally_then : Tally) (before after : SinkState)
+    → Executes old st r new → (never_refused sure_back old st ≡ true → is_memory r ≡ false) → Tells style.explain old st r account
+    → Writes before after (Ok tt) (outcome_lines style n (Some st) new.schema r account.entries)
     → tally_then.accepted ≡ tally.accepted + accepted_of r → tally_then.refused ≡ tally.refused + refused_of r → tally_then.memory_refused ≡ tally.memory_refused + (if is_memory r then 1 else 0)
     → tally_then.untold ≡ tally.untold + (if account.untold then 1 else 0)
-    → RanOne sure_back asked n old new st tally tally_then before after
-ran_one sure_back asked n old new st r account tally tally_then before after e sure told w a f s u =
-    let d : Did sure_back asked old new st r account = did sure_back asked old new st r account e sure told in
+    → RanOne sure_back style n old new st tally tally_then before after
+ran_one sure_back style n old new st r account tally tally_then before after e sure told w a f s u =
+    let d : Did sure_back style.explain old new st r account = did sure_back style.explain old new st r account e sure told in
     record {
       memory = d.memory;
       due = d.due;
@@ -174,7 +172,7 @@ ran_one sure_back asked n old new st r account tally tally_then before after e s
       memory_refusals_are = s ∙ ap (λ k. tally.memory_refused + k) d.counted;
       untold_are = u ∙ ap (λ k. tally.untold + k) d.untold_counted;
       appended = subst (Appends before.contents after.contents)
-          (λ i. line n (d.answer_is i) (d.state_is i).schema ++ (account_text (d.state_is i).schema (d.answer_is i) (d.told_is i) ++ name_line asked (d.state_is i).schema st (d.answer_is i))) w.0;
+          (λ i. outcome_lines style n (Some st) (d.state_is i).schema (d.answer_is i) (d.told_is i)) w.0;
       works = w.1;
     }
 
@@ -217,19 +215,19 @@ untold_more (granted ∷ ms) m = untold_more ms m
 untold_more (untold ∷ ms) m = omega (arith, untold_more ms m)
 
 -- these ran, and the rest is left
-pub record Onward (sure_back asked : Bool) (old now : State) (all rest : List Statement) (n : ℕ) (tally : Tally) (before after : SinkState) : Type 0 where
+pub record Onward (sure_back : Bool) (style : Style) (old now : State) (all rest : List Statement) (n : ℕ) (tally : Tally) (before after : SinkState) : Type 0 where
   pub memory : List Memory
   pub written : List ℕ
   pub each : length memory ≡ n
-  pub due : (more : List Memory) → AreDue sure_back asked now rest more → AreDue sure_back asked old all (memory ++ more)
+  pub due : (more : List Memory) → AreDue sure_back style.explain now rest more → AreDue sure_back style.explain old all (memory ++ more)
   pub memory_refusals_are : memory_refusals memory ≡ tally.memory_refused
   pub untold_are : untold_accounts memory ≡ tally.untold
   pub appended : Appends before.contents after.contents written
-  pub onward : (more : List Memory) → run_from asked old 0 all (memory ++ more) ≡ following written tally.accepted tally.refused (run_from asked now n rest more)
+  pub onward : (more : List Memory) → run_from style old 0 all (memory ++ more) ≡ following written tally.accepted tally.refused (run_from style now n rest more)
   pub works : FailsNever before after
 
-pub onward_start : (sure_back asked : Bool) (s : State) (all : List Statement) (tally : Tally) (a : SinkState) → tally.accepted ≡ 0 → tally.refused ≡ 0 → tally.memory_refused ≡ 0 → tally.untold ≡ 0 → Onward sure_back asked s s all all 0 tally a a
-onward_start sure_back asked s all tally a p q z u = record {
+pub onward_start : (sure_back : Bool) (style : Style) (s : State) (all : List Statement) (tally : Tally) (a : SinkState) → tally.accepted ≡ 0 → tally.refused ≡ 0 → tally.memory_refused ≡ 0 → tally.untold ≡ 0 → Onward sure_back style s s all all 0 tally a a
+onward_start sure_back style s all tally a p q z u = record {
   memory = [];
   written = [];
   each = refl;
@@ -237,44 +235,44 @@ onward_start sure_back asked s all tally a p q z u = record {
   memory_refusals_are = sym z;
   untold_are = sym u;
   appended = Appends-nil a.contents;
-  onward = λ more. rw (p, q) (following_none (run_from asked s 0 all more));
+  onward = λ more. rw (p, q) (following_none (run_from style s 0 all more));
   works = (refl, refl);
 }
 
-pub onward_more : (sure_back asked : Bool) (old now new : State) (all left rest : List Statement) (st : Statement) (n : ℕ) (t u : Tally) (a before after : SinkState)
-    → Onward sure_back asked old now all left n t a before → left ≡ st ∷ rest → RanOne sure_back asked (n + 1) now new st t u before after → Onward sure_back asked old new all rest (n + 1) u a after
-onward_more sure_back asked old now new all left rest st n t u a before after w e r =
+pub onward_more : (sure_back : Bool) (style : Style) (old now new : State) (all left rest : List Statement) (st : Statement) (n : ℕ) (t u : Tally) (a before after : SinkState)
+    → Onward sure_back style old now all left n t a before → left ≡ st ∷ rest → RanOne sure_back style (n + 1) now new st t u before after → Onward sure_back style old new all rest (n + 1) u a after
+onward_more sure_back style old now new all left rest st n t u a before after w e r =
     let o : Outcome = outcome r.memory now st in
-    let told : List Entry = told_with asked r.memory now st in
+    let told : List Entry = told_with style.explain r.memory now st in
     record {
       memory = w.memory ++ r.memory ∷ [];
-      written = w.written ++ lines asked (n + 1) st o told;
+      written = w.written ++ lines style (n + 1) st o told;
       each = omega (arith, length-append w.memory (r.memory ∷ []), w.each);
       due = λ more left.
-          subst (AreDue sure_back asked old all) (sym (append_assoc w.memory (r.memory ∷ []) more))
-          (w.due (r.memory ∷ more) (subst (λ l. AreDue sure_back asked now l (r.memory ∷ more)) (sym e) (r.due, subst (λ s. AreDue sure_back asked s rest more) r.state_is left)));
+          subst (AreDue sure_back style.explain old all) (sym (append_assoc w.memory (r.memory ∷ []) more))
+          (w.due (r.memory ∷ more) (subst (λ l. AreDue sure_back style.explain now l (r.memory ∷ more)) (sym e) (r.due, subst (λ s. AreDue sure_back style.explain s rest more) r.state_is left)));
       memory_refusals_are = counted_more w.memory r.memory ∙ ap (λ z. z + memory_refusals (r.memory ∷ [])) w.memory_refusals_are ∙ sym r.memory_refusals_are;
       untold_are = untold_more w.memory r.memory ∙ ap (λ z. z + untold_accounts (r.memory ∷ [])) w.untold_are ∙ sym r.untold_are;
-      appended = Appends-trans a.contents before.contents after.contents w.written (lines asked (n + 1) st o told) w.appended r.appended;
+      appended = Appends-trans a.contents before.contents after.contents w.written (lines style (n + 1) st o told) w.appended r.appended;
       onward = λ more.
-          ap (λ l. run_from asked old 0 all l) (append_assoc w.memory (r.memory ∷ []) more)
+          ap (λ l. run_from style old 0 all l) (append_assoc w.memory (r.memory ∷ []) more)
           ∙ w.onward (r.memory ∷ more)
-          ∙ ap (λ l. following w.written t.accepted t.refused (run_from asked now n l (r.memory ∷ more))) e
-          ∙ following_twice w.written (lines asked (n + 1) st o told) t.accepted (accepted_of o.answer) t.refused (refused_of o.answer) (run_from asked o.state (n + 1) rest more)
-          ∙ ap (λ z. following (w.written ++ lines asked (n + 1) st o told) z (t.refused + refused_of o.answer) (run_from asked o.state (n + 1) rest more)) (sym r.accepted_is)
-          ∙ ap (λ z. following (w.written ++ lines asked (n + 1) st o told) u.accepted z (run_from asked o.state (n + 1) rest more)) (sym r.refused_is)
-          ∙ ap (λ s. following (w.written ++ lines asked (n + 1) st o told) u.accepted u.refused (run_from asked s (n + 1) rest more)) (sym r.state_is);
+          ∙ ap (λ l. following w.written t.accepted t.refused (run_from style now n l (r.memory ∷ more))) e
+          ∙ following_twice w.written (lines style (n + 1) st o told) t.accepted (accepted_of o.answer) t.refused (refused_of o.answer) (run_from style o.state (n + 1) rest more)
+          ∙ ap (λ z. following (w.written ++ lines style (n + 1) st o told) z (t.refused + refused_of o.answer) (run_from style o.state (n + 1) rest more)) (sym r.accepted_is)
+          ∙ ap (λ z. following (w.written ++ lines style (n + 1) st o told) u.accepted z (run_from style o.state (n + 1) rest more)) (sym r.refused_is)
+          ∙ ap (λ s. following (w.written ++ lines style (n + 1) st o told) u.accepted u.refused (run_from style s (n + 1) rest more)) (sym r.state_is);
       works = never_then a before after w.works r.works;
     }
 
-pub onward_end : (sure_back asked : Bool) (old now : State) (all rest : List Statement) (n : ℕ) (t : Tally) (a b : SinkState) → Onward sure_back asked old now all rest n t a b → rest ≡ [] → n ≡ length all → RanAll sure_back asked old now all t a b
-onward_end sure_back asked old now all rest n t a b w e q =
-    let done : run_from asked old 0 all w.memory ≡ following w.written t.accepted t.refused (record { text = []; state = now; accepted = 0; refused = 0 }) =
-    ap (run_from asked old 0 all) (sym (append-nil w.memory)) ∙ w.onward [] ∙ ap (λ l. following w.written t.accepted t.refused (run_from asked now n l [])) e in
+pub onward_end : (sure_back : Bool) (style : Style) (old now : State) (all rest : List Statement) (n : ℕ) (t : Tally) (a b : SinkState) → Onward sure_back style old now all rest n t a b → rest ≡ [] → n ≡ length all → RanAll sure_back style old now all t a b
+onward_end sure_back style old now all rest n t a b w e q =
+    let done : run_from style old 0 all w.memory ≡ following w.written t.accepted t.refused (record { text = []; state = now; accepted = 0; refused = 0 }) =
+    ap (run_from style old 0 all) (sym (append-nil w.memory)) ∙ w.onward [] ∙ ap (λ l. following w.written t.accepted t.refused (run_from style now n l [])) e in
     record {
       memory = w.memory;
       each = w.each ∙ q;
-      due = subst (AreDue sure_back asked old all) (append-nil w.memory) (w.due [] (subst (λ l. AreDue sure_back asked now l []) (sym e) tt));
+      due = subst (AreDue sure_back style.explain old all) (append-nil w.memory) (w.due [] (subst (λ l. AreDue sure_back style.explain now l []) (sym e) tt));
       memory_refusals_are = w.memory_refusals_are;
       untold_are = w.untold_are;
       accepted_is = ap (λ r. r.accepted) done ∙ none_more t.accepted;
@@ -303,9 +301,9 @@ one_untold granted = omega arith
 one_untold untold = omega arith
 
 -- a statement is counted once
-pub few_more : (sure_back asked : Bool) (n k : ℕ) (now new : State) (st : Statement) (t u : Tally) (before after : SinkState) → RanOne sure_back asked n now new st t u before after
+pub few_more : (sure_back : Bool) (style : Style) (n k : ℕ) (now new : State) (st : Statement) (t u : Tally) (before after : SinkState) → RanOne sure_back style n now new st t u before after
     → t.accepted ≤ k → t.refused ≤ k → t.memory_refused ≤ k → t.untold ≤ k → (u.accepted ≤ k + 1) × (u.refused ≤ k + 1) × (u.memory_refused ≤ k + 1) × (u.untold ≤ k + 1)
-few_more sure_back asked n k now new st t u before after r a f s z = (
+few_more sure_back style n k now new st t u before after r a f s z = (
   omega (arith, r.accepted_is, one_accepted (outcome r.memory now st).answer, a),
   omega (arith, r.refused_is, one_refused (outcome r.memory now st).answer, f),
   omega (arith, r.memory_refusals_are, one_memory_refusal r.memory, s),

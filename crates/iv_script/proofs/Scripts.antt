@@ -9,20 +9,19 @@ use Rattle.iv_machine.specs.Bounds.{Bounds}
 use Rattle.iv_machine.specs.Machine.{State, empty_state}
 use Rattle.iv_step.specs.Step.{step}
 use Rattle.iv_print.specs.Sinks.{SinkState}
+use Rattle.iv_print.specs.declared.format.Style.{Style}
 use Rattle.iv_print.specs.Writing.{Writes}
 use Rattle.iv_print.proofs.WriteLemmas.{never_then}
 use Rattle.iv_parse.specs.declared.parser.SyntaxFault.{SyntaxFault}
 use Rattle.iv_script.specs.declared.statements.Tally.{Tally}
 use Rattle.iv_script.specs.declared.summary.Summary.{Summary}
-use Rattle.iv_script.specs.Transcript.{Memory, granted, denied, untold, Ran, following, outcome, lines, accepted_of, refused_of, run_from, told_with, AreDue, memory_refusals, untold_accounts, fault_line, end_line, closing_lines, fault_place, RanScript, RanWithMemory}
-use Rattle.iv_script.specs.Places.{place_line}
+use Rattle.iv_script.specs.Transcript.{Memory, granted, denied, untold, Ran, following, outcome, lines, accepted_of, refused_of, run_from, told_with, AreDue, memory_refusals, untold_accounts, begin_of, closing_lines, fault_place, RanScript, RanWithMemory}
 use Rattle.iv_script.specs.Running.{RanAll, RanParsed}
 
-pub ran_parsed : (sure_back asked : Bool) (old new : State) (text : List ℕ) (sts : List Statement) (fault : Option ℕ) (tally : Tally) (b0 b1 b2 b3 b4 : SinkState)
-    → RanAll sure_back asked old new sts tally b0 b1 → Writes b1 b2 (Ok tt) (fault_line (length sts) fault) → Writes b2 b3 (Ok tt) (place_line asked text fault)
-    → Writes b3 b4 (Ok tt) (end_line (is_some new.start))
-    → RanParsed sure_back asked old text sts fault tally b0 b4
-ran_parsed sure_back asked old new text sts fault tally b0 b1 b2 b3 b4 r p l q = record {
+pub ran_parsed : (sure_back : Bool) (style : Style) (old new : State) (text : List ℕ) (sts : List Statement) (fault : Option SyntaxFault) (tally : Tally) (b0 b1 b2 : SinkState)
+    → RanAll sure_back style old new sts tally b0 b1 → Writes b1 b2 (Ok tt) (closing_lines style text (length sts) fault new)
+    → RanParsed sure_back style old text sts fault tally b0 b2
+ran_parsed sure_back style old new text sts fault tally b0 b1 b2 r p = record {
   memory = r.memory;
   each = r.each;
   due = r.due;
@@ -30,21 +29,19 @@ ran_parsed sure_back asked old new text sts fault tally b0 b1 b2 b3 b4 r p l q =
   untold_are = r.untold_are;
   accepted_is = r.accepted_is;
   refused_is = r.refused_is;
-  appended = Appends-trans b0.contents b1.contents b4.contents _ _ r.appended
-      (Appends-trans b1.contents b2.contents b4.contents (fault_line (length sts) fault) _ p.0
-      (Appends-trans b2.contents b3.contents b4.contents (place_line asked text fault) _ l.0
-      (subst (λ s. Appends b3.contents b4.contents (end_line (is_some s.start))) r.state_is q.0)));
-  works = never_then b0 b1 b4 r.works (never_then b1 b2 b4 p.1 (never_then b2 b3 b4 l.1 q.1));
+  appended = Appends-trans b0.contents b1.contents b2.contents _ _ r.appended
+      (subst (λ s. Appends b1.contents b2.contents (closing_lines style text (length sts) fault s)) r.state_is p.0);
+  works = never_then b0 b1 b2 r.works p.1;
 }
 
 -- the summary of a run with this tally, over a script with this fault
 abbrev pub summary_of : Tally → Option SyntaxFault → Summary
 summary_of tally fault = record { accepted = tally.accepted; refused = tally.refused; memory_refused = tally.memory_refused; fault = fault; untold = tally.untold }
 
-pub ran_script : (sure_back : Bool) (bytes : List ℕ) (limits : Bounds) (asked : Bool) (sts : List Statement) (fault : Option SyntaxFault) (tally : Tally) (a b : SinkState)
-    → IsScript bytes sts (option_map (λ f. f.at) fault) → RanParsed sure_back asked (empty_state limits) bytes sts (option_map (λ f. f.at) fault) tally a b
-    → RanScript sure_back bytes limits asked (summary_of tally fault) a b
-ran_script sure_back bytes limits asked sts fault tally a b s r = record {
+pub ran_script : (sure_back : Bool) (bytes : List ℕ) (limits : Bounds) (style : Style) (sts : List Statement) (fault : Option SyntaxFault) (tally : Tally) (a b : SinkState)
+    → IsScript bytes sts (begin_of fault) → RanParsed sure_back style (empty_state limits) bytes sts fault tally a b
+    → RanScript sure_back bytes limits style (summary_of tally fault) a b
+ran_script sure_back bytes limits style sts fault tally a b s r = record {
   statements = sts;
   memory = r.memory;
   is_script = s;
@@ -58,23 +55,23 @@ ran_script sure_back bytes limits asked sts fault tally a b s r = record {
 }
 
 -- where memory is refused neither to a statement nor to an account, the run is the machine's
-run_with_memory : (asked : Bool) (s : State) (n : ℕ) (sts : List Statement) (memory : List Memory) → memory_refusals memory ≡ 0 → untold_accounts memory ≡ 0
-    → run_from asked s n sts memory ≡ run_from asked s n sts []
-run_with_memory asked s n [] memory h u = refl
-run_with_memory asked s n (st ∷ sts) [] h u = refl
-run_with_memory asked s n (st ∷ sts) (denied t ∷ ms) h u = absurd (omega (arith, h))
-run_with_memory asked s n (st ∷ sts) (untold ∷ ms) h u = absurd (omega (arith, u))
-run_with_memory asked s n (st ∷ sts) (granted ∷ ms) h u =
-    ap (following (lines asked (n + 1) st (outcome granted s st) (told_with asked granted s st)) (accepted_of (step s st).answer) (refused_of (step s st).answer))
-    (run_with_memory asked (step s st).state (n + 1) sts ms h u)
+run_with_memory : (style : Style) (s : State) (n : ℕ) (sts : List Statement) (memory : List Memory) → memory_refusals memory ≡ 0 → untold_accounts memory ≡ 0
+    → run_from style s n sts memory ≡ run_from style s n sts []
+run_with_memory style s n [] memory h u = refl
+run_with_memory style s n (st ∷ sts) [] h u = refl
+run_with_memory style s n (st ∷ sts) (denied t ∷ ms) h u = absurd (omega (arith, h))
+run_with_memory style s n (st ∷ sts) (untold ∷ ms) h u = absurd (omega (arith, u))
+run_with_memory style s n (st ∷ sts) (granted ∷ ms) h u =
+    ap (following (lines style (n + 1) st (outcome granted s st) (told_with style.explain granted s st)) (accepted_of (step s st).answer) (refused_of (step s st).answer))
+    (run_with_memory style (step s st).state (n + 1) sts ms h u)
 
-pub ran_with_memory : (sure_back asked : Bool) (bytes : List ℕ) (limits : Bounds) (summary : Summary) (a b : SinkState)
-    → RanScript sure_back bytes limits asked summary a b → summary.memory_refused ≡ 0 → summary.untold ≡ 0 → RanWithMemory bytes limits asked (fault_place summary) a b
-ran_with_memory sure_back asked bytes limits summary a b r z u = record {
+pub ran_with_memory : (sure_back : Bool) (style : Style) (bytes : List ℕ) (limits : Bounds) (summary : Summary) (a b : SinkState)
+    → RanScript sure_back bytes limits style summary a b → summary.memory_refused ≡ 0 → summary.untold ≡ 0 → RanWithMemory bytes limits style (fault_place summary) a b
+ran_with_memory sure_back style bytes limits summary a b r z u = record {
   statements = r.statements;
   is_script = r.is_script;
-  appended = subst (λ (q : Ran). Appends a.contents b.contents (q.text ++ closing_lines asked bytes (length r.statements) (fault_place summary) q.state))
-      (run_with_memory asked (empty_state limits) 0 r.statements r.memory (r.memory_refusals_are ∙ z) (r.untold_are ∙ u)) r.appended;
+  appended = subst (λ (q : Ran). Appends a.contents b.contents (q.text ++ closing_lines style bytes (length r.statements) (fault_place summary) q.state))
+      (run_with_memory style (empty_state limits) 0 r.statements r.memory (r.memory_refusals_are ∙ z) (r.untold_are ∙ u)) r.appended;
 }
 
 -- where no account is asked for, memory is refused to none
@@ -86,8 +83,11 @@ none_untold sure_back s (st ∷ sts) (granted ∷ ms) h due = none_untold sure_b
 none_untold sure_back s (st ∷ sts) (denied t ∷ ms) h due = none_untold sure_back (outcome (denied t) s st).state sts ms (omega (arith, h)) due.1
 none_untold sure_back s (st ∷ sts) (untold ∷ ms) h due = absurd (false≢true due.0.0)
 
-pub unasked_told : (sure_back : Bool) (bytes : List ℕ) (limits : Bounds) (summary : Summary) (a b : SinkState) → RanScript sure_back bytes limits false summary a b → summary.untold ≡ 0
-unasked_told sure_back bytes limits summary a b r = sym r.untold_are ∙ none_untold sure_back (empty_state limits) r.statements r.memory r.each r.due
+pub unasked_told : (sure_back : Bool) (bytes : List ℕ) (limits : Bounds) (style : Style) (summary : Summary) (a b : SinkState) → style.explain ≡ false → RanScript sure_back bytes limits style summary a b → summary.untold ≡ 0
+unasked_told sure_back bytes limits style summary a b plain r =
+    sym r.untold_are
+    ∙ none_untold sure_back (empty_state limits) r.statements r.memory r.each
+    (subst (λ (asked : Bool). AreDue sure_back asked (empty_state limits) r.statements r.memory) plain r.due)
 
 -- so of the bytes that a reader had, where they are known
 pub of_read : {E : Type 0} (r : Result Summary E) (found : Option (List ℕ)) (text : List ℕ) (P : List ℕ → Summary → Type 0) → IfSome found (λ bytes. text ≡ bytes)

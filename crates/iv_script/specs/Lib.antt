@@ -1,6 +1,8 @@
 pub mod Lengths
 pub mod Names
 pub mod Places
+pub mod JsonNames
+pub mod JsonLines
 pub mod Transcript
 pub mod Running
 pub mod RunFaults

@@ -3,6 +3,8 @@ use Rattle.std.specs.Prelude.{◌≡◌, ℕ, ◌+◌, Bool, true, false, if◌t
 use Rattle.std.specs.Io.KnownBytes.{Appends}
 use Rattle.iv_syntax.specs.declared.statement.Statement.{Statement}
 use Rattle.iv_parse.specs.Script.{IsScript}
+use Rattle.iv_catalogue.specs.Catalogues.{Schema}
+use Rattle.iv_parse.specs.declared.parser.SyntaxFault.{SyntaxFault}
 use Rattle.iv_catalogue.specs.declared.cause.Cause.TheVariants.{OutOfMemory}
 use Rattle.iv_catalogue.specs.declared.cause.Refusal.{Refusal}
 use Rattle.iv_machine.specs.declared.answer.Answer.{Answer}
@@ -16,7 +18,11 @@ use Rattle.iv_step.specs.Telling.{commits, statement_told}
 use Rattle.iv_print.specs.AccountLines.{account_text}
 use Rattle.iv_print.specs.Lines.{line}
 use Rattle.iv_print.specs.Sinks.{SinkState}
+use Rattle.iv_print.specs.declared.format.Format.{Format}
+use Rattle.iv_print.specs.declared.format.Format.TheVariants.{Words, Json}
+use Rattle.iv_print.specs.declared.format.Style.{Style}
 use Rattle.iv_script.specs.declared.summary.Summary.{Summary}
+use Rattle.iv_script.specs.JsonLines.{json_closing, json_line}
 use Rattle.iv_script.specs.Names.{name_line}
 use Rattle.iv_script.specs.Places.{place_line}
 
@@ -79,11 +85,23 @@ abbrev pub told_with : Bool → Memory → State → Statement → List Entry
 told_with true granted s st = statement_told s st
 told_with _ _ s st = []
 
--- The lines of a statement's outcome, those of its account, with the catalogue as it is directly after it, and the name that a refusal
--- is about, where accounts are asked for.
-abbrev pub lines : Bool → ℕ → Statement → Outcome → List Entry → List ℕ
-lines asked n st o told =
-    line n o.answer o.state.schema ++ (account_text o.state.schema o.answer told ++ name_line asked o.state.schema st o.answer)
+-- the line of the name that a refusal is about, where the statement is known
+abbrev pub name_line_of : Bool → Schema → Option Statement → Result Answer Refusal → List ℕ
+name_line_of asked s (Some st) r = name_line asked s st r
+name_line_of asked s None r = []
+
+-- in this format, with accounts or without
+abbrev pub lines_in : Format → Bool → ℕ → Option Statement → Schema → Result Answer Refusal → List Entry → List ℕ
+lines_in Words asked n st s r told = line n r s ++ (account_text s r told ++ name_line_of asked s st r)
+lines_in Json asked n st s r told = json_line asked n st s r told
+
+-- The lines of the outcome of the n-th statement, those of its account, with the catalogue as it is directly after it, and the name that
+-- a refusal is about, where accounts are asked for.
+abbrev pub outcome_lines : Style → ℕ → Option Statement → Schema → Result Answer Refusal → List Entry → List ℕ
+outcome_lines style n st s r told = lines_in style.format style.explain n st s r told
+
+abbrev pub lines : Style → ℕ → Statement → Outcome → List Entry → List ℕ
+lines style n st o told = outcome_lines style n (Some st) o.state.schema o.answer told
 
 -- the memory of the first statement; it is granted where the list is empty
 abbrev pub first_memory : List Memory → Memory
@@ -94,13 +112,13 @@ abbrev pub later_memory : List Memory → List Memory
 later_memory [] = []
 later_memory (m ∷ ms) = ms
 
--- The run of statements after the n-th, with accounts where they are asked for; the list says which of them are refused memory.
-abbrev pub run_from : Bool → State → ℕ → List Statement → List Memory → Ran
-run_from asked s n [] memory = record { text = []; state = s; accepted = 0; refused = 0 }
-run_from asked s n (st ∷ sts) memory =
+-- The run of statements after the n-th, written in this style; the list says which of them are refused memory.
+abbrev pub run_from : Style → State → ℕ → List Statement → List Memory → Ran
+run_from style s n [] memory = record { text = []; state = s; accepted = 0; refused = 0 }
+run_from style s n (st ∷ sts) memory =
     let o : Outcome = outcome (first_memory memory) s st in
-    following (lines asked (n + 1) st o (told_with asked (first_memory memory) s st)) (accepted_of o.answer) (refused_of o.answer)
-    (run_from asked o.state (n + 1) sts (later_memory memory))
+    following (lines style (n + 1) st o (told_with style.explain (first_memory memory) s st)) (accepted_of o.answer) (refused_of o.answer)
+    (run_from style o.state (n + 1) sts (later_memory memory))
 
 -- so for each of the statements that run from this state
 abbrev pub AreDue : Bool → Bool → State → List Statement → List Memory → Type 0
@@ -118,16 +136,33 @@ abbrev pub end_line : Bool → List ℕ
 end_line true = codes "end rolled back\n"
 end_line false = []
 
--- The lines after those of the statements. Where accounts are asked for, the place of the fault in the text is told too.
-abbrev pub closing_lines : Bool → List ℕ → ℕ → Option ℕ → State → List ℕ
-closing_lines asked text n fault s = fault_line n fault ++ (place_line asked text fault ++ end_line (is_some s.start))
+-- where the statement of a fault begins
+abbrev pub begin_of : Option SyntaxFault → Option ℕ
+begin_of fault = option_map (λ f. f.at) fault
+
+-- where the first word begins that can't stand where it does
+abbrev pub word_of : Option SyntaxFault → Option ℕ
+word_of fault = option_map (λ f. f.word) fault
+
+-- The lines after those of the statements. Where accounts are asked for, the place of the first word that can't stand where it does is
+-- told too.
+abbrev pub closing_text : Bool → List ℕ → ℕ → Option SyntaxFault → Bool → List ℕ
+closing_text asked text n fault is_open = fault_line n (begin_of fault) ++ (place_line asked text (word_of fault) ++ end_line is_open)
+
+-- so in this format
+abbrev pub closing_in : Format → Bool → List ℕ → ℕ → Option SyntaxFault → Bool → List ℕ
+closing_in Words asked text n fault is_open = closing_text asked text n fault is_open
+closing_in Json asked text n fault is_open = json_closing text n (begin_of fault) is_open
+
+abbrev pub closing_lines : Style → List ℕ → ℕ → Option SyntaxFault → State → List ℕ
+closing_lines style text n fault s = closing_in style.format style.explain text n fault (is_some s.start)
 
 -- The transcript of a script of these bytes that has these statements and this fault, run in a new session with
--- these limits, with accounts where they are asked for; the list says which statements are refused memory.
-abbrev pub transcript : Bool → List ℕ → Bounds → List Statement → Option ℕ → List Memory → List ℕ
-transcript asked bytes limits statements fault memory =
-    let r : Ran = run_from asked (empty_state limits) 0 statements memory in
-    r.text ++ closing_lines asked bytes (length statements) fault r.state
+-- these limits, written in this style; the list says which statements are refused memory.
+abbrev pub transcript : Style → List ℕ → Bounds → List Statement → Option SyntaxFault → List Memory → List ℕ
+transcript style bytes limits statements fault memory =
+    let r : Ran = run_from style (empty_state limits) 0 statements memory in
+    r.text ++ closing_lines style bytes (length statements) fault r.state
 
 -- how many statements are refused memory
 abbrev pub memory_refusals : List Memory → ℕ
@@ -143,31 +178,30 @@ untold_accounts (untold ∷ ms) = 1 + untold_accounts ms
 untold_accounts (granted ∷ ms) = untold_accounts ms
 untold_accounts (denied trigger ∷ ms) = untold_accounts ms
 
--- the place of the script's fault, where it has one
-abbrev pub fault_place : Summary → Option ℕ
-fault_place summary = option_map (λ f. f.at) summary.fault
+-- the script's fault, where it has one
+abbrev pub fault_place : Summary → Option SyntaxFault
+fault_place summary = summary.fault
 
 -- The transcript of these bytes was appended, and the summary says how many statements were
 -- accepted and refused, and the fault. For each statement that takes memory it is chosen whether it
 -- is refused it, and as many are as the summary says; so for each account of a COMMIT.
-pub record RanScript (sure_back : Bool) (bytes : List ℕ) (limits : Bounds) (asked : Bool) (summary : Summary)
+pub record RanScript (sure_back : Bool) (bytes : List ℕ) (limits : Bounds) (style : Style) (summary : Summary)
     (before after : SinkState) : Type 0 where
   pub statements : List Statement
   pub memory : List Memory
-  pub is_script : IsScript bytes statements (fault_place summary)
+  pub is_script : IsScript bytes statements (begin_of summary.fault)
   pub each : length memory ≡ length statements
-  pub due : AreDue sure_back asked (empty_state limits) statements memory
+  pub due : AreDue sure_back style.explain (empty_state limits) statements memory
   pub memory_refusals_are : memory_refusals memory ≡ summary.memory_refused
   pub untold_are : untold_accounts memory ≡ summary.untold
-  pub accepted_is : (run_from asked (empty_state limits) 0 statements memory).accepted ≡ summary.accepted
-  pub refused_is : (run_from asked (empty_state limits) 0 statements memory).refused ≡ summary.refused
+  pub accepted_is : (run_from style (empty_state limits) 0 statements memory).accepted ≡ summary.accepted
+  pub refused_is : (run_from style (empty_state limits) 0 statements memory).refused ≡ summary.refused
   pub appended : Appends before.contents after.contents
-      (transcript asked bytes limits statements (fault_place summary) memory)
+      (transcript style bytes limits statements (fault_place summary) memory)
 
--- The transcript of these bytes was appended, with accounts where they are asked for, and memory was refused neither to a statement
--- nor to an account.
-pub record RanWithMemory (bytes : List ℕ) (limits : Bounds) (asked : Bool) (fault : Option ℕ)
+-- The transcript of these bytes was appended, and memory was refused neither to a statement nor to an account.
+pub record RanWithMemory (bytes : List ℕ) (limits : Bounds) (style : Style) (fault : Option SyntaxFault)
     (before after : SinkState) : Type 0 where
   pub statements : List Statement
-  pub is_script : IsScript bytes statements fault
-  pub appended : Appends before.contents after.contents (transcript asked bytes limits statements fault [])
+  pub is_script : IsScript bytes statements (begin_of fault)
+  pub appended : Appends before.contents after.contents (transcript style bytes limits statements fault [])

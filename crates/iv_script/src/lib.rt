@@ -1,17 +1,23 @@
 //! Scripts: read from a device, run in a new session, and answered as a transcript.
 #![tactic(auto)]
 
+mod closing;
+mod json_line;
+mod json_name;
+mod lines;
 mod name_line;
 mod place;
 mod read;
 mod running;
 mod statements;
 mod summary;
+mod telling;
 
 pub use iv_parse::SyntaxFault;
-pub use iv_print::{DeviceFault, Sink, Source, Std};
-pub use name_line::{Explained, write_name};
+pub use iv_print::{DeviceFault, Format, Sink, Source, Std, Style};
+pub use lines::write_lines;
 pub use place::{MOST_WORDS, Place, place_at, words_at};
 pub use read::LONGEST;
 pub use running::run;
 pub use summary::{RunFault, Summary};
+pub use telling::Telling;

@@ -8,20 +8,13 @@ ghost use Rattle.iv_resolution.specs.NameFaults.{name_fault};
 ghost use Rattle.iv_resolve_name_faults.specs.Seen.{fault_seen, item_seen};
 ghost use Rattle.iv_script.specs.Names.{column_text, fault_line, fault_text, item_text, name_line};
 
+use crate::telling::Telling;
 use itoa::Buffer;
 use iv_catalogue::Catalogue;
 use iv_print::{DeviceFault, Sink, write_all};
 use iv_resolve_name_faults::{NameFault, NamedItem, name_fault};
 use iv_step::Outcome;
 use iv_syntax::Statement;
-use std::alloc::Global;
-
-/// Whether accounts are asked for, and where memory comes from for what they take.
-#[derive(Clone, Copy)]
-pub struct Explained {
-    pub asked: bool,
-    pub alloc: Global,
-}
 
 #[tactic(auto, using(iv_print::proofs::WriteLemmas::writes_then))]
 fn write_column<W: Sink>(writer: &mut W, range: Option<&str>, name: &str) -> Result<(), DeviceFault>
@@ -123,18 +116,18 @@ fn write_line<W: Sink>(writer: &mut W, fault: Option<NameFault<'_>>) -> Result<(
 /// Writes the line of a statement that was refused for a name, where accounts are asked for.
 pub fn write_name<W: Sink>(
     writer: &mut W,
-    explained: Explained,
+    telling: Telling,
     catalogue: &Catalogue,
     statement: &Statement,
     outcome: &Outcome,
 ) -> Result<(), DeviceFault>
     ensures { Writes (W.state writer.old) (W.state writer.new) result
-        (name_line explained.asked catalogue.now statement.now outcome.now) }
+        (name_line telling.style.explain catalogue.now statement.now outcome.now) }
 {
     match outcome {
-        Err(refusal) if explained.asked => write_line(
+        Err(refusal) if telling.style.explain => write_line(
             writer,
-            name_fault(explained.alloc, catalogue, statement, &refusal.cause),
+            name_fault(telling.alloc, catalogue, statement, &refusal.cause),
         ),
         _ => write_all(writer, b""),
     }

@@ -128,7 +128,7 @@ fn write_place<W: Sink>(writer: &mut W, place: Place, words: &[u8]) -> Result<()
     write_all(writer, b"\n")
 }
 
-/// Writes the line that tells where the fault of a text is, where that is asked for.
+/// Writes the line that tells the first word of a text that can't stand where it does, where that is asked for.
 pub fn write_fault_place<W: Sink>(
     writer: &mut W,
     explain: bool,
@@ -136,11 +136,15 @@ pub fn write_fault_place<W: Sink>(
     fault: Option<SyntaxFault>,
 ) -> Result<(), DeviceFault>
     ensures { Writes (W.state writer.old) (W.state writer.new) result
-        (place_line explain text.now (option_map (λ f. f.at) fault)) }
+        (place_line explain text.now (option_map (λ f. f.word) fault)) }
 {
     match fault {
         Some(fault) if explain => {
-            write_place(writer, place_at(text, fault.at), words_at(text, fault.at))
+            write_place(
+                writer,
+                place_at(text, fault.word),
+                words_at(text, fault.word),
+            )
         }
         _ => write_all(writer, b""),
     }

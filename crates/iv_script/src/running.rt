@@ -3,98 +3,69 @@ ghost use Rattle.std.specs.Prelude.{◌≡◌, ◌≢◌, ◌+◌, ◌<◌, ◌�
 ghost use Rattle.std.specs.Str.{IsUtf8};
 ghost use Rattle.iv_print.specs.Counts.{counted};
 ghost use Rattle.iv_print.specs.Sinks.{FailsOnce, FailsNever};
-ghost use Rattle.iv_print.specs.Writing.{Writes};
 ghost use Rattle.iv_script.specs.Lengths.{Fits, IsExact};
-ghost use Rattle.iv_script.specs.Transcript.{fault_line, end_line, fault_place, RanScript, RanWithMemory};
+ghost use Rattle.iv_script.specs.Transcript.{fault_place, RanScript, RanWithMemory};
 ghost use Rattle.iv_script.specs.Running.{RanParsed};
 
-use crate::name_line::Explained;
-use crate::place::write_fault_place;
+use crate::closing::write_closing;
 use crate::read::{LONGEST, read_script};
 use crate::statements::{Tally, run_statements};
 use crate::summary::{RunFault, Summary};
+use crate::telling::Telling;
 use iv_machine::Limits;
 use iv_parse::{SyntaxFault, script};
-use iv_print::{Buffered, DeviceFault, Sink, Source, write_all, write_number};
+use iv_print::{Buffered, DeviceFault, Sink, Source, Style};
 use iv_step::Executor;
 use iv_syntax::Statement;
 use std::alloc::Global;
 use std::str::from_utf8;
 
-// Writes the line of a fault after so many statements.
-#[tactic(auto, using(iv_print::proofs::WriteLemmas::writes_then))]
-fn write_fault<W: Sink>(
-    writer: &mut W,
-    count: u64,
-    fault: Option<SyntaxFault>,
-) -> Result<(), DeviceFault>
-    requires { count < 2 ^ 63 }
-    ensures { Writes (W.state writer.old) (W.state writer.new) result
-        (fault_line count (option_map (λ f. f.at) fault)) }
-{
-    match fault {
-        None => write_all(writer, b""),
-        Some(fault) => {
-            write_number(writer, count + 1)?;
-            write_all(writer, b" fault ")?;
-            write_number(writer, fault.at as u64)?;
-            write_all(writer, b"\n")
-        }
-    }
-}
-
-// Writes the line of a transaction that is open at the end.
-fn write_end<W: Sink>(writer: &mut W, is_open: bool) -> Result<(), DeviceFault>
-    ensures { Writes (W.state writer.old) (W.state writer.new) result (end_line is_open) }
-{
-    if is_open {
-        write_all(writer, b"end rolled back\n")
-    } else {
-        write_all(writer, b"")
-    }
-}
-
 // Runs the statements of a text, and writes their lines and those of the script's end.
 fn run_parsed<S: Executor, W: Sink>(
     session: &mut S,
-    explained: Explained,
+    telling: Telling,
     text: &str,
     statements: &[Statement],
     fault: Option<SyntaxFault>,
     writer: &mut W,
 ) -> Result<Tally, DeviceFault>
     requires few { length statements.now < 2 ^ 63 }
-    requires asked { explained.asked ≡ (S.told session.old).asked }
+    requires asked { telling.style.explain ≡ (S.told session.old).asked }
     ensures { MatchResult result
-        (λ t. RanParsed S.sure_store explained.asked (S.state session.old) text.now statements.now (option_map (λ f. f.at) fault) t
+        (λ t. RanParsed S.sure_store telling.style (S.state session.old) text.now statements.now fault t
         (W.state writer.old) (W.state writer.new))
         (λ _. FailsOnce (W.state writer.old) (W.state writer.new)) }
 {
-    let tally = run_statements(session, explained, statements, writer)?;
-    write_fault(writer, statements.len() as u64, fault)?;
-    write_fault_place(writer, explained.asked, text, fault)?;
-    write_end(writer, session.in_transaction())?;
+    let tally = run_statements(session, telling, statements, writer)?;
+    write_closing(
+        writer,
+        telling.style,
+        text,
+        statements.len() as u64,
+        fault,
+        session.in_transaction(),
+    )?;
     Ok(tally)
 }
 
 // The same with a buffer in front of the writer, which is empty again at the end.
 fn run_buffered<S: Executor, W: Sink>(
     session: &mut S,
-    explained: Explained,
+    telling: Telling,
     text: &str,
     statements: &[Statement],
     fault: Option<SyntaxFault>,
     writer: &mut W,
 ) -> Result<Tally, DeviceFault>
     requires few { length statements.now < 2 ^ 63 }
-    requires asked { explained.asked ≡ (S.told session.old).asked }
+    requires asked { telling.style.explain ≡ (S.told session.old).asked }
     ensures { MatchResult result
-        (λ t. RanParsed S.sure_store explained.asked (S.state session.old) text.now statements.now (option_map (λ f. f.at) fault) t
+        (λ t. RanParsed S.sure_store telling.style (S.state session.old) text.now statements.now fault t
         (W.state writer.old) (W.state writer.new))
         (λ _. FailsOnce (W.state writer.old) (W.state writer.new)) }
 {
     let mut buffered = Buffered::new(writer);
-    let tally = run_parsed(session, explained, text, statements, fault, &mut buffered)?;
+    let tally = run_parsed(session, telling, text, statements, fault, &mut buffered)?;
     buffered.flush()?;
     Ok(tally)
 }
@@ -105,14 +76,14 @@ fn run_text<S: Executor + Drop, W: Sink>(
     text: &str,
     writer: &mut W,
     limits: Limits,
-    explain: bool,
+    style: Style,
 ) -> Result<Summary, RunFault>
     requires { length text.now ≤ LONGEST }
     ensures transcript { IfOk result (λ s.
-        RanScript S.sure_store text.now limits explain s (W.state writer.old) (W.state writer.new)) }
+        RanScript S.sure_store text.now limits style s (W.state writer.old) (W.state writer.new)) }
     ensures with_memory { IfOk result (λ s. s.memory_refused ≡ 0 → s.untold ≡ 0
-        → RanWithMemory text.now limits explain (fault_place s) (W.state writer.old) (W.state writer.new)) }
-    ensures told { IfOk result (λ s. explain ≡ false → s.untold ≡ 0) }
+        → RanWithMemory text.now limits style (fault_place s) (W.state writer.old) (W.state writer.new)) }
+    ensures told { IfOk result (λ s. style.explain ≡ false → s.untold ≡ 0) }
     ensures kinds { IfErr result (λ e.
         (e ≢ RunFault.Read) × (e ≢ RunFault.TooLong) × (e ≢ RunFault.NotUtf8)) }
     ensures write { IsErrOf result RunFault.Write
@@ -122,14 +93,11 @@ fn run_text<S: Executor + Drop, W: Sink>(
 {
     let parsed = script(alloc, text)?;
     let mut session = S::new(alloc, limits)?;
-    session.explain(explain);
-    let explained = Explained {
-        asked: explain,
-        alloc,
-    };
+    session.explain(style.explain);
+    let telling = Telling { style, alloc };
     let done = run_buffered(
         &mut session,
-        explained,
+        telling,
         text,
         parsed.statements.as_slice(),
         parsed.fault,
@@ -156,14 +124,14 @@ fn run_bytes<S: Executor + Drop, W: Sink>(
     bytes: &[u8],
     writer: &mut W,
     limits: Limits,
-    explain: bool,
+    style: Style,
 ) -> Result<Summary, RunFault>
     requires { length bytes.now ≤ LONGEST }
     ensures transcript { IfOk result (λ s.
-        RanScript S.sure_store bytes.now limits explain s (W.state writer.old) (W.state writer.new)) }
+        RanScript S.sure_store bytes.now limits style s (W.state writer.old) (W.state writer.new)) }
     ensures with_memory { IfOk result (λ s. s.memory_refused ≡ 0 → s.untold ≡ 0
-        → RanWithMemory bytes.now limits explain (fault_place s) (W.state writer.old) (W.state writer.new)) }
-    ensures told { IfOk result (λ s. explain ≡ false → s.untold ≡ 0) }
+        → RanWithMemory bytes.now limits style (fault_place s) (W.state writer.old) (W.state writer.new)) }
+    ensures told { IfOk result (λ s. style.explain ≡ false → s.untold ≡ 0) }
     ensures utf8 { OnOk result (IsUtf8 bytes.now) }
     ensures write_utf8 { IsErrOf result RunFault.Write → IsUtf8 bytes.now }
     ensures not_utf8 { IsErrOf result RunFault.NotUtf8 → ¬ (IsUtf8 bytes.now) }
@@ -174,16 +142,16 @@ fn run_bytes<S: Executor + Drop, W: Sink>(
     ensures works { OnOk result (FailsNever (W.state writer.old) (W.state writer.new)) }
 {
     match from_utf8(bytes) {
-        Ok(text) => run_text::<S, W>(alloc, text, writer, limits, explain),
+        Ok(text) => run_text::<S, W>(alloc, text, writer, limits, style),
         Err(_) => Err(RunFault::NotUtf8),
     }
 }
 
 /// Reads a whole script, runs it in a new database and writes its transcript. Until the script is
 /// read and parsed and the database is made nothing is run or written. Beside what each statement
-/// takes it takes time in proportion to the script and its transcript. Where that is asked for, each statement's account
-/// follows its lines, a line tells the name that an Unknown or a Duplicate is about, and another the place of the script's
-/// fault.
+/// takes it takes time in proportion to the script and its transcript. Where the style asks for accounts, each statement's
+/// account follows its lines, a line tells the name that an Unknown or a Duplicate is about, and another the place of the
+/// script's fault. In JSON each statement is one line with all of this.
 ///
 /// The lines go through a buffer: where each write takes all that it is given, there is one for
 /// every 8,192 bytes of the transcript, and one at the end for the rest.
@@ -197,17 +165,17 @@ pub fn run<S: Executor + Drop, R: Source, W: Sink>(
     reader: &mut R,
     writer: &mut W,
     limits: Limits,
-    explain: bool,
+    style: Style,
 ) -> Result<Summary, RunFault>
     // What was written is the transcript, for some choice of the `memory_refused` statements and of the `untold`
     // accounts.
     ensures transcript { IfOk result (λ s. IfSome (R.remaining reader.old) (λ bytes.
-        RanScript S.sure_store bytes limits explain s (W.state writer.old) (W.state writer.new))) }
+        RanScript S.sure_store bytes limits style s (W.state writer.old) (W.state writer.new))) }
     // Where both of these are 0, it is the transcript of the machine.
     ensures with_memory { IfOk result (λ s. s.memory_refused ≡ 0 → s.untold ≡ 0 → IfSome (R.remaining reader.old) (λ bytes.
-        RanWithMemory bytes limits explain (fault_place s) (W.state writer.old) (W.state writer.new))) }
+        RanWithMemory bytes limits style (fault_place s) (W.state writer.old) (W.state writer.new))) }
     // Where no account is asked for, none is untold.
-    ensures told { IfOk result (λ s. explain ≡ false → s.untold ≡ 0) }
+    ensures told { IfOk result (λ s. style.explain ≡ false → s.untold ≡ 0) }
     // A script that ran is short enough and UTF-8, and so is one whose transcript couldn't be
     // written.
     ensures fits { OnOk result (IfSome (R.remaining reader.old) (λ bytes. Fits LONGEST bytes)) }
@@ -241,5 +209,5 @@ pub fn run<S: Executor + Drop, R: Source, W: Sink>(
     ensures ended_once { R.ends reader.new ≤ R.ends reader.old + 1 }
 {
     let bytes = read_script(alloc, reader)?;
-    run_bytes::<S, W>(alloc, bytes.as_slice(), writer, limits, explain)
+    run_bytes::<S, W>(alloc, bytes.as_slice(), writer, limits, style)
 }

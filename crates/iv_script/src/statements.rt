@@ -1,16 +1,14 @@
 //! The statements of a script, run one after the other, with the lines of their outcomes.
-ghost use Rattle.std.specs.Prelude.{◌≡◌, ◌+◌, ◌++◌, ◌<◌, ◌≤◌, ◌^◌, MatchResult, if◌then◌else◌};
+ghost use Rattle.std.specs.Prelude.{◌≡◌, ◌+◌, ◌<◌, ◌≤◌, ◌^◌, MatchResult, Some, if◌then◌else◌};
 ghost use Rattle.iv_catalogue.specs.Refusals.{is_memory};
-ghost use Rattle.iv_print.specs.AccountLines.{account_text};
-ghost use Rattle.iv_print.specs.Lines.{line};
 ghost use Rattle.iv_print.specs.Sinks.{FailsOnce};
 ghost use Rattle.iv_print.specs.Writing.{Writes};
-ghost use Rattle.iv_script.specs.Names.{name_line};
-ghost use Rattle.iv_script.specs.Transcript.{accepted_of, refused_of};
+ghost use Rattle.iv_script.specs.Transcript.{accepted_of, outcome_lines, refused_of};
 ghost use Rattle.iv_script.specs.Running.{RanOne, RanAll};
 
-use crate::name_line::{Explained, write_name};
-use iv_print::{DeviceFault, Sink, write_account, write_outcome};
+use crate::lines::write_lines;
+use crate::telling::Telling;
+use iv_print::{DeviceFault, Sink};
 use iv_step::{Executor, Outcome, is_memory_refused};
 use iv_syntax::Statement;
 
@@ -61,49 +59,53 @@ fn with(tally: Tally, outcome: &Outcome, untold: bool) -> Tally
     }
 }
 
-// Writes the lines of a statement's outcome, those of its account, which the session has, and the name that a refusal is about.
-#[tactic(auto, using(iv_print::proofs::WriteLemmas::writes_then))]
-fn write_lines<S: Executor, W: Sink>(
+// Writes the lines of a statement, with the account that the session has.
+fn write_statement<S: Executor, W: Sink>(
     writer: &mut W,
     number: u64,
     statement: &Statement,
     outcome: &Outcome,
     session: &S,
-    explained: Explained,
+    telling: Telling,
 ) -> Result<(), DeviceFault>
     ensures { Writes (W.state writer.old) (W.state writer.new) result
-        (line number outcome.now (S.state session.now).schema
-        ++ (account_text (S.state session.now).schema outcome.now (S.told session.now).entries
-        ++ name_line explained.asked (S.state session.now).schema statement.now outcome.now)) }
+        (outcome_lines telling.style number (Some statement.now) (S.state session.now).schema outcome.now (S.told session.now).entries) }
 {
-    write_outcome(writer, number, outcome, session.catalogue())?;
-    write_account(writer, session.catalogue(), outcome, session.account())?;
-    write_name(writer, explained, session.catalogue(), statement, outcome)
+    let catalogue = session.catalogue();
+    write_lines(
+        writer,
+        telling,
+        number,
+        Some(statement),
+        outcome,
+        catalogue,
+        session.account(),
+    )
 }
 
 // Runs one statement and writes its lines.
 fn run_one<S: Executor, W: Sink>(
     session: &mut S,
-    explained: Explained,
+    telling: Telling,
     number: u64,
     statement: &Statement,
     writer: &mut W,
     tally: Tally,
 ) -> Result<Tally, DeviceFault>
-    requires asked { explained.asked ≡ (S.told session.old).asked }
+    requires asked { telling.style.explain ≡ (S.told session.old).asked }
     requires accepted { tally.accepted < 2 ^ 63 }
     requires refused { tally.refused < 2 ^ 63 }
     requires memory_refused { tally.memory_refused < 2 ^ 63 }
     requires untold { tally.untold < 2 ^ 63 }
     ensures ran { MatchResult result
-        (λ t. RanOne S.sure_store explained.asked number
+        (λ t. RanOne S.sure_store telling.style number
         (S.state session.old) (S.state session.new) statement.now tally t
         (W.state writer.old) (W.state writer.new))
         (λ _. FailsOnce (W.state writer.old) (W.state writer.new)) }
     ensures asked { (S.told session.new).asked ≡ (S.told session.old).asked }
 {
     let outcome = session.execute(statement);
-    let written = write_lines(writer, number, statement, &outcome, &*session, explained);
+    let written = write_statement(writer, number, statement, &outcome, &*session, telling);
     let counted = with(tally, &outcome, session.is_untold());
     drop(outcome);
     written?;
@@ -113,13 +115,13 @@ fn run_one<S: Executor, W: Sink>(
 /// Runs the statements and writes their lines.
 pub fn run_statements<S: Executor, W: Sink>(
     session: &mut S,
-    explained: Explained,
+    telling: Telling,
     statements: &[Statement],
     writer: &mut W,
 ) -> Result<Tally, DeviceFault>
-    requires { explained.asked ≡ (S.told session.old).asked }
+    requires { telling.style.explain ≡ (S.told session.old).asked }
     ensures { MatchResult result
-        (λ t. RanAll S.sure_store explained.asked (S.state session.old) (S.state session.new) statements.now t
+        (λ t. RanAll S.sure_store telling.style (S.state session.old) (S.state session.new) statements.now t
         (W.state writer.old) (W.state writer.new))
         (λ _. FailsOnce (W.state writer.old) (W.state writer.new)) }
 {
@@ -133,7 +135,7 @@ pub fn run_statements<S: Executor, W: Sink>(
     };
     while let Some((statement, others)) = rest.split_first() {
         number += 1;
-        tally = run_one(session, explained, number, statement, writer, tally)?;
+        tally = run_one(session, telling, number, statement, writer, tally)?;
         rest = others;
     }
     Ok(tally)

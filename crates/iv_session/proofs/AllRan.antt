@@ -1,6 +1,6 @@
--- One statement after another, of which some may be refused memory.
+-- One statement after another, of which some may fail for lack of memory.
 use Rattle.std.proofs.Common.{◌≡◌, Bool, true, false, not, cond, List, [], ◌∷◌, ◌++◌, filter, length, Result, refl, sym, ap, ◌∙◌, append-nil, append_assoc, length-append, arith, MatchBool}
-use Rattle.iv_session.specs.Words.{Statement, Refusal, Answer}
+use Rattle.iv_session.specs.Types.{Statement, Refusal, Answer}
 use Rattle.iv_catalogue.specs.Refusals.{is_memory}
 use Rattle.iv_machine.specs.Machine.{State, MemoryRefused}
 use Rattle.iv_step.specs.Step.{Executes, run, step}

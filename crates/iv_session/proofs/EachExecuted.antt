@@ -1,6 +1,6 @@
 -- One statement after another, each as the clauses of `execute` say it.
 use Rattle.std.proofs.Common.{◌≡◌, ◌∙◌, Bool, List, [], ◌∷◌, ◌++◌, Result, refl, sym, subst, append-nil, append_assoc}
-use Rattle.iv_session.specs.Words.{Statement, Refusal, Answer}
+use Rattle.iv_session.specs.Types.{Statement, Refusal, Answer}
 use Rattle.iv_state.specs.Kept.{Seen}
 use Rattle.iv_step.proofs.Asked.{asked_stays}
 use Rattle.iv_session.specs.Executed.{Executed}

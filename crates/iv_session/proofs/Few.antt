@@ -1,6 +1,6 @@
 -- How many keys a call looks up.
 use Rattle.std.proofs.Common.{◌≡◌, ℕ, ◌+◌, ◌-◌, ◌*◌, ◌≤◌, Bool, true, false, Result, Ok, Err, refl, sym, ap, subst, ◌∙◌, arith, MatchBool, length}
-use Rattle.iv_session.specs.Words.{Statement, Refusal, Answer}
+use Rattle.iv_session.specs.Types.{Statement, Refusal, Answer}
 use Rattle.iv_syntax.specs.declared.statement.Statement.TheVariants as statement
 use Rattle.iv_catalogue.specs.declared.plan.Plan.{Plan}
 use Rattle.iv_catalogue.specs.declared.plan.Plan.TheVariants as plan
@@ -59,7 +59,7 @@ no_definition p st same h = planned_outside p ∙ ap is_outside same ∙ defined
 
 -- ---- few look-ups
 
--- what follows from what holds unless memory was refused holds then too
+-- what follows from what holds unless an allocation failed holds then too
 unless_then : {P Q : Type 0} (r : Result Answer Refusal) → (P → Q) → UnlessMemory r P → UnlessMemory r Q
 unless_then (Ok a) f h = f h
 unless_then {P = P} {Q = Q} (Err r) f h = by (is_memory_cause r.cause) h where
@@ -81,7 +81,7 @@ grown before after k lookups h e = omega (arith, h, e)
 pub few_grown : (old new : Seen) → LooksUpFew old new → new.lookups ≡ new.looked_up - old.looked_up → FewLookups old.state new
 few_grown old new h e = grown old.looked_up new.looked_up (most_lookups_for_a_change * length old.state.schema.constraints * (new.work.changes + new.work.undone)) new.lookups h e
 
--- so where it is said after the call
+-- the same, if it is said after the call
 pub few_counted : (r : Result Answer Refusal) (old ran new : Seen) → UnlessMemory r (LooksUpFew old ran) → new.lookups ≡ ran.looked_up - old.looked_up → new.work ≡ ran.work
     → UnlessMemory r (FewLookups old.state new)
 few_counted r old ran new h e w =

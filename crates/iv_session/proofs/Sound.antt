@@ -1,6 +1,6 @@
 -- A session's state is one that statements reach.
 use Rattle.std.proofs.Common.{◌≡◌, Bool, true, false, [], None, Some, Option, Result, Ok, Err, refl, sym, ap, subst, MatchBool, OnOk, is_some}
-use Rattle.iv_session.specs.Words.{Statement, Refusal, Answer}
+use Rattle.iv_session.specs.Types.{Statement, Refusal, Answer}
 use Rattle.iv_catalogue.specs.declared.plan.TransactionPlan.{TransactionPlan}
 use Rattle.iv_catalogue.specs.declared.plan.Plan.TheVariants as plan
 use Rattle.iv_catalogue.specs.Refusals.{is_memory, out_of_memory}
@@ -19,14 +19,14 @@ use Rattle.iv_step.proofs.Reached.{IsReached, control_reached, step_reached}
 use Rattle.iv_state.specs.Kept.{Seen}
 use Rattle.iv_state.specs.Performing.{Did, Performs, Runs}
 
--- a statement leads to such a state, or memory was refused and the state stays
+-- a statement leads to such a state, or an allocation failed and the state stays
 pub runs_reached : (s : State) (st : Statement) (r : Result Answer Refusal) (x : Seen) → IsReached s → Runs s st (step s st) r x → IsReached x.state
 runs_reached s st r x h runs = by (is_memory r) runs where
   by : (b : Bool) → MatchBool b ((x.state ≡ s) × IsMemoryRefusal (changes_rows st) s.schema r) (Did (step s st) r x) → IsReached x.state
   by true k = subst IsReached (sym k.0) h
   by false k = subst IsReached (sym k.1) (step_reached s st h)
 
--- so does a call that is a statement of transaction management
+-- a call that is a statement of transaction management leads to such a state
 pub performs_reached : (s : State) (t : TransactionPlan) (r : Result Answer Refusal) (x : Seen) → IsReached s → Performs s (planned s (plan.Transaction t)) r x → IsReached x.state
 performs_reached s t r x h performs = by (is_memory r) performs where
   by : (b : Bool) → MatchBool b ((x.state ≡ s) × (r ≡ Err out_of_memory)) (Did (planned s (plan.Transaction t)) r x) → IsReached x.state
@@ -51,7 +51,7 @@ rolled_back_reached s h = subst (λ (o : Outcome). IsReached o.state) (always_ru
 pub committed_reached : (s : State) → IsReached s → IsReached (commit_outcome s).state
 committed_reached s h = subst (λ (o : Outcome). IsReached o.state) (always_runs s (commit_outcome s)) (control_reached s transaction.Commit h)
 
--- COMMIT is accepted only where no constraint is violated, in a transaction and outside of one
+-- COMMIT is accepted only if no constraint is violated, in a transaction and outside of one
 pub accepted_always : {A E : Type 0} (s : State) (r : Result A E) → IsReached s
     → OnOk r (is_open s ≡ true → scan s.database.rows s.schema.constraints (is_chosen s.modes All) ≡ [])
     → OnOk r (scan s.database.rows s.schema.constraints (is_chosen s.modes All) ≡ [])

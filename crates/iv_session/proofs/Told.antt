@@ -1,6 +1,6 @@
 -- What is told of a statement that does nothing, and of COMMIT.
 use Rattle.std.proofs.Common.{◌≡◌, ◌∙◌, refl, Bool, true, false, inl, Option, Some, None, is_ok, List, [], Result, Err, MatchBool, ap, sym, subst}
-use Rattle.iv_session.specs.Words.{Statement, Refusal}
+use Rattle.iv_session.specs.Types.{Statement, Refusal}
 use Rattle.iv_syntax.specs.declared.statement.Statement.TheVariants as statement
 use Rattle.iv_catalogue.specs.Refusals.{is_memory_cause, out_of_memory}
 use Rattle.iv_catalogue.specs.declared.cause.Cause.{Cause}

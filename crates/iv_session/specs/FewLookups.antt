@@ -1,7 +1,7 @@
 -- How many keys a statement looks up.
 use Rattle.std.specs.Prelude.{◌+◌, ◌*◌, ◌≤◌, Bool, true, false, length}
 use Rattle.iv_syntax.specs.declared.statement.Statement.TheVariants as statement
-use Rattle.iv_session.specs.Words.{Statement}
+use Rattle.iv_session.specs.Types.{Statement}
 use Rattle.iv_machine.specs.Machine.{State}
 use Rattle.iv_store.specs.Lookups.{most_lookups_for_a_change}
 use Rattle.iv_state.specs.Kept.{Seen}

@@ -1,4 +1,4 @@
-pub mod Words
+pub mod Types
 pub mod FewLookups
 pub mod Executed
 pub mod RunningAll

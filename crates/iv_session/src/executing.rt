@@ -16,8 +16,7 @@ ghost use Rattle.iv_state.specs.Looking.{LooksUpFew};
 use crate::levels::Levels;
 use crate::session::Session;
 use iv_catalogue::Cause;
-use iv_resolve::resolve;
-use iv_resolve_writable::is_writable;
+use iv_resolve::{is_writable, resolve};
 use iv_step::{Outcome, is_memory_refused};
 use iv_store::Keeper;
 use iv_syntax::Statement;
@@ -44,7 +43,7 @@ impl<K: Keeper + Drop> Session<K> {
         }
     }
 
-    // What a statement does, but for the count of look-ups.
+    // What a statement does, except the count of look-ups.
     fn run(&mut self, statement: &Statement) -> Outcome
         ensures runs { Runs self.old.state statement.now
             (step self.old.state statement.now) result self.new }
@@ -80,7 +79,7 @@ impl<K: Keeper + Drop> Session<K> {
         ensures step { Executes self.old.state statement.now result self.new.state }
         ensures sure { takes_no_memory self.old.state statement.now ≡ true
             → is_memory result ≡ false }
-        // a store that goes back to a mark without memory
+        // a store that goes back to a mark without an allocation
         ensures sure_store { K.sure ≡ true → is_rollback_to statement.now ≡ true
             → is_memory result ≡ false }
         ensures work { MatchBool (is_memory result) (Unit {0}) (self.new.work
@@ -101,15 +100,14 @@ impl<K: Keeper + Drop> Session<K> {
         answer
     }
 
-    /// Runs a statement. The answer, the state after it and the work are those of the machine, or memory was
-    /// refused and the state is as before. Where an account is asked for, it is told what happens, which takes time and
-    /// memory in proportion to it. Where memory is refused to that of a COMMIT, the COMMIT is as without one, and the
-    /// account is empty.
+    /// Runs a statement. The answer, the next state and the work are the machine's, or an allocation failed and the
+    /// state is as before. If an account is asked for, it records what happens, in time and memory in proportion to it.
+    /// If the account of a COMMIT can't be allocated, it is empty, and the COMMIT goes on.
     pub fn execute(&mut self, statement: &Statement) -> Outcome
         ensures step { Executes self.old.state statement.now result self.new.state }
         ensures sure { takes_no_memory self.old.state statement.now ≡ true
             → is_memory result ≡ false }
-        // a store that goes back to a mark without memory
+        // a store that goes back to a mark without an allocation
         ensures sure_store { K.sure ≡ true → is_rollback_to statement.now ≡ true
             → is_memory result ≡ false }
         ensures work { MatchBool (is_memory result) (Unit {0}) (self.new.work
@@ -120,7 +118,7 @@ impl<K: Keeper + Drop> Session<K> {
             → UnlessMemory result (FewLookups self.old.state self.new) }
         // a store that counts no look-up
         ensures not_looked_up { ((store : K) → K.lookups store ≡ 0) → self.new.lookups ≡ 0 }
-        // what is told of this statement alone, where an account is asked for
+        // what is told of only this statement, if an account is asked for
         ensures told { Tells self.old.account.asked self.old.state statement.now result
             self.new.account }
     {
@@ -133,8 +131,8 @@ impl<K: Keeper + Drop> Session<K> {
         answer
     }
 
-    /// Executes the statements one after another, each as `execute` does. The list of outcomes is reserved first: where
-    /// memory for it is refused, nothing ran. The work and the account are then those of the last statement.
+    /// Executes the statements one after another, each as `execute` does. The list of outcomes is reserved first: if it
+    /// can't be allocated, nothing ran. Work and account are then those of the last statement.
     pub fn run_all(&mut self, statements: &[Statement]) -> Result<Vec<Outcome>, AllocError>
         ensures outcomes { IfOk result (λ outcomes.
             IsRunOf self.old.state statements.now outcomes.items self.new.state) }

@@ -1,4 +1,4 @@
-//! A session as what executes the statements of a script.
+//! A session as an `Executor`.
 
 use crate::session::Session;
 use iv_account::Entry;

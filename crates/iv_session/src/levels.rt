@@ -2,7 +2,7 @@
 
 use iv_account::Account;
 use iv_catalogue::{Catalogue, DataStatement, Refusal};
-use iv_exec::change;
+use iv_exec_level::change;
 use iv_machine::Limits;
 use iv_modes::Modes;
 use iv_state::DataStatements;

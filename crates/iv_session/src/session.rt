@@ -20,8 +20,8 @@ use iv_store::Keeper;
 use std::alloc::{AllocError, Global};
 use std::marker::Model;
 
-/// A session: the state of the machine, which contracts see, with the work of the last call, and the account of the last
-/// statement, where one is asked for.
+/// A session: the state of the machine, with the work of the last call, and the account of the last statement, if one
+/// is asked for. Contracts see this state.
 pub struct Session<K: Keeper + Drop> {
     pub(crate) state: SessionState<K>,
     pub(crate) account: Account,
@@ -54,7 +54,7 @@ impl<K: Keeper + Drop> Model for Session<K> {
 }
 
 impl<K: Keeper + Drop> Session<K> {
-    /// A session over no table, with these limits. No account is asked for.
+    /// A session without tables, with these limits. No account is asked for.
     pub fn new(alloc: Global, limits: Limits) -> Result<Self, AllocError>
         ensures { IfOk result (λ s. s
             ≡ record {
@@ -71,8 +71,7 @@ impl<K: Keeper + Drop> Session<K> {
         })
     }
 
-    /// From now on an account of each statement is asked for, or isn't. That of the last statement goes. It takes no
-    /// memory.
+    /// Turns accounts on or off, and clears the account of the last statement. It allocates nothing.
     pub fn explain(&mut self, asked: bool)
         ensures { self.new ≡ with_account self.old (no_account asked) }
     {
@@ -86,16 +85,16 @@ impl<K: Keeper + Drop> Session<K> {
         self.account.is_asked()
     }
 
-    /// What happened in the last statement that was executed, or in the last call of `commit`, in its order, where an
-    /// account was asked for, and otherwise nothing.
+    /// What happened in the last statement or call of `commit`, in order, if an account was asked for, and otherwise
+    /// nothing.
     pub fn account(&self) -> &[Entry]
         ensures { result.now ≡ self.now.account.entries }
     {
         self.account.entries()
     }
 
-    /// Whether the last statement that was executed, or the last call, was a COMMIT with an account that memory was
-    /// refused for. That account is then empty; otherwise it tells all that it is refused for.
+    /// Whether the last statement or call was a COMMIT whose account could not be allocated. That account is then
+    /// empty; otherwise it has every violation.
     pub fn is_untold(&self) -> bool
         ensures { result ≡ self.now.account.untold }
     {
@@ -128,7 +127,7 @@ impl<K: Keeper + Drop> Session<K> {
         self.state.work()
     }
 
-    /// The violations of deferred constraints, by the constraint's creation, then by row.
+    /// The violations of deferred constraints, in creation order of the constraints, then by row.
     pub fn pending(&self) -> Result<Vec<Fault>, AllocError>
         ensures { IfOk result (λ faults. faults.items ≡
             scan self.now.state.database.rows self.now.state.schema.constraints
@@ -137,8 +136,8 @@ impl<K: Keeper + Drop> Session<K> {
         self.state.pending()
     }
 
-    /// How many violations of deferred constraints there are; the count stays at 2^64 - 1 once it is
-    /// there. It takes no memory.
+    /// How many violations of deferred constraints there are; the count stays at 2^64 - 1 once it is there. It
+    /// allocates nothing.
     pub fn pending_count(&self) -> u64
         ensures { result ≡ min (length (scan self.now.state.database.rows
             self.now.state.schema.constraints (is_chosen self.now.state.modes Deferred)))
@@ -147,8 +146,8 @@ impl<K: Keeper + Drop> Session<K> {
         self.state.pending_count()
     }
 
-    /// Ends the transaction, and brings back the database from its start. Outside a transaction it does
-    /// nothing. It can't be refused memory.
+    /// Ends the transaction and restores the database from its start. Outside a transaction it does nothing. It can't
+    /// fail for lack of memory.
     pub fn rollback(&mut self)
         ensures state { self.new.state ≡ (rollback_outcome self.old.state).state }
         ensures work { self.new.work ≡ (rollback_outcome self.old.state).work }
@@ -161,9 +160,9 @@ impl<K: Keeper + Drop> Session<K> {
         self.state.rollback();
     }
 
-    /// Ends the transaction: the database stays where no constraint is violated, and is otherwise the one
-    /// at the transaction's start. Outside a transaction it does nothing. It can't be refused memory: an account that is
-    /// asked for is empty if memory is refused for it, and `is_untold` says so.
+    /// Ends the transaction. If no constraint is violated, the database stays; otherwise it is restored from the
+    /// transaction's start. Outside a transaction the call does nothing. It can't fail for lack of memory: an account
+    /// that can't be allocated is empty, and `is_untold` says so.
     pub fn commit(&mut self) -> Result<(), Fault>
         ensures answer { commit_answer result ≡ (commit_outcome self.old.state).answer }
         ensures state { self.new.state ≡ (commit_outcome self.old.state).state }
@@ -171,7 +170,7 @@ impl<K: Keeper + Drop> Session<K> {
         ensures bounded { FewLookups self.old.state self.new }
         ensures lookups { self.new.lookups ≡ self.new.looked_up - self.old.looked_up }
         ensures not_looked_up { ((store : K) → K.lookups store ≡ 0) → self.new.lookups ≡ 0 }
-        // It is accepted exactly where the scan of all constraints is empty.
+        // It is accepted exactly if the scan of all constraints is empty.
         ensures accepted { OnOk result
             (scan self.old.state.database.rows self.old.state.schema.constraints
             (is_chosen self.old.state.modes All) ≡ []) }
@@ -186,9 +185,9 @@ impl<K: Keeper + Drop> Session<K> {
         self.state.commit()
     }
 
-    /// ROLLBACK TO SAVEPOINT as a call: the answer, the state after it and the changes that were undone are
-    /// those of the machine, or memory was refused and the state is as before. Outside a transaction it takes
-    /// no memory, and on a store that goes back to a mark without memory it never takes any.
+    /// ROLLBACK TO SAVEPOINT as a call. The answer, the next state and the undone changes are the machine's, or an
+    /// allocation failed and the state is as before. Outside a transaction it allocates nothing, and on a store that
+    /// goes back to a mark without an allocation it never does.
     pub fn rollback_to(&mut self, name: &str) -> Outcome
         ensures bounded { FewLookups self.old.state self.new }
         ensures lookups { self.new.lookups ≡ self.new.looked_up - self.old.looked_up }

@@ -1,6 +1,6 @@
 -- A data statement on a store with a mark, and in a session.
 use Rattle.std.proofs.Common.{◌≡◌, ℕ, ◌-◌, Bool, true, false, Option, Some, None, Result, Ok, Err, List, [], ◌∷◌, ◌++◌, length, take, slice_get, refl, ap, sym, ◌∙◌, MatchBool}
-use Rattle.iv_state.specs.Words.{Refusal, DataStatement, Answer, Database}
+use Rattle.iv_state.specs.Types.{Refusal, DataStatement, Answer, Database}
 use Rattle.iv_catalogue.specs.Refusals.{is_memory_cause}
 use Rattle.iv_catalogue.specs.declared.cause.Cause.TheVariants.{OutOfMemory}
 use Rattle.iv_expr.specs.Scopes.{no_frame}

@@ -3,9 +3,9 @@ use Rattle.std.proofs.Common.{◌≡◌, ℕ, zero, suc, ◌+◌, Bool, true, fa
 use Rattle.std.proofs.lemmas.Bool.{true≢false}
 use Rattle.std.specs.List.{enumerate_from}
 use Rattle.iv_expr.specs.declared.row.StoredRow.{StoredRow}
-use Rattle.iv_state.specs.Words.{ConstraintMode, Constraint, Fault}
-use Rattle.iv_state.specs.Words.cause.{NotDeferrable, Violation}
-use Rattle.iv_state.specs.Words.answer.{Done}
+use Rattle.iv_state.specs.Types.{ConstraintMode, Constraint, Fault}
+use Rattle.iv_state.specs.Types.cause.{NotDeferrable, Violation}
+use Rattle.iv_state.specs.Types.answer.{Done}
 use Rattle.iv_catalogue.specs.Catalogues.{Schema}
 use Rattle.iv_machine.specs.declared.database.Which.TheVariants.{Deferred}
 use Rattle.iv_machine.specs.Databases.{chosen_violations, fault_at, first, is_chosen, is_deferred, satisfies, scan, violations}
@@ -98,7 +98,7 @@ none_from : (rows : List StoredRow) (id : ℕ) (cs : List Constraint) → from r
 none_from rows id [] = refl
 none_from rows id (c ∷ cs) = none_from rows (id + 1) cs
 
--- where all that was deferred still is, no constraint was made immediate
+-- if all that was deferred still is, no constraint was made immediate
 pub none_made_immediate : (s : State) (new : List ConstraintMode) → ((id : ℕ) → is_deferred s.modes id ≡ true → is_deferred new id ≡ true)
     → first_made_immediate s new ≡ None
 none_made_immediate s new h =

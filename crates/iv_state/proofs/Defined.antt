@@ -3,9 +3,9 @@ use Rattle.std.proofs.Common.{◌≡◌, ℕ, zero, suc, ◌==◌, Bool, true, f
 use Rattle.std.proofs.lemmas.Bool.{and_from, and_parts}
 use Rattle.iv_value.specs.declared.value.Value.{Value}
 use Rattle.iv_expr.specs.declared.row.StoredRow.{StoredRow}
-use Rattle.iv_state.specs.Words.{Statement, Table, Fault, Refusal, Constraint, Plan, Answer}
-use Rattle.iv_state.specs.Words.cause.{AddRefused}
-use Rattle.iv_state.specs.Words.answer.{Done}
+use Rattle.iv_state.specs.Types.{Statement, Table, Fault, Refusal, Constraint, Plan, Answer}
+use Rattle.iv_state.specs.Types.cause.{AddRefused}
+use Rattle.iv_state.specs.Types.answer.{Done}
 use Rattle.iv_catalogue.specs.Catalogues.{Schema, with_constraint, with_table}
 use Rattle.iv_catalogue.specs.Refusals.{is_memory}
 use Rattle.iv_machine.specs.Databases.{first, initial_modes, scan}

@@ -3,9 +3,9 @@ use Rattle.std.proofs.Common.{◌≡◌, ℕ, ◌≤◌, ◌<◌, Bool, true, fa
 use Rattle.std.proofs.lemmas.Bool.{or_parts}
 use Rattle.std.specs.Option.{option_or}
 use Rattle.std.proofs.lemmas.Bool.Decides.{nat_tests}
-use Rattle.iv_state.specs.Words.{Statement, Table, Plan, SchemaPlan, Trigger}
-use Rattle.iv_state.specs.Words.plan
-use Rattle.iv_state.specs.Words.schema
+use Rattle.iv_state.specs.Types.{Statement, Table, Plan, SchemaPlan, Trigger}
+use Rattle.iv_state.specs.Types.plan
+use Rattle.iv_state.specs.Types.schema
 use Rattle.iv_syntax.specs.declared.statement.Statement.TheVariants as statement
 use Rattle.iv_syntax.specs.declared.trigger.TriggerDefinition.{TriggerDefinition}
 use Rattle.iv_catalogue.specs.Catalogues.{Schema, has_trigger}

@@ -1,7 +1,7 @@
 -- Small outcomes, as what a part of `execute` does.
 use Rattle.std.proofs.Common.{◌≡◌, Bool, true, false, Option, None, Result, Ok, Err, refl, ap, sym, subst, ◌∙◌, MatchBool}
 use Rattle.iv_catalogue.specs.declared.cause.Cause.{Cause}
-use Rattle.iv_state.specs.Words.{Statement, Refusal, Answer, Plan}
+use Rattle.iv_state.specs.Types.{Statement, Refusal, Answer, Plan}
 use Rattle.iv_catalogue.specs.Refusals.{is_memory, is_memory_cause, out_of_memory, refusal_answer}
 use Rattle.iv_machine.specs.Machine.{State, Outcome, accept, always, is_open, IsMemoryRefusal, changes_rows, no_work, outcome_unless, plan_outcome, refuse, transaction_cause}
 use Rattle.iv_state.specs.Kept.{Seen}
@@ -25,7 +25,7 @@ runs_performed s st said r x p = by (is_memory r) p where
   by true p = (p.0, (None, refl, p.1))
   by false p = p
 
--- so of a plan
+-- the same of a plan
 pub plan_performed : (s : State) (p : Plan) (r : Result Answer Refusal) (x : Seen) → Performs s (plan_outcome s p) r x → PerformsPlan s p r x
 plan_performed s p r x h = by (is_memory r) h where
   by : (b : Bool) → MatchBool b ((x.state ≡ s) × (r ≡ Err out_of_memory)) (Did (plan_outcome s p) r x)

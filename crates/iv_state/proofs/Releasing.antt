@@ -3,7 +3,7 @@ use Rattle.std.proofs.Common.{◌≡◌, ℕ, zero, suc, ◌+◌, ◌<◌, Bool,
 use Rattle.std.specs.Str.{bytes_eq}
 use Rattle.std.proofs.lemmas.Bool.{true≢false, and_from, and_parts}
 use Rattle.std.proofs.lemmas.List.{take_more, length-take-le}
-use Rattle.iv_state.specs.Words.{Table, Constraint, Database}
+use Rattle.iv_state.specs.Types.{Table, Constraint, Database}
 use Rattle.iv_machine.specs.Machine.{Savepoint, NamedSavepoint, State, savepoint_named}
 use Rattle.iv_modes.specs.ModeMaps.{ModeMap}
 use Rattle.iv_store.specs.Stores.{StoreState, marked_database, store_at_mark}
@@ -92,7 +92,7 @@ first_take base dbs p = let one : suc p ≡ p + 1 = omega arith in subst (λ (q 
   by [] = refl
   by (d ∷ dbs) = refl
 
--- with another base, where there is a mark
+-- with another base, if there is a mark
 first_base : (base other : Database) (dbs : List Database) → 0 < length dbs → first_or base dbs ≡ first_or other dbs
 first_base base other [] w = absurd (omega (arith, w))
 first_base base other (d ∷ dbs) w = refl

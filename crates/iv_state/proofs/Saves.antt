@@ -2,7 +2,7 @@
 use Rattle.std.proofs.Common.{◌≡◌, ℕ, suc, ◌+◌, ◌<◌, Bool, true, false, not, if◌then◌else◌, Some, None, Option, List, [], ◌∷◌, ◌++◌, length, arith, refl, ap, sym, subst, ◌∙◌, append-nil, length-append, slice_get, IfSome, is_some}
 use Rattle.std.proofs.lemmas.Bool.{and_from, and_parts}
 use Rattle.std.specs.Str.{bytes_eq}
-use Rattle.iv_state.specs.Words.{Table, Constraint, Database}
+use Rattle.iv_state.specs.Types.{Table, Constraint, Database}
 use Rattle.iv_machine.specs.Machine.{Savepoint, without_name, state_with_savepoint}
 use Rattle.iv_modes.specs.ModeMaps.{ModeMap}
 use Rattle.iv_store.specs.Stores.{StoreState, marked_database, store_with_mark}

@@ -3,7 +3,7 @@ use Rattle.std.proofs.Common.{◌≡◌, ℕ, zero, suc, ◌+◌, ◌-◌, ◌<�
 use Rattle.std.specs.List.{remove}
 use Rattle.std.specs.Str.{bytes_eq}
 use Rattle.std.proofs.lemmas.List.Edits.{length-remove}
-use Rattle.iv_state.specs.Words.{Database}
+use Rattle.iv_state.specs.Types.{Database}
 use Rattle.iv_store.specs.Stores.{StoreState, marked_database, store_without_mark}
 use Rattle.iv_state.specs.Saved.{Saved}
 use Rattle.iv_state.specs.Kept.{later}

@@ -1,7 +1,7 @@
 -- What is told of violations.
 use Rattle.std.proofs.Common.{◌≡◌, ◌∙◌, ℕ, Bool, true, false, not, if◌then◌else◌, Option, Some, None, List, [], ◌∷◌, ◌++◌, filter, map, ap, sym, MatchBool, Result, Ok, Err}
 use Rattle.iv_expr.specs.declared.row.StoredRow.{StoredRow}
-use Rattle.iv_state.specs.Words.{ConstraintMode, Fault, Refusal}
+use Rattle.iv_state.specs.Types.{ConstraintMode, Fault, Refusal}
 use Rattle.iv_catalogue.specs.Refusals.{is_memory_cause}
 use Rattle.iv_laws_rows.specs.Changing.{UnlessMemory}
 use Rattle.iv_catalogue.specs.Catalogues.{Schema}
@@ -16,7 +16,7 @@ use Rattle.iv_account.specs.Telling.{Account, and_told}
 use Rattle.iv_account.proofs.Telling.{told_none, told_twice}
 use Rattle.iv_state.proofs.Deferred.{first_same, of_all}
 
--- what holds, holds unless memory was refused
+-- what holds, holds unless an allocation failed
 pub always : {A : Type 0} (r : Result A Refusal) (P : Type 0) → P → UnlessMemory r P
 always (Ok a) P p = p
 always (Err r) P p = by (is_memory_cause r.cause) where
@@ -24,7 +24,7 @@ always (Err r) P p = by (is_memory_cause r.cause) where
   by true = tt
   by false = p
 
--- where no account is asked for, none is told
+-- if no account is asked for, none is told
 pub told_unasked : (account : Account) (entries : List Entry) → account.asked ≡ false → account ≡ and_told account entries
 told_unasked account entries e = ap (λ (b : Bool). record account { entries = if b then account.entries ++ entries else account.entries }) (sym e)
 

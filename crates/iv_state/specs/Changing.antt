@@ -2,8 +2,8 @@
 use Rattle.std.specs.Prelude.{◌≡◌, ℕ, ◌-◌, Bool, if◌then◌else◌, List, [], ◌∷◌, ◌++◌, Result, Ok, Err, MatchBool}
 use Rattle.iv_expr.specs.Scopes.{no_frame}
 use Rattle.iv_catalogue.specs.Catalogues.{Schema}
-use Rattle.iv_state.specs.Words.{Refusal, DataStatement, ConstraintMode, Database}
-use Rattle.iv_state.specs.Words.answer.{Changed}
+use Rattle.iv_state.specs.Types.{Refusal, DataStatement, ConstraintMode, Database}
+use Rattle.iv_state.specs.Types.answer.{Changed}
 use Rattle.iv_catalogue.specs.Refusals.{is_memory}
 use Rattle.iv_machine.specs.Bounds.{Bounds}
 use Rattle.iv_machine.specs.Context.{Failure}
@@ -32,12 +32,12 @@ abbrev pub work_said : Database → Result (Database × ℕ) Failure → Work
 work_said db (Ok p) = record { changes = p.0.count - db.count; undone = 0 }
 work_said db (Err f) = record { changes = f.count - db.count; undone = f.count - db.count }
 
--- the store after the statement, which a mark is left at where it begins a transaction
+-- the store after the statement, at which a mark is left if it begins a transaction
 abbrev pub store_said : Bool → StoreState → Result (Database × ℕ) Failure → StoreState
 store_said begins s (Ok p) = record s { base = p.0; marks = if begins then s.marks ++ s.base ∷ [] else s.marks }
 store_said begins s (Err f) = s
 
--- The size or the refusal, the store and the work are those that are said; or memory was refused, and the store is as before.
+-- The size or the refusal, the store and the work are those that are said; or an allocation failed, and the store is as before.
 abbrev pub Changes : Bool → StoreState → Result (Database × ℕ) Failure → Result ℕ Refusal → StoreState → Work → Type 0
 Changes begins s said r t w = MatchBool (is_memory r) (t ≡ s) ((r ≡ size_said said) × (t ≡ store_said begins s said) × (w ≡ work_said s.base said))
 

@@ -2,10 +2,10 @@
 use Rattle.std.specs.Prelude.{◌≡◌, ◌≤◌, ◌<◌, true, false, length, None}
 use Rattle.iv_catalogue.specs.Catalogues.{Schema, after, has_trigger}
 use Rattle.iv_catalogue.specs.declared.limits.TheConstants.{MOST_BODY_STATEMENTS, MOST_TRIGGERS, MOST_TRIGGERS_EVER}
-use Rattle.iv_state.specs.Words.{Plan, SchemaPlan, Trigger, Refusal}
-use Rattle.iv_state.specs.Words.plan
-use Rattle.iv_state.specs.Words.schema
-use Rattle.iv_state.specs.Words.cause.{AddRefused}
+use Rattle.iv_state.specs.Types.{Plan, SchemaPlan, Trigger, Refusal}
+use Rattle.iv_state.specs.Types.plan
+use Rattle.iv_state.specs.Types.schema
+use Rattle.iv_state.specs.Types.cause.{AddRefused}
 use Rattle.iv_catalogue.specs.Refusals.{out_of_memory, refusal_of}
 use Rattle.iv_store.specs.declared.fault.AddFault.{AddFault}
 use Rattle.iv_store.specs.declared.fault.AddFault.TheVariants as fault

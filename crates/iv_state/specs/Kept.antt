@@ -3,7 +3,7 @@ use Rattle.std.specs.Prelude.{◌≡◌, ℕ, ◌+◌, Bool, true, false, List, 
 use Rattle.std.specs.List.{list_all}
 use Rattle.iv_catalogue.specs.Catalogues.{Schema}
 use Rattle.iv_account.specs.Telling.{Account, no_account}
-use Rattle.iv_state.specs.Words.{Table, Constraint, Database}
+use Rattle.iv_state.specs.Types.{Table, Constraint, Database}
 use Rattle.iv_machine.specs.Bounds.{Bounds}
 use Rattle.iv_machine.specs.Machine.{Savepoint, State, Work}
 use Rattle.iv_modes.specs.ModeMaps.{ModeMap, initial_map}
@@ -13,8 +13,8 @@ use Rattle.iv_state.specs.declared.session_state.SessionState.TheInside.{Inside}
 use Rattle.iv_laws_rows.specs.Changing.{StoreFits}
 use Rattle.iv_laws_rows.specs.RowFits.{rows_fit}
 
--- A session: the state of the machine; the row changes that the last call made and undid, and the keys that it looked up; the keys
--- that were looked up so far; and the account of the last statement, where one is asked for. The state of a session alone has none.
+-- A session: the state of the machine; the row changes that the last call made and undid, and the keys that it looked up; the keys that
+-- were looked up so far; and the account of the last statement, if one is asked for. The state of a session by itself has none.
 pub record Seen : Type 0 where
   pub state : State
   pub work : Work
@@ -34,12 +34,12 @@ pub record Parts : Type 0 where
   pub active : Bool
   pub saves : List Saved
 
--- the modes where SET CONSTRAINTS changed them, or the initial ones
+-- the modes if SET CONSTRAINTS changed them, or the initial ones
 abbrev pub current : ModeMap → Option ModeMap → ModeMap
 current initial None = initial
 current initial (Some modes) = modes
 
--- the modes that were changed, where there are any, are set to others
+-- the modes that were changed, if there are any, are set to others
 abbrev pub brought_back : Option ModeMap → ModeMap → Option ModeMap
 brought_back None others = None
 brought_back (Some modes) others = Some others
@@ -109,7 +109,7 @@ all_fit tables dbs = list_all (λ db. rows_fit tables db.rows) dbs
 abbrev pub AreModes : List Constraint → ModeMap → Type 0
 AreModes constraints m = m.deferrable ≡ map (λ c. c.deferrable) constraints
 
--- the modes that a savepoint has are there only where those of the session were changed too
+-- the modes that a savepoint has are there only if those of the session were changed too
 abbrev pub AreSaved : List Constraint → Bool → ModeMap → Type 0
 AreSaved constraints changed m = AreModes constraints m × (changed ≡ true)
 

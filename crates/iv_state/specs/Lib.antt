@@ -1,4 +1,4 @@
-pub mod Words
+pub mod Types
 pub mod Saved
 pub mod Changing
 pub mod Deferring

@@ -1,7 +1,7 @@
 -- Savepoints by name, in the list that a session keeps: the oldest first, each with its mark.
 use Rattle.std.specs.Prelude.{◌≡◌, ℕ, ◌+◌, ◌<◌, not, if◌then◌else◌, List, [], ◌∷◌, length, filter, Option, Some, None}
 use Rattle.std.specs.Str.{bytes_eq}
-use Rattle.iv_state.specs.Words.{Database}
+use Rattle.iv_state.specs.Types.{Database}
 use Rattle.iv_store.specs.Stores.{StoreState, marked_database}
 use Rattle.iv_state.specs.Saved.{Saved}
 use Rattle.iv_state.specs.Kept.{later}

@@ -87,8 +87,8 @@ fn copy_constraint<K: Keeper>(
     Ok(modes)
 }
 
-// Adds a constraint to the catalogue and to the store, or to neither. The answer is the modes of all constraints
-// as they are initially. It is refused where a row violates the constraint. ("Add table constraint definition")
+// Adds a constraint to the catalogue and to the store, or to neither. The answer is the modes of all constraints as
+// they are initially. It is refused if a row violates the constraint. ("Add table constraint definition")
 pub(crate) fn add_constraint<K: Keeper>(
     store: &mut K,
     catalogue: &mut Catalogue,

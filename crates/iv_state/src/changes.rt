@@ -23,11 +23,11 @@ use iv_store::{ChangeableRows, Keeper};
 
 /// How data statements change a store.
 pub trait DataStatements {
-    /// INSERT, UPDATE or DELETE of a script, with all that follows from it, and how many rows it changed itself
-    /// ("Insert statement", "Update statement: searched", "Delete statement: searched"). Where it is refused,
-    /// the store is left with what it changed so far, so that the count of its changes is exact; the caller
-    /// undoes it to a mark that it made before. What is lent has no call for marks. The account is told what happens,
-    /// where it is asked for.
+    /// Runs INSERT, UPDATE or DELETE of a script, with all that follows from it, and answers how many rows it changed
+    /// itself ("Insert statement", "Update statement: searched", "Delete statement: searched"). A refused statement
+    /// leaves the store with what it changed so far, so that the count of changes is exact; the caller undoes it to a
+    /// mark from before. The borrowed store has no call for marks. The account records what happens, if it is asked
+    /// for.
     fn change<K: ChangeableRows>(
         store: &mut K,
         statement: &DataStatement,
@@ -61,7 +61,7 @@ pub(crate) fn modes_now<'a>(initial: &'a Modes, changed: &'a Option<Modes>) -> &
     }
 }
 
-// Runs a data statement whole, or not at all. Where it begins a transaction, its mark stays.
+// Runs a data statement whole, or not at all. If it begins a transaction, its mark stays.
 fn run_change<D: DataStatements, K: Keeper>(
     store: &mut K,
     work: &mut Work,
@@ -107,7 +107,7 @@ fn run_change<D: DataStatements, K: Keeper>(
     }
 }
 
-// The trigger, where the catalogue has it.
+// The trigger, if the catalogue has it.
 fn known_trigger(catalogue: &Catalogue, trigger: Option<TriggerId>) -> Option<TriggerId>
     ensures told { may_tell true catalogue.now result ≡ true }
     ensures known { may_tell true catalogue.now trigger ≡ true → result ≡ trigger }
@@ -117,7 +117,7 @@ fn known_trigger(catalogue: &Catalogue, trigger: Option<TriggerId>) -> Option<Tr
     Some(id)
 }
 
-// A refusal as it is; one for want of memory tells a trigger only where the catalogue has it.
+// A refusal as it is; one for lack of memory tells a trigger only if the catalogue has it.
 fn told(catalogue: &Catalogue, refusal: Refusal) -> Refusal
     ensures other { is_memory_cause refusal.cause ≡ false → result ≡ refusal }
     ensures memory { is_memory_cause refusal.cause ≡ true → result.cause ≡ OutOfMemory }

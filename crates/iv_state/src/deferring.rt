@@ -74,8 +74,8 @@ fn first_immediate(faults: &[Fault], modes: &Modes) -> Option<Fault>
 }
 
 impl<K: Keeper + Drop> SessionState<K> {
-    // The first violation of a constraint that these modes make immediate, where they come of setting this
-    // mode. To defer makes none immediate, so no row is read for it.
+    // The first violation of a constraint that these modes make immediate, if they come of setting this mode. To defer
+    // makes none immediate, so no row is read for it.
     #[tactic(auto, using(crate::proofs::Deferred::none_made_immediate))]
     fn first_made_immediate(
         &self,

@@ -23,7 +23,7 @@ use iv_store::Keeper;
 use iv_syntax::Statement;
 
 impl<K: Keeper + Drop> SessionState<K> {
-    /// COMMIT as a statement ("Commit statement"). Where memory for its account is refused, the account is empty.
+    /// COMMIT as a statement ("Commit statement"). If its account can't be allocated, it is empty.
     pub fn commit_statement(&mut self, account: &mut Account) -> Outcome
         ensures performs { Performs self.old.state (commit_outcome self.old.state) result self.new }
         ensures looked_up { LooksUpFew self.old self.new }
@@ -131,8 +131,8 @@ impl<K: Keeper + Drop> SessionState<K> {
         answer
     }
 
-    /// Does what a resolved statement means. Data statements run as `D` says. What happens is told, where the account is
-    /// asked for.
+    /// Does what a resolved statement means. Data statements run as `D` says. The account records what happens, if it
+    /// is asked for.
     #[tactic(auto, using(crate::proofs::Performed::plan_performed))]
     pub fn perform<D: DataStatements>(&mut self, plan: Plan, account: &mut Account) -> Outcome
         requires { PlanFits self.old.state plan }

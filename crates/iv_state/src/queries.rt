@@ -5,8 +5,8 @@ ghost use Rattle.iv_state.specs.Performing.{Performs};
 
 use crate::session_state::{SessionState, Work};
 use iv_catalogue::{QueryPlan, Refusal};
+use iv_exec_proposals::select;
 use iv_machine::Answer;
-use iv_proposals::select;
 use iv_step::Outcome;
 use iv_store::Keeper;
 

@@ -9,9 +9,9 @@ use iv_modes::Modes;
 use std::alloc::{AllocError, Global};
 use std::marker::Model;
 
-/// The savepoints of a transaction, the oldest first: of each its name, which no other one has, and the modes
-/// that it has where SET CONSTRAINTS had changed them. A name is found in constant time. Contracts see the list,
-/// and how many more it takes at least without memory.
+/// The savepoints of a transaction, the oldest first: each has a distinct name, and its modes if SET CONSTRAINTS had
+/// changed them. A look-up by name takes constant time. Contracts see the list, and how many more it takes without an
+/// allocation.
 #[derive(Drop)]
 pub(crate) struct SavepointList {
     modes: IndexMap<String, Option<Modes>>,
@@ -28,7 +28,7 @@ impl Model for SavepointList {
 }
 
 impl SavepointList {
-    // No savepoint. It takes no memory.
+    // No savepoint. It allocates nothing.
     pub(crate) fn new(alloc: Global) -> SavepointList
         ensures { result.saves ≡ [] }
     {
@@ -55,7 +55,7 @@ impl SavepointList {
         (place < self.modes.len()).then_some(place)
     }
 
-    // The modes of the one at a place, where they had been changed.
+    // The modes of the one at a place, if they had been changed.
     pub(crate) fn modes_at(&self, place: usize) -> &Option<Modes>
         requires { place < length self.now.saves }
         ensures { result.now ≡ (get_or self.now.saves place unnamed).modes }
@@ -74,7 +74,7 @@ impl SavepointList {
         self.modes.reserve(1)
     }
 
-    // Adds one as the newest. It takes no memory.
+    // Adds one as the newest. It allocates nothing.
     pub(crate) fn push(&mut self, name: String, modes: Option<Modes>)
         requires absent { last_named (string_bytes name) self.old.saves ≡ None }
         requires room { 0 < self.old.room }

@@ -22,7 +22,7 @@ use iv_store::{Keeper, Mark};
 use iv_syntax::Name;
 use std::alloc::AllocError;
 
-// The same modes again, where they were changed.
+// The same modes again, if they were changed.
 fn copied(modes: &Option<Modes>) -> Result<Option<Modes>, AllocError>
     ensures { IfOk result (λ copy. copy ≡ modes.now) }
 {
@@ -32,7 +32,7 @@ fn copied(modes: &Option<Modes>) -> Result<Option<Modes>, AllocError>
     }
 }
 
-// Sets modes that were changed to those of a savepoint, or to the initial ones where it has none.
+// Sets modes that were changed to those of a savepoint, or to the initial ones if it has none.
 fn bring_back(changed: &mut Option<Modes>, initial: &Modes, saved: &Option<Modes>)
     requires { IfSome changed.old
         (λ m. m.deferrable ≡ (current initial.now saved.now).deferrable) }
@@ -181,9 +181,9 @@ impl<K: Keeper + Drop> SessionState<K> {
         }
     }
 
-    /// ROLLBACK TO SAVEPOINT as a call: the answer, the state after it and the changes that were undone are
-    /// those of the machine, or memory was refused and the state is as before. Outside a transaction it takes
-    /// no memory, and on a store that goes back to a mark without memory it never takes any.
+    /// ROLLBACK TO SAVEPOINT as a call. The answer, the next state and the undone changes are the machine's, or an
+    /// allocation failed and the state is as before. Outside a transaction it allocates nothing, and on a store that
+    /// goes back to a mark without an allocation it never does.
     pub fn rollback_to(&mut self, name: &str) -> Outcome
         ensures looked_up { LooksUpFew self.old self.new }
         ensures lookups { self.new.lookups ≡ self.new.looked_up - self.old.looked_up }

@@ -88,7 +88,7 @@ impl<K: Keeper + Drop> Model for SessionState<K> {
 }
 
 impl<K: Keeper + Drop> SessionState<K> {
-    /// The state over no table, with these limits.
+    /// The state without tables, with these limits.
     pub fn new(alloc: Global, limits: Limits) -> Result<Self, AllocError>
         ensures { IfOk result (λ s. s
             ≡ record {

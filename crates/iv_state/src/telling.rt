@@ -1,4 +1,4 @@
-//! The violations for which COMMIT and SET CONSTRAINTS are refused, as they are told.
+//! The violations for which COMMIT and SET CONSTRAINTS are refused, as an account records them.
 ghost use Rattle.std.specs.Prelude.{◌≡◌, filter, not, true, OnOk};
 ghost use Rattle.iv_account.specs.Accounts.{faults_told};
 ghost use Rattle.iv_account.specs.Sessions.{commit_told, modes_told};
@@ -50,7 +50,7 @@ fn tell_immediate<K: ChangeableRows>(
 }
 
 impl<K: Keeper + Drop> SessionState<K> {
-    // Tells all violations of the constraints that these modes make immediate, where an account is asked for.
+    // Tells all violations of the constraints that these modes make immediate, if an account is asked for.
     pub(crate) fn tell_modes(&self, modes: &Modes, account: &mut Account) -> Result<(), AllocError>
         ensures { OnOk result (account.new ≡ and_told account.old
             (modes_told self.now.state modes.now.modes)) }
@@ -68,7 +68,7 @@ impl<K: Keeper + Drop> SessionState<K> {
         )
     }
 
-    // Tells all violations, where a transaction is open.
+    // Tells all violations, if a transaction is open.
     fn tell_violations(&self, account: &mut Account) -> Result<(), AllocError>
         ensures { OnOk result (account.new ≡ and_told account.old (commit_told self.now.state)) }
     {
@@ -79,7 +79,7 @@ impl<K: Keeper + Drop> SessionState<K> {
         tell_faults(&self.store, &self.catalogue, faults.as_slice(), account)
     }
 
-    /// Tells what COMMIT is refused for, where an account is asked for. Where memory is refused, the account is empty and
+    /// Records what COMMIT is refused for, if an account is asked for. If an allocation fails, the account is empty and
     /// says so.
     pub fn tell_commit(&self, account: &mut Account)
         ensures { MayTell true account.old account.new (commit_told self.now.state) }

@@ -26,7 +26,7 @@ impl<K: Keeper + Drop> SessionState<K> {
         }
     }
 
-    /// The violations of deferred constraints, by the constraint's creation, then by row.
+    /// The violations of deferred constraints, in creation order of the constraints, then by row.
     pub fn pending(&self) -> Result<Vec<Fault>, AllocError>
         ensures { IfOk result (λ faults. faults.items ≡
             scan self.now.state.database.rows self.now.state.schema.constraints
@@ -35,8 +35,8 @@ impl<K: Keeper + Drop> SessionState<K> {
         self.store.list_faults(self.modes(), Which::Deferred)
     }
 
-    /// How many violations of deferred constraints there are; the count stays at 2^64 - 1 once it is
-    /// there. It takes no memory.
+    /// How many violations of deferred constraints there are; the count stays at 2^64 - 1 once it is there. It
+    /// allocates nothing.
     pub fn pending_count(&self) -> u64
         ensures { result ≡ min (length (scan self.now.state.database.rows
             self.now.state.schema.constraints (is_chosen self.now.state.modes Deferred)))
@@ -87,7 +87,7 @@ impl<K: Keeper + Drop> SessionState<K> {
         self.store.looked_up()
     }
 
-    /// Says that the last call did nothing.
+    /// Resets the work counters.
     pub fn clear_work(&mut self)
         ensures state { self.new.state ≡ self.old.state }
         ensures work { self.new.work ≡ no_work }
@@ -97,7 +97,7 @@ impl<K: Keeper + Drop> SessionState<K> {
         self.work = Work::none();
     }
 
-    /// Says how many keys the last call looked up, which began when there had been so many look-ups.
+    /// Sets how many keys the last call looked up, from the count at its beginning.
     pub fn count_lookups(&mut self, looked_up: u64)
         ensures state { self.new.state ≡ self.old.state }
         ensures work { self.new.work ≡ self.old.work }
@@ -134,8 +134,8 @@ impl<K: Keeper + Drop> SessionState<K> {
         }
     }
 
-    /// Ends the transaction, and brings back the database from its start. Outside a transaction it does
-    /// nothing. It takes no memory.
+    /// Ends the transaction and restores the database from its start. Outside a transaction it does nothing. It
+    /// allocates nothing.
     pub fn rollback(&mut self)
         ensures state { self.new.state ≡ (rollback_outcome self.old.state).state }
         ensures work { self.new.work ≡ (rollback_outcome self.old.state).work }
@@ -168,8 +168,8 @@ impl<K: Keeper + Drop> SessionState<K> {
         self.work = Work::none();
     }
 
-    /// Ends the transaction: the database stays where no constraint is violated, and is otherwise the one
-    /// at the transaction's start. Outside a transaction it does nothing. It takes no memory.
+    /// Ends the transaction. If no constraint is violated, the database stays; otherwise it is restored from the
+    /// transaction's start. Outside a transaction the call does nothing. It allocates nothing.
     pub fn commit(&mut self) -> Result<(), Fault>
         ensures answer { commit_answer result ≡ (commit_outcome self.old.state).answer }
         ensures state { self.new.state ≡ (commit_outcome self.old.state).state }
@@ -177,7 +177,7 @@ impl<K: Keeper + Drop> SessionState<K> {
         ensures looked_up { LooksUpFew self.old self.new }
         ensures lookups { self.new.lookups ≡ self.new.looked_up - self.old.looked_up }
         ensures not_looked_up { ((store : K) → K.lookups store ≡ 0) → self.new.lookups ≡ 0 }
-        // Inside a transaction it is accepted exactly where the scan of all constraints is empty.
+        // Inside a transaction it is accepted exactly if the scan of all constraints is empty.
         ensures accepted { OnOk result (is_open self.old.state ≡ true →
             scan self.old.state.database.rows self.old.state.schema.constraints
             (is_chosen self.old.state.modes All) ≡ []) }

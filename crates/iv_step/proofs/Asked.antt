@@ -15,7 +15,7 @@ may_tell_asked false asked account entries told = ap (λ (x : Account). x.asked)
 may_tell_asked true asked account entries (inl told) = ap (λ (x : Account). x.asked) told
 may_tell_asked true asked account entries (inr none) = ap (λ (x : Account). x.asked) none.1 ∙ sym none.0
 
--- so after each statement
+-- whether an account is asked for stays after each statement
 pub asked_stays : (asked : Bool) (s : State) (st : Statement) (r : Result Answer Refusal) (account : Account) → Tells asked s st r account → account.asked ≡ asked
 asked_stays asked s st r account told = by (is_memory r) told where
   by : (b : Bool) → MatchBool b (account ≡ no_account asked) (MayTell (commits (resolution s.schema st)) (no_account asked) account (statement_told s st)) → account.asked ≡ asked

@@ -181,7 +181,7 @@ step_reached s st h = unless (transaction_cause (is_open s) (occasion_of st)) re
   unless (Some cause) is = h
   unless None is = by_plan (resolution s.schema st) refl is
 
--- so does a statement of transaction management, whatever names are in it
+-- the same after a statement of transaction management, whatever names are in it
 pub control_reached : (s : State) (t : TransactionPlan) → IsReached s → IsReached (planned s (plan.Transaction t)).state
 control_reached s t h = record {
   reachable = planned_reachable s (plan.Transaction t) tt h.reachable;

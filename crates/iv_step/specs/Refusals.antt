@@ -18,6 +18,6 @@ abbrev pub Leaves : State → Result Answer Refusal → State → Type 0
 Leaves old (Ok _) new = Unit {0}
 Leaves old (Err refusal) new = is_of_commit refusal.cause ≡ false → new ≡ old
 
--- No refusal but that of a COMMIT changes anything.
+-- No refusal except that of a COMMIT changes anything.
 abbrev pub RefusalsChangeNothing : Type 0
 RefusalsChangeNothing = (s : State) (st : Statement) → Leaves s (step s st).answer (step s st).state

@@ -17,11 +17,11 @@ abbrev pub run : State → List Statement → List (Result Answer Refusal) × St
 run s [] = ([], s)
 run s (st ∷ sts) = let o : Outcome = step s st in let rest : List (Result Answer Refusal) × State = run o.state sts in (o.answer ∷ rest.0, rest.1)
 
--- The answer and the next state are those of the machine, or memory was refused.
+-- The answer and the next state are those of the machine, or an allocation failed.
 abbrev pub Executes : State → Statement → Result Answer Refusal → State → Type 0
 Executes old st r new = MatchBool (is_memory r) (MemoryRefused old st r new) ((r ≡ (step old st).answer) × (new ≡ (step old st).state))
 
--- The statement takes no memory: COMMIT, ROLLBACK, and one that is refused for the transaction that is open or isn't.
+-- The statement allocates nothing: COMMIT, ROLLBACK, and one that is refused for the transaction that is open or isn't.
 abbrev pub takes_no_memory : State → Statement → Bool
 takes_no_memory s statement.Commit = true
 takes_no_memory s statement.Rollback = true

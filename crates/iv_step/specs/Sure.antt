@@ -1,4 +1,4 @@
--- Which statements are never refused memory.
+-- Which statements never fail for lack of memory.
 use Rattle.std.specs.Prelude.{◌&&◌, ◌||◌, Bool, true, false}
 use Rattle.iv_syntax.specs.declared.statement.Statement.{Statement}
 use Rattle.iv_syntax.specs.declared.statement.Statement.TheVariants as statement
@@ -9,6 +9,6 @@ abbrev pub is_rollback_to : Statement → Bool
 is_rollback_to (statement.RollbackTo name) = true
 is_rollback_to _ = false
 
--- The statement takes no memory, or goes back to a savepoint where that takes none.
+-- The statement allocates nothing, or goes back to a savepoint where that allocates nothing.
 abbrev pub never_refused : Bool → State → Statement → Bool
 never_refused sure_back s st = takes_no_memory s st || (sure_back && is_rollback_to st)

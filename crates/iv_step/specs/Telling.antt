@@ -11,22 +11,21 @@ use Rattle.iv_account.specs.declared.entry.Entry.{Entry}
 use Rattle.iv_account.specs.Sessions.{is_commit, plan_told}
 use Rattle.iv_account.specs.Telling.{Account, MayTell, no_account}
 
--- so of its resolution
+-- what is told of a statement's resolution
 abbrev pub resolution_told : State → Result Plan Refusal → List Entry
 resolution_told s (Ok p) = plan_told s p
 resolution_told s (Err r) = []
 
--- What is told of a statement: nothing where it is refused for the transaction that is open or isn't, or has no meaning.
+-- What is told of a statement: nothing if it is refused for the transaction that is open or isn't, or has no meaning.
 abbrev pub statement_told : State → Statement → List Entry
 statement_told s st = elim (transaction_cause (is_open s) (occasion_of st)) [ Some cause ↦ [] | None ↦ resolution_told s (resolution s.schema st) ]
 
--- the statement means a COMMIT, which is never refused memory, and is told nothing where memory for its account is
+-- the statement means a COMMIT, which never fails for lack of memory, and is told nothing if its account can't be allocated
 abbrev pub commits : Result Plan Refusal → Bool
 commits (Ok p) = is_commit p
 commits (Err r) = false
 
--- The account after a statement, where one is asked for or isn't: what is told of the statement alone, and nothing where memory was
--- refused.
+-- The account after a statement: what is told of only this statement if an account is asked for, and nothing if an allocation failed.
 abbrev pub Tells : Bool → State → Statement → Result Answer Refusal → Account → Type 0
 Tells asked s st r account =
     MatchBool (is_memory r) (account ≡ no_account asked) (MayTell (commits (resolution s.schema st)) (no_account asked) account (statement_told s st))

@@ -16,7 +16,7 @@ use std::alloc::{AllocError, Global};
 /// What a statement answers.
 pub type Outcome = Result<Answer, Refusal>;
 
-/// Whether memory was refused.
+/// Whether an allocation failed.
 pub fn is_memory_refused(outcome: &Outcome) -> bool
     ensures { result ≡ is_memory outcome.now }
 {
@@ -31,29 +31,29 @@ pub trait Executor {
     /// The state of the machine.
     ghost state: { Self → State };
 
-    /// What is told of the last statement, where it is asked for.
+    /// The account of the last statement, if it is asked for.
     ghost told: { Self → Account };
 
-    /// Whether ROLLBACK TO SAVEPOINT takes no memory.
+    /// Whether ROLLBACK TO SAVEPOINT allocates nothing.
     ghost sure_store: { Bool };
 
-    /// A database of no table, with these limits. No account is asked for.
+    /// A database without tables, with these limits. No account is asked for.
     fn new(alloc: Global, limits: Limits) -> Result<Self, AllocError>
     where
         Self: Sized,
         ensures state { IfOk result (λ s. state s ≡ empty_state limits) }
         ensures told { IfOk result (λ s. told s ≡ no_account false) };
 
-    /// From now on an account of each statement is asked for, or isn't. That of the last statement goes.
+    /// Turns accounts on or off, and clears the account of the last statement.
     fn explain(&mut self, asked: bool)
         ensures state { state self.new ≡ state self.old }
         ensures told { told self.new ≡ no_account asked };
 
-    /// The account of the last statement, where it was asked for.
+    /// The account of the last statement, if it was asked for.
     fn account(&self) -> &[Entry]
         ensures { result.now ≡ (told self.now).entries };
 
-    /// Whether memory was refused for the account of the last statement, a COMMIT, so that it is empty.
+    /// Whether the account of the last statement, a COMMIT, could not be allocated, so that it is empty.
     fn is_untold(&self) -> bool
         ensures { result ≡ (told self.now).untold };
 
@@ -65,8 +65,8 @@ pub trait Executor {
     fn in_transaction(&self) -> bool
         ensures { result ≡ is_some (state self.now).start };
 
-    /// Executes a statement. The answer and the state after it are those of the machine, or memory was refused and
-    /// the state is as before.
+    /// Executes a statement. The answer and the next state are the machine's, or an allocation failed and the state is
+    /// as before.
     fn execute(&mut self, statement: &Statement) -> Outcome
         ensures step { Executes (state self.old) statement.now result (state self.new) }
         ensures sure { takes_no_memory (state self.old) statement.now ≡ true

@@ -3,10 +3,10 @@ ghost use Rattle.iv_step.specs.Laws.{PlansKeepTheOccasion, ReachedStatesAreSound
 ghost use Rattle.iv_step.specs.Refusals.{RefusalsChangeNothing};
 ghost use Rattle.iv_step.specs.Worked.{WorkedScripts};
 
-/// In every state that a run of statements reaches from an empty one no immediate constraint is
-/// violated, so that no constraint is violated exactly where no deferred one is. Outside a transaction no
-/// constraint is violated, modes are initial, there is no savepoint, and no row change is counted. No immediate
-/// constraint is violated in a savepoint's database, under its own modes.
+/// In every state that a run of statements reaches from an empty one no immediate constraint is violated, so that no
+/// constraint is violated exactly if no deferred one is. Outside a transaction no constraint is violated, modes are
+/// initial, there is no savepoint, and no row change is counted. No immediate constraint is violated in a savepoint's
+/// database, under its own modes.
 pub fn reached_states_are_sound()
     ensures { ReachedStatesAreSound }
 {}
@@ -17,8 +17,8 @@ pub fn plans_keep_the_occasion()
     ensures { PlansKeepTheOccasion }
 {}
 
-/// No refusal changes anything, but that of a COMMIT for a violation, which ends the transaction with the
-/// database from its start.
+/// No refusal changes anything, except that of a COMMIT for a violation, which ends the transaction with the database
+/// from its start.
 pub fn refusals_change_nothing()
     ensures { RefusalsChangeNothing }
 {}

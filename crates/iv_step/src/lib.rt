@@ -1,5 +1,5 @@
-//! What statements answer by their resolution, one after another: `step` and `run` of the definitions, what executes
-//! statements so, and laws of the states that runs reach, as contracts of functions that do nothing.
+//! What statements answer by their resolution, one after another: `step` and `run` of the definitions, the trait of
+//! what executes statements by them, and laws of the states that runs reach.
 #![tactic(auto)]
 
 mod executor;

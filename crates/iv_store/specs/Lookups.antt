@@ -12,7 +12,7 @@ use Rattle.iv_store.specs.Stores.{StoreState, reference_at}
 abbrev pub counted : ℕ → ℕ
 counted looked_up = min (looked_up + 1) (2 ^ 64 - 1)
 
--- the count after a key is looked up by a foreign key; a key with a null isn't, since no row holds it
+-- the count after a key is looked up by a foreign key; a key with a null isn't looked up, since no row holds it
 abbrev pub counted_by : List Value → Option Reference → ℕ → ℕ
 counted_by key None looked_up = looked_up
 counted_by key (Some k) looked_up = if none_null key then counted looked_up else looked_up
@@ -31,8 +31,8 @@ foreign_keys constraints = length (filter (λ c. is_some (foreign_key c.rule)) c
 abbrev pub most_lookups_for_a_change : ℕ
 most_lookups_for_a_change = 8
 
--- From the store before to the store after no change is taken back, and for each constraint and change that is made no more keys are
--- looked up than that.
+-- From the store before to the store after no change is taken back, and no more keys are looked up than so many for each constraint and
+-- change.
 pub record LooksUp (old : StoreState) (before : ℕ) (new : StoreState) (after : ℕ) : Type 0 where
   pub more : old.base.count ≤ new.base.count
   pub looked_up : after ≤ before + most_lookups_for_a_change * length old.constraints * (new.base.count - old.base.count)

@@ -1,4 +1,4 @@
-//! Rows that are changed one by one: what the statements of a level are lent.
+//! Rows that are changed one by one: what the statements of a level borrow.
 ghost use Rattle.std.specs.Prelude.{◌≡◌, ◌+◌, ◌*◌, ◌<◌, ◌≤◌, true, length, OnOk, OnErr, IfSome};
 ghost use Rattle.iv_machine.specs.Bounds.{last_row_number, most_changes_in_a_transaction};
 ghost use Rattle.iv_machine.specs.Databases.{first, row_at};
@@ -13,9 +13,9 @@ use iv_machine::Which;
 use iv_modes::Modes;
 use std::alloc::AllocError;
 
-/// Rows that are scanned, found by their keys and changed one by one. There is no mark, and no way back: who lends
-/// such rows undoes their changes. Every call leaves what its clauses don't name as it was; where memory is refused
-/// all is as before but the count of look-ups.
+/// Rows that are scanned, found by their keys and changed one by one. There is no mark, and no way back: the lender
+/// undoes changes. Every call leaves what its clauses don't name as it was. If an allocation fails, all is as before
+/// except the count of look-ups.
 pub trait ChangeableRows: Rows + ReferencingRows {
     /// The number that the next new row takes, from 1.
     fn next_row(&self) -> u64
@@ -28,24 +28,24 @@ pub trait ChangeableRows: Rows + ReferencingRows {
         ensures count { result ≡ (Self.view self.now).base.count }
         ensures within { (Self.view self.now).base.count ≤ most_changes_in_a_transaction };
 
-    /// Replaces a row, takes it away or adds it.
-    fn change(&mut self, change: Change) -> Result<(), AllocError>
-        requires added { change.table < length (Self.view self.old).tables }
-        requires current { values_at (Self.view self.old).base.rows change.row ≡ change.old }
-        requires own { IfSome (row_at (Self.view self.old).base.rows change.row)
-            (λ row. row.table ≡ change.table) }
-        requires fits { IfSome change.new
-            (λ values. fits_table (Self.view self.old).tables change.table values ≡ true) }
-        requires positive { 0 < change.row }
-        requires small { change.row ≤ last_row_number }
+    /// Replaces, removes or adds a row. The store copies what it keeps of the change.
+    fn change(&mut self, change: &Change) -> Result<(), AllocError>
+        requires added { change.now.table < length (Self.view self.old).tables }
+        requires current { values_at (Self.view self.old).base.rows change.now.row ≡ change.now.old }
+        requires own { IfSome (row_at (Self.view self.old).base.rows change.now.row)
+            (λ row. row.table ≡ change.now.table) }
+        requires fits { IfSome change.now.new
+            (λ values. fits_table (Self.view self.old).tables change.now.table values ≡ true) }
+        requires positive { 0 < change.now.row }
+        requires small { change.now.row ≤ last_row_number }
         requires room { (Self.view self.old).base.count < most_changes_in_a_transaction }
-        ensures ok { OnOk result (Self.view self.new ≡ store_after (Self.view self.old) change) }
+        ensures ok { OnOk result (Self.view self.new ≡ store_after (Self.view self.old) change.now) }
         ensures err { OnErr result (Self.view self.new ≡ Self.view self.old) }
         ensures grows { Self.lookups self.old ≤ Self.lookups self.new }
         ensures looked_up { OnOk result (Self.lookups self.new ≤
             Self.lookups self.old + most_lookups * length (Self.view self.old).constraints) };
 
-    /// The first violation of the constraints that are meant, by creation, then by row. It takes no memory.
+    /// The first violation of the chosen constraints, in creation order, then by row. It allocates nothing.
     fn first_fault(&self, modes: &Modes, which: Which) -> Option<Fault>
         ensures { result ≡ first (store_faults (Self.view self.now) modes.now.modes which) };
 

@@ -1,4 +1,4 @@
-//! Rows by their numbers and keys: what referential actions are lent.
+//! Rows by their numbers and keys: what referential actions borrow.
 ghost use Rattle.std.specs.Prelude.{◌≡◌, ℕ, ◌+◌, ◌≤◌, Bool, true, IfOk};
 ghost use Rattle.std.specs.Option.{option_copied};
 ghost use Rattle.iv_machine.specs.Databases.{row_at};
@@ -29,8 +29,8 @@ pub trait ReferencingRows {
     fn row(&self, number: u64) -> Option<&StoredRow>
         ensures { option_copied result ≡ row_at (view self.now).base.rows number };
 
-    /// The numbers of the rows that hold a key by a foreign key, rising; none where the constraint isn't a
-    /// foreign key. Where look-ups are counted, they are found by one, also where memory is refused.
+    /// The numbers of the rows that hold a key by a foreign key, rising; none if the constraint isn't a foreign key. A
+    /// store that counts look-ups counts one, even if an allocation fails.
     fn children(&mut self, foreign_key: ConstraintId, key: &Key<'_>) -> Result<Vec<u64>, AllocError>
         ensures numbers { IfOk result (λ v. v.items ≡
             children_of (view self.old) foreign_key key.now) }

@@ -52,7 +52,7 @@ pub struct References {
     pub on_update: Option<ReferentialAction>,
 }
 
-/// Whether nulls are the same to a UNIQUE: NotDistinct where NULLS NOT DISTINCT is written ("unique null treatment").
+/// Whether nulls are the same to a UNIQUE: NotDistinct if NULLS NOT DISTINCT is written ("unique null treatment").
 #[derive(Clone, Copy, Debug, PartialEq, Eq)]
 pub enum NullTreatment {
     Distinct,

@@ -12,7 +12,7 @@ pub enum Sign {
     Minus,
 }
 
-/// A column's name, after a range's or a row variable's where one is given.
+/// A column's name, after a range's or a row variable's if one is given.
 #[derive(Drop)]
 pub struct ColumnName {
     pub qualifier: Option<Name>,
@@ -33,7 +33,7 @@ pub enum Expression {
     Sum(Sign, Boxed<Expression>, Boxed<Expression>),
 }
 
-/// A table in a FROM, with the alias that it is called by where one is given.
+/// A table in a FROM, with the alias that it is called by if one is given.
 #[derive(Drop)]
 pub struct RangeName {
     pub table: Name,

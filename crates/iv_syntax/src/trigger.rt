@@ -64,11 +64,11 @@ pub struct TriggerDefinition {
     pub name: Name,
     pub time: ActionTime,
     pub event: TriggerEvent,
-    /// The columns of UPDATE OF; empty where there is no list.
+    /// The columns of UPDATE OF; empty if there is no list.
     pub columns: Items<Name>,
     pub table: Name,
     pub referencing: Items<Referencing>,
-    /// STATEMENT where it is not written.
+    /// STATEMENT if it is not written.
     pub granularity: Granularity,
     pub when: Option<Condition>,
     pub body: Items<TriggerAction>,

@@ -30,7 +30,7 @@ value_formed r (value.Int (negsuc n)) = negative_formed r n (nat_lt n GREATEST_I
 value_formed r (value.Text t) = tt {0}
 
 -- the tree
-formed : (s : Shape) (r : Rule) (vs : List Value) → FormedWithHoles r s → Formed r (with_values s vs)
+pub formed : (s : Shape) (r : Rule) (vs : List Value) → FormedWithHoles r s → Formed r (with_values s vs)
 formed blank r [] h = tt {0}
 formed blank r (v ∷ vs) h = value_formed r v
 formed (given e) r vs h = h
@@ -39,14 +39,14 @@ formed (with_sign s a) r vs (k, h) = (k, formed a primary vs h)
 formed (times a b) r vs (k, h, i) = (k, formed a term (take (holes (parts_of a)) vs) h, formed b factor (drop (holes (parts_of a)) vs) i)
 formed (plus s a b) r vs (k, h, i) = (k, formed a expression (take (holes (parts_of a)) vs) h, formed b term (drop (holes (parts_of a)) vs) i)
 
-own_filled : (ws : List Word) (vs : List Value) → filled (map word ws) vs ≡ ws
+pub own_filled : (ws : List Word) (vs : List Value) → filled (map word ws) vs ≡ ws
 own_filled ws vs = ap (λ z. filled z vs) (sym (no_more ws)) ∙ filled_after ws [] vs ∙ append-nil ws
 
-take_length : (n : ℕ) (vs : List Value) → n ≤ length vs → length (take n vs) ≡ n
+pub take_length : (n : ℕ) (vs : List Value) → n ≤ length vs → length (take n vs) ≡ n
 take_length n vs h = grind (arith, common_steps)
 
 -- two operands and the word between them
-both_filled : (ps qs : List Part) (w : Word) (vs : List Value) (xs ys : List Word) → holes (ps ++ word w ∷ qs) ≡ length vs
+pub both_filled : (ps qs : List Part) (w : Word) (vs : List Value) (xs ys : List Word) → holes (ps ++ word w ∷ qs) ≡ length vs
     → (holes ps ≡ length (take (holes ps) vs) → filled ps (take (holes ps) vs) ≡ xs) → (holes qs ≡ length (drop (holes ps) vs) → filled qs (drop (holes ps) vs) ≡ ys)
     → filled (ps ++ word w ∷ qs) vs ≡ xs ++ w ∷ ys
 both_filled ps qs w vs xs ys h f g =
@@ -63,7 +63,7 @@ one_hole [] h = absurd (omega (arith, h))
 one_hole (v ∷ []) h = append-nil (literal v) ∙ (literals_are_primaries v).1
 one_hole (v ∷ u ∷ vs) h = absurd (omega (arith, h))
 
-in_group : (ps : List Part) (vs : List Value) (ws : List Word) → holes (ps ++ word (plain kind.RightParenthesis) ∷ []) ≡ length vs → (holes ps ≡ length vs → filled ps vs ≡ ws)
+pub in_group : (ps : List Part) (vs : List Value) (ws : List Word) → holes (ps ++ word (plain kind.RightParenthesis) ∷ []) ≡ length vs → (holes ps ≡ length vs → filled ps vs ≡ ws)
     → filled (ps ++ word (plain kind.RightParenthesis) ∷ []) vs ≡ ws ++ plain kind.RightParenthesis ∷ []
 in_group ps vs ws h f =
     let n : holes ps ≡ length vs = omega (arith, holes_append ps (word (plain kind.RightParenthesis) ∷ []), h) in
@@ -72,7 +72,7 @@ in_group ps vs ws h f =
     ∙ ap (λ z. z ++ plain kind.RightParenthesis ∷ []) (f n)
 
 -- the words
-spelled : (s : Shape) (vs : List Value) → holes (parts_of s) ≡ length vs → filled (parts_of s) vs ≡ spelling (with_values s vs)
+pub spelled : (s : Shape) (vs : List Value) → holes (parts_of s) ≡ length vs → filled (parts_of s) vs ≡ spelling (with_values s vs)
 spelled blank vs h = one_hole vs h
 spelled (given e) vs h = own_filled (spelling e) vs
 spelled (grouped a) vs h = ap (λ z. plain kind.LeftParenthesis ∷ z) (in_group (parts_of a) vs (spelling (with_values a vs)) h (spelled a vs))

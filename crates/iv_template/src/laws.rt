@@ -1,6 +1,7 @@
 //! Laws of templates.
 ghost use Rattle.iv_template.specs.Grammar.{LiteralsArePrimaries};
 ghost use Rattle.iv_template.specs.Laws.{KeepsTheTemplates, NoneThatStops, OneReading, is_name, is_semicolon};
+ghost use Rattle.iv_template.specs.ConditionShapes.{ValuesStandInConditions};
 ghost use Rattle.iv_template.specs.Shapes.{ValuesStandAtHoles};
 
 /// A template has one list of parts.
@@ -28,4 +29,10 @@ pub fn literals_are_primaries()
 /// values' expressions at its holes.
 pub fn values_stand_at_holes()
     ensures { ValuesStandAtHoles }
+{}
+
+/// The words of a filled search condition are a condition, and its tree is that of the template with the values'
+/// expressions at its holes.
+pub fn values_stand_in_conditions()
+    ensures { ValuesStandInConditions }
 {}

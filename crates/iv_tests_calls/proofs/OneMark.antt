@@ -5,14 +5,14 @@ use Rattle.std.proofs.lemmas.List.{get_or-set_other}
 use Rattle.iv_value.specs.declared.value.Value.{Value}
 use Rattle.iv_value.specs.Values.{all_same}
 use Rattle.iv_numbers.specs.Rows.{Rows, added}
-use Rattle.iv_index.specs.Groups.{GroupOf, held_at, with_groups, with_held, with_row_under}
-use Rattle.iv_index.specs.Groups as index
+use Rattle.iv_store_groups.specs.Groups.{GroupOf, held_at, with_groups, with_held, with_row_under}
+use Rattle.iv_store_groups.specs.Groups as index
 use Rattle.iv_laws_kept.specs.Kept.{Groups, groups_of}
-use Rattle.iv_laws_kept.specs.Marks.{Marks, marks_of}
-use Rattle.iv_marks.specs.Marking.{flag, with_flag}
-use Rattle.iv_marks.specs.Answers.{HaveGroups}
-use Rattle.iv_marks.specs.Shown.{shown}
-use Rattle.iv_marks.proofs.Shown.{count_shown}
+use Rattle.iv_laws_kept.specs.GroupFlags.{GroupFlags, violating_of}
+use Rattle.iv_store_violating.specs.Flagging.{flag, with_flag}
+use Rattle.iv_store_violating.specs.Answers.{HaveGroups}
+use Rattle.iv_store_violating.specs.Shown.{shown}
+use Rattle.iv_store_violating.proofs.Shown.{count_shown}
 
 some_held : (own : List GroupOf) (key : List Value) (held : Rows) → 0 < length (with_held own key held)
 some_held [] key held = omega arith
@@ -29,10 +29,10 @@ some_group (own ∷ old) new key row l e =
     omega (arith, some, same)
 
 -- the mark has a group
-pub has_group : (old new : Marks) (groups : Groups) → ((id place : ℕ) → flag (marks_of old id) place ≡ false) → marks_of new 0 ≡ with_flag (marks_of old 0) 0 true
-    → ((id : ℕ) → id ≢ 0 → marks_of new id ≡ marks_of old id) → 0 < length (groups_of groups 0) → HaveGroups new groups
+pub has_group : (old new : GroupFlags) (groups : Groups) → ((id place : ℕ) → flag (violating_of old id) place ≡ false) → violating_of new 0 ≡ with_flag (violating_of old 0) 0 true
+    → ((id : ℕ) → id ≢ 0 → violating_of new id ≡ violating_of old id) → 0 < length (groups_of groups 0) → HaveGroups new groups
 has_group old new groups none own others some zero zero e = some
 has_group old new groups none own others some zero (suc place) e =
-    absurd (true≢false (sym e ∙ ap (λ marks. flag marks (suc place)) own ∙ get_or-set_other (marks_of old 0) 0 (suc place) true false (λ f. omega (arith, f)) ∙ none 0 (suc place)))
+    absurd (true≢false (sym e ∙ ap (λ marks. flag marks (suc place)) own ∙ get_or-set_other (violating_of old 0) 0 (suc place) true false (λ f. omega (arith, f)) ∙ none 0 (suc place)))
 has_group old new groups none own others some (suc id) place e =
     absurd (true≢false (sym e ∙ ap (λ marks. flag marks place) (others (suc id) (λ f. omega (arith, f))) ∙ none (suc id) place))

@@ -13,7 +13,7 @@ use Rattle.iv_laws_levels.proofs.AppliedRows.{row_of, rows_after_in_order}
 use Rattle.iv_laws_kept.specs.Moves.{Holds, taken_back}
 use Rattle.iv_laws_kept.proofs.Moves.{back_again, row_after}
 
--- what a call ensures on an Ok holds where it was expected
+-- what a call ensures on an Ok holds if it was expected
 pub expected : {A E P : Type 0} (r : Result A E) (x : A) → r ≡ Ok x → OnOk r P → P
 expected {P = P} r x e = subst (λ r. OnOk r P) e
 

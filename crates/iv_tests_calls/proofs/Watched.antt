@@ -1,4 +1,4 @@
--- Constraints that are watched where there is no row.
+-- Constraints that are watched if there is no row.
 use Rattle.std.proofs.Common.{◌≡◌, ℕ, true, false, Bool, ◌&&◌, ◌||◌, List, [], ◌∷◌, map, Some, None, sym, ap, ◌∙◌}
 use Rattle.std.specs.Bool.{◌==◌}
 use Rattle.iv_catalogue.specs.declared.constraint.Constraint.{Constraint}
@@ -8,23 +8,23 @@ use Rattle.iv_catalogue.specs.declared.constraint.Rule.TheVariants as rule
 use Rattle.iv_syntax.specs.declared.table.NullTreatment.{NullTreatment}
 use Rattle.iv_store.specs.Stores.{has_key, is_named_key, unique_columns, are_same_columns}
 use Rattle.iv_machine.specs.ReferentialActions.{foreign_key}
-use Rattle.iv_index.specs.Groups.{Contents, GroupOf, groups_of}
+use Rattle.iv_store_groups.specs.Groups.{Contents, GroupOf, groups_of}
 use Rattle.iv_laws_levels.proofs.RowNumbers.{some_none}
 use Rattle.iv_laws_kept.specs.Kept.{AllNamed, Show, rows_in}
-use Rattle.iv_marks.specs.Shown.{shown, shown_group}
-use Rattle.iv_marks.proofs.Shown.{groups_shown}
-use Rattle.iv_faults.specs.Watching.{IsShownBy}
+use Rattle.iv_store_violating.specs.Shown.{shown, shown_group}
+use Rattle.iv_store_violating.proofs.Shown.{groups_shown}
+use Rattle.iv_store_faults.specs.Watching.{IsShownBy}
 
 -- groups without a row show no row
 pub no_row_shown : (constraints : List Constraint) (groups : List (List GroupOf)) → ((k : ℕ) → groups_of groups k ≡ []) → Show [] constraints (shown groups)
 no_row_shown constraints groups none id c key at = ap (λ own. rows_in own key) (groups_shown groups id ∙ ap (λ own. map shown_group own) (none id))
 
--- where no constraint is watched, all groups show no row
-pub nothing_shown : (groups : Contents) → IsShownBy [] (record { constraints = []; marks = [] }) groups
+-- if no constraint is watched, all groups show no row
+pub nothing_shown : (groups : Contents) → IsShownBy [] (record { constraints = []; violating = [] }) groups
 nothing_shown groups = record {
   in_order = tt;
   shows = λ id c key at. absurd (some_none c (sym at));
-  marked = λ id c place at. absurd (some_none c (sym at));
+  flagged = λ id c place at. absurd (some_none c (sym at));
 }
 
 -- a UNIQUE constraint names no key

@@ -1,6 +1,6 @@
 -- What is known of a store beside its state.
 use Rattle.std.specs.Prelude.{◌≡◌, ℕ, List, length}
-use Rattle.iv_tests_calls.specs.Words.{Table, Constraint}
+use Rattle.iv_tests_calls.specs.Types.{Table, Constraint}
 use Rattle.iv_store.specs.Stores.{StoreState}
 
 -- A store has these tables and constraints, and so many marks.

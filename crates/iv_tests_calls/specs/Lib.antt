@@ -1,4 +1,4 @@
 pub mod Known
 pub mod Pairs
 pub mod Statements
-pub mod Words
+pub mod Types

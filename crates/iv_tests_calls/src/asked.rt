@@ -10,7 +10,7 @@ use iv_expr::TableId;
 use iv_value::{Fit, Value, fit};
 use std::process::Abort;
 
-/// Asserts that a condition holds, and else tells what isn't so. An `assert!` is twice as much to prove as this call.
+/// Asserts that a condition holds, or else tells what isn't so. An `assert!` costs twice as much to prove as this call.
 pub fn assert_that(rt: &impl Abort, holds: bool, otherwise: &str)
     ensures { holds ≡ true }
 {
@@ -73,7 +73,7 @@ fn is_named_among(fk: &ForeignKey, constraints: &[Constraint]) -> bool
         .any(|constraint| is_named_key(fk, constraint))
 }
 
-// Whether the key that a rule names, where it is a foreign key, is among the old constraints or the new ones.
+// Whether the key that a rule names, if it is a foreign key, is among the old constraints or the new ones.
 fn has_key(olds: &[Constraint], more: &[Constraint], rule: &Rule) -> bool
     ensures { result ≡ has_key (olds.now ++ more.now) (foreign_key rule.now) }
 {
@@ -113,7 +113,7 @@ fn fits_columns(columns: &[Column], values: &[Value]) -> bool
     }
 }
 
-/// So for the columns of the table of this number.
+/// Whether there is one value for each column of the table of this number, which fits it.
 pub fn fits(tables: &[Table], table: TableId, values: &[Value]) -> bool
     ensures { result ≡ fits_table tables.now table values.now }
 {

@@ -29,7 +29,7 @@ const TO_TABLE_0: Demand = References(Reference {
     mode: None,
 });
 
-// So, deferred.
+// The same reference, deferred.
 const DEFERRED_TO_TABLE_0: Demand = References(Reference {
     columns: One(0),
     matching: Simple,

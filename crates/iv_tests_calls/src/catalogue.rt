@@ -1,11 +1,10 @@
-//! A table that is taken out of a catalogue again, as a session does where its store is refused memory; and one that is
-//! copied.
+//! A table that is taken out of a catalogue again, as a session does if an allocation of its store fails; and one that
+//! is copied.
 ghost use Rattle.std.specs.Prelude.{◌≡◌};
 ghost use Rattle.iv_catalogue.specs.Catalogues.{empty_schema};
 
 use crate::schema::{put_table, table_of};
-use iv_catalogue::{Catalogue, Column};
-use iv_copies::copy_table;
+use iv_catalogue::{Catalogue, Column, copy_table};
 use iv_value::{Kind, Value};
 use std::alloc::Global;
 use std::panic::Expect;

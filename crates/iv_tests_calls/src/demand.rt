@@ -16,7 +16,7 @@ pub enum Columns {
     Two(u32, u32),
 }
 
-/// A foreign key without an action; deferrable where it has a mode, with this mode at first.
+/// A foreign key without an action; deferrable if it has a mode, with this mode at first.
 #[derive(Clone, Copy)]
 pub struct Reference {
     pub columns: Columns,
@@ -80,7 +80,7 @@ fn rule_of(rt: &impl Abort, alloc: Global, demand: &Demand) -> Rule {
     }
 }
 
-// The mode at first, where the constraint is deferrable.
+// The mode at first, if the constraint is deferrable.
 fn mode_of(demand: &Demand) -> Option<ConstraintMode> {
     match demand {
         Demand::References(reference) => reference.mode,

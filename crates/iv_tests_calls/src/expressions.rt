@@ -52,8 +52,8 @@ fn told(expr: &Expr) -> [bool; 3] {
     [lent, copied, ill_typed]
 }
 
-// So of an expression that is dropped. It is in a box, which drops it by a call: the drop of a tree by value is written
-// out for each variant, and takes long to prove.
+// The same of an expression that is dropped. It is in a box, which drops it by a call: the drop of a tree by value is
+// written out for each variant, and takes long to prove.
 fn told_of(rt: &impl Abort, alloc: Global, expr: Expr) -> [bool; 3] {
     let expr = Boxed::new(alloc, expr).expect(rt, "memory");
     told(expr.get())

@@ -24,7 +24,7 @@ fn laws_of_the_grammar_are_called(rt: HostRuntime) {
 
 #[test]
 fn laws_of_names_are_called(rt: HostRuntime) {
-    iv_laws_naming::names_are_found();
+    iv_laws_fitting::names_are_found();
     iv_resolve_name_faults::refusals_are_told();
 }
 
@@ -42,7 +42,7 @@ fn laws_of_plans_are_called(rt: HostRuntime) {
 
 #[test]
 fn laws_of_levels_and_waves_are_called(rt: HostRuntime) {
-    iv_laws_changes::one_change_sets_a_row();
+    iv_machine::one_change_sets_a_row();
     iv_laws_levels::budget_falls();
     iv_laws_levels::changes_are_counted();
     iv_laws_levels::waves_one_by_one();
@@ -88,9 +88,9 @@ fn laws_of_answers_are_called(rt: HostRuntime) {
 
 #[test]
 fn laws_of_accounts_are_called(rt: HostRuntime) {
-    iv_laws_account::accounts_lead_on();
-    iv_laws_account::all_that_begins_ends();
-    iv_laws_account::accounts_tell_violations();
+    iv_laws_answers::accounts_lead_on();
+    iv_laws_answers::all_that_begins_ends();
+    iv_laws_answers::accounts_tell_violations();
 }
 
 #[test]

@@ -12,7 +12,7 @@ impl Numbers {
         Numbers { state: seed }
     }
 
-    /// The next number below a limit, or 0 where the limit is 0.
+    /// The next number below a limit, or 0 if the limit is 0.
     pub fn below(&mut self, limit: u64) -> u64 {
         self.state = self
             .state

@@ -8,11 +8,11 @@ use crate::shown::{BY_MODE, show_each, show_number};
 use crate::story::{Step, add_table, compare, offer, take_each};
 use crate::tested::Tested;
 use iv_catalogue::ConstraintId;
-use iv_index_store::IndexStore;
 use iv_machine::Which;
 use iv_modes::Modes;
-use iv_plain_store::PlainStore;
 use iv_store::{ChangeableRows, Keeper, ReferencingRows};
+use iv_store_index::IndexStore;
+use iv_store_plain::PlainStore;
 use iv_syntax::ConstraintMode::{Deferred, Immediate};
 use iv_syntax::MatchType::{Full, Simple};
 use iv_value::Kind;
@@ -133,8 +133,8 @@ fn least(tally: &Tally) -> u32 {
     least
 }
 
-// What a step depends on: a row's number, its table where there is such a row, the number of the next row, and the
-// count of marks.
+// What a step depends on: a row's number, its table if there is such a row, the number of the next row, and the count
+// of marks.
 #[derive(Clone, Copy)]
 struct Seen {
     number: u64,
@@ -231,7 +231,7 @@ fn marked_place(numbers: &mut Numbers, marks: usize) -> usize {
     marks.saturating_sub(1)
 }
 
-// A way back over marks where there is one; otherwise a mark.
+// A way back over marks if there is one; otherwise a mark.
 fn go_back(numbers: &mut Numbers, marks: usize) -> Step {
     if marks == 0 {
         return Step::Mark;
@@ -274,7 +274,7 @@ fn children(numbers: &mut Numbers) -> Step {
     }
 }
 
-// The table of a row, where there is one of this number.
+// The table of a row, if there is one of this number.
 fn table_at(store: &PlainStore, number: u64) -> Option<u32> {
     match store.row(number) {
         Some(row) => Some(row.table.place()),
@@ -332,7 +332,7 @@ fn same_after(
     compare(rt, "both stores", one.as_str(), other.as_str());
 }
 
-// So for all steps: in every second one the modes are switched.
+// Takes random steps over both stores; in every second one the modes are switched.
 fn same_after_each(
     rt: &impl Abort,
     alloc: Global,

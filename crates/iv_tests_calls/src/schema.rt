@@ -5,8 +5,8 @@ ghost use Rattle.iv_catalogue.specs.Catalogues.{has_constraint, has_table, with_
 use crate::asked::assert_that;
 use iv_catalogue::{
     Catalogue, Column, Constraint, Constraints, MOST_CONSTRAINTS, MOST_TABLES, Table,
+    copy_constraint,
 };
-use iv_copies::copy_constraint;
 use iv_expr::Row;
 use iv_syntax::Name;
 use iv_value::{Kind, Text, Value, text};
@@ -120,7 +120,7 @@ pub fn put_copy(rt: &impl Abort, alloc: Global, catalogue: &mut Catalogue, const
     catalogue.add_constraint(copy).expect(rt, "memory");
 }
 
-/// So for these constraints.
+/// Puts copies of these constraints into a catalogue.
 pub fn put_copies(
     rt: &impl Abort,
     alloc: Global,

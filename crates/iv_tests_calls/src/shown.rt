@@ -62,7 +62,7 @@ fn show_violations<K: Keeper>(
     show_faults(rt, faults.as_slice(), shown);
 }
 
-/// So for each of these.
+/// The violations that are listed for each of these.
 pub fn show_each<K: Keeper>(
     rt: &impl Abort,
     store: &K,
@@ -75,7 +75,7 @@ pub fn show_each<K: Keeper>(
     }
 }
 
-/// So under the modes at the start of a transaction.
+/// The violations that are listed under the modes at the start of a transaction.
 pub fn show_at_first<K: Keeper + Drop>(
     rt: &impl Abort,
     alloc: Global,

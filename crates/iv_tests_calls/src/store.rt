@@ -1,6 +1,6 @@
 //! The marks of a store, which the program doesn't count, and its look-ups.
-use iv_plain_store::PlainStore;
 use iv_store::{Keeper, Mark, ReferencingRows};
+use iv_store_plain::PlainStore;
 use std::alloc::Global;
 use std::panic::Expect;
 use std::process::Abort;
@@ -20,7 +20,7 @@ fn counts(rt: &impl Abort, store: &mut PlainStore) -> ([usize; 4], usize, u64) {
     (marks, second.place(), store.looked_up())
 }
 
-// So in a new store.
+// The same counts in a new store.
 fn counts_anew(rt: &impl Abort, alloc: Global) -> ([usize; 4], usize, u64) {
     let mut store = PlainStore::new(alloc);
     let counts = counts(rt, &mut store);

@@ -3,9 +3,9 @@ use crate::demand::{Demand, constraint_of, constraints_of};
 use crate::schema::{Cell, row_of, table_of};
 use crate::shown::{ALL, BY_MODE, show, show_at_first, show_children, show_number, show_rows};
 use crate::tested::Tested;
-use iv_index_store::IndexStore;
-use iv_plain_store::PlainStore;
 use iv_store::Keeper;
+use iv_store_index::IndexStore;
+use iv_store_plain::PlainStore;
 use iv_value::Kind;
 use std::alloc::Global;
 use std::process::Abort;
@@ -18,7 +18,7 @@ static INTEGERS: [Kind; 2] = [Kind::Integer, Kind::Integer];
 pub enum Step {
     /// The table of a number comes, of one integer column, without constraints.
     Table(u32),
-    /// So with a constraint.
+    /// The table of a number comes, of one integer column, with a constraint.
     TableWith(u32, Demand),
     /// The table of a number comes, of two integer columns, without constraints.
     WideTable(u32),
@@ -26,9 +26,9 @@ pub enum Step {
     Offer(u32, Demand),
     /// A row of a table comes or changes: its number, and the value of its one column.
     Put(u32, u64, Cell),
-    /// So with two columns.
+    /// A row of a table of two columns comes or changes.
     PutTwo(u32, u64, Cell, Cell),
-    /// So with three columns.
+    /// A row of a table of three columns comes or changes.
     PutThree(u32, u64, Cell, Cell, Cell),
     /// A row of a table goes.
     Gone(u32, u64),
@@ -50,7 +50,7 @@ pub enum Step {
     ShowRows(u32),
     /// The rows that hold a key of one value by a constraint are shown.
     ShowChildren(u32, Cell),
-    /// So for a key of two values.
+    /// The rows that hold a key of two values by a constraint are shown.
     ShowChildrenOfTwo(u32, Cell, Cell),
 }
 
@@ -220,7 +220,7 @@ fn show_back<K: Keeper + Drop>(
     }
 }
 
-// Takes the first steps; then, where there are others, goes forth and back.
+// Takes the first steps; then, if there are others, goes forth and back.
 fn tell<K: Keeper + Drop>(
     rt: &impl Abort,
     alloc: Global,
@@ -256,8 +256,8 @@ pub fn compare(rt: &impl Abort, name: &str, shown: &str, wanted: &str) {
     assert_eq!(rt; shown, wanted, "{name}");
 }
 
-/// Both stores show what is wanted where the first steps are taken, and then the others forth, each after a mark, and
-/// back over the marks, with all violations after each.
+/// Both stores show what is wanted if the first steps are taken, and then the others forth, each after a mark, and back
+/// over the marks, with all violations after each.
 pub fn shows_both_ways(
     rt: &impl Abort,
     alloc: Global,
@@ -271,7 +271,7 @@ pub fn shows_both_ways(
     compare(rt, "IndexStore", index.as_str(), wanted);
 }
 
-/// Both stores show what is wanted where these steps are taken.
+/// Both stores show what is wanted if these steps are taken.
 pub fn shows(rt: &impl Abort, alloc: Global, steps: &[Step], wanted: &str) {
     shows_both_ways(rt, alloc, steps, &[], wanted);
 }

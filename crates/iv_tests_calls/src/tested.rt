@@ -6,8 +6,9 @@ ghost use Rattle.iv_store.specs.Stores.{fits_table};
 
 use crate::asked::{are_on, assert_that, fits, have_keys};
 use crate::schema::{put_copies, put_copy, put_table};
-use iv_catalogue::{Catalogue, Constraint, ConstraintId, MOST_CONSTRAINTS, MOST_TABLES, Table};
-use iv_copies::copy_constraint;
+use iv_catalogue::{
+    Catalogue, Constraint, ConstraintId, MOST_CONSTRAINTS, MOST_TABLES, Table, copy_constraint,
+};
 use iv_expr::{Change, Row, StoredRow, TableId};
 use iv_key::Key;
 use iv_machine::{LAST_ROW_NUMBER, MOST_CHANGES_IN_A_TRANSACTION};
@@ -196,7 +197,7 @@ impl<K: Keeper + Drop> Tested<K> {
         None
     }
 
-    /// Gives the row of a number these values, or takes it out, where it isn't one of another table.
+    /// Gives the row of a number these values, or takes it out, if it isn't one of another table.
     pub fn set(&mut self, rt: &impl Abort, table: u32, number: u64, new: Option<Row>) {
         let table = TableId::new(table);
         assert_that(rt, number > 0, "no number");
@@ -217,7 +218,7 @@ impl<K: Keeper + Drop> Tested<K> {
             old,
             new,
         };
-        self.store.change(change).expect(rt, "memory");
+        self.store.change(&change).expect(rt, "memory");
     }
 
     /// The rows that hold a key by a foreign key.

@@ -1,8 +1,9 @@
-//! Tokens of one text that are read in another. The program reads tokens in their own text alone.
+//! Tokens of one text that are read in another. The program reads tokens only in their own text.
 use crate::shown::{show, show_number};
 use crate::story::compare;
 use iv_lex::{Token, TokenKind, folded_text, tokens};
 use iv_parse_data::insert;
+use iv_parse_terms::{Cursor, Source, Stop};
 use iv_syntax::Insert;
 use std::alloc::Global;
 use std::panic::Expect;
@@ -30,17 +31,21 @@ fn show_insert_in(
     tokens: &[Token],
     shown: &mut String,
 ) {
-    match insert(alloc, text, tokens).expect(rt, "memory") {
-        Some((found, rest)) => {
+    let source = Source::new(alloc, text, tokens);
+    let mut cursor = Cursor::new(0);
+    match insert(&source, &mut cursor) {
+        Ok(found) => {
             show_insert(rt, &found, shown);
             drop(found);
-            show_number(rt, "", rest.len() as u64, "", shown);
+            let left = tokens.len().saturating_sub(cursor.place());
+            show_number(rt, "", left as u64, "", shown);
         }
-        None => show(rt, "none", shown),
+        Err(Stop::NoMemory) => show(rt, "no memory", shown),
+        Err(_) => show(rt, "none", shown),
     }
 }
 
-// So by the tokens of another text, where the name of the table is at byte 5.
+// The same by the tokens of another text, in which the name of the table is at byte 5.
 fn shown_elsewhere(rt: &impl Abort, alloc: Global, text: &str) -> String {
     let mut shown = String::new(alloc);
     let lexed = tokens(alloc, "INTO t DEFAULT VALUES").expect(rt, "memory");

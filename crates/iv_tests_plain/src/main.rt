@@ -1,9 +1,9 @@
-//! The program `sqlkeep` over the plain store, for tests alone.
+//! The program `sqlkeep` over the plain store, only for tests.
 #![tactic(auto)]
 
-use iv_plain_store::PlainStore;
 use iv_program::{Std, run_program};
 use iv_session::Session;
+use iv_store_plain::PlainStore;
 use std::io;
 use std::process::ExitCode;
 

@@ -1,6 +1,6 @@
 //! The account of the last statement or call, as a session gives it.
 use crate::calls::{Call, shows};
-use iv_plain_store::PlainStore;
+use iv_store_plain::PlainStore;
 
 const CASCADE: &str =
     "CREATE TABLE p (k INT PRIMARY KEY); CREATE TABLE c (x INT REFERENCES p ON DELETE CASCADE); CREATE TABLE log (n INT); CREATE TRIGGER r AFTER DELETE ON c REFERENCING OLD AS o FOR EACH ROW INSERT INTO log VALUES (o.x); INSERT INTO p VALUES (7); INSERT INTO c VALUES (7), (7); DELETE FROM p;";

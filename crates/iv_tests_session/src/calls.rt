@@ -28,7 +28,7 @@ pub enum Call {
     /// The same, with what is pending after each.
     ExecuteWithPending,
     /// An INSERT INTO t of each number below `rows`. How many of them inserted one row, and how many keys one of them
-    /// looked up where that is more than `most`.
+    /// looked up if that is more than `most`.
     Load { rows: u64, most: u64 },
     /// Whether an account is asked for.
     Explain(bool),
@@ -43,7 +43,7 @@ pub enum Call {
     State,
     /// How many changes were made and undone last.
     Work,
-    /// How many keys were looked up last, where that is more than this.
+    /// How many keys were looked up last, if that is more than this.
     LookUps(u64),
     /// How many tables and constraints there are.
     Catalogue,
@@ -88,7 +88,7 @@ fn show_pending<K: Keeper + Drop>(rt: &impl Abort, session: &Session<K>, shown: 
     show_number(rt, "", session.pending_count(), "; ", shown)
 }
 
-// Runs each statement by itself, and shows what is pending after it where that is wanted.
+// Runs each statement by itself, and shows what is pending after it if that is wanted.
 fn execute_each<K: Keeper + Drop>(
     rt: &impl Abort,
     session: &mut Session<K>,
@@ -104,7 +104,7 @@ fn execute_each<K: Keeper + Drop>(
     }
 }
 
-// A number of look-ups, where it is more than the most.
+// A number of look-ups, if it is more than the most.
 fn show_look_ups(rt: &impl Abort, look_ups: u64, most: u64, shown: &mut String) {
     if look_ups > most {
         show_number(rt, "looked up ", look_ups, "; ", shown);
@@ -201,7 +201,7 @@ fn make_calls<K: Keeper + Drop>(
     }
 }
 
-// So in a new session.
+// Makes a call in a new session.
 fn call_anew<K: Keeper + Drop>(
     rt: &impl Abort,
     alloc: Global,
@@ -215,7 +215,7 @@ fn call_anew<K: Keeper + Drop>(
     drop(session);
 }
 
-// So over the statements of a script.
+// Makes a call over the statements of a script.
 fn call_over<K: Keeper + Drop>(
     rt: &impl Abort,
     alloc: Global,
@@ -237,7 +237,7 @@ fn call_over<K: Keeper + Drop>(
     drop(parsed);
 }
 
-/// Asserts what calls over the statements of a script show, where triggers may nest so deep, and a statement may make so
+/// Asserts what calls over the statements of a script show, if triggers may nest so deep, and a statement may make so
 /// many changes.
 pub fn shows_within<K: Keeper + Drop>(
     rt: &impl Abort,

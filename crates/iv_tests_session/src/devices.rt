@@ -1,8 +1,8 @@
 //! Runs over devices that fail.
 use iv_machine::Limits;
-use iv_plain_store::PlainStore;
-use iv_script::{DeviceFault, RunFault, Sink, Source, Std, Summary, run};
+use iv_script::{DeviceFault, Format, RunFault, Sink, Source, Std, Style, Summary, run};
 use iv_session::Session;
+use iv_store_plain::PlainStore;
 use std::alloc::Global;
 use std::io;
 use std::io::{ErrorKind, Read, Write};
@@ -163,7 +163,11 @@ fn run_session<R: Source, W: Sink>(
     sink: &mut W,
 ) -> Result<Summary, RunFault> {
     let limits = Limits::new(16, 65_536).expect(rt, "limits");
-    run::<Session<PlainStore>, R, W>(alloc, source, sink, limits, false)
+    let style = Style {
+        format: Format::Words,
+        explain: false,
+    };
+    run::<Session<PlainStore>, R, W>(alloc, source, sink, limits, style)
 }
 
 // What a run answers, in a word.

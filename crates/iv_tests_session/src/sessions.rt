@@ -1,6 +1,6 @@
 //! Sessions between the statements of scripts: work, what is pending, and the calls that no statement makes.
 use crate::calls::{Call, shows};
-use iv_plain_store::PlainStore;
+use iv_store_plain::PlainStore;
 
 const AFTER_A_REFUSED_COMMIT: &str =
     "CREATE TABLE p (k INT PRIMARY KEY); CREATE TABLE c (x INT CONSTRAINT fk REFERENCES p INITIALLY DEFERRED); INSERT INTO c VALUES (7); COMMIT; SELECT * FROM c; START TRANSACTION;";

@@ -1,6 +1,6 @@
 //! Answers as text. One function writes a number, one drops an outcome, and one compares: each of these is much code to
 //! prove.
-use iv_account::{Entry, RowAction, Seen};
+use iv_account::{Entry, RowAction, TriggerView};
 use iv_catalogue::{Catalogue, Cause, Fault, TriggerId};
 use iv_machine::Answer;
 use iv_session::{Outcome, Work};
@@ -46,7 +46,7 @@ pub fn show_outcome(rt: &impl Abort, outcome: &Outcome, shown: &mut String) {
     }
 }
 
-/// So for each of these, with an end.
+/// The answers, or the causes of refusals, of these outcomes, each with an end.
 pub fn show_outcomes(rt: &impl Abort, outcomes: &[Outcome], shown: &mut String) {
     for outcome in outcomes {
         show_outcome(rt, outcome, shown);
@@ -84,7 +84,7 @@ fn word_of(truth: bool) -> &'static str {
 }
 
 // The trigger's place, whether it saw OLD and NEW, and how many changes of transition tables.
-fn show_seen(rt: &impl Abort, trigger: &TriggerId, seen: &Seen, shown: &mut String) {
+fn show_seen(rt: &impl Abort, trigger: &TriggerId, seen: &TriggerView, shown: &mut String) {
     show_number(rt, "ran ", trigger.place() as u64, "", shown);
     show(rt, word_of(seen.old.is_some()), shown);
     show(rt, word_of(seen.new.is_some()), shown);

@@ -1,13 +1,13 @@
-//! The way back to a savepoint, which is never refused for memory on the store that has a journal.
+//! The way back to a savepoint, which can't fail for lack of memory on the store with a journal.
 ghost use Rattle.std.specs.Prelude.{◌≡◌, true, false};
 ghost use Rattle.iv_catalogue.specs.Refusals.{is_memory};
 ghost use Rattle.iv_step.specs.Sure.{is_rollback_to};
 
 use crate::shown::{compare, show_with};
-use iv_index_store::IndexStore;
 use iv_machine::Limits;
 use iv_parse::script;
 use iv_session::{Outcome, Session};
+use iv_store_index::IndexStore;
 use iv_syntax::Statement;
 use std::alloc::Global;
 use std::panic::Expect;
@@ -51,7 +51,7 @@ fn show_each(
     }
 }
 
-// So for the statements of a text.
+// Runs the statements of a text, and shows what each answers and undoes.
 fn show_text(
     rt: &impl Abort,
     alloc: Global,
@@ -103,7 +103,7 @@ fn show_ways_back(
     )
 }
 
-// So in a new session.
+// Goes back in a new session, by the call and by the statement.
 fn ways_back(rt: &impl Abort, alloc: Global, shown: &mut String) {
     let limits = Limits::new(16, 65_536).expect(rt, "limits");
     let mut session = Session::<IndexStore>::new(alloc, limits).expect(rt, "memory");

@@ -1,9 +1,9 @@
 //! What the last statement of a script answers, changes, undoes and looks up, on both stores.
 use crate::calls::{Call, shows, shows_within};
-use iv_index_store::IndexStore;
 use iv_machine::Limits;
-use iv_plain_store::PlainStore;
 use iv_store::Keeper;
+use iv_store_index::IndexStore;
+use iv_store_plain::PlainStore;
 use std::alloc::Global;
 use std::process::Abort;
 

@@ -12,7 +12,7 @@ value_of borrowed.Null = value.Null
 value_of (borrowed.Int z) = value.Int z
 value_of (borrowed.Text t) = value.Text t.now
 
--- A copy is the value; only that of a text can fail, where memory is refused.
+-- A copy is the value; only that of a text can fail, if an allocation fails.
 abbrev pub Copied : Value → Result Value AllocError → Type 0
 Copied (value.Text t) result = IfOk result (λ v. v ≡ value.Text t)
 Copied v result = result ≡ Ok v

@@ -22,14 +22,14 @@ order (Int a) (Int b) = Some (int_cmp a b)
 order (Text a) (Text b) = Some (slice_cmp nat_cmp (chars a) (chars b))
 order _ _ = None
 
--- Two values are the same where they are equal; null is the same as null.
+-- Two values are the same if they are equal; null is the same as null.
 abbrev pub is_same : Value → Value → Bool
 is_same Null Null = true
 is_same (Int a) (Int b) = int_eq a b
 is_same (Text a) (Text b) = bytes_eq a b
 is_same _ _ = false
 
--- Two lists of values are the same where they are as long and the same at each place.
+-- Two lists of values are the same if they are as long and the same at each place.
 abbrev pub all_same : List Value → List Value → Bool
 all_same [] [] = true
 all_same (x ∷ xs) (y ∷ ys) = is_same x y && all_same xs ys
@@ -47,6 +47,6 @@ fit_of _ _ = WrongKind
 abbrev pub in_range : ℤ → Bool
 in_range z = int_le (negsuc 9223372036854775807) z && int_le z (pos 9223372036854775807)
 
--- An integer where it has a place in 64 bits.
+-- An integer if it has a place in 64 bits.
 abbrev pub checked : ℤ → Option ℤ
 checked z = if in_range z then Some z else None

@@ -67,7 +67,7 @@ impl Value {
 }
 
 impl<'a> ValueRef<'a> {
-    /// The value itself; only the copy of a text takes memory.
+    /// The value itself. It allocates only the copy of a text.
     pub fn to_value(self) -> Result<Value, AllocError>
         ensures { Copied (value_of self.entry) result }
     {

@@ -1,4 +1,4 @@
-pub mod Words
+pub mod Types
 pub mod WorkedPlans
 pub mod WorkedAnswers
 pub mod WorkedConstraints

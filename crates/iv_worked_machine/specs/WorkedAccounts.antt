@@ -3,18 +3,18 @@
 -- from 1.
 use Rattle.std.specs.Prelude.{◌≡◌, ℕ, List, [], ◌∷◌, map, Some, None}
 use Rattle.iv_expr.specs.Trees.{plus, times}
-use Rattle.iv_worked_machine.specs.Words.{Value, StoredRow, Change, ReferentialAction, Plan, Entry, RowAction, Seen}
-use Rattle.iv_worked_machine.specs.Words.value.{Null}
-use Rattle.iv_worked_machine.specs.Words.comparison.{Equal, Less, Greater}
-use Rattle.iv_worked_machine.specs.Words.cond.{Always, Compare}
-use Rattle.iv_worked_machine.specs.Words.mode.{Immediate}
-use Rattle.iv_worked_machine.specs.Words.nulls.{Distinct, NotDistinct}
-use Rattle.iv_worked_machine.specs.Words.referential_action.{NoAction, Restrict, Cascade, SetNull}
-use Rattle.iv_worked_machine.specs.Words.time.{Before, After}
-use Rattle.iv_worked_machine.specs.Words.event
-use Rattle.iv_worked_machine.specs.Words.granularity.{Row, Statement}
-use Rattle.iv_worked_machine.specs.Words.rule
-use Rattle.iv_worked_machine.specs.Words.entry.{Changed, Acted, Ran, Began, Ended, Faulted}
+use Rattle.iv_worked_machine.specs.Types.{Value, StoredRow, Change, ReferentialAction, Plan, Entry, RowAction, TriggerView}
+use Rattle.iv_worked_machine.specs.Types.value.{Null}
+use Rattle.iv_worked_machine.specs.Types.comparison.{Equal, Less, Greater}
+use Rattle.iv_worked_machine.specs.Types.cond.{Always, Compare}
+use Rattle.iv_worked_machine.specs.Types.mode.{Immediate}
+use Rattle.iv_worked_machine.specs.Types.nulls.{Distinct, NotDistinct}
+use Rattle.iv_worked_machine.specs.Types.referential_action.{NoAction, Restrict, Cascade, SetNull}
+use Rattle.iv_worked_machine.specs.Types.time.{Before, After}
+use Rattle.iv_worked_machine.specs.Types.event
+use Rattle.iv_worked_machine.specs.Types.granularity.{Row, Statement}
+use Rattle.iv_worked_machine.specs.Types.rule
+use Rattle.iv_worked_machine.specs.Types.entry.{Changed, Acted, Ran, Began, Ended, Faulted}
 use Rattle.iv_worked_machine.specs.WorkedPlans.{number, numbers, null, column, old, new, where_column, integer_column, not_deferrable, initially_deferred, references_rule, create_table, setting, insert, insert_row, insert_value, update, update_all, delete, delete_all, create_trigger, create_update_of, inserts, sets, signals, set_all, set_these, set_one, start, commit}
 use Rattle.iv_worked_machine.specs.WorkedAnswers.{int, fault, with_change_count, told_from, told, told_within}
 use Rattle.iv_machine.specs.Machine.{empty_state}
@@ -52,17 +52,17 @@ acts_on key action table row = record { constraint = key; action = action; table
 
 -- ---- what a trigger saw
 
-abbrev pub saw_old : List ℕ → Seen
+abbrev pub saw_old : List ℕ → TriggerView
 saw_old before = record { old = Some (ints before); new = None; transition = [] }
 
-abbrev pub saw_new : List ℕ → Seen
+abbrev pub saw_new : List ℕ → TriggerView
 saw_new after = record { old = None; new = Some (ints after); transition = [] }
 
-abbrev pub saw_both : List ℕ → List ℕ → Seen
+abbrev pub saw_both : List ℕ → List ℕ → TriggerView
 saw_both before after = record { old = Some (ints before); new = Some (ints after); transition = [] }
 
 -- a statement trigger saw these changes
-abbrev pub saw : List Change → Seen
+abbrev pub saw : List Change → TriggerView
 saw changes = record { old = None; new = None; transition = changes }
 
 -- ---- scripts
@@ -237,7 +237,7 @@ pub record WorkedAccounts : Type 0 where
       create_table (integer_column ∷ []) [] ∷ create_trigger 0 0 Before event.Delete Statement Always (signals ∷ [])
       ∷ delete_all 0 ∷ [])
       ≡ Ran 0 (saw []) ∷ []
-  -- all violations are told, by the constraint's creation, then by row
+  -- all violations are told, in creation order of the constraints, then by row
   pub commit_is_refused : told (two_violations_at commit) ≡ both_violations
   -- SET CONSTRAINTS ALL IMMEDIATE
   pub set_constraints_is_refused : told (two_violations_at (set_all Immediate)) ≡ both_violations

@@ -2,19 +2,19 @@
 -- have numbers from 0.
 use Rattle.std.specs.Prelude.{◌≡◌, List, [], ◌∷◌}
 use Rattle.iv_expr.specs.Trees.{minus}
-use Rattle.iv_worked_machine.specs.Words.{ReferentialAction, Plan}
-use Rattle.iv_worked_machine.specs.Words.side.{Old}
-use Rattle.iv_worked_machine.specs.Words.expr.{Variable}
-use Rattle.iv_worked_machine.specs.Words.comparison.{Equal}
-use Rattle.iv_worked_machine.specs.Words.cond.{Always}
-use Rattle.iv_worked_machine.specs.Words.referential_action.{NoAction, Restrict, Cascade, SetNull, SetDefault}
-use Rattle.iv_worked_machine.specs.Words.time.{After}
-use Rattle.iv_worked_machine.specs.Words.event
-use Rattle.iv_worked_machine.specs.Words.granularity.{Row, Statement}
-use Rattle.iv_worked_machine.specs.Words.nulls.{Distinct}
-use Rattle.iv_worked_machine.specs.Words.rule
-use Rattle.iv_worked_machine.specs.Words.cause
-use Rattle.iv_worked_machine.specs.Words.body
+use Rattle.iv_worked_machine.specs.Types.{ReferentialAction, Plan}
+use Rattle.iv_worked_machine.specs.Types.side.{Old}
+use Rattle.iv_worked_machine.specs.Types.expr.{Variable}
+use Rattle.iv_worked_machine.specs.Types.comparison.{Equal}
+use Rattle.iv_worked_machine.specs.Types.cond.{Always}
+use Rattle.iv_worked_machine.specs.Types.referential_action.{NoAction, Restrict, Cascade, SetNull, SetDefault}
+use Rattle.iv_worked_machine.specs.Types.time.{After}
+use Rattle.iv_worked_machine.specs.Types.event
+use Rattle.iv_worked_machine.specs.Types.granularity.{Row, Statement}
+use Rattle.iv_worked_machine.specs.Types.nulls.{Distinct}
+use Rattle.iv_worked_machine.specs.Types.rule
+use Rattle.iv_worked_machine.specs.Types.cause
+use Rattle.iv_worked_machine.specs.Types.body
 use Rattle.iv_worked_machine.specs.WorkedPlans.{number, null, column, where_column, integer_column, integer_default, not_deferrable, references_rule, create_table, setting, insert_statement, insert, insert_value, update, delete, create_trigger, select_all, count_all, commit, rollback}
 use Rattle.iv_worked_machine.specs.WorkedAnswers.{Answered, ok, ok_rows, int, rows, fault, refused, work, answers, answers_within, works_within}
 

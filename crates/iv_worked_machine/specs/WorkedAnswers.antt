@@ -1,10 +1,10 @@
 -- Words for worked scripts: answers, what the machine answers to a list of plans, and what is told of the
 -- last of them. No other file of this crate names the machine's definitions, and those of accounts.
 use Rattle.std.specs.Prelude.{ℕ, pos, Bool, List, [], ◌∷◌, map, Option, Some, None, Result, Ok, Err}
-use Rattle.iv_worked_machine.specs.Words.{Value, Statement, Cause, Fault, Refusal, Plan, Answer, Entry}
-use Rattle.iv_worked_machine.specs.Words.value.{Int}
-use Rattle.iv_worked_machine.specs.Words.answer.{Done, Changed, Rows}
-use Rattle.iv_worked_machine.specs.Words.which.{Deferred}
+use Rattle.iv_worked_machine.specs.Types.{Value, Statement, Cause, Fault, Refusal, Plan, Answer, Entry}
+use Rattle.iv_worked_machine.specs.Types.value.{Int}
+use Rattle.iv_worked_machine.specs.Types.answer.{Done, Changed, Rows}
+use Rattle.iv_worked_machine.specs.Types.which.{Deferred}
 use Rattle.iv_machine.specs.Bounds.{Bounds}
 use Rattle.iv_machine.specs.Databases.{scan, is_chosen}
 use Rattle.iv_machine.specs.Machine.{State, Outcome, Work, empty_state, plan_outcome, occasion_of, transaction_cause}
@@ -74,7 +74,7 @@ answers plans = answers_of (outcomes (empty_state usual_limits) plans)
 abbrev pub works : List Plan → List Work
 works plans = works_of (outcomes (empty_state usual_limits) plans)
 
--- where triggers may nest so deep
+-- with triggers that may nest so deep
 abbrev pub answers_deep : ℕ → List Plan → List Answered
 answers_deep depth plans =
     answers_of (outcomes (empty_state (record { depth = depth; changes = 65536 })) plans)
@@ -101,7 +101,7 @@ with_change_count count plans =
     let s : State = state_after (empty_state usual_limits) plans in
     record s { database = record s.database { count = count } }
 
--- the state after these plans, where the next new row has this number
+-- the state after these plans, if the next new row has this number
 abbrev pub numbered_from : ℕ → List Plan → State
 numbered_from next plans =
     let s : State = state_after (empty_state usual_limits) plans in
@@ -137,7 +137,7 @@ told_within changes plans = told_from (empty_state (record { depth = 16; changes
 
 -- ---- what is refused before all else
 
--- why a statement is refused where a transaction is open, or where none is
+-- why a statement is refused if a transaction is open, or if none is
 abbrev pub cause_inside : Statement → Option Cause
 cause_inside s = transaction_cause Bool.true (occasion_of s)
 

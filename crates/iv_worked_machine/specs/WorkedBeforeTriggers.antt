@@ -1,16 +1,16 @@
 -- Worked scripts on BEFORE triggers: which of them run, on what tables, and what a SET stores.
 use Rattle.std.specs.Prelude.{◌≡◌, List, [], ◌∷◌, codes}
-use Rattle.iv_worked_machine.specs.Words.{Plan}
-use Rattle.iv_worked_machine.specs.Words.value.{Null, Text}
-use Rattle.iv_worked_machine.specs.Words.range.{Table}
-use Rattle.iv_worked_machine.specs.Words.comparison.{Equal, Greater}
-use Rattle.iv_worked_machine.specs.Words.cond.{Always, Compare}
-use Rattle.iv_worked_machine.specs.Words.referential_action.{NoAction, SetNull}
-use Rattle.iv_worked_machine.specs.Words.time.{Before}
-use Rattle.iv_worked_machine.specs.Words.event
-use Rattle.iv_worked_machine.specs.Words.granularity.{Row, Statement}
-use Rattle.iv_worked_machine.specs.Words.rule
-use Rattle.iv_worked_machine.specs.Words.cause.{NumberOutOfRange, Signal, TextTooLong}
+use Rattle.iv_worked_machine.specs.Types.{Plan}
+use Rattle.iv_worked_machine.specs.Types.value.{Null, Text}
+use Rattle.iv_worked_machine.specs.Types.range.{Table}
+use Rattle.iv_worked_machine.specs.Types.comparison.{Equal, Greater}
+use Rattle.iv_worked_machine.specs.Types.cond.{Always, Compare}
+use Rattle.iv_worked_machine.specs.Types.referential_action.{NoAction, SetNull}
+use Rattle.iv_worked_machine.specs.Types.time.{Before}
+use Rattle.iv_worked_machine.specs.Types.event
+use Rattle.iv_worked_machine.specs.Types.granularity.{Row, Statement}
+use Rattle.iv_worked_machine.specs.Types.rule
+use Rattle.iv_worked_machine.specs.Types.cause.{NumberOutOfRange, Signal, TextTooLong}
 use Rattle.iv_expr.specs.Trees.{plus, not_c, exists_c}
 use Rattle.iv_worked_machine.specs.WorkedPlans.{number, numbers, text, column, new, where_column, integer_column, varchar, not_deferrable, references_rule, create_table, insert, insert_row, insert_value, update_all, delete_all, create_trigger, sets, signals, select_all}
 use Rattle.iv_worked_machine.specs.WorkedAnswers.{ok, ok_rows, int, rows, rows_of, refused, refused_in, work, idle, answers, works}

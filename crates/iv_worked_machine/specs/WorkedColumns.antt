@@ -1,17 +1,17 @@
 -- Worked scripts on UPDATE OF: the columns of a wave and of a level. Constraints, tables and triggers have numbers from 0.
 use Rattle.std.specs.Prelude.{◌≡◌, List, [], ◌∷◌}
-use Rattle.iv_worked_machine.specs.Words.{BodyStatement, Plan}
-use Rattle.iv_worked_machine.specs.Words.value.{Null}
-use Rattle.iv_worked_machine.specs.Words.comparison.{Equal}
-use Rattle.iv_worked_machine.specs.Words.cond.{Always}
-use Rattle.iv_worked_machine.specs.Words.event
-use Rattle.iv_worked_machine.specs.Words.matching.{Simple}
-use Rattle.iv_worked_machine.specs.Words.nulls.{Distinct}
-use Rattle.iv_worked_machine.specs.Words.referential_action.{NoAction, Cascade, SetNull}
-use Rattle.iv_worked_machine.specs.Words.rule
-use Rattle.iv_worked_machine.specs.Words.cause.{Signal}
-use Rattle.iv_worked_machine.specs.Words.time.{Before, After}
-use Rattle.iv_worked_machine.specs.Words.granularity.{Row, Statement}
+use Rattle.iv_worked_machine.specs.Types.{BodyStatement, Plan}
+use Rattle.iv_worked_machine.specs.Types.value.{Null}
+use Rattle.iv_worked_machine.specs.Types.comparison.{Equal}
+use Rattle.iv_worked_machine.specs.Types.cond.{Always}
+use Rattle.iv_worked_machine.specs.Types.event
+use Rattle.iv_worked_machine.specs.Types.matching.{Simple}
+use Rattle.iv_worked_machine.specs.Types.nulls.{Distinct}
+use Rattle.iv_worked_machine.specs.Types.referential_action.{NoAction, Cascade, SetNull}
+use Rattle.iv_worked_machine.specs.Types.rule
+use Rattle.iv_worked_machine.specs.Types.cause.{Signal}
+use Rattle.iv_worked_machine.specs.Types.time.{Before, After}
+use Rattle.iv_worked_machine.specs.Types.granularity.{Row, Statement}
 use Rattle.iv_worked_machine.specs.WorkedPlans.{number, numbers, null, new, where_column, integer_column, not_deferrable, foreign_key_rule, references_rule, create_table, insert, insert_row, insert_value, update, update_all, setting, delete, select_all, create_trigger, create_update_of, inserts, sets, signals, commit}
 use Rattle.iv_worked_machine.specs.WorkedAnswers.{ok, ok_rows, rows, rows_of, int, refused_in, answers}
 
@@ -82,9 +82,9 @@ pub record WorkedColumns : Type 0 where
       ∷ create_update_of 1 1 After (1 ∷ []) Statement logs
       ∷ filled (update_all 1 0 (number 1) ∷ select_all 1 ∷ select_all 2 ∷ [])))
       ≡ ok ∷ ok ∷ ok ∷ ok ∷ ok ∷ ok_rows 1 ∷ ok_rows 1 ∷ ok_rows 1 ∷ rows_of ((1 ∷ 7 ∷ []) ∷ []) ∷ rows_of [] ∷ []
-  -- the whole key counts where one column of it changed: CREATE TABLE p (a INT, b INT, PRIMARY KEY (a, b)); CREATE TABLE c (a INT,
-  -- b INT, FOREIGN KEY (a, b) REFERENCES p ON UPDATE CASCADE); CREATE TABLE log (m INT); CREATE TRIGGER r AFTER UPDATE OF b ON c
-  -- INSERT INTO log VALUES (1); INSERT INTO p VALUES (1, 1); INSERT INTO c VALUES (1, 1); UPDATE p SET a = 2; SELECT * FROM log;
+  -- the whole key counts if one column of it changed: CREATE TABLE p (a INT, b INT, PRIMARY KEY (a, b)); CREATE TABLE c (a INT, b INT,
+  -- FOREIGN KEY (a, b) REFERENCES p ON UPDATE CASCADE); CREATE TABLE log (m INT); CREATE TRIGGER r AFTER UPDATE OF b ON c INSERT INTO log
+  -- VALUES (1); INSERT INTO p VALUES (1, 1); INSERT INTO c VALUES (1, 1); UPDATE p SET a = 2; SELECT * FROM log;
   pub whole_key_counts : answers (
       create_table (integer_column ∷ integer_column ∷ []) (not_deferrable 0 (rule.PrimaryKey (0 ∷ 1 ∷ [])) ∷ [])
       ∷ create_table (integer_column ∷ integer_column ∷ [])
@@ -92,9 +92,9 @@ pub record WorkedColumns : Type 0 where
       ∷ create_table (integer_column ∷ []) [] ∷ create_update_of 0 1 After (1 ∷ []) Statement logs
       ∷ insert_row 0 (numbers (1 ∷ 1 ∷ [])) ∷ insert_row 1 (numbers (1 ∷ 1 ∷ [])) ∷ update_all 0 0 (number 2) ∷ select_all 2 ∷ [])
       ≡ ok ∷ ok ∷ ok ∷ ok ∷ ok_rows 1 ∷ ok_rows 1 ∷ ok_rows 1 ∷ rows_of ((1 ∷ []) ∷ []) ∷ []
-  -- a foreign key counts only where it sets values of a row that stays: ON DELETE CASCADE of x, SET NULL of y and z; CREATE
-  -- TRIGGER ry AFTER UPDATE OF y ON c INSERT INTO log VALUES (2); CREATE TRIGGER rz AFTER UPDATE OF z ON c INSERT INTO log VALUES
-  -- (3); INSERT INTO p VALUES (1); INSERT INTO c VALUES (1, 1, NULL), (NULL, NULL, 1); DELETE FROM p; SELECT * FROM log;
+  -- a foreign key counts only if it sets values of a row that stays: ON DELETE CASCADE of x, SET NULL of y and z; CREATE TRIGGER ry AFTER
+  -- UPDATE OF y ON c INSERT INTO log VALUES (2); CREATE TRIGGER rz AFTER UPDATE OF z ON c INSERT INTO log VALUES (3); INSERT INTO p VALUES
+  -- (1); INSERT INTO c VALUES (1, 1, NULL), (NULL, NULL, 1); DELETE FROM p; SELECT * FROM log;
   pub deleted_rows_name_no_columns : answers (three_keys (
       create_update_of 0 1 After (1 ∷ []) Statement (inserts 2 (number 2 ∷ []) ∷ [])
       ∷ create_update_of 1 1 After (2 ∷ []) Statement (inserts 2 (number 3 ∷ []) ∷ [])
@@ -111,10 +111,10 @@ pub record WorkedColumns : Type 0 where
       ∷ insert 1 ((number 1 ∷ null ∷ null ∷ []) ∷ (null ∷ number 1 ∷ null ∷ []) ∷ [])
       ∷ update_all 0 0 (number 2) ∷ select_all 2 ∷ []))
       ≡ ok ∷ ok ∷ ok ∷ ok ∷ ok_rows 1 ∷ ok_rows 2 ∷ ok_rows 1 ∷ rows ((int 2 ∷ []) ∷ (Null ∷ []) ∷ []) ∷ []
-  -- the columns of all waves count, and those of each table alone: CREATE TABLE p (k INT PRIMARY KEY); CREATE TABLE c (x INT UNIQUE
-  -- REFERENCES p ON UPDATE CASCADE); CREATE TABLE log (m INT); CREATE TABLE d (y INT, z INT REFERENCES c (x) ON UPDATE CASCADE);
-  -- CREATE TRIGGER ry AFTER UPDATE OF y ON d INSERT INTO log VALUES (1); CREATE TRIGGER rz AFTER UPDATE OF z ON d INSERT INTO log
-  -- VALUES (2); INSERT INTO p VALUES (1); INSERT INTO c VALUES (1); INSERT INTO d VALUES (5, 1); UPDATE p SET k = 2; SELECT * FROM log;
+  -- the columns of all waves count, and only those of each table: CREATE TABLE p (k INT PRIMARY KEY); CREATE TABLE c (x INT UNIQUE
+  -- REFERENCES p ON UPDATE CASCADE); CREATE TABLE log (m INT); CREATE TABLE d (y INT, z INT REFERENCES c (x) ON UPDATE CASCADE); CREATE
+  -- TRIGGER ry AFTER UPDATE OF y ON d INSERT INTO log VALUES (1); CREATE TRIGGER rz AFTER UPDATE OF z ON d INSERT INTO log VALUES (2);
+  -- INSERT INTO p VALUES (1); INSERT INTO c VALUES (1); INSERT INTO d VALUES (5, 1); UPDATE p SET k = 2; SELECT * FROM log;
   pub columns_of_later_waves : answers (
       create_table (integer_column ∷ []) (not_deferrable 0 (rule.PrimaryKey (0 ∷ [])) ∷ [])
       ∷ create_table (integer_column ∷ [])

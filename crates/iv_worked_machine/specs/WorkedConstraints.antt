@@ -1,16 +1,16 @@
 -- Worked scripts on constraints, their modes, transactions and savepoints. Constraints, tables and
 -- triggers have numbers from 0.
 use Rattle.std.specs.Prelude.{◌≡◌, List, [], ◌∷◌, codes}
-use Rattle.iv_worked_machine.specs.Words.{Rule, Plan}
-use Rattle.iv_worked_machine.specs.Words.value.{Null}
-use Rattle.iv_worked_machine.specs.Words.comparison.{Greater}
-use Rattle.iv_worked_machine.specs.Words.cond.{Always}
-use Rattle.iv_worked_machine.specs.Words.mode.{Immediate, Deferred}
-use Rattle.iv_worked_machine.specs.Words.matching.{Simple, Full}
-use Rattle.iv_worked_machine.specs.Words.referential_action.{NoAction}
-use Rattle.iv_worked_machine.specs.Words.nulls.{Distinct}
-use Rattle.iv_worked_machine.specs.Words.rule
-use Rattle.iv_worked_machine.specs.Words.cause.{Violation, CommitRefused, UnknownSavepoint, NumberOutOfRange, AddRefused, NotDeferrable}
+use Rattle.iv_worked_machine.specs.Types.{Rule, Plan}
+use Rattle.iv_worked_machine.specs.Types.value.{Null}
+use Rattle.iv_worked_machine.specs.Types.comparison.{Greater}
+use Rattle.iv_worked_machine.specs.Types.cond.{Always}
+use Rattle.iv_worked_machine.specs.Types.mode.{Immediate, Deferred}
+use Rattle.iv_worked_machine.specs.Types.matching.{Simple, Full}
+use Rattle.iv_worked_machine.specs.Types.referential_action.{NoAction}
+use Rattle.iv_worked_machine.specs.Types.nulls.{Distinct}
+use Rattle.iv_worked_machine.specs.Types.rule
+use Rattle.iv_worked_machine.specs.Types.cause.{Violation, CommitRefused, UnknownSavepoint, NumberOutOfRange, AddRefused, NotDeferrable}
 use Rattle.iv_expr.specs.Trees.{plus}
 use Rattle.iv_worked_machine.specs.WorkedPlans.{number, null, column, where_column, integer_column, not_deferrable, deferrable, initially_deferred, references_rule, create_table, add_constraint, setting, insert, insert_value, update, select, select_all, count_all, set_all, set_one, start, commit, rollback, savepoint, release, rollback_to}
 use Rattle.iv_worked_machine.specs.WorkedAnswers.{ok, ok_rows, int, rows, fault, refused, work, answers, works_within}

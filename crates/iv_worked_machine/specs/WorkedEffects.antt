@@ -1,18 +1,18 @@
 -- Worked scripts on referential actions: which rows an action reaches, what it sets, RESTRICT, and
 -- two actions on one row.
 use Rattle.std.specs.Prelude.{◌≡◌, List, [], ◌∷◌}
-use Rattle.iv_worked_machine.specs.Words.{Expr, ReferentialAction, Plan}
-use Rattle.iv_worked_machine.specs.Words.value.{Null}
-use Rattle.iv_worked_machine.specs.Words.comparison.{Equal}
-use Rattle.iv_worked_machine.specs.Words.cond.{Always, Compare}
-use Rattle.iv_worked_machine.specs.Words.matching.{Simple}
-use Rattle.iv_worked_machine.specs.Words.referential_action.{NoAction, Restrict, Cascade, SetNull, SetDefault}
-use Rattle.iv_worked_machine.specs.Words.time.{Before}
-use Rattle.iv_worked_machine.specs.Words.event
-use Rattle.iv_worked_machine.specs.Words.granularity.{Row}
-use Rattle.iv_worked_machine.specs.Words.nulls.{Distinct}
-use Rattle.iv_worked_machine.specs.Words.rule
-use Rattle.iv_worked_machine.specs.Words.cause
+use Rattle.iv_worked_machine.specs.Types.{Expr, ReferentialAction, Plan}
+use Rattle.iv_worked_machine.specs.Types.value.{Null}
+use Rattle.iv_worked_machine.specs.Types.comparison.{Equal}
+use Rattle.iv_worked_machine.specs.Types.cond.{Always, Compare}
+use Rattle.iv_worked_machine.specs.Types.matching.{Simple}
+use Rattle.iv_worked_machine.specs.Types.referential_action.{NoAction, Restrict, Cascade, SetNull, SetDefault}
+use Rattle.iv_worked_machine.specs.Types.time.{Before}
+use Rattle.iv_worked_machine.specs.Types.event
+use Rattle.iv_worked_machine.specs.Types.granularity.{Row}
+use Rattle.iv_worked_machine.specs.Types.nulls.{Distinct}
+use Rattle.iv_worked_machine.specs.Types.rule
+use Rattle.iv_worked_machine.specs.Types.cause
 use Rattle.iv_expr.specs.Trees.{plus}
 use Rattle.iv_worked_machine.specs.WorkedPlans.{number, numbers, null, column, old, new, where_column, integer_column, integer_default, not_deferrable, initially_deferred, foreign_key_rule, references_rule, create_table, setting, insert, insert_row, insert_value, update, update_all, delete, delete_all, create_trigger, sets, select_all, count_all, commit}
 use Rattle.iv_worked_machine.specs.WorkedAnswers.{ok, ok_rows, int, rows, rows_of, count_row, fault, refused, work, idle, answers, works}

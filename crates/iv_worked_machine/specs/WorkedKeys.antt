@@ -1,12 +1,12 @@
 -- Worked scripts on keys and their nulls, on the scan, and on constraints that are added over rows.
 use Rattle.std.specs.Prelude.{◌≡◌, List, [], ◌∷◌}
-use Rattle.iv_worked_machine.specs.Words.{MatchType, Plan}
-use Rattle.iv_worked_machine.specs.Words.comparison.{Greater}
-use Rattle.iv_worked_machine.specs.Words.matching.{Simple, Full}
-use Rattle.iv_worked_machine.specs.Words.referential_action.{NoAction}
-use Rattle.iv_worked_machine.specs.Words.nulls.{Distinct}
-use Rattle.iv_worked_machine.specs.Words.rule
-use Rattle.iv_worked_machine.specs.Words.cause.{Violation, CommitRefused, AddRefused}
+use Rattle.iv_worked_machine.specs.Types.{MatchType, Plan}
+use Rattle.iv_worked_machine.specs.Types.comparison.{Greater}
+use Rattle.iv_worked_machine.specs.Types.matching.{Simple, Full}
+use Rattle.iv_worked_machine.specs.Types.referential_action.{NoAction}
+use Rattle.iv_worked_machine.specs.Types.nulls.{Distinct}
+use Rattle.iv_worked_machine.specs.Types.rule
+use Rattle.iv_worked_machine.specs.Types.cause.{Violation, CommitRefused, AddRefused}
 use Rattle.iv_worked_machine.specs.WorkedPlans.{number, numbers, null, where_column, integer_column, not_deferrable, deferrable, initially_deferred, foreign_key_rule, create_table, add_constraint, insert, insert_row, insert_value, update_all, delete, commit}
 use Rattle.iv_worked_machine.specs.WorkedAnswers.{ok, ok_rows, fault, refused, answers, pending_after}
 

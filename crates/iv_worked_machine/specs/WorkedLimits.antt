@@ -1,15 +1,15 @@
 -- Worked scripts on limits: the budget of a statement, the changes of a transaction, and row
 -- numbers.
 use Rattle.std.specs.Prelude.{◌≡◌, List, [], ◌∷◌}
-use Rattle.iv_worked_machine.specs.Words.{Plan}
-use Rattle.iv_worked_machine.specs.Words.comparison.{Equal, Less}
-use Rattle.iv_worked_machine.specs.Words.cond.{Always}
-use Rattle.iv_worked_machine.specs.Words.time.{After}
-use Rattle.iv_worked_machine.specs.Words.event
-use Rattle.iv_worked_machine.specs.Words.granularity.{Statement}
-use Rattle.iv_worked_machine.specs.Words.rule
-use Rattle.iv_worked_machine.specs.Words.cause.{Violation, TooManyChanges, TransactionTooLarge, Limit}
-use Rattle.iv_worked_machine.specs.Words.body
+use Rattle.iv_worked_machine.specs.Types.{Plan}
+use Rattle.iv_worked_machine.specs.Types.comparison.{Equal, Less}
+use Rattle.iv_worked_machine.specs.Types.cond.{Always}
+use Rattle.iv_worked_machine.specs.Types.time.{After}
+use Rattle.iv_worked_machine.specs.Types.event
+use Rattle.iv_worked_machine.specs.Types.granularity.{Statement}
+use Rattle.iv_worked_machine.specs.Types.rule
+use Rattle.iv_worked_machine.specs.Types.cause.{Violation, TooManyChanges, TransactionTooLarge, Limit}
+use Rattle.iv_worked_machine.specs.Types.body
 use Rattle.iv_worked_machine.specs.WorkedPlans.{number, numbers, where_column, integer_column, not_deferrable, create_table, deletion_of, insert, insert_value, update_all, delete_all, create_trigger, count_all, start, commit, rollback}
 use Rattle.iv_worked_machine.specs.WorkedAnswers.{ok, ok_rows, count_row, fault, refused, refused_in, work, idle, answers_within, works_within, with_change_count, numbered_from, answers_from, works_from}
 

@@ -1,13 +1,13 @@
 -- Worked scripts on UNIQUE NULLS NOT DISTINCT. Constraints and tables have numbers from 0.
 use Rattle.std.specs.Prelude.{◌≡◌, List, [], ◌∷◌}
-use Rattle.iv_worked_machine.specs.Words.{MatchType, Plan}
-use Rattle.iv_worked_machine.specs.Words.value.{Null}
-use Rattle.iv_worked_machine.specs.Words.comparison.{Equal}
-use Rattle.iv_worked_machine.specs.Words.matching.{Simple, Full}
-use Rattle.iv_worked_machine.specs.Words.nulls.{Distinct, NotDistinct}
-use Rattle.iv_worked_machine.specs.Words.referential_action.{NoAction, Cascade}
-use Rattle.iv_worked_machine.specs.Words.rule
-use Rattle.iv_worked_machine.specs.Words.cause.{Violation, AddRefused}
+use Rattle.iv_worked_machine.specs.Types.{MatchType, Plan}
+use Rattle.iv_worked_machine.specs.Types.value.{Null}
+use Rattle.iv_worked_machine.specs.Types.comparison.{Equal}
+use Rattle.iv_worked_machine.specs.Types.matching.{Simple, Full}
+use Rattle.iv_worked_machine.specs.Types.nulls.{Distinct, NotDistinct}
+use Rattle.iv_worked_machine.specs.Types.referential_action.{NoAction, Cascade}
+use Rattle.iv_worked_machine.specs.Types.rule
+use Rattle.iv_worked_machine.specs.Types.cause.{Violation, AddRefused}
 use Rattle.iv_worked_machine.specs.WorkedPlans.{number, numbers, null, where_column, integer_column, not_deferrable, initially_deferred, foreign_key_rule, references_rule, create_table, add_constraint, insert, insert_row, update, setting, delete_all, select_all, commit}
 use Rattle.iv_worked_machine.specs.WorkedAnswers.{ok, ok_rows, rows, fault, refused, answers, pending_after}
 

@@ -1,19 +1,19 @@
 -- Worked lists of statements on what is refused before all else: schema statements inside a
 -- transaction, savepoints and modes outside, and START TRANSACTION inside.
 use Rattle.std.specs.Prelude.{◌≡◌, ◌++◌, List, [], ◌∷◌, map, Option, Some, None, codes}
-use Rattle.iv_worked_machine.specs.Words.{Statement, Cause}
-use Rattle.iv_worked_machine.specs.Words.constraints.{All}
-use Rattle.iv_worked_machine.specs.Words.mode.{Deferred}
-use Rattle.iv_worked_machine.specs.Words.insert.{DefaultValues}
-use Rattle.iv_worked_machine.specs.Words.select.{Count}
-use Rattle.iv_worked_machine.specs.Words.statement
-use Rattle.iv_worked_machine.specs.Words.nulls.{Distinct}
-use Rattle.iv_worked_machine.specs.Words.table_rule.{Unique}
-use Rattle.iv_worked_machine.specs.Words.time.{After}
-use Rattle.iv_worked_machine.specs.Words.event
-use Rattle.iv_worked_machine.specs.Words.granularity
-use Rattle.iv_worked_machine.specs.Words.action.{Signal}
-use Rattle.iv_worked_machine.specs.Words.cause.{InTransaction, NoTransaction, ActiveTransaction}
+use Rattle.iv_worked_machine.specs.Types.{Statement, Cause}
+use Rattle.iv_worked_machine.specs.Types.constraints.{All}
+use Rattle.iv_worked_machine.specs.Types.mode.{Deferred}
+use Rattle.iv_worked_machine.specs.Types.insert.{DefaultValues}
+use Rattle.iv_worked_machine.specs.Types.select.{Count}
+use Rattle.iv_worked_machine.specs.Types.statement
+use Rattle.iv_worked_machine.specs.Types.nulls.{Distinct}
+use Rattle.iv_worked_machine.specs.Types.table_rule.{Unique}
+use Rattle.iv_worked_machine.specs.Types.time.{After}
+use Rattle.iv_worked_machine.specs.Types.event
+use Rattle.iv_worked_machine.specs.Types.granularity
+use Rattle.iv_worked_machine.specs.Types.action.{Signal}
+use Rattle.iv_worked_machine.specs.Types.cause.{InTransaction, NoTransaction, ActiveTransaction}
 use Rattle.iv_worked_machine.specs.WorkedAnswers.{cause_inside, cause_outside}
 
 -- ALTER TABLE T ADD UNIQUE (A)

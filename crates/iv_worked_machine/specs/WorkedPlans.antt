@@ -1,26 +1,26 @@
 -- Words for worked scripts: plans as short as their statements. Constraints, tables and triggers
 -- have numbers from 0.
 use Rattle.std.specs.Prelude.{ℕ, pos, Bool, List, [], ◌∷◌, map, codes}
-use Rattle.iv_worked_machine.specs.Words.{Expr, Range, Comparison, Cond, ConstraintMode, MatchType, ReferentialAction, ActionTime, TriggerEvent, Granularity, Column, Constraint, Rule, BodyStatement, DataStatement, Setting, Plan}
-use Rattle.iv_worked_machine.specs.Words.value.{Null, Int, Text}
-use Rattle.iv_worked_machine.specs.Words.kind.{Integer, Varchar}
-use Rattle.iv_worked_machine.specs.Words.expr
-use Rattle.iv_worked_machine.specs.Words.side.{Old, New}
-use Rattle.iv_worked_machine.specs.Words.cond.{Always, Compare}
-use Rattle.iv_worked_machine.specs.Words.mode
-use Rattle.iv_worked_machine.specs.Words.matching.{Simple}
-use Rattle.iv_worked_machine.specs.Words.rule
-use Rattle.iv_worked_machine.specs.Words.body
-use Rattle.iv_worked_machine.specs.Words.set
-use Rattle.iv_worked_machine.specs.Words.data_statement
-use Rattle.iv_worked_machine.specs.Words.insert_columns
-use Rattle.iv_worked_machine.specs.Words.insert_rows
-use Rattle.iv_worked_machine.specs.Words.outputs
-use Rattle.iv_worked_machine.specs.Words.plan
-use Rattle.iv_worked_machine.specs.Words.schema
-use Rattle.iv_worked_machine.specs.Words.query
-use Rattle.iv_worked_machine.specs.Words.transaction
-use Rattle.iv_worked_machine.specs.Words.event
+use Rattle.iv_worked_machine.specs.Types.{Expr, Range, Comparison, Cond, ConstraintMode, MatchType, ReferentialAction, ActionTime, TriggerEvent, Granularity, Column, Constraint, Rule, BodyStatement, DataStatement, Setting, Plan}
+use Rattle.iv_worked_machine.specs.Types.value.{Null, Int, Text}
+use Rattle.iv_worked_machine.specs.Types.kind.{Integer, Varchar}
+use Rattle.iv_worked_machine.specs.Types.expr
+use Rattle.iv_worked_machine.specs.Types.side.{Old, New}
+use Rattle.iv_worked_machine.specs.Types.cond.{Always, Compare}
+use Rattle.iv_worked_machine.specs.Types.mode
+use Rattle.iv_worked_machine.specs.Types.matching.{Simple}
+use Rattle.iv_worked_machine.specs.Types.rule
+use Rattle.iv_worked_machine.specs.Types.body
+use Rattle.iv_worked_machine.specs.Types.set
+use Rattle.iv_worked_machine.specs.Types.data_statement
+use Rattle.iv_worked_machine.specs.Types.insert_columns
+use Rattle.iv_worked_machine.specs.Types.insert_rows
+use Rattle.iv_worked_machine.specs.Types.outputs
+use Rattle.iv_worked_machine.specs.Types.plan
+use Rattle.iv_worked_machine.specs.Types.schema
+use Rattle.iv_worked_machine.specs.Types.query
+use Rattle.iv_worked_machine.specs.Types.transaction
+use Rattle.iv_worked_machine.specs.Types.event
 
 -- ---- expressions and conditions
 
@@ -158,7 +158,7 @@ delete_all table = delete table Always
 
 -- ---- triggers
 
--- with the columns of UPDATE OF; none where there is no list
+-- with the columns of UPDATE OF; none if there is no list
 abbrev pub create_listed :
     ℕ → ℕ → ActionTime → TriggerEvent → List ℕ → Granularity → Cond → List BodyStatement → Plan
 create_listed id table time event columns granularity when_true statements =

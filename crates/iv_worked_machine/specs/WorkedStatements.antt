@@ -1,10 +1,10 @@
 -- Worked scripts on INSERT: its columns, its query, and the order in which values are stored; and a condition that is unknown.
 use Rattle.std.specs.Prelude.{◌≡◌, [], ◌∷◌, codes}
-use Rattle.iv_worked_machine.specs.Words.{Expr}
-use Rattle.iv_worked_machine.specs.Words.value.{Null}
-use Rattle.iv_worked_machine.specs.Words.comparison.{Equal}
-use Rattle.iv_worked_machine.specs.Words.range.{Table}
-use Rattle.iv_worked_machine.specs.Words.cause.{NumberOutOfRange, TextTooLong}
+use Rattle.iv_worked_machine.specs.Types.{Expr}
+use Rattle.iv_worked_machine.specs.Types.value.{Null}
+use Rattle.iv_worked_machine.specs.Types.comparison.{Equal}
+use Rattle.iv_worked_machine.specs.Types.range.{Table}
+use Rattle.iv_worked_machine.specs.Types.cause.{NumberOutOfRange, TextTooLong}
 use Rattle.iv_expr.specs.Trees.{plus}
 use Rattle.iv_worked_machine.specs.WorkedPlans.{number, numbers, null, text, column, where_column, integer_column, integer_default, varchar, create_table, insert_row, insert_listed, insert_from, delete, select_all}
 use Rattle.iv_worked_machine.specs.WorkedAnswers.{ok, ok_rows, int, rows, refused, answers}

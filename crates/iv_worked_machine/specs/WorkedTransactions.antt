@@ -1,13 +1,13 @@
 -- Worked scripts on transactions: savepoints, what is undone, modes at the end, and SET
 -- CONSTRAINTS.
 use Rattle.std.specs.Prelude.{◌≡◌, List, [], ◌∷◌, codes}
-use Rattle.iv_worked_machine.specs.Words.{Plan}
-use Rattle.iv_worked_machine.specs.Words.comparison.{Less, Greater}
-use Rattle.iv_worked_machine.specs.Words.mode.{Immediate, Deferred}
-use Rattle.iv_worked_machine.specs.Words.referential_action.{NoAction}
-use Rattle.iv_worked_machine.specs.Words.nulls.{Distinct}
-use Rattle.iv_worked_machine.specs.Words.rule
-use Rattle.iv_worked_machine.specs.Words.cause.{Violation, UnknownSavepoint, NotDeferrable}
+use Rattle.iv_worked_machine.specs.Types.{Plan}
+use Rattle.iv_worked_machine.specs.Types.comparison.{Less, Greater}
+use Rattle.iv_worked_machine.specs.Types.mode.{Immediate, Deferred}
+use Rattle.iv_worked_machine.specs.Types.referential_action.{NoAction}
+use Rattle.iv_worked_machine.specs.Types.nulls.{Distinct}
+use Rattle.iv_worked_machine.specs.Types.rule
+use Rattle.iv_worked_machine.specs.Types.cause.{Violation, UnknownSavepoint, NotDeferrable}
 use Rattle.iv_worked_machine.specs.WorkedPlans.{number, numbers, where_column, integer_column, not_deferrable, deferrable, initially_deferred, references_rule, create_table, insert_row, insert_value, update_all, select_all, count_all, set_all, set_these, set_one, start, commit, rollback, savepoint, release, rollback_to}
 use Rattle.iv_worked_machine.specs.WorkedAnswers.{ok, ok_rows, rows_of, count_row, fault, refused, work, idle, answers, works}
 

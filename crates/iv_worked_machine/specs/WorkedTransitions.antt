@@ -2,17 +2,17 @@
 -- refusal names.
 use Rattle.std.specs.Prelude.{◌≡◌, List, [], ◌∷◌}
 use Rattle.iv_expr.specs.Trees.{plus}
-use Rattle.iv_worked_machine.specs.Words.{Plan}
-use Rattle.iv_worked_machine.specs.Words.side.{Old, New}
-use Rattle.iv_worked_machine.specs.Words.range.{Transition}
-use Rattle.iv_worked_machine.specs.Words.comparison.{Equal, Less}
-use Rattle.iv_worked_machine.specs.Words.cond.{Always, Compare}
-use Rattle.iv_worked_machine.specs.Words.referential_action.{NoAction, Cascade}
-use Rattle.iv_worked_machine.specs.Words.time.{Before, After}
-use Rattle.iv_worked_machine.specs.Words.event
-use Rattle.iv_worked_machine.specs.Words.granularity.{Row, Statement}
-use Rattle.iv_worked_machine.specs.Words.rule
-use Rattle.iv_worked_machine.specs.Words.cause.{Violation, Signal}
+use Rattle.iv_worked_machine.specs.Types.{Plan}
+use Rattle.iv_worked_machine.specs.Types.side.{Old, New}
+use Rattle.iv_worked_machine.specs.Types.range.{Transition}
+use Rattle.iv_worked_machine.specs.Types.comparison.{Equal, Less}
+use Rattle.iv_worked_machine.specs.Types.cond.{Always, Compare}
+use Rattle.iv_worked_machine.specs.Types.referential_action.{NoAction, Cascade}
+use Rattle.iv_worked_machine.specs.Types.time.{Before, After}
+use Rattle.iv_worked_machine.specs.Types.event
+use Rattle.iv_worked_machine.specs.Types.granularity.{Row, Statement}
+use Rattle.iv_worked_machine.specs.Types.rule
+use Rattle.iv_worked_machine.specs.Types.cause.{Violation, Signal}
 use Rattle.iv_worked_machine.specs.WorkedPlans.{number, numbers, column, old, new, where_column, integer_column, not_deferrable, references_rule, create_table, setting, insert, insert_value, update, update_all, create_trigger, drop_trigger, inserts, inserts_from, signals, select_all, count_all}
 use Rattle.iv_worked_machine.specs.WorkedAnswers.{ok, ok_rows, rows_of, count_row, fault, refused_in, work, idle, answers, works}
 

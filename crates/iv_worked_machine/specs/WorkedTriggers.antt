@@ -1,24 +1,24 @@
 -- Worked scripts on triggers. Constraints, tables and triggers have numbers from 0.
 use Rattle.std.specs.Prelude.{◌≡◌, List, [], ◌∷◌, codes}
-use Rattle.iv_worked_machine.specs.Words.{Plan}
-use Rattle.iv_worked_machine.specs.Words.value.{Text}
-use Rattle.iv_worked_machine.specs.Words.side.{Old, New}
-use Rattle.iv_worked_machine.specs.Words.range.{Table, Transition}
-use Rattle.iv_worked_machine.specs.Words.expr.{Column, Variable}
-use Rattle.iv_worked_machine.specs.Words.comparison.{Equal, Less}
-use Rattle.iv_worked_machine.specs.Words.cond.{Always, Compare, IsNull}
-use Rattle.iv_worked_machine.specs.Words.mode.{Deferred}
-use Rattle.iv_worked_machine.specs.Words.time.{Before, After}
-use Rattle.iv_worked_machine.specs.Words.event
-use Rattle.iv_worked_machine.specs.Words.granularity.{Row, Statement}
-use Rattle.iv_worked_machine.specs.Words.rule
-use Rattle.iv_worked_machine.specs.Words.cause
-use Rattle.iv_worked_machine.specs.Words.body
-use Rattle.iv_worked_machine.specs.Words.data_statement
-use Rattle.iv_worked_machine.specs.Words.insert_columns
-use Rattle.iv_worked_machine.specs.Words.insert_rows
-use Rattle.iv_worked_machine.specs.Words.outputs.{Values}
-use Rattle.iv_worked_machine.specs.Words.plan.{Change}
+use Rattle.iv_worked_machine.specs.Types.{Plan}
+use Rattle.iv_worked_machine.specs.Types.value.{Text}
+use Rattle.iv_worked_machine.specs.Types.side.{Old, New}
+use Rattle.iv_worked_machine.specs.Types.range.{Table, Transition}
+use Rattle.iv_worked_machine.specs.Types.expr.{Column, Variable}
+use Rattle.iv_worked_machine.specs.Types.comparison.{Equal, Less}
+use Rattle.iv_worked_machine.specs.Types.cond.{Always, Compare, IsNull}
+use Rattle.iv_worked_machine.specs.Types.mode.{Deferred}
+use Rattle.iv_worked_machine.specs.Types.time.{Before, After}
+use Rattle.iv_worked_machine.specs.Types.event
+use Rattle.iv_worked_machine.specs.Types.granularity.{Row, Statement}
+use Rattle.iv_worked_machine.specs.Types.rule
+use Rattle.iv_worked_machine.specs.Types.cause
+use Rattle.iv_worked_machine.specs.Types.body
+use Rattle.iv_worked_machine.specs.Types.data_statement
+use Rattle.iv_worked_machine.specs.Types.insert_columns
+use Rattle.iv_worked_machine.specs.Types.insert_rows
+use Rattle.iv_worked_machine.specs.Types.outputs.{Values}
+use Rattle.iv_worked_machine.specs.Types.plan.{Change}
 use Rattle.iv_expr.specs.Trees.{plus, times, not_c, exists_c}
 use Rattle.iv_worked_machine.specs.WorkedPlans.{number, null, text, column, where_column, integer_column, varchar, not_deferrable, deferrable, create_table, setting, insert_statement, insert, insert_value, update, delete, create_trigger, drop_trigger, select_all, count_all, set_one, start, commit}
 use Rattle.iv_worked_machine.specs.WorkedAnswers.{ok, ok_rows, int, rows, fault, refused, refused_in, work, answers, answers_deep, works_within}

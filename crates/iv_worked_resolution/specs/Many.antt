@@ -19,7 +19,7 @@ abbrev pub numbers : ℕ → List ℕ
 numbers zero = []
 numbers (suc n) = n ∷ numbers n
 
--- so many names
+-- as many names
 abbrev pub numbered : ℕ → List (List ℕ)
 numbered n = map (generated_name x) (numbers n)
 
@@ -31,7 +31,7 @@ long_name n = map (λ _. 65) (numbers n)
 abbrev pub first_digit : List ℕ
 first_digit = codes "1A"
 
--- so many columns, INT each
+-- as many columns, INT each
 abbrev pub columns : ℕ → List TableElement
 columns n = map (λ name. defined name type.Integer None []) (numbered n)
 

@@ -278,7 +278,7 @@ pub record WorkedLimits : Type 0 where
   -- DELETE FROM t WHERE EXISTS (SELECT * FROM p WHERE .. 1 = 1 in 61 pairs of parentheses ..);
   pub exists_where_of_depth_64 : least schema (delete_where t (exists_where (from p) (enclosed_by 61 (condition.Compare Equal one one)))) ≡ None
   -- ---- lists without an element
-  -- INSERT INTO t () SELECT a FROM t; where its list has no value either
+  -- INSERT INTO t () SELECT a FROM t; if its list has no value either
   pub listed_columns : least schema (statement.Insert (insert.Rows t (Some []) (source.Select (list.Values []) (from t) None))) ≡ Some Limit
   -- INSERT INTO t VALUES ;
   pub tuples : least schema (statement.Insert (insert.Rows t None (source.Values []))) ≡ Some Limit

@@ -6,12 +6,12 @@ use Rattle.std.specs.declared.alloc.Global.{Global}
 use Rattle.std.specs.contracts.impls.GlobalAllocator.TheImpl.{ghosts}
 use base.Fml.{Fml, ftrue}
 use denote.RawPtr.{Ptr}
-use Rattle.sqlkeep_c.specs.declared.opened.Opened.{Opened}
-use Rattle.sqlkeep_c.specs.contracts.opened.Opened.{the_row as the_opened}
+use Rattle.iv_connection.specs.declared.connection.Connection.{Connection}
+use Rattle.iv_connection.specs.contracts.connection.Connection.{the_row as the_opened}
 
 -- what is open behind a pointer
 abbrev pub Behind : Type 0
-Behind = Opened
+Behind = Connection
 
 abbrev pub behind_code : Coded Behind
 behind_code = the_opened.coded

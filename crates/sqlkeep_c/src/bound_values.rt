@@ -2,28 +2,14 @@
 ghost use Rattle.std.specs.Prelude.{◌≡◌, ◌≢◌, ◌∷◌, ◌++◌, []};
 ghost use Rattle.iv_value.specs.declared.value.Value.TheVariants as value;
 ghost use Rattle.sqlkeep_c.specs.Calls.{Called};
-ghost use Rattle.sqlkeep_c.specs.Statuses.{IsStatus, IsStatusOfText, MayWantMemory, status_if_open};
+ghost use Rattle.sqlkeep_c.specs.Statuses.{IsStatus, IsStatusOfText, status_if_open};
 
 use crate::handle::{Handle, put, take};
-use crate::opened::Opened;
-use crate::status::{CLOSED, NO_MEMORY, NOT_UTF8, OK};
+use iv_connection::{CLOSED, NOT_UTF8, OK, bind, bind_text};
 use iv_value::{Value, text};
 use sqlite_items::Items;
 use std::alloc::Global;
 use std::str::from_utf8;
-
-// Binds this value after those that are bound.
-fn bind(opened: &mut Opened, value: Value) -> u32
-    ensures bound { result ≡ OK → opened.new.values ≡ opened.old.values ++ value ∷ [] }
-    ensures rest { opened.new ≡ record opened.old { values = opened.new.values } }
-    ensures others { result ≢ OK → opened.new ≡ opened.old }
-    ensures status { MayWantMemory result }
-{
-    match opened.values.push(value) {
-        Ok(()) => OK,
-        Err(_) => NO_MEMORY,
-    }
-}
 
 /// Forgets the values that are bound.
 #[unsafe(no_mangle)]
@@ -34,11 +20,11 @@ pub extern "C" fn sqlkeep_unbind(alloc: Global, handle: &mut Handle) -> u32
         new ≡ record old { values = new.values }) }
     ensures status { result ≡ status_if_open handle.old.kept.behind }
 {
-    let Some(mut opened) = take(handle, alloc) else {
+    let Some(mut connection) = take(handle, alloc) else {
         return CLOSED;
     };
-    opened.values = Items::new(alloc);
-    put(handle, opened);
+    connection.values = Items::new(alloc);
+    put(handle, connection);
     OK
 }
 
@@ -52,11 +38,11 @@ pub extern "C" fn sqlkeep_bind_null(alloc: Global, handle: &mut Handle) -> u32
     ensures others { result ≢ OK → handle.new.kept.behind ≡ handle.old.kept.behind }
     ensures status { IsStatus handle.old.kept.behind result }
 {
-    let Some(mut opened) = take(handle, alloc) else {
+    let Some(mut connection) = take(handle, alloc) else {
         return CLOSED;
     };
-    let status = bind(&mut opened, Value::Null);
-    put(handle, opened);
+    let status = bind(&mut connection, Value::Null);
+    put(handle, connection);
     status
 }
 
@@ -70,25 +56,12 @@ pub extern "C" fn sqlkeep_bind_integer(alloc: Global, handle: &mut Handle, integ
     ensures others { result ≢ OK → handle.new.kept.behind ≡ handle.old.kept.behind }
     ensures status { IsStatus handle.old.kept.behind result }
 {
-    let Some(mut opened) = take(handle, alloc) else {
+    let Some(mut connection) = take(handle, alloc) else {
         return CLOSED;
     };
-    let status = bind(&mut opened, Value::Int(integer));
-    put(handle, opened);
+    let status = bind(&mut connection, Value::Int(integer));
+    put(handle, connection);
     status
-}
-
-// Binds this text after the values that are bound.
-fn bind_text(alloc: Global, opened: &mut Opened, characters: &str) -> u32
-    ensures bound { result ≡ OK → opened.new.values ≡ opened.old.values ++ value.Text characters.now ∷ [] }
-    ensures rest { opened.new ≡ record opened.old { values = opened.new.values } }
-    ensures others { result ≢ OK → opened.new ≡ opened.old }
-    ensures status { MayWantMemory result }
-{
-    match text(alloc, characters) {
-        Ok(value) => bind(opened, value),
-        Err(_) => NO_MEMORY,
-    }
 }
 
 /// Binds a text after the values that are bound.
@@ -101,13 +74,13 @@ pub extern "C" fn sqlkeep_bind_text(alloc: Global, handle: &mut Handle, text: &[
     ensures others { result ≢ OK → handle.new.kept.behind ≡ handle.old.kept.behind }
     ensures status { IsStatusOfText handle.old.kept.behind text.now result }
 {
-    let Some(mut opened) = take(handle, alloc) else {
+    let Some(mut connection) = take(handle, alloc) else {
         return CLOSED;
     };
     let status = match from_utf8(text) {
-        Ok(characters) => bind_text(alloc, &mut opened, characters),
+        Ok(characters) => bind_text(alloc, &mut connection, characters),
         Err(_) => NOT_UTF8,
     };
-    put(handle, opened);
+    put(handle, connection);
     status
 }

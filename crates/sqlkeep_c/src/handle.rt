@@ -3,7 +3,7 @@ ghost use Rattle.std.specs.Prelude.{◌≡◌, None, Some, is_some, option_map};
 
 use crate::kept::Kept;
 use crate::loose::Loose;
-use crate::opened::Opened;
+use iv_connection::Connection;
 use std::alloc::Global;
 use std::mem::replace;
 
@@ -35,7 +35,7 @@ fn empty(alloc: Global) -> Handle
 }
 
 /// Takes out what is open behind the handle, and leaves it empty.
-pub(crate) fn take(handle: &mut Handle, alloc: Global) -> Option<Box<Opened>>
+pub(crate) fn take(handle: &mut Handle, alloc: Global) -> Option<Box<Connection>>
     ensures taken { option_map (λ b. b.value) result ≡ handle.old.kept.behind }
     ensures left { handle.new.kept.behind ≡ None }
 {
@@ -48,12 +48,12 @@ pub(crate) fn take(handle: &mut Handle, alloc: Global) -> Option<Box<Opened>>
 }
 
 /// Puts this behind an empty handle.
-pub(crate) fn put(handle: &mut Handle, opened: Box<Opened>)
+pub(crate) fn put(handle: &mut Handle, connection: Box<Connection>)
     requires { handle.old.kept.behind ≡ None }
-    ensures { handle.new.kept.behind ≡ Some opened.value }
+    ensures { handle.new.kept.behind ≡ Some connection.value }
 {
     *handle = Handle {
         is_open: true,
-        kept: Kept::of(Loose::of(opened)),
+        kept: Kept::of(Loose::of(connection)),
     };
 }

@@ -4,7 +4,7 @@ ghost use Rattle.std.specs.Coded.{coded_option};
 ghost use Rattle.sqlkeep_c.specs.Behind.{Behind, behind_code};
 
 use crate::loose::Loose;
-use crate::opened::Opened;
+use iv_connection::Connection;
 use std::alloc::Global;
 use std::marker::Model;
 use std::ptr::null_mut;
@@ -37,7 +37,7 @@ impl Kept {
     }
 
     /// One that leads to this.
-    pub fn of(loose: Loose<Opened, Global>) -> Kept
+    pub fn of(loose: Loose<Connection, Global>) -> Kept
         ensures { result.behind ≡ Some loose.value }
     {
         let Loose { at, alloc } = loose;
@@ -48,13 +48,13 @@ impl Kept {
     }
 
     /// What it leads to.
-    pub fn into_loose(self) -> Loose<Opened, Global>
+    pub fn into_loose(self) -> Loose<Connection, Global>
         requires { is_some self.behind ≡ true }
         ensures { Some result.value ≡ self.behind }
     {
         let Kept { at, alloc } = self;
         Loose {
-            at: at as *mut Opened,
+            at: at as *mut Connection,
             alloc,
         }
     }

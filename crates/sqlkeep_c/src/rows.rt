@@ -1,78 +1,15 @@
 //! The rows that a query gave.
-ghost use Rattle.std.specs.Prelude.{◌≡◌, ◌≢◌, length, IfSome, option_copied};
-ghost use Rattle.sqlkeep_c.specs.Copying.{Copies};
-ghost use Rattle.sqlkeep_c.specs.Statuses.{found, status_by};
-ghost use Rattle.sqlkeep_c.specs.Rows.{row_at, rows_of, text_of, value_at, value_shown};
+ghost use Rattle.std.specs.Prelude.{◌≡◌, ◌≢◌, drop, length, IfSome};
+ghost use Rattle.iv_connection.specs.Copying.{Copies};
+ghost use Rattle.iv_connection.specs.Statuses.{found};
+ghost use Rattle.sqlkeep_c.specs.Statuses.{status_by, status_if_open};
+ghost use Rattle.iv_cells.specs.Cells.{AreCopied, cell_of, text_of};
+ghost use Rattle.iv_connection.specs.Rows.{row_at, rows_of, value_at};
 
-use crate::copying::copied;
 use crate::handle::{Handle, put, take};
-use crate::status::{CLOSED, NOTHING, OK};
-use iv_expr::Row;
-use iv_session::{Answer, Outcome};
-use iv_value::Value;
+use iv_cells::{Cell, TakenRows, cell_of, text_of};
+use iv_connection::{CLOSED, NOTHING, OK, copied, copy_rows_from, rows_of, value_at};
 use std::alloc::Global;
-
-/// A value: its kind, which is 0 for NULL, 1 for an integer and 2 for a text; the integer; and how many bytes the text
-/// has.
-#[repr(C)]
-#[derive(Drop)]
-pub struct ShownValue {
-    pub kind: u64,
-    pub integer: i64,
-    pub length: u64,
-}
-
-fn rows_of(outcome: &Outcome) -> &[Row]
-    ensures { result.now ≡ rows_of outcome.now }
-{
-    match outcome {
-        Ok(Answer::Rows(rows)) => rows.as_slice(),
-        _ => &[],
-    }
-}
-
-// The value in this row and column.
-fn value_at(outcome: &Outcome, row: usize, column: usize) -> Option<&Value>
-    ensures { option_copied result ≡ value_at outcome.now row column }
-{
-    match rows_of(outcome).get(row) {
-        Some(row) => row.values().get(column),
-        None => None,
-    }
-}
-
-/// A value in the numbers that C reads.
-pub(crate) fn shown(value: &Value) -> ShownValue
-    ensures { result ≡ value_shown value.now }
-{
-    match value {
-        Value::Null => ShownValue {
-            kind: 0,
-            integer: 0,
-            length: 0,
-        },
-        Value::Int(integer) => ShownValue {
-            kind: 1,
-            integer: *integer,
-            length: 0,
-        },
-        Value::Text(text) => ShownValue {
-            kind: 2,
-            integer: 0,
-            length: text.as_str().len() as u64,
-        },
-    }
-}
-
-/// The bytes of a text, none of any other value.
-pub(crate) fn text_of(value: &Value) -> &[u8]
-    ensures { result.now ≡ text_of value.now }
-{
-    match value {
-        Value::Text(text) => text.as_str().as_bytes(),
-        _ => &[],
-    }
-}
 
 /// How many values a row of the last outcome has.
 #[unsafe(no_mangle)]
@@ -88,17 +25,17 @@ pub extern "C" fn sqlkeep_columns(
     ensures others { result ≢ OK → count.new ≡ count.old }
     ensures status { result ≡ status_by (λ old. found (row_at old.outcome row)) handle.old.kept.behind }
 {
-    let Some(opened) = take(handle, alloc) else {
+    let Some(connection) = take(handle, alloc) else {
         return CLOSED;
     };
-    let status = match rows_of(&opened.outcome).get(row) {
+    let status = match rows_of(&connection.outcome).get(row) {
         Some(row) => {
             *count = row.values().len();
             OK
         }
         None => NOTHING,
     };
-    put(handle, opened);
+    put(handle, connection);
     status
 }
 
@@ -109,26 +46,26 @@ pub extern "C" fn sqlkeep_value(
     handle: &mut Handle,
     row: usize,
     column: usize,
-    value: &mut ShownValue,
+    value: &mut Cell,
 ) -> u32
     ensures value { IfSome handle.old.kept.behind (λ old. IfSome (value_at old.outcome row column) (λ it.
-        value.new ≡ value_shown it)) }
+        value.new ≡ cell_of it)) }
     ensures kept { handle.new.kept.behind ≡ handle.old.kept.behind }
     ensures others { result ≢ OK → value.new ≡ value.old }
     ensures status { result
         ≡ status_by (λ old. found (value_at old.outcome row column)) handle.old.kept.behind }
 {
-    let Some(opened) = take(handle, alloc) else {
+    let Some(connection) = take(handle, alloc) else {
         return CLOSED;
     };
-    let status = match value_at(&opened.outcome, row, column) {
+    let status = match value_at(&connection.outcome, row, column) {
         Some(it) => {
-            *value = shown(it);
+            *value = cell_of(it);
             OK
         }
         None => NOTHING,
     };
-    put(handle, opened);
+    put(handle, connection);
     status
 }
 
@@ -150,10 +87,10 @@ pub extern "C" fn sqlkeep_value_text(
     ensures status { result
         ≡ status_by (λ old. found (value_at old.outcome row column)) handle.old.kept.behind }
 {
-    let Some(opened) = take(handle, alloc) else {
+    let Some(connection) = take(handle, alloc) else {
         return CLOSED;
     };
-    let found = value_at(&opened.outcome, row, column);
+    let found = value_at(&connection.outcome, row, column);
     let status = match found {
         Some(it) => {
             *count = copied(text_of(it), from, buffer);
@@ -161,6 +98,31 @@ pub extern "C" fn sqlkeep_value_text(
         }
         None => NOTHING,
     };
-    put(handle, opened);
+    put(handle, connection);
     status
+}
+
+/// Copies rows of the last outcome from this one on, as many as have room: a cell for each value, row by row, and the bytes
+/// of the texts, one after the other. If no row is copied though there is one, a buffer is too small for it.
+#[unsafe(no_mangle)]
+pub extern "C" fn sqlkeep_rows(
+    alloc: Global,
+    handle: &mut Handle,
+    from: usize,
+    cells: &mut [Cell],
+    texts: &mut [u8],
+    taken: &mut TakenRows,
+) -> u32
+    ensures rows { IfSome handle.old.kept.behind (λ old.
+        AreCopied (drop from (rows_of old.outcome)) cells.old cells.new texts.old texts.new taken.new) }
+    ensures kept { handle.new.kept.behind ≡ handle.old.kept.behind }
+    ensures others { result ≢ OK → (cells.new ≡ cells.old) × (texts.new ≡ texts.old) × (taken.new ≡ taken.old) }
+    ensures status { result ≡ status_if_open handle.old.kept.behind }
+{
+    let Some(connection) = take(handle, alloc) else {
+        return CLOSED;
+    };
+    *taken = copy_rows_from(&connection.outcome, from, cells, texts);
+    put(handle, connection);
+    OK
 }

@@ -1,36 +1,15 @@
-//! A session is opened and closed.
-ghost use Rattle.std.specs.Prelude.{◌≡◌, ◌≢◌, ◌==◌, not, None, Some, false, is_some, IfOk, IfSome};
+//! A session is connection and closed.
+ghost use Rattle.std.specs.Prelude.{◌≡◌, ◌≢◌, ◌==◌, not, None, Some, false, is_some, IfSome};
 ghost use Rattle.iv_account.specs.Telling.{no_account};
 ghost use Rattle.iv_state.specs.Kept.{with_account};
 ghost use Rattle.sqlkeep_c.specs.Calls.{Called};
-ghost use Rattle.sqlkeep_c.specs.Sessions.{IsNew};
+ghost use Rattle.iv_connection.specs.Sessions.{IsNew};
 ghost use Rattle.sqlkeep_c.specs.Statuses.{IsStatusOfOpening, status_if_open};
 
 use crate::handle::{Handle, put, take};
-use crate::opened::{Database, Opened};
-use crate::status::{CLOSED, LIMITS, NO_MEMORY, OK, OPEN};
+use iv_connection::{CLOSED, LIMITS, NO_MEMORY, OK, OPEN, new_connection};
 use iv_machine::Limits;
-use iv_session::Answer;
-use sqlite_items::Items;
-use std::alloc::{AllocError, Global};
-
-// A session with these limits, in a box.
-fn boxed(alloc: Global, limits: Limits) -> Result<Box<Opened>, AllocError>
-    ensures { IfOk result (λ b. IsNew limits b.value) }
-{
-    let session = Database::new(alloc, limits)?;
-    let opened = Opened {
-        limits,
-        session,
-        statements: Items::new(alloc),
-        values: Items::new(alloc),
-        outcome: Ok(Answer::Done),
-        executed: None,
-        pending: Vec::new(alloc),
-        transcript: Vec::new(alloc),
-    };
-    Ok(Box::new(alloc, opened)?)
-}
+use std::alloc::Global;
 
 /// Opens a session over no table, with these limits.
 #[unsafe(no_mangle)]
@@ -47,9 +26,9 @@ pub extern "C" fn sqlkeep_open(alloc: Global, handle: &mut Handle, depth: u8, ch
     let Some(limits) = Limits::new(depth, changes) else {
         return LIMITS;
     };
-    match boxed(alloc, limits) {
-        Ok(opened) => {
-            put(handle, opened);
+    match new_connection(alloc, limits) {
+        Ok(connection) => {
+            put(handle, connection);
             OK
         }
         Err(_) => NO_MEMORY,
@@ -63,8 +42,8 @@ pub extern "C" fn sqlkeep_close(alloc: Global, handle: &mut Handle) -> u32
     ensures status { result ≡ status_if_open handle.old.kept.behind }
 {
     match take(handle, alloc) {
-        Some(opened) => {
-            drop(opened);
+        Some(connection) => {
+            drop(connection);
             OK
         }
         None => CLOSED,
@@ -78,10 +57,10 @@ pub extern "C" fn sqlkeep_explain(alloc: Global, handle: &mut Handle, asked: u32
         new ≡ record old { session = with_account old.session (no_account (not (asked == 0))) }) }
     ensures status { result ≡ status_if_open handle.old.kept.behind }
 {
-    let Some(mut opened) = take(handle, alloc) else {
+    let Some(mut connection) = take(handle, alloc) else {
         return CLOSED;
     };
-    opened.session.explain(asked != 0);
-    put(handle, opened);
+    connection.session.explain(asked != 0);
+    put(handle, connection);
     OK
 }

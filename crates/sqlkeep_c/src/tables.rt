@@ -1,87 +1,18 @@
 //! The catalogue's tables and their columns, by their places.
-ghost use Rattle.std.specs.Prelude.{◌≡◌, ◌≢◌, length, slice_get, IfSome, option_copied};
-ghost use Rattle.sqlkeep_c.specs.Calls.{Called};
-ghost use Rattle.sqlkeep_c.specs.Catalogue.{catalogue_shown, column_at, column_name, columns_at, kind_shown, table_name};
-ghost use Rattle.sqlkeep_c.specs.Copying.{Copies};
-ghost use Rattle.sqlkeep_c.specs.Rows.{text_of, value_shown};
-ghost use Rattle.sqlkeep_c.specs.Statuses.{found, status_by, status_if_open};
+ghost use Rattle.std.specs.Prelude.{◌≡◌, ◌≢◌, length, IfSome};
+ghost use Rattle.iv_connection.specs.Catalogue.{catalogue_shown, column_at, column_name, columns_at, kind_shown, table_name};
+ghost use Rattle.iv_connection.specs.Copying.{Copies};
+ghost use Rattle.iv_cells.specs.Cells.{text_of, cell_of};
+ghost use Rattle.iv_connection.specs.Statuses.{found};
+ghost use Rattle.sqlkeep_c.specs.Statuses.{status_by, status_if_open};
 
-use crate::copying::{copied, copied_if_there};
 use crate::handle::{Handle, put, take};
-use crate::opened::Opened;
-use crate::rows::{ShownValue, shown, text_of};
-use crate::status::{CLOSED, NOTHING, OK};
-use iv_catalogue::Column;
-use iv_value::Kind;
+use iv_cells::{Cell, cell_of, text_of};
+use iv_connection::{
+    CLOSED, NOTHING, OK, ShownCatalogue, ShownColumn, column_at, column_name, columns_at, copied,
+    copied_if_there, kind_shown, table_name,
+};
 use std::alloc::Global;
-
-/// How many tables, constraints and triggers there are.
-#[repr(C)]
-#[derive(Drop)]
-pub struct ShownCatalogue {
-    pub tables: u64,
-    pub constraints: u64,
-    pub triggers: u64,
-}
-
-/// The type of a column: 1 is INTEGER, 2 is VARCHAR with the most characters that a value may have.
-#[repr(C)]
-#[derive(Drop)]
-pub struct ShownColumn {
-    pub kind: u64,
-    pub longest: u64,
-}
-
-fn columns_at(opened: &Opened, table: usize) -> Option<&[Column]>
-    ensures { option_copied result ≡ columns_at opened.now.session.state.schema table }
-{
-    match opened.session.catalogue().tables().get(table) {
-        Some(table) => Some(table.columns.as_slice()),
-        None => None,
-    }
-}
-
-fn table_name(opened: &Opened, table: usize) -> Option<&[u8]>
-    ensures { option_copied result ≡ table_name opened.now.session.state.schema table }
-{
-    match opened.session.catalogue().tables().get(table) {
-        Some(table) => Some(table.name.as_str().as_bytes()),
-        None => None,
-    }
-}
-
-fn column_at(opened: &Opened, table: usize, column: usize) -> Option<&Column>
-    ensures { option_copied result ≡ column_at opened.now.session.state.schema table column }
-{
-    match columns_at(opened, table) {
-        Some(columns) => columns.get(column),
-        None => None,
-    }
-}
-
-fn column_name(opened: &Opened, table: usize, column: usize) -> Option<&[u8]>
-    ensures { option_copied result ≡ column_name opened.now.session.state.schema table column }
-{
-    match column_at(opened, table, column) {
-        Some(column) => Some(column.name.as_str().as_bytes()),
-        None => None,
-    }
-}
-
-fn kind_shown(kind: Kind) -> ShownColumn
-    ensures { result ≡ kind_shown kind }
-{
-    match kind {
-        Kind::Integer => ShownColumn {
-            kind: 1,
-            longest: 0,
-        },
-        Kind::Varchar(longest) => ShownColumn {
-            kind: 2,
-            longest: longest as u64,
-        },
-    }
-}
 
 /// How many tables, constraints and triggers there are.
 #[unsafe(no_mangle)]
@@ -95,16 +26,16 @@ pub extern "C" fn sqlkeep_catalogue(
     ensures others { result ≢ OK → counts.new ≡ counts.old }
     ensures status { result ≡ status_if_open handle.old.kept.behind }
 {
-    let Some(opened) = take(handle, alloc) else {
+    let Some(connection) = take(handle, alloc) else {
         return CLOSED;
     };
-    let catalogue = opened.session.catalogue();
+    let catalogue = connection.session.catalogue();
     *counts = ShownCatalogue {
         tables: catalogue.tables().len() as u64,
         constraints: catalogue.constraints().len() as u64,
         triggers: catalogue.triggers().len() as u64,
     };
-    put(handle, opened);
+    put(handle, connection);
     OK
 }
 
@@ -123,17 +54,17 @@ pub extern "C" fn sqlkeep_table(
     ensures status { result
         ≡ status_by (λ old. found (columns_at old.session.state.schema table)) handle.old.kept.behind }
 {
-    let Some(opened) = take(handle, alloc) else {
+    let Some(connection) = take(handle, alloc) else {
         return CLOSED;
     };
-    let status = match columns_at(&opened, table) {
+    let status = match columns_at(&connection, table) {
         Some(all) => {
             *columns = all.len();
             OK
         }
         None => NOTHING,
     };
-    put(handle, opened);
+    put(handle, connection);
     status
 }
 
@@ -154,11 +85,11 @@ pub extern "C" fn sqlkeep_table_name(
     ensures status { result
         ≡ status_by (λ old. found (table_name old.session.state.schema table)) handle.old.kept.behind }
 {
-    let Some(opened) = take(handle, alloc) else {
+    let Some(connection) = take(handle, alloc) else {
         return CLOSED;
     };
-    let status = copied_if_there(table_name(&opened, table), from, buffer, count);
-    put(handle, opened);
+    let status = copied_if_there(table_name(&connection, table), from, buffer, count);
+    put(handle, connection);
     status
 }
 
@@ -178,17 +109,17 @@ pub extern "C" fn sqlkeep_column(
     ensures status { result
         ≡ status_by (λ old. found (column_at old.session.state.schema table column)) handle.old.kept.behind }
 {
-    let Some(opened) = take(handle, alloc) else {
+    let Some(connection) = take(handle, alloc) else {
         return CLOSED;
     };
-    let status = match column_at(&opened, table, column) {
+    let status = match column_at(&connection, table, column) {
         Some(it) => {
             *kind = kind_shown(it.kind);
             OK
         }
         None => NOTHING,
     };
-    put(handle, opened);
+    put(handle, connection);
     status
 }
 
@@ -210,11 +141,11 @@ pub extern "C" fn sqlkeep_column_name(
     ensures status { result
         ≡ status_by (λ old. found (column_name old.session.state.schema table column)) handle.old.kept.behind }
 {
-    let Some(opened) = take(handle, alloc) else {
+    let Some(connection) = take(handle, alloc) else {
         return CLOSED;
     };
-    let status = copied_if_there(column_name(&opened, table, column), from, buffer, count);
-    put(handle, opened);
+    let status = copied_if_there(column_name(&connection, table, column), from, buffer, count);
+    put(handle, connection);
     status
 }
 
@@ -225,26 +156,26 @@ pub extern "C" fn sqlkeep_default(
     handle: &mut Handle,
     table: usize,
     column: usize,
-    value: &mut ShownValue,
+    value: &mut Cell,
 ) -> u32
     ensures value { IfSome handle.old.kept.behind (λ old. IfSome (column_at old.session.state.schema table column) (λ it.
-        value.new ≡ value_shown it.default)) }
+        value.new ≡ cell_of it.default)) }
     ensures kept { handle.new.kept.behind ≡ handle.old.kept.behind }
     ensures others { result ≢ OK → value.new ≡ value.old }
     ensures status { result
         ≡ status_by (λ old. found (column_at old.session.state.schema table column)) handle.old.kept.behind }
 {
-    let Some(opened) = take(handle, alloc) else {
+    let Some(connection) = take(handle, alloc) else {
         return CLOSED;
     };
-    let status = match column_at(&opened, table, column) {
+    let status = match column_at(&connection, table, column) {
         Some(it) => {
-            *value = shown(&it.default);
+            *value = cell_of(&it.default);
             OK
         }
         None => NOTHING,
     };
-    put(handle, opened);
+    put(handle, connection);
     status
 }
 
@@ -266,16 +197,16 @@ pub extern "C" fn sqlkeep_default_text(
     ensures status { result
         ≡ status_by (λ old. found (column_at old.session.state.schema table column)) handle.old.kept.behind }
 {
-    let Some(opened) = take(handle, alloc) else {
+    let Some(connection) = take(handle, alloc) else {
         return CLOSED;
     };
-    let status = match column_at(&opened, table, column) {
+    let status = match column_at(&connection, table, column) {
         Some(it) => {
             *count = copied(text_of(&it.default), from, buffer);
             OK
         }
         None => NOTHING,
     };
-    put(handle, opened);
+    put(handle, connection);
     status
 }

@@ -4,52 +4,16 @@ ghost use Rattle.iv_machine.specs.declared.database.Which.TheVariants.{All};
 ghost use Rattle.iv_machine.specs.Databases.{is_chosen, scan};
 ghost use Rattle.iv_machine.specs.Machine.{rollback_outcome};
 ghost use Rattle.sqlkeep_c.specs.Calls.{Called};
-ghost use Rattle.sqlkeep_c.specs.Transactions.{Committed, RolledBackTo};
-ghost use Rattle.sqlkeep_c.specs.Statements.{outcome_shown};
+ghost use Rattle.iv_connection.specs.Transactions.{Committed, RolledBackTo};
+ghost use Rattle.iv_connection.specs.Statements.{outcome_shown};
 ghost use Rattle.sqlkeep_c.specs.Statuses.{IsStatusOfName, status_if_open};
 ghost use Rattle.iv_account.specs.Telling.{no_account};
 ghost use Rattle.iv_session.specs.FewLookups.{FewLookups};
 
 use crate::handle::{Handle, put, take};
-use crate::opened::{Database, Opened};
-use crate::outcomes::{ShownOutcome, outcome_shown};
-use crate::status::{CLOSED, NOT_UTF8, OK};
-use iv_catalogue::{Cause, Refusal};
-use iv_session::{Answer, Outcome};
+use iv_connection::{CLOSED, NOT_UTF8, OK, ShownOutcome, ShownWork, commit_kept, outcome_shown};
 use std::alloc::Global;
 use std::str::from_utf8;
-
-/// What the last statement or call did: how many row changes it made and undid, and how many keys it looked up.
-#[repr(C)]
-#[derive(Drop)]
-pub struct ShownWork {
-    pub changes: u64,
-    pub undone: u64,
-    pub lookups: u64,
-}
-
-// COMMIT, with its answer as that of a statement.
-fn commit(session: &mut Database) -> Outcome
-    ensures { Committed session.old result session.new }
-{
-    match session.commit() {
-        Ok(()) => Ok(Answer::Done),
-        Err(fault) => Err(Refusal::of(Cause::CommitRefused(fault))),
-    }
-}
-
-// COMMIT, of which the outcome is kept.
-fn commit_kept(opened: &mut Opened)
-    ensures committed { Committed opened.old.session opened.new.outcome opened.new.session }
-    ensures rest { opened.new ≡ record opened.old {
-      session = opened.new.session;
-      outcome = opened.new.outcome;
-      executed = None;
-    } }
-{
-    opened.outcome = commit(&mut opened.session);
-    opened.executed = None;
-}
 
 /// COMMIT: ends the transaction, and keeps the outcome. It can't be refused memory: an account that is asked for is empty
 /// if memory is refused for it.
@@ -68,12 +32,12 @@ pub extern "C" fn sqlkeep_commit(
     ensures others { result ≢ OK → outcome.new ≡ outcome.old }
     ensures status { result ≡ status_if_open handle.old.kept.behind }
 {
-    let Some(mut opened) = take(handle, alloc) else {
+    let Some(mut connection) = take(handle, alloc) else {
         return CLOSED;
     };
-    commit_kept(&mut opened);
-    *outcome = outcome_shown(&opened.outcome);
-    put(handle, opened);
+    commit_kept(&mut connection);
+    *outcome = outcome_shown(&connection.outcome);
+    put(handle, connection);
     OK
 }
 
@@ -94,11 +58,11 @@ pub extern "C" fn sqlkeep_rollback(alloc: Global, handle: &mut Handle) -> u32
         new ≡ record old { session = new.session }) }
     ensures status { result ≡ status_if_open handle.old.kept.behind }
 {
-    let Some(mut opened) = take(handle, alloc) else {
+    let Some(mut connection) = take(handle, alloc) else {
         return CLOSED;
     };
-    opened.session.rollback();
-    put(handle, opened);
+    connection.session.rollback();
+    put(handle, connection);
     OK
 }
 
@@ -120,17 +84,17 @@ pub extern "C" fn sqlkeep_rollback_to(
         × (outcome.new ≡ outcome.old) }
     ensures status { IsStatusOfName handle.old.kept.behind name.now result }
 {
-    let Some(mut opened) = take(handle, alloc) else {
+    let Some(mut connection) = take(handle, alloc) else {
         return CLOSED;
     };
     let Ok(name) = from_utf8(name) else {
-        put(handle, opened);
+        put(handle, connection);
         return NOT_UTF8;
     };
-    opened.outcome = opened.session.rollback_to(name);
-    opened.executed = None;
-    *outcome = outcome_shown(&opened.outcome);
-    put(handle, opened);
+    connection.outcome = connection.session.rollback_to(name);
+    connection.executed = None;
+    *outcome = outcome_shown(&connection.outcome);
+    put(handle, connection);
     OK
 }
 
@@ -151,11 +115,11 @@ pub extern "C" fn sqlkeep_in_transaction(
     ensures others { result ≢ OK → is_open.new ≡ is_open.old }
     ensures status { result ≡ status_if_open handle.old.kept.behind }
 {
-    let Some(opened) = take(handle, alloc) else {
+    let Some(connection) = take(handle, alloc) else {
         return CLOSED;
     };
-    *is_open = opened.session.in_transaction();
-    put(handle, opened);
+    *is_open = connection.session.in_transaction();
+    put(handle, connection);
     OK
 }
 
@@ -170,15 +134,15 @@ pub extern "C" fn sqlkeep_work(alloc: Global, handle: &mut Handle, work: &mut Sh
     ensures others { result ≢ OK → work.new ≡ work.old }
     ensures status { result ≡ status_if_open handle.old.kept.behind }
 {
-    let Some(opened) = take(handle, alloc) else {
+    let Some(connection) = take(handle, alloc) else {
         return CLOSED;
     };
-    let done = opened.session.work();
+    let done = connection.session.work();
     *work = ShownWork {
         changes: done.changes,
         undone: done.undone,
         lookups: done.lookups,
     };
-    put(handle, opened);
+    put(handle, connection);
     OK
 }

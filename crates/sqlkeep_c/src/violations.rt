@@ -1,30 +1,16 @@
 //! The violations of deferred constraints: what COMMIT would find.
-ghost use Rattle.std.specs.Prelude.{◌≡◌, ◌≢◌, length, slice_get, None, Some, IfOk, IfSome, OnErr};
+ghost use Rattle.std.specs.Prelude.{◌≡◌, ◌≢◌, length, slice_get, None, Some, IfSome};
 ghost use Rattle.iv_machine.specs.declared.database.Which.TheVariants.{Deferred};
 ghost use Rattle.iv_machine.specs.Databases.{is_chosen, scan};
 ghost use Rattle.sqlkeep_c.specs.Calls.{Called};
-ghost use Rattle.sqlkeep_c.specs.Copying.{Copies};
-ghost use Rattle.sqlkeep_c.specs.Statuses.{IsStatus, found, status_by};
-ghost use Rattle.sqlkeep_c.specs.Texts.{constraint_named};
+ghost use Rattle.iv_connection.specs.Copying.{Copies};
+ghost use Rattle.iv_connection.specs.Statuses.{found};
+ghost use Rattle.sqlkeep_c.specs.Statuses.{IsStatus, status_by};
+ghost use Rattle.iv_connection.specs.Texts.{constraint_named};
 
-use crate::copying::copied;
 use crate::handle::{Handle, put, take};
-use crate::opened::Opened;
-use crate::status::{CLOSED, NO_MEMORY, NOTHING, OK};
-use crate::texts::constraint_named;
-use std::alloc::{AllocError, Global};
-
-fn kept(opened: &mut Opened) -> Result<usize, AllocError>
-    ensures faults { IfOk result (λ _. opened.new.pending.items ≡
-        scan opened.old.session.state.database.rows opened.old.session.state.schema.constraints
-        (is_chosen opened.old.session.state.modes Deferred)) }
-    ensures count { IfOk result (λ n. n ≡ length opened.new.pending.items) }
-    ensures rest { opened.new ≡ record opened.old { pending = opened.new.pending } }
-    ensures others { OnErr result (opened.new ≡ opened.old) }
-{
-    opened.pending = opened.session.pending()?;
-    Ok(opened.pending.len())
-}
+use iv_connection::{CLOSED, NO_MEMORY, NOTHING, OK, constraint_named, copied, keep_pending};
+use std::alloc::Global;
 
 /// Looks for the violations of deferred constraints, and keeps them, by the constraint's creation, then by row.
 #[unsafe(no_mangle)]
@@ -40,11 +26,11 @@ pub extern "C" fn sqlkeep_pending(alloc: Global, handle: &mut Handle, count: &mu
         × (count.new ≡ count.old) }
     ensures status { IsStatus handle.old.kept.behind result }
 {
-    let Some(mut opened) = take(handle, alloc) else {
+    let Some(mut connection) = take(handle, alloc) else {
         return CLOSED;
     };
-    let done = kept(&mut opened);
-    put(handle, opened);
+    let done = keep_pending(&mut connection);
+    put(handle, connection);
     match done {
         Ok(found) => {
             *count = found;
@@ -74,18 +60,18 @@ pub extern "C" fn sqlkeep_violation(
     ensures status { result
         ≡ status_by (λ old. found (slice_get old.pending.items at)) handle.old.kept.behind }
 {
-    let Some(opened) = take(handle, alloc) else {
+    let Some(connection) = take(handle, alloc) else {
         return CLOSED;
     };
-    let status = match opened.pending.get(at) {
+    let status = match connection.pending.get(at) {
         Some(fault) => {
             *row = fault.row;
-            let name = constraint_named(opened.session.catalogue(), Some(fault.constraint));
+            let name = constraint_named(connection.session.catalogue(), Some(fault.constraint));
             *count = copied(name, 0, buffer);
             OK
         }
         None => NOTHING,
     };
-    put(handle, opened);
+    put(handle, connection);
     status
 }

@@ -2,10 +2,10 @@
 use Rattle.std.specs.Prelude.{Some, List}
 use Rattle.iv_lex.specs.declared.kind.TokenKind.TheVariants as kind
 use Rattle.iv_lex.specs.Words.{Word}
-use Rattle.iv_parse.specs.Words.{Statement, ConstraintList}
-use Rattle.iv_parse.specs.Words.statement.{DropTrigger, StartTransaction, Commit, Rollback, Savepoint, Release, RollbackTo, SetConstraints}
-use Rattle.iv_parse.specs.Words.statement
-use Rattle.iv_parse.specs.Words.constraints.{All, Named}
+use Rattle.iv_parse.specs.Types.{Statement, ConstraintList}
+use Rattle.iv_parse.specs.Types.statement.{DropTrigger, StartTransaction, Commit, Rollback, Savepoint, Release, RollbackTo, SetConstraints}
+use Rattle.iv_parse.specs.Types.statement
+use Rattle.iv_parse.specs.Types.constraints.{All, Named}
 use Rattle.iv_parse_terms.specs.After.{after, if_some, then_read}
 use Rattle.iv_parse_data.specs.readers.Series.{read_series, skip}
 use Rattle.iv_parse.specs.readers.Triggers.{read_trigger}
@@ -41,15 +41,21 @@ read_list ws =
     if_some (after kind.All ws) (λ rest. Some (All, rest))
     (then_read (read_series read_name ws) (λ ns rest. Some (Named ns, rest)))
 
+-- after SET CONSTRAINTS, and after SET
+abbrev pub read_modes : List Word → FoundPart Statement
+read_modes ws = then_read (read_list ws) (λ l more. then_read (read_mode more) (λ m left. Some (SetConstraints l m, left)))
+
 unfoldable pub read_set : List Word → FoundPart Statement
-read_set ws =
-    then_word kind.Constraints ws (λ rest. then_read (read_list rest) (λ l more. then_read (read_mode more) (λ m left. Some (SetConstraints l m, left))))
+read_set ws = then_word kind.Constraints ws read_modes
+
+abbrev pub read_mode_rule : List Word → FoundPart Statement
+read_mode_rule ws = then_word kind.Set ws read_set
 
 unfoldable pub read_savepoint_rule : List Word → FoundPart Statement
 read_savepoint_rule ws =
     if_some (after kind.Savepoint ws) read_savepoint
     (if_some (after kind.Release ws) read_release
-    (then_word kind.Set ws read_set))
+    (read_mode_rule ws))
 
 -- the statements about transactions, savepoints and constraint modes
 unfoldable pub read_session_rule : List Word → FoundPart Statement
@@ -71,11 +77,12 @@ read_delete_rule ws = then_read (read_delete ws) (λ d rest. Some (statement.Del
 unfoldable pub read_select_rule : List Word → FoundPart Statement
 read_select_rule ws = then_read (read_select ws) (λ s rest. Some (statement.Select s, rest))
 
+abbrev pub read_create_trigger : List Word → FoundPart Statement
+read_create_trigger ws = then_word kind.Trigger ws (λ rest. then_read (read_trigger rest) (λ t more. Some (statement.CreateTrigger t, more)))
+
 -- after CREATE
 unfoldable pub read_create : List Word → FoundPart Statement
-read_create ws =
-    if_some (after kind.Table ws) read_create_table
-    (then_word kind.Trigger ws (λ rest. then_read (read_trigger rest) (λ t more. Some (statement.CreateTrigger t, more))))
+read_create ws = if_some (after kind.Table ws) read_create_table (read_create_trigger ws)
 
 unfoldable pub read_definition_rule : List Word → FoundPart Statement
 read_definition_rule ws =
@@ -84,14 +91,16 @@ read_definition_rule ws =
     (if_some (after kind.Drop ws) read_drop
     (read_session_rule ws)))
 
+abbrev pub read_query_rule : List Word → FoundPart Statement
+read_query_rule ws = if_some (after kind.Select ws) read_select_rule (read_definition_rule ws)
+
 -- a statement without its semicolon
 unfoldable pub read_rule : List Word → FoundPart Statement
 read_rule ws =
     if_some (after kind.Insert ws) read_insert_rule
     (if_some (after kind.Update ws) read_update_rule
     (if_some (after kind.Delete ws) read_delete_rule
-    (if_some (after kind.Select ws) read_select_rule
-    (read_definition_rule ws))))
+    (read_query_rule ws)))
 
 -- a statement with its semicolon
 unfoldable pub read_statement : List Word → FoundPart Statement

@@ -1,14 +1,14 @@
 -- The parts of CREATE TRIGGER as they are found at the front of words.
-use Rattle.std.specs.Prelude.{ℕ, Option, Some, None, List, [], ◌∷◌, length}
+use Rattle.std.specs.Prelude.{ℕ, Option, Some, None, List, [], ◌∷◌}
 use Rattle.iv_lex.specs.declared.kind.TokenKind.TheVariants as kind
 use Rattle.iv_lex.specs.Words.{Word}
-use Rattle.iv_parse.specs.Words.{Condition, ActionTime, TriggerEvent, Granularity, Referencing, TriggerAction, TriggerDefinition}
-use Rattle.iv_parse.specs.Words.time as action_time
-use Rattle.iv_parse.specs.Words.event
-use Rattle.iv_parse.specs.Words.granularity
-use Rattle.iv_parse.specs.Words.action
+use Rattle.iv_parse.specs.Types.{Condition, ActionTime, TriggerEvent, Granularity, Referencing, TriggerAction, TriggerDefinition}
+use Rattle.iv_parse.specs.Types.time as action_time
+use Rattle.iv_parse.specs.Types.event
+use Rattle.iv_parse.specs.Types.granularity
+use Rattle.iv_parse.specs.Types.action
 use Rattle.iv_parse_terms.specs.After.{after, if_some, then_read}
-use Rattle.iv_parse_data.specs.readers.Series.{read_series, read_sequence}
+use Rattle.iv_parse_data.specs.readers.Series.{read_series, read_all}
 use Rattle.iv_parse_data.specs.readers.Data.{FoundPart, then_word, read_name, read_shallow, read_check, read_insert, read_update, read_delete}
 use Rattle.iv_parse_data.specs.readers.Tables.{read_quoted}
 use Rattle.iv_parse_data.specs.readers.Items.{read_referencing_item}
@@ -18,11 +18,12 @@ abbrev pub some_items : List Referencing → List Word → FoundPart (List Refer
 some_items [] ws = None
 some_items (r ∷ rs) ws = Some (r ∷ rs, ws)
 
+-- after REFERENCING
+abbrev pub read_items : List Word → FoundPart (List Referencing)
+read_items ws = then_read (read_all read_referencing_item ws) some_items
+
 unfoldable pub read_referencing : List Word → FoundPart (List Referencing)
-read_referencing ws =
-    if_some (after kind.Referencing ws)
-    (λ rest. then_read (read_sequence read_referencing_item (length rest) rest) some_items)
-    (Some ([], ws))
+read_referencing ws = if_some (after kind.Referencing ws) read_items (Some ([], ws))
 
 -- after FOR EACH
 unfoldable pub read_each : List Word → FoundPart Granularity
@@ -30,40 +31,51 @@ read_each ws =
     if_some (after kind.Row ws) (λ rest. Some (granularity.Row, rest))
     (if_some (after kind.Statement ws) (λ rest. Some (granularity.Statement, rest)) None)
 
+abbrev pub read_for_each : List Word → FoundPart Granularity
+read_for_each ws = then_word kind.Each ws read_each
+
 unfoldable pub read_granularity : List Word → FoundPart Granularity
-read_granularity ws = if_some (after kind.For ws) (λ rest. then_word kind.Each rest read_each) (Some (granularity.Statement, ws))
+read_granularity ws = if_some (after kind.For ws) read_for_each (Some (granularity.Statement, ws))
 
 unfoldable pub read_when : List Word → FoundPart (Option Condition)
 read_when ws = if_some (after kind.When ws) (λ rest. then_read (read_check rest) (λ c more. Some (Some c, more))) (Some (None, ws))
 
--- after SET
+-- SET of a column, from the equals sign on, from the period on, and after SET
+abbrev pub read_set_value : List ℕ → List ℕ → List Word → FoundPart TriggerAction
+read_set_value r c ws = then_word kind.Equals ws (λ rest. then_read (read_shallow rest) (λ e more. Some (action.Set r c e, more)))
+
+abbrev pub read_set_column : List ℕ → List Word → FoundPart TriggerAction
+read_set_column r ws = then_word kind.Period ws (λ b. then_read (read_name b) (read_set_value r))
+
 unfoldable pub read_set_variable : List Word → FoundPart TriggerAction
-read_set_variable ws =
-    then_read (read_name ws) (λ r a. then_word kind.Period a (λ b. then_read (read_name b) (λ c d. then_word kind.Equals d
-    (λ rest. then_read (read_shallow rest) (λ e more. Some (action.Set r c e, more))))))
+read_set_variable ws = then_read (read_name ws) read_set_column
 
 unfoldable pub read_signal : List Word → FoundPart TriggerAction
 read_signal ws = then_read (read_quoted ws) (λ t rest. Some (action.Signal t, rest))
 
+abbrev pub read_set_action : List Word → FoundPart TriggerAction
+read_set_action ws = then_word kind.Set ws read_set_variable
+
 unfoldable pub read_other_action : List Word → FoundPart TriggerAction
-read_other_action ws =
-    if_some (after kind.Signal ws) read_signal
-    (if_some (after kind.Set ws) read_set_variable None)
+read_other_action ws = if_some (after kind.Signal ws) read_signal (read_set_action ws)
+
+abbrev pub read_delete_rule : List Word → FoundPart TriggerAction
+read_delete_rule ws = then_read (read_delete ws) (λ d more. Some (action.Delete d, more))
+
+abbrev pub read_update_rule : List Word → FoundPart TriggerAction
+read_update_rule ws = then_read (read_update ws) (λ u more. Some (action.Update u, more))
+
+abbrev pub read_insert_rule : List Word → FoundPart TriggerAction
+read_insert_rule ws = then_read (read_insert ws) (λ i more. Some (action.Insert i, more))
 
 unfoldable pub read_delete_action : List Word → FoundPart TriggerAction
-read_delete_action ws =
-    if_some (after kind.Delete ws) (λ rest. then_read (read_delete rest) (λ d more. Some (action.Delete d, more)))
-    (read_other_action ws)
-
-unfoldable pub read_update_action : List Word → FoundPart TriggerAction
-read_update_action ws =
-    if_some (after kind.Update ws) (λ rest. then_read (read_update rest) (λ u more. Some (action.Update u, more)))
-    (read_delete_action ws)
+read_delete_action ws = if_some (after kind.Delete ws) read_delete_rule (read_other_action ws)
 
 unfoldable pub read_action : List Word → FoundPart TriggerAction
 read_action ws =
-    if_some (after kind.Insert ws) (λ rest. then_read (read_insert rest) (λ i more. Some (action.Insert i, more)))
-    (read_update_action ws)
+    if_some (after kind.Insert ws) read_insert_rule
+    (if_some (after kind.Update ws) read_update_rule
+    (read_delete_action ws))
 
 -- an action and its semicolon
 unfoldable pub read_with_semicolon : List Word → FoundPart TriggerAction
@@ -80,7 +92,7 @@ some_actions (a ∷ bs) ws = then_word kind.End ws (λ rest. Some (a ∷ bs, res
 
 -- after BEGIN
 unfoldable pub read_block : List Word → FoundPart (List TriggerAction)
-read_block ws = then_word kind.Atomic ws (λ rest. then_read (read_sequence read_ended_action (length rest) rest) some_actions)
+read_block ws = then_word kind.Atomic ws (λ rest. then_read (read_all read_ended_action rest) some_actions)
 
 unfoldable pub read_single : List Word → FoundPart (List TriggerAction)
 read_single ws = then_read (read_action ws) (λ a rest. Some (a ∷ [], rest))
@@ -101,10 +113,11 @@ read_update_columns ws = if_some (after kind.Of ws) (read_series read_name) (Som
 unfoldable pub read_update_event : List Word → FoundPart (TriggerEvent × List (List ℕ))
 read_update_event ws = then_read (read_update_columns ws) (λ ns rest. Some ((event.Update, ns), rest))
 
+abbrev pub read_delete_event : List Word → FoundPart (TriggerEvent × List (List ℕ))
+read_delete_event ws = then_word kind.Delete ws (λ rest. Some ((event.Delete, []), rest))
+
 unfoldable pub read_other_event : List Word → FoundPart (TriggerEvent × List (List ℕ))
-read_other_event ws =
-    if_some (after kind.Update ws) read_update_event
-    (if_some (after kind.Delete ws) (λ rest. Some ((event.Delete, []), rest)) None)
+read_other_event ws = if_some (after kind.Update ws) read_update_event (read_delete_event ws)
 
 -- the event, and the columns of UPDATE OF
 unfoldable pub read_event : List Word → FoundPart (TriggerEvent × List (List ℕ))

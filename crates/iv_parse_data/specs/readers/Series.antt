@@ -37,6 +37,10 @@ module _ {A : Type 0} where
   read_sequence part (suc n) ws =
       then_read (part ws) (λ o rest. if_some o (λ a. then_read (read_sequence part n rest) (with_first a)) (Some ([], ws)))
 
+  -- the parts at the front, up to where none begins
+  abbrev pub read_all : (List Word → Option (Option A × List Word)) → List Word → Option (List A × List Word)
+  read_all part ws = read_sequence part (length ws) ws
+
 module _ {A B : Type 0} where
   -- two parts in either order, each of which may be left out
   abbrev pub read_either_order : (List Word → Option (Option A × List Word)) → (List Word → Option (Option B × List Word)) → List Word → Option ((Option A × Option B) × List Word)

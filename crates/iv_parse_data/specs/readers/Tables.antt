@@ -2,50 +2,47 @@
 use Rattle.std.specs.Prelude.{ℕ, Bool, true, false, Option, Some, None, List, [], ◌∷◌, length}
 use Rattle.iv_lex.specs.declared.kind.TokenKind.{TokenKind}
 use Rattle.iv_lex.specs.declared.kind.TokenKind.TheVariants as kind
-use Rattle.iv_lex.specs.Words.{Word, name, number, quoted, plain}
-use Rattle.iv_parse_data.specs.Words.{ConstraintMode, Statement, Literal, ColumnType, ConstraintTime, MatchType, NullTreatment, ReferentialAction, References, ColumnRule, ColumnConstraint, TableRule, TableConstraint, ColumnDefinition, TableElement}
-use Rattle.iv_parse_data.specs.Words.mode.{Immediate, Deferred}
-use Rattle.iv_parse_data.specs.Words.statement
-use Rattle.iv_parse_data.specs.Words.literal
-use Rattle.iv_parse_data.specs.Words.type.{Integer, Varchar}
-use Rattle.iv_parse_data.specs.Words.matching.{Simple, Full}
-use Rattle.iv_parse_data.specs.Words.nulls.{Distinct, NotDistinct}
-use Rattle.iv_parse_data.specs.Words.referential_action.{NoAction, Restrict, Cascade, SetNull, SetDefault}
-use Rattle.iv_parse_data.specs.Words.column_rule
-use Rattle.iv_parse_data.specs.Words.table_rule
-use Rattle.iv_parse_data.specs.Words.element.{Column, Constraint}
-use Rattle.iv_parse_terms.specs.After.{after, after_name, if_some, then_read}
+use Rattle.iv_lex.specs.Words.{Word}
+use Rattle.iv_parse_data.specs.Types.{ConstraintMode, Statement, Literal, ColumnType, ConstraintTime, MatchType, NullTreatment, ReferentialAction, References, ColumnRule, ColumnConstraint, TableRule, TableConstraint, ColumnDefinition, TableElement}
+use Rattle.iv_parse_data.specs.Types.mode.{Immediate, Deferred}
+use Rattle.iv_parse_data.specs.Types.statement
+use Rattle.iv_parse_data.specs.Types.literal
+use Rattle.iv_parse_data.specs.Types.type.{Integer, Varchar}
+use Rattle.iv_parse_data.specs.Types.matching.{Simple, Full}
+use Rattle.iv_parse_data.specs.Types.nulls.{Distinct, NotDistinct}
+use Rattle.iv_parse_data.specs.Types.referential_action.{NoAction, Restrict, Cascade, SetNull, SetDefault}
+use Rattle.iv_parse_data.specs.Types.column_rule
+use Rattle.iv_parse_data.specs.Types.table_rule
+use Rattle.iv_parse_data.specs.Types.element.{Column, Constraint}
+use Rattle.iv_parse_terms.specs.After.{after, after_name, after_number, after_quoted, if_some, then_read}
 use Rattle.iv_parse_terms.specs.readers.Expressions.{after_sign}
-use Rattle.iv_parse_data.specs.readers.Series.{read_series, read_enclosed, read_sequence, read_either_order}
+use Rattle.iv_parse_data.specs.readers.Series.{read_series, read_enclosed, read_sequence, read_all, read_either_order}
 use Rattle.iv_parse_data.specs.readers.Data.{FoundPart, then_word, read_name, read_column_list, read_check}
 
 abbrev pub read_number : List Word → FoundPart ℕ
-read_number (number n ∷ ws) = Some (n, ws)
-read_number [] = None
-read_number (name n ∷ ws) = None
-read_number (quoted t ∷ ws) = None
-read_number (plain k ∷ ws) = None
+read_number = after_number
 
 abbrev pub read_quoted : List Word → FoundPart (List ℕ)
-read_quoted (quoted t ∷ ws) = Some (t, ws)
-read_quoted [] = None
-read_quoted (name n ∷ ws) = None
-read_quoted (number t ∷ ws) = None
-read_quoted (plain k ∷ ws) = None
+read_quoted = after_quoted
+
+-- after the parenthesis that opens
+abbrev pub read_closed_length : List Word → FoundPart ColumnType
+read_closed_length ws = then_read (read_number ws) (λ n more. then_word kind.RightParenthesis more (λ left. Some (Varchar n, left)))
 
 -- after the words for VARCHAR
 unfoldable pub read_length : List Word → FoundPart ColumnType
-read_length ws =
-    then_word kind.LeftParenthesis ws (λ rest. then_read (read_number rest) (λ n more. then_word kind.RightParenthesis more (λ left. Some (Varchar n, left))))
+read_length ws = then_word kind.LeftParenthesis ws read_closed_length
 
 abbrev pub read_varying : List Word → FoundPart ColumnType
 read_varying ws = then_word kind.Varying ws read_length
 
+abbrev pub read_character : List Word → FoundPart ColumnType
+read_character ws =
+    if_some (after kind.Character ws) read_varying
+    (if_some (after kind.Char ws) read_varying None)
+
 unfoldable pub read_varchar : List Word → FoundPart ColumnType
-read_varchar ws =
-    if_some (after kind.Varchar ws) read_length
-    (if_some (after kind.Character ws) read_varying
-    (if_some (after kind.Char ws) read_varying None))
+read_varchar ws = if_some (after kind.Varchar ws) read_length (read_character ws)
 
 unfoldable pub read_type : List Word → FoundPart ColumnType
 read_type ws =
@@ -58,11 +55,13 @@ text_or_null ws =
     if_some (read_quoted ws) (λ p. Some (literal.Text p.0, p.1))
     (then_word kind.Null ws (λ rest. Some (literal.Null, rest)))
 
+abbrev pub number_or_text : List Word → FoundPart Literal
+number_or_text ws = if_some (read_number ws) (λ p. Some (literal.Number None p.0, p.1)) (text_or_null ws)
+
 unfoldable pub read_literal : List Word → FoundPart Literal
 read_literal ws =
     if_some (after_sign ws) (λ p. then_read (read_number p.1) (λ n rest. Some (literal.Number (Some p.0) n, rest)))
-    (if_some (read_number ws) (λ p. Some (literal.Number None p.0, p.1))
-    (text_or_null ws))
+    (number_or_text ws)
 
 unfoldable pub read_default : List Word → FoundPart (Option Literal)
 read_default ws = if_some (after kind.Default ws) (λ rest. then_read (read_literal rest) (λ l more. Some (Some l, more))) (Some (None, ws))
@@ -102,9 +101,13 @@ read_set_action ws =
     if_some (after kind.Null ws) (λ rest. Some (SetNull, rest))
     (if_some (after kind.Default ws) (λ rest. Some (SetDefault, rest)) None)
 
+-- after NO
+abbrev pub read_no_action : List Word → FoundPart ReferentialAction
+read_no_action ws = then_word kind.Action ws (λ more. Some (NoAction, more))
+
 unfoldable pub read_strict_action : List Word → FoundPart ReferentialAction
 read_strict_action ws =
-    if_some (after kind.No ws) (λ rest. then_word kind.Action rest (λ more. Some (NoAction, more)))
+    if_some (after kind.No ws) read_no_action
     (if_some (after kind.Restrict ws) (λ rest. Some (Restrict, rest)) None)
 
 unfoldable pub read_referential_action : List Word → FoundPart ReferentialAction
@@ -135,20 +138,27 @@ read_reference_columns t ws =
 unfoldable pub read_references : List Word → FoundPart References
 read_references ws = then_read (read_name ws) read_reference_columns
 
+-- after NULLS NOT, and after NULLS
+abbrev pub read_distinct : List Word → FoundPart NullTreatment
+read_distinct ws = then_word kind.Distinct ws (λ left. Some (NotDistinct, left))
+
+abbrev pub read_not_distinct : List Word → FoundPart NullTreatment
+read_not_distinct ws = then_word kind.Not ws read_distinct
+
 -- NULLS NOT DISTINCT, where it is written
 unfoldable pub read_null_treatment : List Word → FoundPart NullTreatment
-read_null_treatment ws =
-    if_some (after kind.Nulls ws)
-    (λ rest. then_word kind.Not rest (λ more. then_word kind.Distinct more (λ left. Some (NotDistinct, left))))
-    (Some (Distinct, ws))
+read_null_treatment ws = if_some (after kind.Nulls ws) read_not_distinct (Some (Distinct, ws))
 
 -- after NOT
 unfoldable pub read_null_rule : List Word → FoundPart (Option ColumnRule)
 read_null_rule ws = then_word kind.Null ws (λ rest. Some (Some column_rule.NotNull, rest))
 
+-- after PRIMARY
+abbrev pub read_key_rule : List Word → FoundPart (Option ColumnRule)
+read_key_rule ws = then_word kind.Key ws (λ more. Some (Some column_rule.PrimaryKey, more))
+
 unfoldable pub read_primary_rule : List Word → FoundPart (Option ColumnRule)
-read_primary_rule ws =
-    if_some (after kind.Primary ws) (λ rest. then_word kind.Key rest (λ more. Some (Some column_rule.PrimaryKey, more))) (Some (None, ws))
+read_primary_rule ws = if_some (after kind.Primary ws) read_key_rule (Some (None, ws))
 
 -- after UNIQUE
 unfoldable pub read_unique_column : List Word → FoundPart (Option ColumnRule)
@@ -183,7 +193,7 @@ unfoldable pub read_column_constraint : List Word → FoundPart (Option ColumnCo
 read_column_constraint ws = then_read (read_constraint_name ws) (λ n rest. then_read (read_column_rule rest) (column_constraint_of n))
 
 unfoldable pub read_column_constraints : List Word → FoundPart (List ColumnConstraint)
-read_column_constraints ws = read_sequence read_column_constraint (length ws) ws
+read_column_constraints = read_all read_column_constraint
 
 -- a column, after its name
 unfoldable pub read_column : List ℕ → List Word → FoundPart ColumnDefinition
@@ -191,17 +201,19 @@ read_column n ws =
     then_read (read_type ws) (λ k rest. then_read (read_default rest) (λ d more. then_read (read_column_constraints more)
     (λ cs left. Some (record { name = n; kind = k; default = d; constraints = cs }, left))))
 
-abbrev pub read_key : List Word → FoundPart (List (List ℕ))
+unfoldable pub read_key : List Word → FoundPart (List (List ℕ))
 read_key = read_enclosed (read_series read_name)
 
 unfoldable pub read_primary_key : List Word → FoundPart TableRule
 read_primary_key ws = then_word kind.Key ws (λ rest. then_read (read_key rest) (λ ns more. Some (table_rule.PrimaryKey ns, more)))
 
+-- after the columns of a foreign key
+abbrev pub read_reference : List (List ℕ) → List Word → FoundPart TableRule
+read_reference ns ws = then_word kind.References ws (λ left. then_read (read_references left) (λ r last. Some (table_rule.ForeignKey ns r, last)))
+
 -- after FOREIGN
 unfoldable pub read_foreign_key : List Word → FoundPart TableRule
-read_foreign_key ws =
-    then_word kind.Key ws (λ rest. then_read (read_key rest) (λ ns more. then_word kind.References more
-    (λ left. then_read (read_references left) (λ r last. Some (table_rule.ForeignKey ns r, last)))))
+read_foreign_key ws = then_word kind.Key ws (λ rest. then_read (read_key rest) read_reference)
 
 unfoldable pub read_check_rule : List Word → FoundPart TableRule
 read_check_rule ws = then_word kind.Check ws (λ rest. then_read (read_check rest) (λ c more. Some (table_rule.Check c, more)))
@@ -240,8 +252,10 @@ read_elements = read_enclosed (read_series read_element)
 unfoldable pub read_create_table : List Word → FoundPart Statement
 read_create_table ws = then_read (read_name ws) (λ n rest. then_read (read_elements rest) (λ es more. Some (statement.CreateTable n es, more)))
 
+-- after the table of ALTER TABLE
+abbrev pub read_add : List ℕ → List Word → FoundPart Statement
+read_add n ws = then_word kind.Add ws (λ left. then_read (read_table_constraint left) (λ c last. Some (statement.AlterTable n c, last)))
+
 -- after ALTER
 unfoldable pub read_alter : List Word → FoundPart Statement
-read_alter ws =
-    then_word kind.Table ws (λ rest. then_read (read_name rest) (λ n more. then_word kind.Add more
-    (λ left. then_read (read_table_constraint left) (λ c last. Some (statement.AlterTable n c, last)))))
+read_alter ws = then_word kind.Table ws (λ rest. then_read (read_name rest) read_add)

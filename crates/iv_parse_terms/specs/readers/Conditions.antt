@@ -1,9 +1,9 @@
 -- The condition at the front of words, read with one word of look-ahead and no deeper than a limit. What parentheses hold is read once, into
 -- an item: a value or a condition that is whole.
 use Rattle.std.specs.Prelude.{ℕ, zero, suc, nat_le, if◌then◌else◌, Option, Some, None, List, ◌∷◌}
-use Rattle.iv_parse_terms.specs.Words.{Comparison, RangeName, Expression, Condition}
-use Rattle.iv_parse_terms.specs.Words.comparison
-use Rattle.iv_parse_terms.specs.Words.condition.{Compare, IsNull, IsNotNull, Exists}
+use Rattle.iv_parse_terms.specs.Types.{Comparison, RangeName, Expression, Condition}
+use Rattle.iv_parse_terms.specs.Types.comparison
+use Rattle.iv_parse_terms.specs.Types.condition.{Compare, IsNull, IsNotNull, Exists}
 use Rattle.iv_lex.specs.declared.kind.TokenKind.{TokenKind}
 use Rattle.iv_lex.specs.declared.kind.TokenKind.TheVariants as kind
 use Rattle.iv_lex.specs.Words.{Word, plain}
@@ -50,11 +50,16 @@ after_comparison (plain kind.Greater ∷ ws) = Some (comparison.Greater, ws)
 after_comparison (plain kind.GreaterEquals ∷ ws) = Some (comparison.GreaterEqual, ws)
 after_comparison _ = None
 
+-- after IS NOT, and after IS
+abbrev pub not_null : ℕ → Expression → List Word → FoundItem
+not_null limit a ws = if_some (after kind.Null ws) (condition_fits limit (IsNotNull a)) None
+
+abbrev pub is_null : ℕ → Expression → List Word → FoundItem
+is_null limit a ws = if_some (after kind.Null ws) (condition_fits limit (IsNull a)) None
+
 -- after IS: [NOT] NULL
 abbrev pub null_test : ℕ → Expression → List Word → FoundItem
-null_test limit a ws =
-    if_some (after kind.Not ws) (λ rest. if_some (after kind.Null rest) (condition_fits limit (IsNotNull a)) None)
-    (if_some (after kind.Null ws) (condition_fits limit (IsNull a)) None)
+null_test limit a ws = if_some (after kind.Not ws) (not_null limit a) (is_null limit a ws)
 
 abbrev pub comparison_from : ℕ → Comparison → Expression → List Word → FoundItem
 comparison_from limit o a ws =
@@ -92,10 +97,13 @@ abbrev pub exists_over : RangeName × Option Condition → Condition
 exists_over (r, None) = Exists r
 exists_over (r, Some c) = exists_where r c
 
+-- after SELECT *
+abbrev pub after_star : List Word → Option (List Word)
+after_star ws = if_some (after kind.Select ws) (after kind.Asterisk) None
+
 -- after ( SELECT *
 abbrev pub after_select : List Word → Option (List Word)
-after_select ws =
-    if_some (after kind.LeftParenthesis ws) (λ a. if_some (after kind.Select a) (λ b. after kind.Asterisk b) None) None
+after_select ws = if_some (after kind.LeftParenthesis ws) after_star None
 
 abbrev pub close_exists : ℕ → RangeName × Option Condition → List Word → FoundItem
 close_exists limit p ws = if_some (after kind.RightParenthesis ws) (condition_fits limit (exists_over p)) None

@@ -2,9 +2,9 @@
 use Rattle.std.specs.Prelude.{ℕ, zero, suc, nat_le, if◌then◌else◌, Option, Some, None, List, [], ◌∷◌}
 use Rattle.iv_lex.specs.declared.kind.TokenKind.TheVariants as kind
 use Rattle.iv_lex.specs.Words.{Word, name, number, quoted, plain}
-use Rattle.iv_parse_terms.specs.Words.{Sign, Expression}
-use Rattle.iv_parse_terms.specs.Words.sign
-use Rattle.iv_parse_terms.specs.Words.expression.{Number, Text, Null, Column}
+use Rattle.iv_parse_terms.specs.Types.{Sign, Expression}
+use Rattle.iv_parse_terms.specs.Types.sign
+use Rattle.iv_parse_terms.specs.Types.expression.{Number, Text, Null, Column}
 use Rattle.iv_syntax.specs.Trees.{group, signed, product, sum, depth}
 use Rattle.iv_parse_terms.specs.After.{after, after_name, same, if_some, then_read}
 
@@ -40,6 +40,10 @@ simple (quoted t ∷ ws) = Some (Text t, ws)
 simple (name n ∷ ws) = column_from n ws
 simple (plain k ∷ ws) = if same k kind.Null then Some (Null, ws) else None
 
+-- NULL or a column
+abbrev pub null_or_column : List Word → FoundExpression
+null_or_column ws = if_some (after kind.Null ws) (λ rest. Some (Null, rest)) (then_read (after_name ws) column_from)
+
 -- the expression in parentheses, where one closes
 abbrev pub close_group : ℕ → Expression → List Word → FoundExpression
 close_group limit e ws = if_some (after kind.RightParenthesis ws) (fits limit (group e)) None
@@ -49,6 +53,10 @@ primary_by limit inner ws =
     if_some (after kind.LeftParenthesis ws)
     (λ rest. then_read (inner rest) (close_group limit))
     (simple ws)
+
+-- after a sign
+abbrev pub signed_from : ℕ → (List Word → FoundExpression) → Sign → List Word → FoundExpression
+signed_from limit primaries s ws = then_read (primaries ws) (λ e. fits limit (signed s e))
 
 abbrev pub factor_by : ℕ → (List Word → FoundExpression) → List Word → FoundExpression
 factor_by limit primaries ws =

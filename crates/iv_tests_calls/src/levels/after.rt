@@ -31,7 +31,7 @@ const ONCE: Run = Run {
     action: Action::Signal,
 };
 
-// So one for each row.
+// An AFTER trigger of UPDATE, for each row.
 const EACH: Run = Run {
     time: ActionTime::After,
     event: TriggerEvent::Update,
@@ -40,7 +40,7 @@ const EACH: Run = Run {
     action: Action::Signal,
 };
 
-// So one of the statement, which lists the second column.
+// An AFTER trigger of UPDATE, for the statement, which lists the second column.
 const LISTED: Run = Run {
     time: ActionTime::After,
     event: TriggerEvent::Update,
@@ -55,10 +55,10 @@ const NONE: Planned = Planned(&[], &[]);
 // The row of table 0 is updated.
 const ONE: Planned = Planned(&[], &[Changed(0, 1, &[1, 2], &[1, 3])]);
 
-// So in a level that names the first column of the table and the second of another.
+// The row of table 0 is updated in a level that names the first column of the table and the second of another.
 const ONE_OTHERWISE: Planned = Planned(&[(0, 0), (1, 1)], &[Changed(0, 1, &[1, 2], &[1, 3])]);
 
-// So in a level that names the second column of the table.
+// The row of table 0 is updated in a level that names the second column of the table.
 const ONE_LISTED: Planned = Planned(&[(0, 1)], &[Changed(0, 1, &[1, 2], &[1, 3])]);
 
 static FIRINGS: [Case; 7] = [
@@ -71,7 +71,7 @@ static FIRINGS: [Case; 7] = [
     OfTrigger(LISTED, Fires(SetFirst(1), ONE_LISTED)),
 ];
 
-// A trigger of the statement fires without rows, one of rows for each, and one with a list where the level names one of
+// A trigger of the statement fires without rows, one of rows for each, and one with a list if the level names one of
 // its columns.
 #[test]
 fn triggers_fire_by_event_by_granularity_and_by_column(rt: HostRuntime) {

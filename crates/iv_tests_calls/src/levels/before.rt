@@ -63,7 +63,7 @@ const INSERTED: Planned = Planned(&[], &[Changed(0, 1, &[], &[NULL, 2])]);
 // A wave that names the first column.
 const UPDATED: Planned = Planned(&[(0, 0)], &[Changed(0, 1, &[1, 2], &[NULL, 3])]);
 
-// So with the second.
+// A wave that names the second column.
 const UPDATED_LISTED: Planned = Planned(&[(0, 1)], &[Changed(0, 1, &[1, 2], &[NULL, 3])]);
 
 static ROWS: [Case; 3] = [

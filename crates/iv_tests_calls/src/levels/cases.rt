@@ -4,8 +4,8 @@ use super::triggers::{Question, Run, tell_of_trigger};
 use super::waves::{Asked, Waves, show_of_waves};
 use crate::shown::show;
 use crate::story::compare;
-use iv_index_store::IndexStore;
-use iv_plain_store::PlainStore;
+use iv_store_index::IndexStore;
+use iv_store_plain::PlainStore;
 use std::alloc::Global;
 use std::process::Abort;
 

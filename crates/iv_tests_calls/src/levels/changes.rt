@@ -16,7 +16,7 @@ pub struct Changed(pub u32, pub u64, pub &'static [i64], pub &'static [i64]);
 #[derive(Clone, Copy)]
 pub struct Planned(pub &'static [(u32, u32)], pub &'static [Changed]);
 
-// A row of these integers, or no row where there is none.
+// A row of these integers, or no row if there is none.
 fn row(rt: &impl Abort, alloc: Global, integers: &[i64]) -> Option<Row> {
     if integers.is_empty() {
         return None;

@@ -9,13 +9,13 @@ use super::shown::{show_changes, show_columns, show_entries, show_refusal, show_
 use super::statements::{Doing, statement};
 use crate::shown::{show, show_number};
 use iv_account::Account;
-use iv_actions::next_wave;
 use iv_catalogue::{Catalogue, Outputs, QueryPlan};
-use iv_exec::change;
+use iv_exec_actions::next_wave;
+use iv_exec_level::change;
+use iv_exec_proposals::select;
 use iv_expr::{Comparison, Cond, Expr, TableId};
 use iv_machine::Limits;
 use iv_modes::Modes;
-use iv_proposals::select;
 use iv_store::Keeper;
 use iv_value::Value;
 use sqlite_items::Boxed;
@@ -110,7 +110,7 @@ fn plan(rt: &impl Abort, alloc: Global, query: Query) -> Boxed<QueryPlan> {
     Boxed::new(alloc, plan).expect(rt, "memory")
 }
 
-// No query here is refused but for memory.
+// No query here is refused, except for lack of memory.
 fn show_query<K: Keeper>(
     rt: &impl Abort,
     alloc: Global,

@@ -10,11 +10,12 @@ use crate::expressions::NoTables;
 use crate::shown::{show, show_number};
 use iv_account::Account;
 use iv_catalogue::{BodyStatement, Catalogue, Constraints, Refusal, Setting, Trigger, TriggerId};
+use iv_exec_before::{before_rows, before_statement};
+use iv_exec_context::Context;
+use iv_exec_transitions::{Fires, firings, transitions_of};
 use iv_expr::{Cond, Expr, Side, TableId};
 use iv_modes::Modes;
 use iv_syntax::{ActionTime, Granularity, TriggerEvent};
-use iv_transitions::{Fires, firings, transitions_of};
-use iv_triggers::{Context, before_rows, before_statement};
 use iv_value::{Text, Value};
 use sqlite_items::Items;
 use std::alloc::Global;
@@ -25,11 +26,11 @@ use std::process::Abort;
 #[derive(Clone, Copy)]
 pub enum Action {
     Signal,
-    /// It sets the first column to 9 where it is NULL.
+    /// It sets the first column to 9 if it is NULL.
     Fill,
 }
 
-/// When a trigger is run, on which of the columns where it lists columns, and what it does.
+/// When a trigger is run, on which of the columns if it lists columns, and what it does.
 #[derive(Clone, Copy)]
 pub struct Run {
     pub time: ActionTime,

@@ -3,9 +3,9 @@ use super::changes::{Changed, Planned, add, wave};
 use super::shown::{show_changes, show_columns};
 use super::statements::{Doing, statement};
 use crate::shown::show_number;
+use iv_exec_transitions::{level_columns, transitions, transitions_of};
 use iv_expr::{TableId, Wave};
 use iv_syntax::TriggerEvent;
-use iv_transitions::{level_columns, transitions, transitions_of};
 use std::alloc::Global;
 use std::panic::Expect;
 use std::process::Abort;
@@ -14,7 +14,7 @@ use std::process::Abort;
 #[derive(Clone, Copy)]
 pub enum Waves {
     These(&'static [Planned]),
-    /// So many, each of which inserts one row into table 0.
+    /// As many waves, each of which inserts one row into table 0.
     Insertions(u64),
 }
 

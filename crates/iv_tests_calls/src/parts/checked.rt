@@ -1,11 +1,11 @@
 //! Calls of groups whose conditions are asserted first, by calls that aren't counted.
 ghost use Rattle.std.specs.Prelude.{◌≡◌, ◌<◌, length, true};
 ghost use Rattle.iv_numbers.specs.Rows.{has_row};
-ghost use Rattle.iv_index.specs.Groups.{groups_of, rows_of};
+ghost use Rattle.iv_store_groups.specs.Groups.{groups_of, rows_of};
 
 use crate::asked::assert_that;
-use iv_index::Groups;
 use iv_key::Key;
+use iv_store_groups::Groups;
 use std::panic::Expect;
 use std::process::Abort;
 

@@ -1,7 +1,7 @@
 //! Rows that change, as data, and the violations that are told of them, as text. What a step tells ends with a bar.
-ghost use Rattle.iv_faults.specs.Watching.{AreWatched, IsShownBy};
-ghost use Rattle.iv_laws_kept.specs.Marks.{AreMarked};
-ghost use Rattle.iv_marks.specs.Shown as marks;
+ghost use Rattle.iv_store_faults.specs.Watching.{AreWatched, IsShownBy};
+ghost use Rattle.iv_laws_kept.specs.GroupFlags.{AreFlagged};
+ghost use Rattle.iv_store_violating.specs.Shown as violating;
 
 use super::rows;
 use super::shown::{show_count, show_listed};
@@ -9,11 +9,11 @@ use super::watching::{Watched, watch};
 use crate::shown::{show, show_faults};
 use crate::story::compare;
 use iv_catalogue::Fault;
-use iv_faults::Faults;
-use iv_index::Groups;
 use iv_machine::Which;
 use iv_modes::Modes;
-use iv_rows::Versions;
+use iv_store_faults::Faults;
+use iv_store_groups::Groups;
+use iv_store_rows::Versions;
 use std::alloc::Global;
 use std::panic::Expect;
 use std::process::Abort;
@@ -21,7 +21,7 @@ use std::process::Abort;
 /// A change of a row, or a thing that is told.
 #[derive(Clone, Copy)]
 pub enum Step {
-    /// The row of a number of a table gets this integer alone, or goes.
+    /// The row of a number of a table gets only this integer, or goes.
     Set(u32, u64, Option<i64>),
     /// The change of a row is taken back that it had from this integer.
     TakeBack(u32, u64, Option<i64>),
@@ -57,7 +57,7 @@ fn tell(
     step: Step,
     shown: &mut String,
 )
-    requires { AreMarked faults.now.constraints (marks.shown groups.now.groups) faults.now.marks }
+    requires { AreFlagged faults.now.constraints (violating.shown groups.now.groups) faults.now.violating }
 {
     match step {
         Step::List => {

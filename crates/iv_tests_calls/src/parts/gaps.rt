@@ -2,8 +2,8 @@
 //! is in it leaves both.
 use super::checked;
 use super::shown::show_count;
-use iv_index::Groups;
 use iv_key::Key;
+use iv_store_groups::Groups;
 use std::alloc::Global;
 use std::panic::Expect;
 use std::process::Abort;
@@ -63,7 +63,7 @@ fn push_all(rt: &impl Abort, rows: &mut Vec<u64>) {
     }
 }
 
-// A set of rows has a bit for each, and these are the bits of a row: none where it isn't one of those above.
+// A set of rows has a bit for each, and these are the bits of a row: none if it isn't one of those above.
 fn bit_of(row: u64) -> u64 {
     match row {
         5..=95 if row % 5 == 0 => 1u64.wrapping_shl((row / 5) as u32),
@@ -92,7 +92,7 @@ fn held(rt: &impl Abort, alloc: Global, groups: &Groups, constraint: usize, key:
     set
 }
 
-// A row goes where it is in the set, and comes where it isn't.
+// A row goes where it is in the set, and comes if it isn't.
 fn turn_about(
     rt: &impl Abort,
     groups: &mut Groups,

@@ -7,8 +7,8 @@ use super::group_steps::Step::{Cover, Due, GiveBack, Groups as Count, LookedUp, 
 use super::group_steps::{AB_C, LEAST, MET, NULL, ONE, Step, THREE, TWO, shows};
 use super::shown::show_count;
 use crate::story::compare;
-use iv_index::Groups;
 use iv_key::Key;
+use iv_store_groups::Groups;
 use iv_value::Value;
 use std::alloc::Global;
 use std::panic::Expect;
@@ -114,7 +114,7 @@ fn keys_of_one_hash_go(rt: HostRuntime) {
     shows(&rt, rt.alloc(), &ONE_HASH, wanted);
 }
 
-// A hundred rows of one key come and all but one go. It keeps that row, and its room goes.
+// A hundred rows of one key come, and all except one go. It keeps that row, and its room goes.
 const ROOM: [Step; 12] = [
     Cover(1),
     Under(0, ONE, AddAll),

@@ -5,9 +5,9 @@ use crate::asked::assert_that;
 use crate::schema::{Cell, row_of};
 use crate::shown::{show, show_numbers};
 use crate::story::compare;
-use iv_index::Groups;
 use iv_key::Key;
 use iv_numbers::HeldRows;
+use iv_store_groups::Groups;
 use iv_value::Value;
 use std::alloc::Global;
 use std::panic::Expect;
@@ -103,7 +103,7 @@ pub enum Act {
     Holders,
     /// The place of the group.
     Place,
-    /// How many more rows the key takes without memory.
+    /// How many more rows the key takes without an allocation.
     Room,
 }
 
@@ -126,7 +126,7 @@ fn show_rows_at(
     show_held(rt, alloc, &groups.rows_at(constraint, place), shown);
 }
 
-// The place of a group, where there is one.
+// The place of a group, if there is one.
 fn show_place(rt: &impl Abort, place: Option<usize>, shown: &mut String) {
     match place {
         Some(place) => show_count(rt, place as u64, shown),

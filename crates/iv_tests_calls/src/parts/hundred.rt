@@ -1,7 +1,7 @@
 //! A hundred rows of one key that come, go and come back.
 use super::checked;
-use iv_index::Groups;
 use iv_key::Key;
+use iv_store_groups::Groups;
 use std::process::Abort;
 
 /// Adds the rows 0 to 99.

@@ -1,8 +1,8 @@
-//! A journal where memory is there.
+//! A journal, with ample memory.
 use super::shown::{show_count, show_some};
 use crate::story::compare;
 use iv_expr::{Change, TableId};
-use iv_undo::Journal;
+use iv_store_rows::Journal;
 use std::panic::Expect;
 use std::process::Abort;
 

@@ -1,4 +1,4 @@
-//! Rows that come, change, change back and go where no constraint is watched.
+//! Rows that come, change, change back and go while no constraint is watched.
 use super::fault_steps::Step::{Constraints, Count, First, List, LookedUp, Set, TakeBack};
 use super::fault_steps::{Step, shows};
 use super::watching::Watched;

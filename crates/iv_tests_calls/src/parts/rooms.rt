@@ -5,7 +5,7 @@ use super::group_steps::Act::{
 use super::group_steps::Step::{Cover, Groups, LookedUp, RowsAt, Under};
 use super::group_steps::{ONE, Step, THREE, TWO, shows};
 
-// Room is asked for twice where there is none, and once more where it is taken.
+// Room is asked for twice if there is none, and once more if it is taken.
 const ROOMS: [Step; 13] = [
     Cover(1),
     Under(0, ONE, Room),

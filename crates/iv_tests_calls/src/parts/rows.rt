@@ -2,26 +2,26 @@
 ghost use Rattle.std.specs.Prelude.{◌≡◌, ◌<◌, ◌≤◌, List, None, Some, true, length, IfSome};
 ghost use Rattle.iv_value.specs.declared.value.Value.{Value};
 ghost use Rattle.iv_key.specs.Keys.{key_of, none_null};
-ghost use Rattle.iv_index.specs.Groups.{groups_of, room_of};
+ghost use Rattle.iv_store_groups.specs.Groups.{groups_of, room_of};
 ghost use Rattle.iv_laws_levels.specs.FittingWaves.{old_row};
 ghost use Rattle.iv_machine.specs.Bounds.{last_row_number, most_changes_in_a_transaction};
 ghost use Rattle.iv_machine.specs.Databases.{row_at};
 ghost use Rattle.iv_machine.specs.Waves.{values_at};
 ghost use Rattle.iv_laws_kept.specs.Kept.{kept_key, unique_key};
 ghost use Rattle.iv_laws_kept.specs.Moves.{taken_back};
-ghost use Rattle.iv_following.specs.Sides.{side_key};
-ghost use Rattle.iv_faults.specs.Watching.{AreWatched, HasRoomBack, IsShownBy};
+ghost use Rattle.iv_store_following.specs.BorrowedChange.{side_key};
+ghost use Rattle.iv_store_faults.specs.Watching.{AreWatched, HasRoomBack, IsShownBy};
 
 use crate::asked::assert_that;
 use crate::schema;
 use crate::schema::Cell::Int;
 use iv_catalogue::{Constraint, Rule};
 use iv_expr::{Change, Row, StoredRow, TableId};
-use iv_faults::Faults;
-use iv_index::{CountedGroups, Groups};
 use iv_key::Key;
 use iv_machine::{LAST_ROW_NUMBER, MOST_CHANGES_IN_A_TRANSACTION};
-use iv_rows::Versions;
+use iv_store_faults::Faults;
+use iv_store_groups::{CountedGroups, Groups};
+use iv_store_rows::Versions;
 use iv_syntax::NullTreatment;
 use iv_value::Value;
 use std::alloc::Global;
@@ -54,7 +54,7 @@ fn held(rt: &impl Abort, versions: &Versions, table: TableId, number: u64) -> Op
     }
 }
 
-// A row of this integer alone, where there is one.
+// A row of only this integer, if there is one.
 fn row_of(rt: &impl Abort, alloc: Global, integer: Option<i64>) -> Option<Row> {
     match integer {
         Some(integer) => Some(schema::row_of(rt, alloc, &[Int(integer)])),
@@ -62,7 +62,7 @@ fn row_of(rt: &impl Abort, alloc: Global, integer: Option<i64>) -> Option<Row> {
     }
 }
 
-/// The change that gives the row of a number this integer alone, or takes it out, where it isn't one of another table.
+/// The change that gives the row of a number only this integer, or takes it out, if it isn't one of another table.
 pub fn change_to(
     rt: &impl Abort,
     alloc: Global,
@@ -164,7 +164,7 @@ fn has_room_for(groups: &Groups, id: usize, rule: &Rule, row: &[Value]) -> bool
     }
 }
 
-// So for the old side of a change and a constraint, where the row is one of its table.
+// Whether a constraint has room for the old side of a change, if the row is one of its table.
 fn has_room_at(groups: &Groups, id: usize, constraint: &Constraint, change: &Change) -> bool
     ensures { result ≡ true → (key : List Value)
         → side_key constraint.now change.now.table change.now.old ≡ Some key
@@ -179,7 +179,7 @@ fn has_room_at(groups: &Groups, id: usize, constraint: &Constraint, change: &Cha
     }
 }
 
-// So for each constraint.
+// Whether each constraint has room for the old side of a change.
 fn has_room_back(groups: &Groups, constraints: &[Constraint], change: &Change) -> bool
     ensures { result ≡ true → HasRoomBack constraints.now groups.now.groups change.now }
 {
@@ -235,7 +235,7 @@ fn make_back(
     versions.change(back).expect(rt, "memory");
 }
 
-// Makes a change that takes another one back, where each key that a row is put back under has room.
+// Makes a change that takes another one back, if each key that a row is put back under has room.
 fn change_back(
     rt: &impl Abort,
     versions: &mut Versions,
@@ -264,7 +264,7 @@ fn change_back(
     drop(change);
 }
 
-/// Gives the row of a number this integer alone, or takes it out, where it isn't one of another table.
+/// Gives the row of a number only this integer, or takes it out, if it isn't one of another table.
 pub fn set(
     rt: &impl Abort,
     alloc: Global,
@@ -285,7 +285,7 @@ pub fn set(
     drop(change);
 }
 
-/// Takes the change of a row back that it had from this integer, where each key that it is put back under has room.
+/// Takes the change of a row back that it had from this integer, if each key that it is put back under has room.
 pub fn take_back(
     rt: &impl Abort,
     alloc: Global,

@@ -7,7 +7,7 @@ use crate::asked::assert_that;
 use crate::shown::{show, show_number};
 use crate::story::compare;
 use iv_expr::{Rows, TableId};
-use iv_rows::Versions;
+use iv_store_rows::Versions;
 use iv_value::Value;
 use std::alloc::Global;
 use std::panic::Expect;
@@ -19,7 +19,7 @@ const MOST_ROWS: u64 = 10;
 /// A thing that is done to versions, or told of them.
 #[derive(Clone, Copy)]
 pub enum Step {
-    /// The row of a number of a table comes or changes to this integer alone.
+    /// The row of a number of a table comes or changes to only this integer.
     Put(u32, u64, i64),
     /// The row of a number of a table goes.
     Gone(u32, u64),
@@ -27,7 +27,7 @@ pub enum Step {
     Mark,
     /// Back to the mark of a place.
     UndoTo(usize),
-    /// So, step by step: the row of each change that is taken back.
+    /// Back to the mark of a place, step by step: the row of each change that is taken back.
     StepBackTo(usize),
     /// Back to the mark of a place, which goes.
     Undo(usize),
@@ -61,7 +61,7 @@ fn set(
     drop(change);
 }
 
-// The integer of a row, where it is of one that isn't negative.
+// The integer of a row, if it is of one that isn't negative.
 fn integer_in(values: &[Value]) -> Option<u64> {
     match values {
         [Value::Int(integer)] => u64::try_from(*integer).ok(),
@@ -160,7 +160,7 @@ fn go_back(
     }
 }
 
-// Takes a step where there are so many marks, and tells how many there are then.
+// Takes a step if there are so many marks, and tells how many there are then.
 fn take(
     rt: &impl Abort,
     alloc: Global,

@@ -1,4 +1,4 @@
-//! Rows that come, go and come back where memory is there.
+//! Rows that come, go and come back, with ample memory.
 use super::version_steps::Step::{
     After, Count, Gone, Mark, Next, Put, Row, Rows, Settle, StepBackTo, Undo, UndoTo,
 };

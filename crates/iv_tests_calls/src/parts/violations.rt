@@ -1,20 +1,20 @@
-//! A violation that is marked, and told with ample memory.
+//! A violation that is flagged, and listed with ample memory.
 ghost use Rattle.std.specs.Prelude.{◌≡◌, []};
 
 use super::fault_steps::no_modes;
 use super::shown::show_listed;
 use crate::story::compare;
 use iv_catalogue::Fault;
-use iv_index::Groups;
 use iv_key::Key;
 use iv_machine::Which;
-use iv_marks::ViolatingGroups;
 use iv_modes::Modes;
+use iv_store_groups::Groups;
+use iv_store_violating::ViolatingGroups;
 use std::alloc::Global;
 use std::panic::Expect;
 use std::process::Abort;
 
-// The violations of all constraints, where the first gets a group of row 5, which is marked.
+// The violations of all constraints, if the first gets a group of row 5, which is marked.
 fn listed(
     rt: &impl Abort,
     alloc: Global,

@@ -1,7 +1,7 @@
 //! Constraints that are watched from the first row.
 ghost use Rattle.std.specs.Prelude.{◌≡◌, ◌≤◌, ◌∷◌, [], length};
 ghost use Rattle.iv_catalogue.specs.declared.constraint.Rule.TheVariants as rule;
-ghost use Rattle.iv_faults.specs.Watching.{AreWatched, IsShownBy};
+ghost use Rattle.iv_store_faults.specs.Watching.{AreWatched, IsShownBy};
 ghost use Rattle.iv_laws_kept.specs.Kept.{AllNamed};
 ghost use Rattle.iv_syntax.specs.declared.table.MatchType.TheVariants.{Simple};
 ghost use Rattle.iv_syntax.specs.declared.table.NullTreatment.TheVariants.{Distinct};
@@ -9,8 +9,8 @@ ghost use Rattle.iv_syntax.specs.declared.table.ReferentialAction.TheVariants.{N
 
 use iv_catalogue::{Constraint, ForeignKey, Rule};
 use iv_expr::TableId;
-use iv_faults::Faults;
-use iv_index::Groups;
+use iv_store_faults::Faults;
+use iv_store_groups::Groups;
 use iv_syntax::{ConstraintMode, MatchType, Name, NullTreatment, ReferentialAction};
 use iv_value::Text;
 use sqlite_items::Items;
@@ -92,10 +92,10 @@ fn reference(rt: &impl Abort, alloc: Global) -> Constraint
     }
 }
 
-// Watches constraints, where there is no row.
+// Watches constraints, if there is no row.
 fn watch_all(rt: &impl Abort, groups: &mut Groups, faults: &mut Faults, constraints: &[Constraint])
     requires no_group { groups.old.groups ≡ [] }
-    requires no_constraint { faults.old ≡ record { constraints = []; marks = [] } }
+    requires no_constraint { faults.old ≡ record { constraints = []; violating = [] } }
     requires named { AllNamed constraints.now }
     requires few { length constraints.now ≤ 2 }
     ensures shown { IsShownBy [] faults.new groups.new }
@@ -126,7 +126,7 @@ fn push_reference(rt: &impl Abort, alloc: Global, constraints: &mut Vec<Constrai
     constraints.push(reference(rt, alloc)).expect(rt, "memory");
 }
 
-// Watches the constraints that are added to none, where there is no row.
+// Watches the constraints that are added to none, if there is no row.
 fn push_and_watch(
     rt: &impl Abort,
     alloc: Global,
@@ -137,7 +137,7 @@ fn push_and_watch(
 )
     requires none { constraints.old.items ≡ [] }
     requires no_group { groups.old.groups ≡ [] }
-    requires no_constraint { faults.old ≡ record { constraints = []; marks = [] } }
+    requires no_constraint { faults.old ≡ record { constraints = []; violating = [] } }
     ensures shown { IsShownBy [] faults.new groups.new }
     ensures watched { AreWatched faults.new groups.new }
 {
@@ -149,7 +149,7 @@ fn push_and_watch(
     watch_all(rt, groups, faults, constraints.as_slice());
 }
 
-/// Watches what is to be watched, where there is no row.
+/// Watches what is to be watched, while there is no row.
 pub fn watch(
     rt: &impl Abort,
     alloc: Global,
@@ -158,7 +158,7 @@ pub fn watch(
     watched: Watched,
 )
     requires no_group { groups.old.groups ≡ [] }
-    requires no_constraint { faults.old ≡ record { constraints = []; marks = [] } }
+    requires no_constraint { faults.old ≡ record { constraints = []; violating = [] } }
     ensures shown { IsShownBy [] faults.new groups.new }
     ensures watched { AreWatched faults.new groups.new }
 {

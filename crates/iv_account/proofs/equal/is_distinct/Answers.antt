@@ -1,5 +1,5 @@
 use Rattle.std.proofs.Common.{◌≡◌, ◌∙◌, false, subst, sym}
-use Rattle.iv_machine.specs.Words.{NullTreatment}
+use Rattle.iv_machine.specs.Types.{NullTreatment}
 use Rattle.iv_machine.specs.Databases.{shares_key}
 use Rattle.iv_account.proofs.KeyAsked.{distinct_shares}
 use Rattle.iv_account.proofs.equal.is_distinct.Goals as goal

@@ -1,5 +1,5 @@
 use Rattle.std.proofs.Common.{arith, ◌∙◌, ap, sym, refl, map, false, List, ℕ, Ok}
-use Rattle.iv_expr.specs.Words.{Value, Truth, StoredRow, Change}
+use Rattle.iv_expr.specs.Types.{Value, Truth, StoredRow, Change}
 use Rattle.iv_expr.specs.Evaluation.{truth}
 use Rattle.iv_expr.specs.Scopes.{contents, table_rows, transition_rows, within}
 use Rattle.iv_expr.proofs.Anys.{any_from, any_is}

@@ -1,7 +1,7 @@
 use Rattle.std.proofs.Common.{◌≡◌, List, map, drop, ◌-◌, ◌^◌}
 use Rattle.iv_expr.specs.Evaluation.{truth, any_true}
 use Rattle.iv_expr.specs.Scopes.{contents, table_rows, transition_rows, within}
-use Rattle.iv_expr.specs.Words.{Value}
+use Rattle.iv_expr.specs.Types.{Value}
 use Rattle.iv_expr.proofs.Anys.{any_from}
 use Rattle.iv_expr.proofs.Scan.{rows_above}
 use Rattle.iv_expr.proofs.condition.+truth_in.Given as goal

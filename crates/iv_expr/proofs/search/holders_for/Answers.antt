@@ -1,5 +1,5 @@
 use Rattle.std.proofs.Common.{◌≡◌, ◌∙◌, ℕ, [], List, IfSome, ap, subst, sym}
-use Rattle.iv_expr.specs.Words.{Kind, Value, StoredRow}
+use Rattle.iv_expr.specs.Types.{Kind, Value, StoredRow}
 use Rattle.iv_expr.specs.Asking.{IsNeverRefused}
 use Rattle.iv_expr.specs.Searches.{AreHolders}
 use Rattle.iv_expr.specs.Scopes.{table_rows, within}

@@ -1,7 +1,7 @@
 use Rattle.std.proofs.Common.{◌≡◌, ◌∙◌, ◌∷◌, [], List, map, ap, subst, sym}
 use Rattle.iv_value.specs.Truths.{truth_and, truth_not, truth_of, truth_or}
 use Rattle.iv_value.specs.Values.{is_null}
-use Rattle.iv_expr.specs.Words.{Kind, Range, Value}
+use Rattle.iv_expr.specs.Types.{Kind, Range, Value}
 use Rattle.iv_expr.specs.Asking.{IsNeverRefused}
 use Rattle.iv_expr.specs.Evaluation.{any_true, truth}
 use Rattle.iv_expr.specs.Scopes.{Scope, range_rows, within}

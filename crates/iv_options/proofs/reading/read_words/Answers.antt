@@ -2,7 +2,7 @@ use Rattle.std.proofs.Common.{◌∙◌, ◌≡◌, ap, codes, map, subst, true,
 use Rattle.clap.specs.Words.{App, HasKind, Kinds, found_of, kind_of, takes}
 use Rattle.clap.specs.declared.error.kind.ErrorKind.TheVariants.{OutOfMemory}
 use Rattle.clap.proofs.WalkLemmas.{first_value-rows}
-use Rattle.iv_options.specs.CommandLine.{command_line, file_of}
+use Rattle.iv_options.specs.CommandLine.{command_line, explains_of, file_of, json_of, limits_of}
 use Rattle.iv_options.proofs.Simple.{kinds_meant, meant, passed_on, told_on}
 use Rattle.iv_options.proofs.Within.{limits_within}
 use Rattle.iv_options.proofs.reading.read_words.Goals as goal
@@ -24,6 +24,21 @@ pub limits_of-requires : goal.limits_of-requires
 limits_of-requires g c =
     let given = c.in_ok-matches.ensures.ok in
     limits_within c.in_ok-command.command c.try_get_matches_from_mut.new.self c.in_ok-matches.matches c.in_ok-command.ensures given.0 given.1
+
+pub returns-clause-limits : goal.returns-clause-limits
+returns-clause-limits g c =
+    c.limits_of.ensures
+    ∙ ap limits_of (meant c.in_ok-command.command (map g.S.AsStr.text c.args.words.now) c.in_ok-matches.matches c.in_ok-command.ensures c.in_ok-matches.ensures.ok.2)
+
+pub returns-clause-explain : goal.returns-clause-explain
+returns-clause-explain g c =
+    c.flag_of.ensures
+    ∙ ap explains_of (meant c.in_ok-command.command (map g.S.AsStr.text c.args.words.now) c.in_ok-matches.matches c.in_ok-command.ensures c.in_ok-matches.ensures.ok.2)
+
+pub returns-clause-json : goal.returns-clause-json
+returns-clause-json g c =
+    c.flag_of-2.ensures
+    ∙ ap json_of (meant c.in_ok-command.command (map g.S.AsStr.text c.args.words.now) c.in_ok-matches.matches c.in_ok-command.ensures c.in_ok-matches.ensures.ok.2)
 
 pub returns-clause-file : goal.returns-clause-file
 returns-clause-file g c =

@@ -1,27 +1,23 @@
-use Rattle.std.proofs.Common.{length, arith, ap, sym, ◌∙◌}
-use Rattle.std.proofs.lemmas.List.{length-map}
-use Rattle.iv_lex.specs.Words.{words, word_of}
-use Rattle.iv_parse_terms.specs.Seen.{with_words}
-use Rattle.iv_parse.proofs.Runs.{run_more, left_shorter, last_shorter, run_ends}
+use Rattle.std.proofs.Common.{sym, ◌∙◌}
+use Rattle.iv_parse.proofs.Runs.{fewer, run_more, run_ends, no_match, too_deep}
 use Rattle.iv_parse.proofs.parser.run.Goals as goal
 
-pub last-left-requires : goal.last-left-requires
-last-left-requires c =
-    omega (arith, left_shorter c.args.text.now c.loop-statements.left.now c.in-Some.rest.now c.in-Some.statement (ap (with_words c.args.text.now) (sym c.in-Some.is) ∙ c.in_ok-statement.ensures))
+pub loop-found-smaller : goal.loop-found-smaller
+loop-found-smaller c =
+    rw (c.place-place.ensures)
+    (fewer c.args.text.now c.args.tokens.now c.new-source.result c.loop-found.place c.in-Ok.found c.new-cursor.result c.statement.new.cursor c.new-source.ensures c.new-cursor.ensures c.in-Ok.ensures)
 
-pub loop-statements-smaller : goal.loop-statements-smaller
-loop-statements-smaller c =
-    last_shorter c.args.text.now c.loop-statements.left.now c.in-Some.rest.now c.last-left.result.now c.in-Some.statement
-    (ap (with_words c.args.text.now) (sym c.in-Some.is) ∙ c.in_ok-statement.ensures) c.last-left.ensures
+pub loop-found-preserved : goal.loop-found-preserved
+loop-found-preserved c =
+    run_more c.args.text.now c.args.tokens.now c.new-source.result c.loop-found.place c.loop-found.statements c.push.new.self c.in-Ok.found c.new-cursor.result c.statement.new.cursor c.place-place.result
+    c.new-source.ensures c.loop-found.invariant c.new-cursor.ensures c.in-Ok.ensures c.place-place.ensures c.in_ok-push-in-Ok.ensures.ok
 
-pub loop-statements-preserved : goal.loop-statements-preserved
-loop-statements-preserved c =
-    rw (c.in_ok-push.ensures.ok, c.last-left.ensures)
-    (run_more c.args.text.now c.args.tokens.now c.loop-statements.left.now c.loop-statements.statements c.in-Some.statement (words c.args.text.now c.in-Some.rest.now) (length c.in-Some.rest.now)
-    c.loop-statements.invariant (ap (with_words c.args.text.now) (sym c.in-Some.is) ∙ c.in_ok-statement.ensures) (length-map c.in-Some.rest.now (word_of c.args.text.now)))
+pub returns-in-Err-NoMatch : goal.returns-in-Err-NoMatch
+returns-in-Err-NoMatch c =
+    run_ends c.args.text.now c.args.tokens.now c.new-source.result c.loop-found.place c.end_of.result.place c.end_of.result.word c.loop-found.statements c.new-cursor.result c.statement.new.cursor c.in-Err-NoMatch.field-0
+    c.new-source.ensures c.loop-found.invariant (λ q. no_match (sym c.in-Err-NoMatch.field-0-is ∙ q)) c.new-cursor.ensures c.in-Err-NoMatch.ensures c.end_of.ensures.place c.end_of.ensures.word
 
-pub returns : goal.returns
-returns c =
-    run_ends c.args.text.now c.loop-statements.left.now c.loop-statements.statements c.first_place-place.result
-    (rw c.requires.tokens at c.loop-statements.invariant) (ap (with_words c.args.text.now) (sym c.in_default.is) ∙ c.in_ok-statement.ensures)
-    (rw c.requires.fault at c.first_place-place.ensures)
+pub returns-in-Err-TooDeep : goal.returns-in-Err-TooDeep
+returns-in-Err-TooDeep c =
+    run_ends c.args.text.now c.args.tokens.now c.new-source.result c.loop-found.place c.end_of-in-Err-TooDeep.result.place c.end_of-in-Err-TooDeep.result.word c.loop-found.statements c.new-cursor.result c.statement.new.cursor c.in-Err-TooDeep.field-0
+    c.new-source.ensures c.loop-found.invariant (λ q. too_deep (sym c.in-Err-TooDeep.field-0-is ∙ q)) c.new-cursor.ensures c.in-Err-TooDeep.ensures c.end_of-in-Err-TooDeep.ensures.place c.end_of-in-Err-TooDeep.ensures.word

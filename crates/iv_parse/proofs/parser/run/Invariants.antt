@@ -1,9 +1,9 @@
-use Rattle.std.proofs.Common.{length}
+use Rattle.std.proofs.Common.{◌-◌, length}
 use Rattle.iv_parse.proofs.Runs.{Run}
 use Rattle.iv_parse.proofs.parser.run.Given as goal
 
-abbrev pub invariant-loop-statements : goal.invariant-loop-statements
-invariant-loop-statements l = Run l.text l.tokens l.left l.statements
+abbrev pub invariant-loop-found : goal.invariant-loop-found
+invariant-loop-found l = Run l.text l.tokens l.place l.statements
 
-abbrev pub decreases-loop-statements : goal.decreases-loop-statements
-decreases-loop-statements l = length l.left
+abbrev pub decreases-loop-found : goal.decreases-loop-found
+decreases-loop-found l = length l.tokens - l.place

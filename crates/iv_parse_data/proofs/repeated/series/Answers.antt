@@ -1,41 +1,25 @@
-use Rattle.std.proofs.Common.{length, arith, sym, ◌∙◌, ap}
-use Rattle.std.proofs.lemmas.List.{length-map}
-use Rattle.iv_lex.specs.Words.{word_of, words}
-use Rattle.iv_parse_terms.specs.Seen.{with_words}
-use Rattle.iv_parse_data.proofs.Loops.{along_begun, series_none, along_zero, along_none, along_more, along_end}
+use Rattle.iv_parse_data.proofs.Loops.{begun, next, ended, series_told, fewer}
+use Rattle.iv_lex.specs.declared.kind.TokenKind.TheVariants as kind
 use Rattle.iv_parse_data.proofs.repeated.series.Goals as goal
 
-pub loop-others-preserved : goal.loop-others-preserved
-loop-others-preserved g c =
-    rw c.in_ok-push-2.ensures.ok
-    (along_more g.T.Parse.found c.loop-others.items c.loop-others.most (words c.args.text.now c.loop-others.rest.now) (words c.args.text.now c.in-Some-after.others.now) (words c.args.text.now c.in-Some-2.others.now) c.in-Some-2.item _
-    c.loop-others.invariant (omega arith) (c.in-Some-after.ensures c.args.text.now)
-    (ap (with_words c.args.text.now) (sym c.in-Some-2.is) ∙ c.in_ok-item.ensures))
+pub loop-cursor-init : goal.loop-cursor-init
+loop-cursor-init g c =
+    begun g.T.Parse.found c.args.source.now c.args.cursor.now c.parse.new.cursor c.in_ok-first.first _ c.push.new.self c.new-items.ensures c.in_ok-push.ensures.ok c.in_ok-first.ensures
+
+pub returns-in_err-item : goal.returns-in_err-item
+returns-in_err-item g c =
+    series_told g.T.Parse.found c.args.source.now c.args.cursor.now c.loop-cursor.cursor c.accept.new.self c.parse-in-loop-cursor.new.cursor c.loop-cursor.items c.from_residual-in_err-item.result c.in_err-item.field-0.0
+    c.loop-cursor.invariant c.loop-cursor-test.ensures c.in_err-item.ensures c.from_residual-in_err-item.ensures
+
+pub loop-cursor-smaller : goal.loop-cursor-smaller
+loop-cursor-smaller g c =
+    fewer g.T.Parse.found c.args.source.now c.loop-cursor.cursor c.accept.new.self c.parse-in-loop-cursor.new.cursor kind.Comma c.parse-in-loop-cursor.result c.loop-cursor-test.ensures c.parse-in-loop-cursor.ensures
+
+pub loop-cursor-preserved : goal.loop-cursor-preserved
+loop-cursor-preserved g c =
+    next g.T.Parse.found c.args.source.now c.args.cursor.now c.loop-cursor.cursor c.accept.new.self c.parse-in-loop-cursor.new.cursor c.in_ok-item.item c.loop-cursor.items c.push-in-loop-cursor.new.self
+    c.loop-cursor.invariant c.loop-cursor-test.ensures c.in_ok-item.ensures c.in_ok-push-2.ensures.ok
 
 pub returns : goal.returns
 returns g c =
-    along_end g.T.Parse.found c.loop-others.items c.loop-others.most (words c.args.text.now c.loop-others.rest.now) _ c.loop-others.invariant (c.in_default-after.ensures c.args.text.now)
-
-pub returns-in_default : goal.returns-in_default
-returns-in_default g c =
-    let text = c.args.text.now in
-    series_none g.T.Parse.found (words text c.args.tokens.now) (ap (with_words text) (sym c.in_default.is) ∙ c.in_ok-first.ensures)
-
-pub loop-others-init : goal.loop-others-init
-loop-others-init g c =
-    let text = c.args.text.now in
-    along_begun g.T.Parse.found (words text c.args.tokens.now) (words text c.in-Some.rest.now) _ c.push.new.self c.in-Some.first (length c.in-Some.rest.now) c.new-items.ensures c.in_ok-push.ensures.ok
-    (sym (length-map c.in-Some.rest.now (word_of text)))
-    (ap (with_words text) (sym c.in-Some.is) ∙ c.in_ok-first.ensures)
-
-pub returns-then-most-eq0 : goal.returns-then-most-eq0
-returns-then-most-eq0 g c =
-    along_zero g.T.Parse.found c.loop-others.items c.loop-others.most (words c.args.text.now c.loop-others.rest.now) (words c.args.text.now c.in-Some-after.others.now) _ c.loop-others.invariant c.if-most-eq0.true (c.in-Some-after.ensures c.args.text.now)
-
-pub returns-in_default-2 : goal.returns-in_default-2
-returns-in_default-2 g c =
-    along_none g.T.Parse.found c.loop-others.items c.loop-others.most (words c.args.text.now c.loop-others.rest.now) (words c.args.text.now c.in-Some-after.others.now) _ c.loop-others.invariant (omega arith) (c.in-Some-after.ensures c.args.text.now)
-    (ap (with_words c.args.text.now) (sym c.in_default-2.is) ∙ c.in_ok-item.ensures)
-
-pub loop-others-smaller : goal.loop-others-smaller
-loop-others-smaller g c = omega arith
+    ended g.T.Parse.found c.args.source.now c.args.cursor.now c.loop-cursor.cursor c.accept.new.self c.loop-cursor.items c.loop-cursor.invariant c.loop-cursor-test.ensures

@@ -1,72 +1,142 @@
-use Rattle.std.proofs.Common.{refl}
-use Rattle.iv_lex.specs.Words.{words}
-use Rattle.iv_parse_terms.specs.readers.Expressions.{read_factor, read_term}
-use Rattle.iv_parse_terms.proofs.Steps.{primary_zero, primary_open, primary_simple, factors_step, factors_end, factors_full, terms_step, terms_end, terms_full}
+use Rattle.std.specs.Prelude.{Some, Ok, List}
+use Rattle.std.proofs.Common.{◌-◌}
+use Rattle.iv_lex.specs.declared.kind.TokenKind.TheVariants as kind
+use Rattle.iv_lex.specs.Words.{Word}
+use Rattle.iv_syntax.specs.Trees.{product, sum}
+use Rattle.iv_parse_terms.specs.After.{after, if_some, then_read}
+use Rattle.iv_parse_terms.specs.readers.Expressions.{after_sign, close_group, fits, more_factors, more_terms, read_expression, read_factor, read_primary, read_term, simple}
+use Rattle.iv_parse_terms.specs.Seen.{tree_in}
+use Rattle.iv_parse_terms.proofs.Rules.{by_rule, made, always, makes_told, on_word, on_other, on_part, then_reads, then_told}
+use Rattle.iv_parse_terms.proofs.Steps.{opened, primary_zero, primary_step, factor_more, factors_step, term_more, terms_step}
 use Rattle.iv_parse_terms.proofs.expression.+expression.Goals as goal
 
 pub primary-returns-then-limit-eq0 : goal.primary-returns-then-limit-eq0
-primary-returns-then-limit-eq0 t c = primary_zero c.args.limit (words c.args.text.now c.args.tokens.now) c.if-limit-eq0.true
+primary-returns-then-limit-eq0 t c = λ o l. (l, primary_zero c.args.limit _ c.if-limit-eq0.true)
 
-pub primary-returns-in-Some-2 : goal.primary-returns-in-Some-2
-primary-returns-in-Some-2 t c =
-    let s = primary_open c.args.limit (words c.args.text.now c.args.tokens.now) (words c.args.text.now c.in-Some.rest.now) c.if-limit-eq0.false (c.in-Some.ensures c.args.text.now) in
-    rw (s, ← c.in_ok-inside-in-Some.ensures, c.in-Some-2.is) (c.close.ensures c.args.text.now)
+pub primary-returns-in_err-inside : goal.primary-returns-in_err-inside
+primary-returns-in_err-inside t c =
+    let all = c.args.source.now in
+    let d = c.args.limit in
+    let start = c.args.cursor.now in
+    let end = c.expression.new.cursor in
+    let r = c.from_residual.result in
+    by_rule tree_in (read_primary d) (λ ws. if_some (after kind.LeftParenthesis ws) (opened d) (simple ws)) all start end r (λ ws. primary_step d ws c.if-limit-eq0.false)
+    (on_word tree_in (after kind.LeftParenthesis) (opened d) simple all start c.accept.new.self end r c.if-accept.ensures
+    (then_told tree_in tree_in (read_expression (d - 1)) (close_group d) all c.accept.new.self end r c.in_err-inside.field-0.0 c.in_err-inside.ensures c.from_residual.ensures))
 
-pub primary-returns-in-None-2 : goal.primary-returns-in-None-2
-primary-returns-in-None-2 t c =
-    let s = primary_open c.args.limit (words c.args.text.now c.args.tokens.now) (words c.args.text.now c.in-Some.rest.now) c.if-limit-eq0.false (c.in-Some.ensures c.args.text.now) in
-    rw (s, ← c.in_ok-inside-in-Some.ensures, c.in-None-2.is) refl
+pub primary-returns-then-accept : goal.primary-returns-then-accept
+primary-returns-then-accept t c =
+    let all = c.args.source.now in
+    let d = c.args.limit in
+    let start = c.args.cursor.now in
+    let end = c.close.new.cursor in
+    let r = c.close.result in
+    by_rule tree_in (read_primary d) (λ ws. if_some (after kind.LeftParenthesis ws) (opened d) (simple ws)) all start end r (λ ws. primary_step d ws c.if-limit-eq0.false)
+    (on_word tree_in (after kind.LeftParenthesis) (opened d) simple all start c.accept.new.self end r c.if-accept.ensures
+    (then_reads tree_in tree_in (read_expression (d - 1)) (close_group d) all c.accept.new.self c.expression.new.cursor end c.in_ok-inside.inside r c.in_ok-inside.ensures c.close.ensures))
 
-pub primary-returns-in-None : goal.primary-returns-in-None
-primary-returns-in-None t c =
-    rw (← primary_simple c.args.limit (words c.args.text.now c.args.tokens.now) c.if-limit-eq0.false (c.in-None.ensures c.args.text.now)) c.simple.ensures
+pub primary-returns : goal.primary-returns
+primary-returns t c =
+    let all = c.args.source.now in
+    let d = c.args.limit in
+    let start = c.args.cursor.now in
+    let end = c.simple.new.cursor in
+    let r = c.simple.result in
+    by_rule tree_in (read_primary d) (λ ws. if_some (after kind.LeftParenthesis ws) (opened d) (simple ws)) all start end r (λ ws. primary_step d ws c.if-limit-eq0.false)
+    (on_other tree_in (after kind.LeftParenthesis) (opened d) simple all start c.accept.new.self end r c.if-accept.ensures c.simple.ensures)
 
-pub factors-returns-in-Some-3 : goal.factors-returns-in-Some-3
-factors-returns-in-Some-3 t c =
-    let s = factors_step c.args.limit (read_factor c.args.limit) c.args.most c.args.left.tree (words c.args.text.now c.args.left.rest.now) (words c.args.text.now c.in-Some.rest.now) c.if-most-eq0.false (c.in-Some.ensures c.args.text.now) in
-    rw (s, ← c.in_ok-right.ensures, c.in-Some-2.is, ← c.in_ok-both-in-Some-2.ensures c.args.text.now, c.in-Some-3.is) c.factors.ensures
+pub factors-returns-in_err-right : goal.factors-returns-in_err-right
+factors-returns-in_err-right t c =
+    let all = c.args.source.now in
+    let d = c.args.limit in
+    let n = c.args.most in
+    let a = c.args.left.tree in
+    let F = read_factor c.args.limit in
+    let start = c.args.cursor.now in
+    let middle = c.accept.new.self in
+    let end = c.factor.new.cursor in
+    let r = c.from_residual.result in
+    by_rule tree_in (more_factors d F n a) (λ ws. if_some (after kind.Asterisk ws) (factor_more d F n a) (Some (a, ws))) all start end r (λ ws. factors_step d F n a ws c.if-most-eq0.false)
+    (on_word tree_in (after kind.Asterisk) (factor_more d F n a) (λ ws. Some (a, ws)) all start middle end r c.if-not-accept.ensures
+    (then_told tree_in tree_in F (λ b more. then_read (fits d (product a b) more) (more_factors d F (n - 1))) all middle end r c.in_err-right.field-0.0 c.in_err-right.ensures c.from_residual.ensures))
 
-pub terms-returns-in-Some-3 : goal.terms-returns-in-Some-3
-terms-returns-in-Some-3 t c =
-    let s = terms_step c.args.limit (read_term c.args.limit) c.args.most c.args.left.tree (words c.args.text.now c.args.left.rest.now) (c.in-Some.sign, words c.args.text.now c.in-Some.rest.now) c.if-most-eq0.false (c.in-Some.ensures c.args.text.now) in
-    rw (s, ← c.in_ok-right.ensures, c.in-Some-2.is, ← c.in_ok-both-in-Some-2.ensures c.args.text.now, c.in-Some-3.is) c.terms.ensures
+pub factors-returns-in_err-both : goal.factors-returns-in_err-both
+factors-returns-in_err-both t c =
+    let all = c.args.source.now in
+    let d = c.args.limit in
+    let n = c.args.most in
+    let a = c.args.left.tree in
+    let F = read_factor c.args.limit in
+    let start = c.args.cursor.now in
+    let middle = c.accept.new.self in
+    let end = c.factor.new.cursor in
+    let r = c.from_residual-in_err-both.result in
+    by_rule tree_in (more_factors d F n a) (λ ws. if_some (after kind.Asterisk ws) (factor_more d F n a) (Some (a, ws))) all start end r (λ ws. factors_step d F n a ws c.if-most-eq0.false)
+    (on_word tree_in (after kind.Asterisk) (factor_more d F n a) (λ ws. Some (a, ws)) all start middle end r c.if-not-accept.ensures
+    (then_reads tree_in tree_in F (λ b more. then_read (fits d (product a b) more) (more_factors d F (n - 1))) all middle end end c.in_ok-right.right r c.in_ok-right.ensures
+    (makes_told tree_in tree_in (fits d (product a c.in_ok-right.right.tree)) (more_factors d F (n - 1)) all end r c.in_err-both.field-0.0 c.in_err-both.ensures c.from_residual-in_err-both.ensures)))
 
-pub factor-returns-in-Some-2 : goal.factor-returns-in-Some-2
-factor-returns-in-Some-2 t c =
-    rw (← c.in-Some.ensures c.args.text.now, ← c.in_ok-operand-in-Some.ensures, c.in-Some-2.is) (c.make_signed.ensures c.args.text.now)
+pub factors-returns : goal.factors-returns
+factors-returns t c =
+    let all = c.args.source.now in
+    let d = c.args.limit in
+    let n = c.args.most in
+    let a = c.args.left.tree in
+    let F = read_factor c.args.limit in
+    let start = c.args.cursor.now in
+    let middle = c.accept.new.self in
+    let end = c.factors.new.cursor in
+    let r = c.factors.result in
+    by_rule tree_in (more_factors d F n a) (λ ws. if_some (after kind.Asterisk ws) (factor_more d F n a) (Some (a, ws))) all start end r (λ ws. factors_step d F n a ws c.if-most-eq0.false)
+    (on_word tree_in (after kind.Asterisk) (factor_more d F n a) (λ ws. Some (a, ws)) all start middle end r c.if-not-accept.ensures
+    (then_reads tree_in tree_in F (λ b more. then_read (fits d (product a b) more) (more_factors d F (n - 1))) all middle c.factor.new.cursor end c.in_ok-right.right r c.in_ok-right.ensures
+    (then_reads tree_in tree_in (fits d (product a c.in_ok-right.right.tree)) (more_factors d F (n - 1)) all c.factor.new.cursor c.factor.new.cursor end c.in_ok-both.both r
+    (made tree_in (fits d (product a c.in_ok-right.right.tree)) all c.factor.new.cursor (Ok c.in_ok-both.both) c.in_ok-both.ensures) c.factors.ensures)))
 
-pub terms-returns-in-None-2 : goal.terms-returns-in-None-2
-terms-returns-in-None-2 t c =
-    let s = terms_step c.args.limit (read_term c.args.limit) c.args.most c.args.left.tree (words c.args.text.now c.args.left.rest.now) (c.in-Some.sign, words c.args.text.now c.in-Some.rest.now) c.if-most-eq0.false (c.in-Some.ensures c.args.text.now) in
-    rw (s, ← c.in_ok-right.ensures, c.in-Some-2.is, ← c.in_ok-both-in-Some-2.ensures c.args.text.now, c.in-None-2.is) refl
+pub terms-returns-in_err-right : goal.terms-returns-in_err-right
+terms-returns-in_err-right t c =
+    let all = c.args.source.now in
+    let d = c.args.limit in
+    let n = c.args.most in
+    let a = c.args.left.tree in
+    let F = read_term c.args.limit in
+    let start = c.args.cursor.now in
+    let middle = c.accept_sign.new.self in
+    let end = c.term.new.cursor in
+    let r = c.from_residual.result in
+    by_rule tree_in (more_terms d F n a) (λ ws. if_some (after_sign ws) (λ p. term_more d F n a p.0 p.1) (Some (a, ws))) all start end r (λ ws. terms_step d F n a ws c.if-most-eq0.false)
+    (on_part tree_in after_sign (λ p. term_more d F n a p.0 p.1) (λ ws. Some (a, ws)) all start middle end c.in-Some.sign r c.in-Some.ensures
+    (then_told tree_in tree_in F (λ b more. then_read (fits d (sum c.in-Some.sign a b) more) (more_terms d F (n - 1))) all middle end r c.in_err-right.field-0.0 c.in_err-right.ensures c.from_residual.ensures))
 
-pub terms-returns-in-None : goal.terms-returns-in-None
-terms-returns-in-None t c =
-    let s = terms_step c.args.limit (read_term c.args.limit) c.args.most c.args.left.tree (words c.args.text.now c.args.left.rest.now) (c.in-Some.sign, words c.args.text.now c.in-Some.rest.now) c.if-most-eq0.false (c.in-Some.ensures c.args.text.now) in
-    rw (s, ← c.in_ok-right.ensures, c.in-None.is) refl
+pub terms-returns-in_err-both : goal.terms-returns-in_err-both
+terms-returns-in_err-both t c =
+    let all = c.args.source.now in
+    let d = c.args.limit in
+    let n = c.args.most in
+    let a = c.args.left.tree in
+    let F = read_term c.args.limit in
+    let start = c.args.cursor.now in
+    let middle = c.accept_sign.new.self in
+    let end = c.term.new.cursor in
+    let r = c.from_residual-in_err-both.result in
+    by_rule tree_in (more_terms d F n a) (λ ws. if_some (after_sign ws) (λ p. term_more d F n a p.0 p.1) (Some (a, ws))) all start end r (λ ws. terms_step d F n a ws c.if-most-eq0.false)
+    (on_part tree_in after_sign (λ p. term_more d F n a p.0 p.1) (λ ws. Some (a, ws)) all start middle end c.in-Some.sign r c.in-Some.ensures
+    (then_reads tree_in tree_in F (λ b more. then_read (fits d (sum c.in-Some.sign a b) more) (more_terms d F (n - 1))) all middle end end c.in_ok-right.right r c.in_ok-right.ensures
+    (makes_told tree_in tree_in (fits d (sum c.in-Some.sign a c.in_ok-right.right.tree)) (more_terms d F (n - 1)) all end r c.in_err-both.field-0.0 c.in_err-both.ensures c.from_residual-in_err-both.ensures)))
 
-pub factors-returns-in_default : goal.factors-returns-in_default
-factors-returns-in_default t c =
-    factors_end c.args.limit (read_factor c.args.limit) c.args.most c.args.left.tree (words c.args.text.now c.args.left.rest.now) (c.in_default.ensures c.args.text.now)
-
-pub factors-returns-then-most-eq0 : goal.factors-returns-then-most-eq0
-factors-returns-then-most-eq0 t c =
-    factors_full c.args.limit (read_factor c.args.limit) c.args.most c.args.left.tree (words c.args.text.now c.args.left.rest.now) (words c.args.text.now c.in-Some.rest.now) c.if-most-eq0.true (c.in-Some.ensures c.args.text.now)
-
-pub factors-returns-in-None : goal.factors-returns-in-None
-factors-returns-in-None t c =
-    let s = factors_step c.args.limit (read_factor c.args.limit) c.args.most c.args.left.tree (words c.args.text.now c.args.left.rest.now) (words c.args.text.now c.in-Some.rest.now) c.if-most-eq0.false (c.in-Some.ensures c.args.text.now) in
-    rw (s, ← c.in_ok-right.ensures, c.in-None.is) refl
-
-pub factors-returns-in-None-2 : goal.factors-returns-in-None-2
-factors-returns-in-None-2 t c =
-    let s = factors_step c.args.limit (read_factor c.args.limit) c.args.most c.args.left.tree (words c.args.text.now c.args.left.rest.now) (words c.args.text.now c.in-Some.rest.now) c.if-most-eq0.false (c.in-Some.ensures c.args.text.now) in
-    rw (s, ← c.in_ok-right.ensures, c.in-Some-2.is, ← c.in_ok-both-in-Some-2.ensures c.args.text.now, c.in-None-2.is) refl
-
-pub terms-returns-in_default : goal.terms-returns-in_default
-terms-returns-in_default t c =
-    terms_end c.args.limit (read_term c.args.limit) c.args.most c.args.left.tree (words c.args.text.now c.args.left.rest.now) (c.in_default.ensures c.args.text.now)
-
-pub terms-returns-then-most-eq0 : goal.terms-returns-then-most-eq0
-terms-returns-then-most-eq0 t c =
-    terms_full c.args.limit (read_term c.args.limit) c.args.most c.args.left.tree (words c.args.text.now c.args.left.rest.now) (c.in-Some.sign, words c.args.text.now c.in-Some.rest.now) c.if-most-eq0.true (c.in-Some.ensures c.args.text.now)
+pub terms-returns : goal.terms-returns
+terms-returns t c =
+    let all = c.args.source.now in
+    let d = c.args.limit in
+    let n = c.args.most in
+    let a = c.args.left.tree in
+    let F = read_term c.args.limit in
+    let start = c.args.cursor.now in
+    let middle = c.accept_sign.new.self in
+    let end = c.terms.new.cursor in
+    let r = c.terms.result in
+    by_rule tree_in (more_terms d F n a) (λ ws. if_some (after_sign ws) (λ p. term_more d F n a p.0 p.1) (Some (a, ws))) all start end r (λ ws. terms_step d F n a ws c.if-most-eq0.false)
+    (on_part tree_in after_sign (λ p. term_more d F n a p.0 p.1) (λ ws. Some (a, ws)) all start middle end c.in-Some.sign r c.in-Some.ensures
+    (then_reads tree_in tree_in F (λ b more. then_read (fits d (sum c.in-Some.sign a b) more) (more_terms d F (n - 1))) all middle c.term.new.cursor end c.in_ok-right.right r c.in_ok-right.ensures
+    (then_reads tree_in tree_in (fits d (sum c.in-Some.sign a c.in_ok-right.right.tree)) (more_terms d F (n - 1)) all c.term.new.cursor c.term.new.cursor end c.in_ok-both.both r
+    (made tree_in (fits d (sum c.in-Some.sign a c.in_ok-right.right.tree)) all c.term.new.cursor (Ok c.in_ok-both.both) c.in_ok-both.ensures) c.terms.ensures)))

@@ -1,38 +1,24 @@
-use Rattle.std.proofs.Common.{Some, None, sym, ◌∙◌, ap, refl}
-use Rattle.iv_lex.specs.Words.{words}
-use Rattle.iv_parse_terms.specs.readers.Expressions.{simple}
-use Rattle.iv_parse_terms.specs.Seen.{with_words}
-use Rattle.iv_parse_terms.proofs.Fronts.{first_word}
-use Rattle.iv_parse_terms.proofs.ByKind.{nothing_simple, simple_name, simple_nameless, simple_text}
+use Rattle.std.specs.Prelude.{Some, None, List}
+use Rattle.std.proofs.Common.{subst}
+use Rattle.iv_lex.specs.Words.{Word}
+use Rattle.iv_parse_terms.specs.After.{after_number, after_quoted, if_some}
+use Rattle.iv_parse_terms.specs.Types.expression.{Number, Text}
+use Rattle.iv_parse_terms.specs.readers.Expressions.{FoundExpression, null_or_column, simple}
+use Rattle.iv_parse_terms.specs.Reading.{FoundUnless, TriesPart}
+use Rattle.iv_parse_terms.specs.Seen.{tree_in}
+use Rattle.iv_parse_terms.proofs.Steps.{simple_is}
+use Rattle.iv_parse_terms.proofs.Rules.{by_rule, on_no_part}
 use Rattle.iv_parse_terms.proofs.expression.simple.Goals as goal
 
-pub returns-in-Number : goal.returns-in-Number
-returns-in-Number c =
-    rw (c.leaf.ensures.tree, c.leaf.ensures.rest) (sym (ap simple (first_word c.args.text.now _ c.args.tokens.now _ c.in-len1-up.len_at_least c.in-Number.is)))
+abbrev text_on : List Word → FoundExpression
+text_on ws = if_some (after_quoted ws) (λ p. Some (Text p.0, p.1)) (null_or_column ws)
 
-pub returns-in-Some : goal.returns-in-Some
-returns-in-Some c =
-    rw (c.leaf-in-Some.ensures.tree, c.leaf-in-Some.ensures.rest) (simple_text c.args.text.now _ c.args.tokens.now (Some c.in-Some.quoted) c.in-len1-up.len_at_least c.in-Quoted.is (sym c.in-Some.is ∙ c.in_ok-quoted-in-Quoted.ensures))
-
-pub returns-in-None : goal.returns-in-None
-returns-in-None c =
-    simple_text c.args.text.now _ c.args.tokens.now None c.in-len1-up.len_at_least c.in-Quoted.is (sym c.in-None.is ∙ c.in_ok-quoted-in-Quoted.ensures)
-
-pub returns-in-Null : goal.returns-in-Null
-returns-in-Null c =
-    rw (c.leaf-in-Null.ensures.tree, c.leaf-in-Null.ensures.rest) (sym (ap simple (first_word c.args.text.now _ c.args.tokens.now _ c.in-len1-up.len_at_least c.in-Null.is)))
-
-pub returns-in-Some-2 : goal.returns-in-Some-2
-returns-in-Some-2 c =
-    let text = c.args.text.now in
-    rw (← simple_name (words text c.args.tokens.now) c.in-Some-2.first (words text c.in-Some-2.rest.now) (sym (ap (with_words text) (sym c.in-Some-2.is) ∙ c.in_ok-first-in-Name.ensures))) c.column.ensures
-
-pub returns-in-None-2 : goal.returns-in-None-2
-returns-in-None-2 c =
-    let text = c.args.text.now in
-    simple_nameless text _ c.args.tokens.now c.in-len1-up.len_at_least c.in-Name.is (ap (with_words text) (sym c.in-None-2.is) ∙ c.in_ok-first-in-Name.ensures)
-
-pub returns-in_default-kind : goal.returns-in_default-kind
-returns-in_default-kind c =
-    nothing_simple _ _ _ _ c.in_default-kind.not-Name c.in_default-kind.not-Number c.in_default-kind.not-Quoted c.in_default-kind.not-Null
-    ∙ sym (ap simple (first_word c.args.text.now _ c.args.tokens.now _ c.in-len1-up.len_at_least refl))
+pub returns : goal.returns
+returns c =
+    let all = c.args.source.now in
+    let r = c.null_or_column.result in
+    by_rule tree_in simple (λ ws. if_some (after_number ws) (λ p. Some (Number p.0, p.1)) (text_on ws)) all c.args.cursor.now c.null_or_column.new.cursor r simple_is
+    (on_no_part tree_in after_number (λ p. Some (Number p.0, p.1)) text_on all c.args.cursor.now c.accept_number.new.self c.null_or_column.new.cursor r c.in_default.ensures
+    (on_no_part tree_in after_quoted (λ p. Some (Text p.0, p.1)) null_or_column all c.accept_number.new.self c.accept_quoted.new.self c.null_or_column.new.cursor r
+    (subst (λ x. TriesPart after_quoted all c.accept_number.new.self x c.accept_quoted.new.self) c.in_default-2.is c.in_ok-quoted.ensures)
+    c.null_or_column.ensures))

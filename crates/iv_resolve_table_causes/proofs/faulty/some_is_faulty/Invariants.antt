@@ -2,7 +2,7 @@ use Rattle.std.proofs.Common.{◌≡◌, length}
 use Rattle.std.specs.List.{list_any}
 use Rattle.iv_resolution.specs.Constraints.{written_constraints}
 use Rattle.iv_resolution.specs.Tables.{faulty_constraint}
-use Rattle.iv_resolve_table_constraints.specs.Left.{left_seen}
+use Rattle.iv_resolve_table_constraints.specs.Unread.{left_seen}
 use Rattle.iv_resolve_table_constraints.specs.Seen.{own_seen}
 use Rattle.iv_resolve_table_causes.proofs.faulty.some_is_faulty.Given as goal
 

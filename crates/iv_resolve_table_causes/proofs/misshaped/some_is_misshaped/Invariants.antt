@@ -3,7 +3,7 @@ use Rattle.std.specs.List.{list_any}
 use Rattle.iv_resolution.specs.Constraints.{written_constraints}
 use Rattle.iv_resolution.specs.Tables.{misshaped_rule}
 use Rattle.iv_resolve_table_constraints.specs.Seen.{names_of_own, own_seen}
-use Rattle.iv_resolve_table_constraints.specs.Left.{left_seen}
+use Rattle.iv_resolve_table_constraints.specs.Unread.{left_seen}
 use Rattle.iv_resolve_table_causes.proofs.misshaped.some_is_misshaped.Given as goal
 
 abbrev pub invariant-loop-constraint : goal.invariant-loop-constraint

@@ -1,6 +1,6 @@
 use Rattle.iv_resolution.specs.Constraints.{written_constraints}
 use Rattle.iv_resolve_table_constraints.specs.KeySets.{some_reliable}
-use Rattle.iv_resolve_table_constraints.specs.Left.{left_seen}
+use Rattle.iv_resolve_table_constraints.specs.Unread.{left_seen}
 use Rattle.iv_resolve_table_constraints.specs.Seen.{constraint_seen}
 use Rattle.iv_resolve_table_constraints.proofs.SameSets.{gains_first, gains_next, gains_all}
 use Rattle.iv_resolve_table_constraints.proofs.key_sets.add_keys.Goals as goal

@@ -2,7 +2,7 @@ use Rattle.std.proofs.Common.{List, length}
 use Rattle.iv_resolution.specs.Constraints.{written_constraints}
 use Rattle.iv_resolution.specs.Scopes.{NamedColumn}
 use Rattle.iv_resolve_table_constraints.specs.KeySets.{GainsOf, some_reliable}
-use Rattle.iv_resolve_table_constraints.specs.Left.{left_seen}
+use Rattle.iv_resolve_table_constraints.specs.Unread.{left_seen}
 use Rattle.iv_resolve_table_constraints.proofs.key_sets.add_keys.Given as goal
 
 abbrev pub invariant-loop-constraint : goal.invariant-loop-constraint

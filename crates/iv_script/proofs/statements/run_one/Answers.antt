@@ -6,12 +6,12 @@ use Rattle.iv_script.proofs.statements.run_one.Goals as goal
 
 pub returns-clause-ran : goal.returns-clause-ran
 returns-clause-ran g c =
-    let told : Tells c.args.explained.asked (g.S.Executor.state c.args.session.now) c.args.statement.now c.execute-outcome.result (g.S.Executor.told c.execute-outcome.new.self) =
+    let told : Tells c.args.telling.style.explain (g.S.Executor.state c.args.session.now) c.args.statement.now c.execute-outcome.result (g.S.Executor.told c.execute-outcome.new.self) =
     subst (λ (b : Bool). Tells b (g.S.Executor.state c.args.session.now) c.args.statement.now c.execute-outcome.result (g.S.Executor.told c.execute-outcome.new.self))
     (sym c.requires.asked) c.execute-outcome.ensures.told in
-    ran_one g.S.Executor.sure_store c.args.explained.asked c.args.number (g.S.Executor.state c.args.session.now) (g.S.Executor.state c.execute-outcome.new.self) c.args.statement.now c.execute-outcome.result
+    ran_one g.S.Executor.sure_store c.args.telling.style c.args.number (g.S.Executor.state c.args.session.now) (g.S.Executor.state c.execute-outcome.new.self) c.args.statement.now c.execute-outcome.result
     (g.S.Executor.told c.execute-outcome.new.self)
-    c.args.tally c.with-counted.result (g.W.Sink.state c.args.writer.now) (g.W.Sink.state c.write_lines-written.new.writer)
+    c.args.tally c.with-counted.result (g.W.Sink.state c.args.writer.now) (g.W.Sink.state c.write_statement-written.new.writer)
     c.execute-outcome.ensures.step
     (sure_of g.S.Executor.sure_store (g.S.Executor.state c.args.session.now) c.args.statement.now c.execute-outcome.result c.execute-outcome.ensures.sure c.execute-outcome.ensures.sure_store)
     told c.in_ok-written.ensures

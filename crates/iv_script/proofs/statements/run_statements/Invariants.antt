@@ -9,8 +9,8 @@ invariant-loop-statement g l = record {
   refused_few : l.tally.refused ≤ l.number;
   memory_refusals_few : l.tally.memory_refused ≤ l.number;
   untold_few : l.tally.untold ≤ l.number;
-  asked : l.explained.asked ≡ (g.S.Executor.told l.session).asked;
-  onward : Onward g.S.Executor.sure_store l.explained.asked (g.S.Executor.state l.initial.session) (g.S.Executor.state l.session) l.statements l.rest l.number l.tally (g.W.Sink.state l.initial.writer) (g.W.Sink.state l.writer);
+  asked : l.telling.style.explain ≡ (g.S.Executor.told l.session).asked;
+  onward : Onward g.S.Executor.sure_store l.telling.style (g.S.Executor.state l.initial.session) (g.S.Executor.state l.session) l.statements l.rest l.number l.tally (g.W.Sink.state l.initial.writer) (g.W.Sink.state l.writer);
 }
 
 abbrev pub decreases-loop-statement : goal.decreases-loop-statement

@@ -1,5 +1,5 @@
 use Rattle.std.proofs.Common.{List, ap, subst, sym}
-use Rattle.iv_expr.specs.Words.{StoredRow}
+use Rattle.iv_expr.specs.Types.{StoredRow}
 use Rattle.iv_expr.specs.Scopes.{Scope, table_rows}
 use Rattle.iv_expr.specs.Searches.{LeavesOut}
 use Rattle.iv_expr.specs.Found.{searched}

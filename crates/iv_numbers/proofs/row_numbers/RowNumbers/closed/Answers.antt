@@ -1,8 +1,8 @@
 use Rattle.std.specs.Prelude.{slice_range}
 use Rattle.std.proofs.Common.{◌≡◌, ℕ, List, length, arith, refl, ap, sym, ◌∙◌, subst}
-use Rattle.iv_numbers.specs.declared.parts.Parts.{Parts}
+use Rattle.iv_numbers.specs.declared.gap_layout.GapLayout.{GapLayout}
 use Rattle.iv_numbers.specs.Rows.{IsRising}
-use Rattle.iv_numbers.specs.Parts.{held}
+use Rattle.iv_numbers.specs.GapLayout.{held}
 use Rattle.iv_numbers.proofs.PartsLemmas.{closed_held}
 use Rattle.iv_numbers.proofs.RowsKept.{whole_after}
 use Rattle.iv_numbers.proofs.row_numbers.RowNumbers.closed.Goals as goal
@@ -11,7 +11,7 @@ pub returns : goal.returns
 returns c =
     let old : List ℕ = c.self.inside.places.items in
     let new : List ℕ = c.move_gap-self-inside.new.places in
-    let live : Parts = c.move_gap-self-inside.result in
+    let live : GapLayout = c.move_gap-self-inside.result in
     let k = c.self.invariant.within in let f = k.front in let g = k.gap in let b = k.back in
     let m = c.move_gap-self-inside.ensures in let w = m.within in let front = w.front in let gap = w.gap in let back = w.back in
     let start = m.start in let gap_start = m.gap_start in let wide = m.gap in let end = m.end in let count = c.size.ensures in

@@ -1,7 +1,7 @@
 use Rattle.std.proofs.Common.{◌≡◌, ℕ, ◌+◌, List, length, remove, ap, sym, ◌∙◌, subst}
 use Rattle.iv_numbers.specs.Kept.{IsKept}
 use Rattle.iv_numbers.specs.Rows.{without_row}
-use Rattle.iv_numbers.specs.Parts.{held}
+use Rattle.iv_numbers.specs.GapLayout.{held}
 use Rattle.iv_numbers.proofs.RowsKept.{whole_after, kept_removed}
 use Rattle.iv_numbers.proofs.row_numbers.RowNumbers.remove.Goals as goal
 

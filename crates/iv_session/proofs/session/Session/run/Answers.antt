@@ -7,7 +7,7 @@ use Rattle.iv_resolution.specs.Resolution.{resolution}
 use Rattle.iv_step.specs.Step.{step}
 use Rattle.iv_step.specs.Telling.{commits, statement_told}
 use Rattle.iv_session.proofs.Told.{barred_untold, commit_is_told}
-use Rattle.iv_session.specs.Words.{Statement}
+use Rattle.iv_session.specs.Types.{Statement}
 use Rattle.iv_state.specs.Kept.{Seen}
 use Rattle.iv_state.specs.Performing.{Performs, Runs}
 use Rattle.iv_state.proofs.Performed.{always_runs, runs_performed}

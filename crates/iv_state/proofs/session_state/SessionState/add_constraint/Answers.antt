@@ -1,8 +1,8 @@
 use Rattle.std.proofs.Common.{◌≡◌, ◌∙◌, ap, sym, subst, false, None, Err}
 use Rattle.iv_account.specs.Telling.{no_account}
 use Rattle.iv_catalogue.specs.Catalogues.{with_constraint}
-use Rattle.iv_state.specs.Words.{Refusal}
-use Rattle.iv_state.specs.Words.answer.{Done}
+use Rattle.iv_state.specs.Types.{Refusal}
+use Rattle.iv_state.specs.Types.answer.{Done}
 use Rattle.iv_machine.specs.Machine.{State, is_open, no_work, add_constraint_outcome, with_schema}
 use Rattle.iv_store.specs.Stores.{first_violating_row}
 use Rattle.iv_state.specs.Kept.{Parts, parts, Seen, state_of}

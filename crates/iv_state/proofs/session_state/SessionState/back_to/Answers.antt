@@ -1,5 +1,5 @@
 use Rattle.std.proofs.Common.{◌≡◌, ◌∙◌, ◌<◌, ◌-◌, ap, sym, subst, refl, true, length, get_or, Option, Some, None, IfSome}
-use Rattle.iv_state.specs.Words.{Database}
+use Rattle.iv_state.specs.Types.{Database}
 use Rattle.iv_machine.specs.Databases.{no_rows}
 use Rattle.iv_machine.specs.Machine.{is_open}
 use Rattle.iv_store.specs.Stores.{store_at_mark}

@@ -1,5 +1,5 @@
 use Rattle.std.proofs.Common.{◌∙◌, ap, find, not, List}
-use Rattle.iv_state.specs.Words.{Fault}
+use Rattle.iv_state.specs.Types.{Fault}
 use Rattle.iv_machine.specs.Databases.{is_deferred}
 use Rattle.iv_state.proofs.Deferred.{made_immediate}
 use Rattle.iv_state.proofs.session_state.SessionState.first_made_immediate.Goals as goal

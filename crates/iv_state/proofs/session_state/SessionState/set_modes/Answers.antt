@@ -2,9 +2,9 @@ use Rattle.std.proofs.Common.{false, List, ◌≡◌, ◌∙◌, ap, sym, subst,
 use Rattle.iv_account.specs.declared.entry.Entry.{Entry}
 use Rattle.iv_account.specs.Sessions.{modes_told, set_constraints_told}
 use Rattle.iv_account.specs.Telling.{and_told, no_account}
-use Rattle.iv_state.specs.Words.{Fault}
-use Rattle.iv_state.specs.Words.cause.{NotDeferrable, Violation}
-use Rattle.iv_state.specs.Words.answer.{Done}
+use Rattle.iv_state.specs.Types.{Fault}
+use Rattle.iv_state.specs.Types.cause.{NotDeferrable, Violation}
+use Rattle.iv_state.specs.Types.answer.{Done}
 use Rattle.iv_machine.specs.Machine.{State, accept, first_made_immediate, is_open, no_work, refuse_first, set_constraints_outcome}
 use Rattle.iv_modes.specs.ModeMaps.{ModeMap}
 use Rattle.iv_state.specs.Kept.{IsOpen, Parts, parts, Seen, StandsAs, state_of}

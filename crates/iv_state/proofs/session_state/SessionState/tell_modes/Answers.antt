@@ -1,5 +1,5 @@
 use Rattle.std.proofs.Common.{◌≡◌, ◌∙◌, List, filter, not, ap, sym, subst, OnOk}
-use Rattle.iv_state.specs.Words.{Fault}
+use Rattle.iv_state.specs.Types.{Fault}
 use Rattle.iv_machine.specs.declared.database.Which.TheVariants.{Deferred}
 use Rattle.iv_machine.specs.Databases.{is_chosen, is_deferred, scan}
 use Rattle.iv_machine.specs.Machine.{State}

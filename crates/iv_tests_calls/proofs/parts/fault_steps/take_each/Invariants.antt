@@ -1,4 +1,4 @@
-use Rattle.iv_faults.specs.Watching.{AreWatched, IsShownBy}
+use Rattle.iv_store_faults.specs.Watching.{AreWatched, IsShownBy}
 use Rattle.iv_tests_calls.proofs.parts.fault_steps.take_each.Given as goal
 
 abbrev pub invariant-loop-step : goal.invariant-loop-step

@@ -2,8 +2,8 @@ use Rattle.std.proofs.Common.{◌≡◌, ℕ, ◌<◌, List, Some, length, refl,
 use Rattle.std.proofs.lemmas.Option.{slice_get_read, slice_get_within}
 use Rattle.iv_value.specs.declared.value.Value.{Value}
 use Rattle.iv_catalogue.specs.declared.constraint.Constraint.{Constraint}
-use Rattle.iv_index.specs.Groups.{groups_of, room_of}
-use Rattle.iv_following.specs.Sides.{side_key}
+use Rattle.iv_store_groups.specs.Groups.{groups_of, room_of}
+use Rattle.iv_store_following.specs.BorrowedChange.{side_key}
 use Rattle.iv_tests_calls.proofs.TakenBack.{next_place}
 use Rattle.iv_tests_calls.proofs.parts.rows.has_room_back.Goals as goal
 

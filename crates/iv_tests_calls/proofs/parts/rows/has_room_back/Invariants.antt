@@ -1,8 +1,8 @@
 use Rattle.std.proofs.Common.{◌≡◌, ℕ, ◌<◌, List, slice_get, Some}
 use Rattle.iv_value.specs.declared.value.Value.{Value}
 use Rattle.iv_catalogue.specs.declared.constraint.Constraint.{Constraint}
-use Rattle.iv_index.specs.Groups.{groups_of, room_of}
-use Rattle.iv_following.specs.Sides.{side_key}
+use Rattle.iv_store_groups.specs.Groups.{groups_of, room_of}
+use Rattle.iv_store_following.specs.BorrowedChange.{side_key}
 use Rattle.iv_tests_calls.proofs.parts.rows.has_room_back.Given as goal
 
 -- there is room for the constraints before the place

@@ -1,6 +1,6 @@
 use Rattle.std.proofs.Common.{Some, sym, ap, ◌∙◌}
 use Rattle.iv_key.specs.Keys.{key_of}
-use Rattle.iv_index.specs.Groups.{groups_of, room_of}
+use Rattle.iv_store_groups.specs.Groups.{groups_of, room_of}
 use Rattle.iv_laws_kept.specs.Kept.{kept_key, key_or, null_key}
 use Rattle.iv_tests_calls.proofs.TakenBack.{room_under}
 use Rattle.iv_tests_calls.proofs.parts.rows.has_room_for.Goals as goal

@@ -1,6 +1,6 @@
 use Rattle.std.proofs.Common.{sym, ap, subst}
-use Rattle.iv_faults.specs.Watching.{IsShownBy}
-use Rattle.iv_faults.proofs.Shows.{shown_rows_are_present}
+use Rattle.iv_store_faults.specs.Watching.{IsShownBy}
+use Rattle.iv_store_faults.proofs.Shows.{shown_rows_are_present}
 use Rattle.iv_tests_calls.proofs.TakenBack.{expected}
 use Rattle.iv_tests_calls.proofs.parts.rows.make.Goals as goal
 

@@ -1,8 +1,8 @@
 use Rattle.std.proofs.Common.{[], ◌∷◌, sym, ap, subst, ◌∙◌}
 use Rattle.iv_machine.specs.Databases.{rows_after}
 use Rattle.iv_laws_kept.specs.Moves.{taken_back}
-use Rattle.iv_faults.specs.Watching.{IsShownBy}
-use Rattle.iv_faults.proofs.Shows.{shown_rows_are_present}
+use Rattle.iv_store_faults.specs.Watching.{IsShownBy}
+use Rattle.iv_store_faults.proofs.Shows.{shown_rows_are_present}
 use Rattle.iv_tests_calls.proofs.TakenBack.{expected, held_before, made_again}
 use Rattle.iv_tests_calls.proofs.parts.rows.make_back.Goals as goal
 

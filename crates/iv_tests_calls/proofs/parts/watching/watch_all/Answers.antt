@@ -1,6 +1,6 @@
 use Rattle.std.proofs.Common.{refl, [], ◌++◌, sym, ap, subst, ◌∙◌}
-use Rattle.iv_index.specs.Groups.{groups_of}
-use Rattle.iv_faults.specs.Watching.{IsShownBy}
+use Rattle.iv_store_groups.specs.Groups.{groups_of}
+use Rattle.iv_store_faults.specs.Watching.{IsShownBy}
 use Rattle.iv_tests_calls.proofs.TakenBack.{expected}
 use Rattle.iv_tests_calls.proofs.Watched.{nothing_shown, no_row_shown}
 use Rattle.iv_tests_calls.proofs.parts.watching.watch_all.Goals as goal

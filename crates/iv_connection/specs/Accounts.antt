@@ -1,0 +1,90 @@
+-- What C reads of an account, entry by entry and item by item. Places count from 0.
+use Rattle.std.specs.Prelude.{ℕ, zero, suc, Bool, List, length, is_some, if◌then◌else◌, slice_get, Option, Some, None, option_and_then, option_map}
+use Rattle.iv_account.specs.declared.entry.Entry.{Entry}
+use Rattle.iv_account.specs.declared.entry.Entry.TheVariants.{Changed, Acted, Ran, Began, Ended, Faulted}
+use Rattle.iv_account.specs.declared.entry.RowAction.{RowAction}
+use Rattle.iv_account.specs.declared.entry.TriggerView.{TriggerView}
+use Rattle.iv_catalogue.specs.Catalogues.{Schema}
+use Rattle.iv_expr.specs.declared.row.Change.{Change}
+use Rattle.iv_expr.specs.declared.row.StoredRow.{StoredRow}
+use Rattle.iv_value.specs.declared.value.Value.{Value}
+use Rattle.iv_connection.specs.Catalogue.{action_number}
+use Rattle.iv_connection.specs.Texts.{trigger_named}
+use Rattle.iv_connection.specs.declared.accounts.ShownEntry.{ShownEntry}
+use Rattle.iv_connection.specs.declared.accounts.ShownItem.{ShownItem}
+
+abbrev pub flag : Bool → ℕ
+flag b = if b then 1 else 0
+
+abbrev pub no_entry : ShownEntry
+no_entry = record { kind = 0; statement = 0; constraint = 0; has_old = 0; has_new = 0; items = 0; row = 0 }
+
+-- what kind of entry it is, and what it tells besides its items
+abbrev pub entry_shown : Entry → ShownEntry
+entry_shown (Changed changes) = record no_entry { items = length changes }
+entry_shown (Acted actions) = record no_entry { kind = 1; items = length actions }
+entry_shown (Ran trigger seen) =
+    record no_entry { kind = 2; has_old = flag (is_some seen.old); has_new = flag (is_some seen.new); items = length seen.transition }
+entry_shown (Began place) = record no_entry { kind = 3; statement = place }
+entry_shown Ended = record no_entry { kind = 4 }
+entry_shown (Faulted fault rows) = record no_entry { kind = 5; constraint = fault.constraint; items = length rows; row = fault.row }
+
+-- the trigger that runs
+abbrev pub entry_trigger : Schema → Entry → Option (List ℕ)
+entry_trigger s (Ran trigger seen) = Some (trigger_named s (Some trigger))
+entry_trigger s _ = None
+
+abbrev pub change_shown : Change → ShownItem
+change_shown c =
+    record { table = c.table; constraint = 0; action = 0; has_old = flag (is_some c.old); has_new = flag (is_some c.new); row = c.row }
+
+abbrev pub row_action_shown : RowAction → ShownItem
+row_action_shown a =
+    record { table = a.table; constraint = a.constraint; action = action_number a.action; has_old = 0; has_new = 0; row = a.row }
+
+abbrev pub stored_shown : StoredRow → ShownItem
+stored_shown r = record { table = r.table; constraint = 0; action = 0; has_old = 0; has_new = 1; row = r.number }
+
+-- a change of a wave or of a trigger's transition tables, an action, or a row that a violation is about
+abbrev pub item_shown : Entry → ℕ → Option ShownItem
+item_shown (Changed changes) item = option_map change_shown (slice_get changes item)
+item_shown (Acted actions) item = option_map row_action_shown (slice_get actions item)
+item_shown (Ran trigger seen) item = option_map change_shown (slice_get seen.transition item)
+item_shown (Faulted fault rows) item = option_map stored_shown (slice_get rows item)
+item_shown _ item = None
+
+-- the values of a row before a change, on side 0, and after it, on side 1
+abbrev pub side_of : Option (List Value) → Option (List Value) → ℕ → Option (List Value)
+side_of old new zero = old
+side_of old new (suc zero) = new
+side_of old new (suc (suc n)) = None
+
+abbrev pub change_side : ℕ → Change → Option (List Value)
+change_side side c = side_of c.old c.new side
+
+-- the values of an item: those of a change, and on side 1 those of a row that a violation is about
+abbrev pub item_values : Entry → ℕ → ℕ → Option (List Value)
+item_values (Changed changes) item side = option_and_then (change_side side) (slice_get changes item)
+item_values (Ran trigger seen) item side = option_and_then (change_side side) (slice_get seen.transition item)
+item_values (Faulted fault rows) item side = side_of None (option_map (λ r. r.values) (slice_get rows item)) side
+item_values _ item side = None
+
+-- OLD, on side 0, and NEW, on side 1, of a trigger that runs for a row
+abbrev pub seen_values : Entry → ℕ → Option (List Value)
+seen_values (Ran trigger seen) side = side_of seen.old seen.new side
+seen_values _ side = None
+
+-- in the list of entries
+abbrev pub item_at : List Entry → ℕ → ℕ → Option ShownItem
+item_at entries at item = option_and_then (λ e. item_shown e item) (slice_get entries at)
+
+abbrev pub item_value : List Entry → ℕ → ℕ → ℕ → ℕ → Option Value
+item_value entries at item side column =
+    option_and_then (λ values. slice_get values column) (option_and_then (λ e. item_values e item side) (slice_get entries at))
+
+abbrev pub seen_value : List Entry → ℕ → ℕ → ℕ → Option Value
+seen_value entries at side column =
+    option_and_then (λ values. slice_get values column) (option_and_then (λ e. seen_values e side) (slice_get entries at))
+
+abbrev pub trigger_at_entry : Schema → List Entry → ℕ → Option (List ℕ)
+trigger_at_entry s entries at = option_and_then (entry_trigger s) (slice_get entries at)

@@ -1,0 +1,14 @@
+pub mod Accounts
+pub mod Catalogue
+pub mod Copying
+pub mod Kinds
+pub mod OutcomeLines
+pub mod Queries
+pub mod Rows
+pub mod Scripts
+pub mod Sessions
+pub mod Statements
+pub mod Statuses
+pub mod Templates
+pub mod Texts
+pub mod Transactions

@@ -1,0 +1,36 @@
+-- The statements that are read of a template, and why none are.
+use Rattle.std.specs.Prelude.{◌≡◌, ◌≢◌, ℕ, List, length, Option, option_map}
+use Rattle.std.specs.Str.{IsUtf8}
+use Rattle.iv_parse.specs.Script.{IsScript}
+use Rattle.iv_parse.specs.declared.parser.SyntaxFault.{SyntaxFault}
+use Rattle.iv_syntax.specs.declared.statement.Statement.{Statement}
+use Rattle.iv_template.specs.Holes.{HasHoles, StopsAt}
+use Rattle.iv_template.specs.Templates.{Fills}
+use Rattle.iv_value.specs.declared.value.Value.{Value}
+use Rattle.iv_connection.specs.Statements.{IsRead}
+use Rattle.iv_connection.specs.declared.statements.ReadScript.{ReadScript}
+use Rattle.iv_connection.specs.declared.status.TheConstants.{NOT_UTF8, NO_MEMORY, WRONG_COUNT, NO_TEMPLATE}
+
+-- The statements are those of a text that is the template with the values in place of its question marks, one for each.
+pub record IsScriptOfTemplate (template : List ℕ) (values : List Value) (statements : List Statement) (fault : Option SyntaxFault) : Type 0 where
+  pub text : List ℕ
+  pub fills : Fills template values text
+  pub script : IsScript text statements (option_map (λ f. f.at) fault)
+
+-- What C reads of them is how many they are and the place of the fault in the filled text.
+pub record IsReadOfTemplate (template : List ℕ) (values : List Value) (statements : List Statement) (shown : ReadScript) : Type 0 where
+  pub text : List ℕ
+  pub fills : Fills template values text
+  pub read : IsRead text statements shown
+
+-- Why a template isn't filled with these values: it has so many question marks, and there are not so many values; or it stops at a place
+-- where there is neither a token nor a question mark; or memory was refused.
+pub record WhyNotFilled (template : List ℕ) (values : List Value) (status : ℕ) : Type 0 where
+  pub one_of : status ≢ WRONG_COUNT → status ≢ NO_TEMPLATE → status ≡ NO_MEMORY
+  pub count : status ≡ WRONG_COUNT → (count : ℕ) × HasHoles template count × (count ≢ length values)
+  pub stops : status ≡ NO_TEMPLATE → (place : ℕ) × StopsAt template place
+
+-- so of a template that may be no UTF-8
+pub record WhyNotRead (template : List ℕ) (values : List Value) (status : ℕ) : Type 0 where
+  pub not_utf8 : status ≡ NOT_UTF8 → ¬ (IsUtf8 template)
+  pub utf8 : status ≢ NOT_UTF8 → IsUtf8 template × WhyNotFilled template values status

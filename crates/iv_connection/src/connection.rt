@@ -1,0 +1,30 @@
+//! What is open behind a handle.
+use iv_catalogue::Fault;
+use iv_machine::Limits;
+use iv_session::{Outcome, Session};
+use iv_store_index::IndexStore;
+use iv_syntax::Statement;
+use iv_value::Value;
+use sqlite_items::Items;
+
+/// A session over the store that finds rows by their keys.
+pub type Database = Session<IndexStore>;
+
+/// What is open behind a handle.
+#[derive(Drop)]
+pub struct Connection {
+    pub limits: Limits,
+    pub session: Database,
+    /// The statements that were read last.
+    pub statements: Items<Statement>,
+    /// The values for the question marks of the next template.
+    pub values: Items<Value>,
+    /// What the last statement or call answered.
+    pub outcome: Outcome,
+    /// The place among the statements of the one that answered it; none where another call did, or others were read since.
+    pub executed: Option<usize>,
+    /// The violations that were found last.
+    pub pending: Vec<Fault>,
+    /// The transcript of the last script that was run, or the lines of an outcome.
+    pub transcript: Vec<u8>,
+}

@@ -1,0 +1,27 @@
+//! A session is connection and closed.
+ghost use Rattle.std.specs.Prelude.{None, IfOk};
+ghost use Rattle.iv_connection.specs.Sessions.{IsNew};
+
+use crate::connection::{Connection, Database};
+use iv_machine::Limits;
+use iv_session::Answer;
+use sqlite_items::Items;
+use std::alloc::{AllocError, Global};
+
+/// A session with these limits, in a box.
+pub fn new_connection(alloc: Global, limits: Limits) -> Result<Box<Connection>, AllocError>
+    ensures { IfOk result (λ b. IsNew limits b.value) }
+{
+    let session = Database::new(alloc, limits)?;
+    let connection = Connection {
+        limits,
+        session,
+        statements: Items::new(alloc),
+        values: Items::new(alloc),
+        outcome: Ok(Answer::Done),
+        executed: None,
+        pending: Vec::new(alloc),
+        transcript: Vec::new(alloc),
+    };
+    Ok(Box::new(alloc, connection)?)
+}

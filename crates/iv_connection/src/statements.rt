@@ -1,0 +1,173 @@
+//! Statements, one after the other in the session.
+ghost use Rattle.std.specs.Prelude.{◌≡◌, ◌≢◌, None, Some, false, is_some, true, IfErr, IfOk, IfSome, OnOk, option_copied, option_map, slice_get};
+ghost use Rattle.std.specs.Str.{IsUtf8};
+ghost use Rattle.iv_parse.specs.Script.{IsScript};
+ghost use Rattle.iv_connection.specs.OutcomeLines.{executed, lines_of};
+ghost use Rattle.iv_session.specs.Executed.{Executed};
+ghost use Rattle.iv_connection.specs.Statements.{IsRead, place_shown};
+ghost use Rattle.iv_connection.specs.Statuses.{MayWantMemory, found};
+
+use crate::connection::{Connection, Database};
+use crate::status::{NO_MEMORY, NOT_UTF8, OK};
+use iv_parse::{Parsed, SyntaxFault, script};
+use iv_print::{DeviceFault, Format, Std, Style};
+use iv_script::{Telling, write_lines};
+use iv_session::Outcome;
+use iv_syntax::Statement;
+use sqlite_items::Items;
+use std::alloc::Global;
+use std::str::from_utf8;
+
+/// How many statements were read from a text, and where it has its fault.
+#[repr(C)]
+#[derive(Drop)]
+pub struct ReadScript {
+    pub statements: u64,
+    /// 1 where the text has a fault, and otherwise 0.
+    pub has_fault: u64,
+    pub fault_at: u64,
+}
+
+/// What C reads of the statements of a text.
+pub fn read_shown(count: usize, fault: Option<SyntaxFault>) -> ReadScript
+    ensures count { result.statements ≡ count }
+    ensures place { place_shown fault result.has_fault result.fault_at }
+{
+    match fault {
+        Some(fault) => ReadScript {
+            statements: count as u64,
+            has_fault: 1,
+            fault_at: fault.at as u64,
+        },
+        None => ReadScript {
+            statements: count as u64,
+            has_fault: 0,
+            fault_at: 0,
+        },
+    }
+}
+
+// The statements of a text, or the status of the call that wanted them.
+fn parsed(alloc: Global, text: &[u8]) -> Result<Parsed, u32>
+    ensures script { IfOk result (λ p. IsScript text.now p.statements (option_map (λ f. f.at) p.fault)) }
+    ensures utf8 { OnOk result (IsUtf8 text.now) }
+    ensures not_utf8 { IfErr result (λ e. e ≡ NOT_UTF8 → ¬ (IsUtf8 text.now)) }
+    ensures kinds { IfErr result (λ e. (e ≢ OK) × (e ≢ NOT_UTF8 → (e ≡ NO_MEMORY) × IsUtf8 text.now)) }
+{
+    let Ok(text) = from_utf8(text) else {
+        return Err(NOT_UTF8);
+    };
+    match script(alloc, text) {
+        Ok(parsed) => Ok(parsed),
+        Err(_) => Err(NO_MEMORY),
+    }
+}
+
+/// The statements of a text with what C reads of them, or the status of the call that wanted them.
+pub fn read_text(alloc: Global, text: &[u8]) -> Result<(Items<Statement>, ReadScript), u32>
+    ensures script { IfOk result (λ r. IsRead text.now r.0 r.1) }
+    ensures utf8 { OnOk result (IsUtf8 text.now) }
+    ensures not_utf8 { IfErr result (λ e. e ≡ NOT_UTF8 → ¬ (IsUtf8 text.now)) }
+    ensures kinds { IfErr result (λ e. (e ≢ OK) × (e ≢ NOT_UTF8 → (e ≡ NO_MEMORY) × IsUtf8 text.now)) }
+{
+    let parsed = parsed(alloc, text)?;
+    let script = read_shown(parsed.statements.len(), parsed.fault);
+    Ok((parsed.into_statements(), script))
+}
+
+fn statement_at(statements: &[Statement], at: usize) -> Option<&Statement>
+    ensures { option_copied result ≡ slice_get statements.now at }
+{
+    statements.get(at)
+}
+
+// Executes the statement at this place of a list.
+fn execute_at(session: &mut Database, statements: &[Statement], at: usize) -> Option<Outcome>
+    ensures executed { IfSome result (λ r. IfSome (slice_get statements.now at) (λ st.
+        Executed true session.old st r session.new)) }
+    ensures found { is_some result ≡ is_some (slice_get statements.now at) }
+    ensures none { result ≡ None → session.new ≡ session.old }
+{
+    match statement_at(statements, at) {
+        Some(statement) => Some(session.execute(statement)),
+        None => None,
+    }
+}
+
+/// Executes the statement at this place of those that were read, and keeps its outcome.
+pub fn execute_kept(connection: &mut Connection, at: usize) -> bool
+    ensures executed { result ≡ true → IfSome (slice_get connection.old.statements at) (λ st.
+        Executed true connection.old.session st connection.new.outcome connection.new.session) }
+    ensures rest { result ≡ true → connection.new ≡ record connection.old {
+      session = connection.new.session;
+      outcome = connection.new.outcome;
+      executed = Some at;
+    } }
+    ensures found { result ≡ is_some (slice_get connection.old.statements at) }
+    ensures none { result ≡ false → connection.new ≡ connection.old }
+{
+    match execute_at(
+        &mut connection.session,
+        connection.statements.as_slice(),
+        at,
+    ) {
+        Some(outcome) => {
+            connection.outcome = outcome;
+            connection.executed = Some(at);
+            true
+        }
+        None => false,
+    }
+}
+
+/// The statement that was executed last, where it is among those that were read last.
+pub fn executed(connection: &Connection) -> Option<&Statement>
+    ensures { option_copied result ≡ executed connection.now.statements connection.now.executed }
+{
+    match connection.executed {
+        Some(at) => statement_at(connection.statements.as_slice(), at),
+        None => None,
+    }
+}
+
+// The lines of the last outcome in this format, as the program writes them.
+fn lines(
+    alloc: Global,
+    format: Format,
+    number: u64,
+    connection: &Connection,
+) -> Result<Vec<u8>, DeviceFault>
+    ensures { IfOk result (λ t. t.items ≡ lines_of format number connection.now) }
+{
+    let style = Style {
+        format,
+        explain: connection.session.explains(),
+    };
+    let mut writer = Std::new(Vec::new(alloc));
+    write_lines(
+        &mut writer,
+        Telling { style, alloc },
+        number,
+        executed(connection),
+        &connection.outcome,
+        connection.session.catalogue(),
+        connection.session.account(),
+    )?;
+    Ok(writer.into_inner())
+}
+
+/// Keeps the lines of the last outcome as a transcript.
+pub fn keep_lines(alloc: Global, format: Format, number: u64, connection: &mut Connection) -> u32
+    ensures lines { result ≡ OK → connection.new.transcript.items ≡ lines_of format number connection.old }
+    ensures rest { connection.new ≡ record connection.old { transcript = connection.new.transcript } }
+    ensures others { result ≢ OK → connection.new ≡ connection.old }
+    ensures status { MayWantMemory result }
+{
+    match lines(alloc, format, number, &*connection) {
+        Ok(bytes) => {
+            connection.transcript = bytes;
+            OK
+        }
+        Err(_) => NO_MEMORY,
+    }
+}

@@ -1,5 +1,0 @@
-use Rattle.iv_exec.proofs.Lending.{parts_are_transitions}
-use Rattle.iv_exec.proofs.lent.are_transitions.Goals as goal
-
-pub returns : goal.returns
-returns c = parts_are_transitions c.args.context.now.schema.tables c.args.trigger.now c.args.transitions.now c.args.changes.now c.requires.parts c.requires.changes

@@ -1,0 +1,2 @@
+pub mod Untriggered
+mod InTurn

@@ -1,0 +1,450 @@
+//! BEFORE triggers: those of a statement, and those of the rows of a wave ("Execution of BEFORE triggers").
+ghost use Rattle.std.specs.Prelude.{◌≡◌, ◌≤◌, ◌<◌, ◌+◌, ◌^◌, ◌&&◌, false, [], ◌∷◌, length, slice_set, filter, IfOk, OnOk};
+ghost use Rattle.std.specs.List.{enumerate_from};
+ghost use Rattle.iv_account.specs.Accounts.{before_each_told, before_row_told, before_rows_told, before_statement_told, before_triggers_told, ran, ran_where_true, told_in_turn};
+ghost use Rattle.iv_account.specs.Telling.{and_told};
+ghost use Rattle.iv_catalogue.specs.Catalogues.{BodiesWithinLimit};
+ghost use Rattle.iv_catalogue.specs.declared.limits.TheConstants.{MOST_BODY_STATEMENTS};
+ghost use Rattle.iv_expr.specs.Evaluation.{value};
+ghost use Rattle.iv_expr.specs.Scopes.{no_frame, scope_of};
+ghost use Rattle.iv_laws_rows.specs.Changing.{UnlessMemory};
+ghost use Rattle.iv_machine.specs.BeforeTriggers.{before_row_run, before_statement, before_statement_run, change_after_set, change_after_statement, change_after_trigger, change_frame, changes_after_triggers, is_before_row_on, is_before_this, is_signal, placed_statements, unless_signal, with_new_value};
+ghost use Rattle.iv_machine.specs.Context.{each, in_turn, while_running};
+ghost use Rattle.iv_machine.specs.Proposals.{holds, stored_value};
+ghost use Rattle.iv_exec_context.specs.Answering.{AnswersCause, AnswersRefusal, UnlessMemoryCause};
+
+use crate::columns::{is_on_columns, is_on_set_columns};
+use crate::matching::{
+    event_of, event_of_change, is_before_row, is_before_statement, is_on, table_of,
+};
+use iv_account::Account;
+use iv_catalogue::{BodyStatement, Cause, DataStatement, Refusal, Setting, Trigger};
+use iv_exec_context::{Context, holds, stored_value};
+use iv_expr::{Change, Frame, Row, Rows, Scope, TableColumn};
+use iv_value::Value;
+use std::alloc::{AllocError, Global};
+
+fn copied(alloc: Global, row: &[Value]) -> Result<Vec<Value>, AllocError>
+    ensures { IfOk result (λ values. values.items ≡ row.now) }
+{
+    let mut values = Vec::new(alloc);
+    for value in row {
+        let copy = value.clone()?;
+        values.push(copy)?;
+    }
+    Ok(values)
+}
+
+// The row with a column set.
+fn with_value(alloc: Global, row: &[Value], column: u32, value: Value) -> Result<Row, AllocError>
+    ensures { IfOk result (λ r. r ≡ slice_set row.now column value) }
+{
+    let mut values = copied(alloc, row)?;
+    let place = column as usize;
+    if place < values.len() {
+        values[place] = value;
+    }
+    Row::new(values)
+}
+
+// Sets a column of the new row.
+fn set_new_value(
+    alloc: Global,
+    change: &mut Change,
+    column: u32,
+    value: Value,
+) -> Result<(), AllocError>
+    ensures { OnOk result (change.exit.now ≡ with_new_value change.entry.now column value) }
+{
+    if let Some(row) = &change.new {
+        let set = with_value(alloc, row.values(), column, value)?;
+        change.new = Some(set);
+    }
+    Ok(())
+}
+
+// The value of a SET at a change.
+fn value_of_set<'x, R: Rows>(
+    context: &Context<'_>,
+    rows: &'x R,
+    setting: &Setting,
+    change: &'x Change,
+) -> Result<Value, Cause>
+    ensures { AnswersCause (λ v. v) result
+        (stored_value context.now change.now.table setting.now.column
+        (value (scope_of (change_frame change.now) (R.rows rows.now)) setting.now.value)) }
+{
+    let frame = Frame::at(&[], change);
+    let scope = Scope::new(rows, &frame);
+    stored_value(
+        context,
+        change.table,
+        setting.column as usize,
+        &setting.value,
+        &scope,
+    )
+}
+
+// A SET at a change.
+fn set<R: Rows>(
+    alloc: Global,
+    context: &Context<'_>,
+    rows: &R,
+    setting: &Setting,
+    change: &mut Change,
+) -> Result<(), Cause>
+    ensures { AnswersCause (λ _. change.exit.now) result
+        (change_after_set context.now (R.rows rows.now) setting.now change.entry.now) }
+{
+    let value = value_of_set(context, rows, setting, &*change)?;
+    set_new_value(alloc, change, setting.column, value)?;
+    Ok(())
+}
+
+// A statement of a trigger's body at a change. A BEFORE trigger has no data statement.
+fn run_statement<R: Rows>(
+    alloc: Global,
+    context: &Context<'_>,
+    rows: &R,
+    trigger: &Trigger,
+    place: u32,
+    statement: &BodyStatement,
+    change: &mut Change,
+) -> Result<(), Cause>
+    ensures { AnswersCause (λ _. change.exit.now) result
+        (change_after_statement context.now
+        (R.rows rows.now) trigger.now place statement.now change.entry.now) }
+{
+    match statement {
+        BodyStatement::Set(setting) => set(alloc, context, rows, setting, change),
+        BodyStatement::Signal(_) => Err(Cause::Signal(trigger.id, place)),
+        BodyStatement::Data(_) => Ok(()),
+    }
+}
+
+// The statements of a trigger's body at a change, in their order.
+fn run_body<R: Rows>(
+    alloc: Global,
+    context: &Context<'_>,
+    rows: &R,
+    trigger: &Trigger,
+    change: &mut Change,
+) -> Result<(), Cause>
+    requires { length trigger.now.body ≤ MOST_BODY_STATEMENTS }
+    ensures { AnswersCause (λ _. change.exit.now) result
+        (in_turn (λ s. change_after_statement context.now (R.rows rows.now) trigger.now s.0 s.1)
+        (placed_statements trigger.now) change.entry.now) }
+{
+    let body = trigger.body.as_slice();
+    let mut place = 1u32;
+    for statement in body {
+        run_statement(alloc, context, rows, trigger, place, statement, change)?;
+        place += 1;
+    }
+    Ok(())
+}
+
+// Whether the WHEN of a trigger takes effect at a change.
+fn fires<'x, R: Rows>(rows: &'x R, trigger: &Trigger, change: &'x Change) -> Result<bool, Cause>
+    ensures { result ≡ holds
+        (scope_of (change_frame change.now) (R.rows rows.now)) trigger.now.when }
+{
+    let frame = Frame::at(&[], change);
+    let scope = Scope::new(rows, &frame);
+    holds(&trigger.when, &scope)
+}
+
+// Tells that a BEFORE row trigger runs at a change.
+fn tell_at_row(trigger: &Trigger, change: &Change, account: &mut Account) -> Result<(), AllocError>
+    ensures told { OnOk result (account.new ≡ and_told account.old
+        (ran trigger.now (change_frame change.now) ∷ [])) }
+{
+    let frame = Frame::at(&[], change);
+    account.ran(trigger, &frame)
+}
+
+// A BEFORE row trigger at a change, if its WHEN is true. That it runs is told before its body runs.
+fn run_at_row<R: Rows>(
+    alloc: Global,
+    context: &Context<'_>,
+    rows: &R,
+    trigger: &Trigger,
+    change: &mut Change,
+    account: &mut Account,
+) -> Result<(), Cause>
+    requires { length trigger.now.body ≤ MOST_BODY_STATEMENTS }
+    ensures answer { AnswersCause (λ _. change.exit.now) result
+        (before_row_run context.now (R.rows rows.now) trigger.now change.entry.now) }
+    ensures told { UnlessMemoryCause result (account.new ≡ and_told account.old
+        (ran_where_true (R.rows rows.now) trigger.now (change_frame change.entry.now))) }
+{
+    if fires(rows, trigger, &*change)? {
+        tell_at_row(trigger, &*change, account)?;
+        run_body(alloc, context, rows, trigger, change)
+    } else {
+        Ok(())
+    }
+}
+
+// A BEFORE row trigger at a change of any table and event.
+#[tactic(auto, using(iv_exec_context::proofs::Answers::while_running_answers))]
+fn run_at_change<R: Rows>(
+    alloc: Global,
+    context: &Context<'_>,
+    rows: &R,
+    trigger: &Trigger,
+    change: &mut Change,
+    account: &mut Account,
+) -> Result<(), Refusal>
+    requires { length trigger.now.body ≤ MOST_BODY_STATEMENTS }
+    ensures answer { AnswersRefusal (λ _. change.exit.now) result
+        (change_after_trigger context.now (R.rows rows.now) trigger.now change.entry.now) }
+    ensures told { UnlessMemory result (account.new ≡ and_told account.old
+        (before_row_told (R.rows rows.now) trigger.now change.entry.now)) }
+{
+    if is_on(change.table, event_of_change(&*change), trigger) {
+        match run_at_row(alloc, context, rows, trigger, change, account) {
+            Ok(()) => Ok(()),
+            Err(cause) => Err(Refusal {
+                cause,
+                trigger: Some(trigger.id),
+            }),
+        }
+    } else {
+        Ok(())
+    }
+}
+
+// A BEFORE row trigger at each change, in their order.
+fn run_at_each<R: Rows>(
+    alloc: Global,
+    context: &Context<'_>,
+    rows: &R,
+    trigger: &Trigger,
+    changes: &mut [Change],
+    account: &mut Account,
+) -> Result<(), Refusal>
+    requires { length trigger.now.body ≤ MOST_BODY_STATEMENTS }
+    ensures length { length changes.exit.now ≡ length changes.entry.now }
+    ensures answer { AnswersRefusal (λ _. changes.exit.now) result
+        (each (change_after_trigger context.now (R.rows rows.now) trigger.now) changes.entry.now) }
+    ensures told { UnlessMemory result (account.new ≡ and_told account.old
+        (before_each_told context.now (R.rows rows.now) trigger.now changes.entry.now)) }
+{
+    let mut at = 0usize;
+    while at < changes.len() {
+        run_at_change(alloc, context, rows, trigger, &mut changes[at], account)?;
+        at += 1;
+    }
+    Ok(())
+}
+
+fn is_before_row_on(columns: &[TableColumn], trigger: &Trigger) -> bool
+    ensures { result ≡ is_before_row_on columns.now trigger.now }
+{
+    is_before_row(trigger) && is_on_columns(columns, trigger)
+}
+
+// Runs the BEFORE row triggers whose UPDATE OF list, if any, names one of these columns: in creation order, each at
+// every change.
+#[tactic(auto, using(iv_exec_context::proofs::Answers::refusal_then))]
+fn run_all<R: Rows>(
+    alloc: Global,
+    context: &Context<'_>,
+    rows: &R,
+    triggers: &[Trigger],
+    columns: &[TableColumn],
+    changes: &mut [Change],
+    account: &mut Account,
+) -> Result<(), Refusal>
+    requires { BodiesWithinLimit triggers.now }
+    ensures length { length changes.exit.now ≡ length changes.entry.now }
+    ensures answer { AnswersRefusal (λ _. changes.exit.now) result
+        (changes_after_triggers context.now (R.rows rows.now)
+        (filter (is_before_row_on columns.now) triggers.now) changes.entry.now) }
+    ensures told { UnlessMemory result (account.new ≡ and_told account.old
+        (before_triggers_told context.now (R.rows rows.now)
+        (filter (is_before_row_on columns.now) triggers.now) changes.entry.now)) }
+{
+    match triggers {
+        [] => Ok(()),
+        [trigger, rest @ ..] => {
+            if is_before_row_on(columns, trigger) {
+                run_at_each(alloc, context, rows, trigger, changes, account)?;
+                run_all(alloc, context, rows, rest, columns, changes, account)
+            } else {
+                run_all(alloc, context, rows, rest, columns, changes, account)
+            }
+        }
+    }
+}
+
+/// Runs the BEFORE row triggers of a wave with these columns, in creation order, and gives its changes. The triggers
+/// see the tables with these rows, as they are before the wave. The account records each trigger that runs before its
+/// body does. Without a trigger on their tables, the call takes one look at each change.
+#[tactic(auto, using(crate::proofs::Untriggered::rows_untouched, crate::proofs::Untriggered::rows_untold))]
+pub fn before_rows<R: Rows>(
+    alloc: Global,
+    context: &Context<'_>,
+    rows: &R,
+    columns: &[TableColumn],
+    changes: &mut [Change],
+    account: &mut Account,
+) -> Result<(), Refusal>
+    ensures length { length changes.exit.now ≡ length changes.entry.now }
+    ensures answer { AnswersRefusal (λ _. changes.exit.now) result
+        (changes_after_triggers context.now (R.rows rows.now)
+        (filter (is_before_row_on columns.now) context.now.schema.triggers) changes.entry.now) }
+    ensures told { UnlessMemory result (account.new ≡ and_told account.old
+        (before_rows_told context.now (R.rows rows.now) columns.now changes.entry.now)) }
+{
+    if !context.has_trigger_on(&*changes) {
+        return Ok(());
+    }
+    run_all(
+        alloc,
+        context,
+        rows,
+        context.catalogue().triggers(),
+        columns,
+        changes,
+        account,
+    )
+}
+
+// Whether the WHEN of a trigger takes effect if there is no row variable.
+fn fires_for_statement<R: Rows>(rows: &R, trigger: &Trigger) -> Result<bool, Cause>
+    ensures { result ≡ holds (scope_of no_frame (R.rows rows.now)) trigger.now.when }
+{
+    let frame = Frame::none();
+    let scope = Scope::new(rows, &frame);
+    holds(&trigger.when, &scope)
+}
+
+fn is_signal(statement: &BodyStatement) -> bool
+    ensures { result ≡ is_signal statement.now }
+{
+    matches!(statement, BodyStatement::Signal(_))
+}
+
+// Refused with the first SIGNAL of the body, if there is one.
+fn unless_signal(trigger: &Trigger) -> Result<(), Cause>
+    requires { length trigger.now.body ≤ MOST_BODY_STATEMENTS }
+    ensures { result ≡ unless_signal trigger.now }
+{
+    let body = trigger.body.as_slice();
+    let mut place = 1u32;
+    for statement in body {
+        if is_signal(statement) {
+            return Err(Cause::Signal(trigger.id, place));
+        }
+        place += 1;
+    }
+    Ok(())
+}
+
+// A BEFORE statement trigger, if its WHEN is true. That it runs is told before its body runs.
+fn run_for_statement<R: Rows>(
+    rows: &R,
+    trigger: &Trigger,
+    account: &mut Account,
+) -> Result<(), Cause>
+    requires { length trigger.now.body ≤ MOST_BODY_STATEMENTS }
+    ensures answer { AnswersCause (λ _. tt) result
+        (before_statement_run (R.rows rows.now) trigger.now) }
+    ensures told { UnlessMemoryCause result (account.new ≡ and_told account.old
+        (ran_where_true (R.rows rows.now) trigger.now no_frame)) }
+    ensures unasked { account.old.asked ≡ false
+        → result ≡ before_statement_run (R.rows rows.now) trigger.now }
+{
+    if fires_for_statement(rows, trigger)? {
+        let frame = Frame::none();
+        account.ran(trigger, &frame)?;
+        unless_signal(trigger)
+    } else {
+        Ok(())
+    }
+}
+
+fn run_named<R: Rows>(rows: &R, trigger: &Trigger, account: &mut Account) -> Result<(), Refusal>
+    requires { length trigger.now.body ≤ MOST_BODY_STATEMENTS }
+    ensures answer { AnswersRefusal (λ _. tt) result
+        (while_running trigger.now.id (before_statement_run (R.rows rows.now) trigger.now)) }
+    ensures told { UnlessMemory result (account.new ≡ and_told account.old
+        (ran_where_true (R.rows rows.now) trigger.now no_frame)) }
+    ensures unasked { account.old.asked ≡ false → result ≡ while_running trigger.now.id
+        (before_statement_run (R.rows rows.now) trigger.now) }
+{
+    match run_for_statement(rows, trigger, account) {
+        Ok(()) => Ok(()),
+        Err(cause) => Err(Refusal {
+            cause,
+            trigger: Some(trigger.id),
+        }),
+    }
+}
+
+fn is_before_this(statement: &DataStatement, trigger: &Trigger) -> bool
+    ensures { result ≡ is_before_this statement.now trigger.now }
+{
+    is_before_statement(trigger)
+        && is_on(table_of(statement), event_of(statement), trigger)
+        && is_on_set_columns(statement, trigger)
+}
+
+// Runs the BEFORE statement triggers of the statement's table and event whose UPDATE OF list, if any, names a column of
+// its SET list.
+#[tactic(auto, using(iv_exec_context::proofs::Answers::refusal_then))]
+fn run_statement_triggers<R: Rows>(
+    rows: &R,
+    triggers: &[Trigger],
+    statement: &DataStatement,
+    account: &mut Account,
+) -> Result<(), Refusal>
+    requires { BodiesWithinLimit triggers.now }
+    ensures answer { AnswersRefusal (λ _. tt) result (in_turn
+        (λ t _. while_running t.id (before_statement_run (R.rows rows.now) t))
+        (filter (is_before_this statement.now) triggers.now) tt) }
+    ensures told { UnlessMemory result (account.new ≡ and_told account.old (told_in_turn
+        (λ t _. while_running t.id (before_statement_run (R.rows rows.now) t))
+        (λ t _. ran_where_true (R.rows rows.now) t no_frame)
+        (filter (is_before_this statement.now) triggers.now) tt)) }
+    ensures unasked { account.old.asked ≡ false → result ≡ in_turn
+        (λ t _. while_running t.id (before_statement_run (R.rows rows.now) t))
+        (filter (is_before_this statement.now) triggers.now) tt }
+{
+    match triggers {
+        [] => Ok(()),
+        [trigger, rest @ ..] => {
+            if is_before_this(statement, trigger) {
+                run_named(rows, trigger, account)?;
+                run_statement_triggers(rows, rest, statement, account)
+            } else {
+                run_statement_triggers(rows, rest, statement, account)
+            }
+        }
+    }
+}
+
+/// Runs the BEFORE statement triggers of a statement, in creation order. The account records each trigger that runs
+/// before its body does. Without an account the call allocates nothing; on a table without triggers it takes constant
+/// time.
+#[tactic(auto, using(crate::proofs::Untriggered::none_before_statement, crate::proofs::Untriggered::none_told_before_statement))]
+pub fn before_statement<R: Rows>(
+    context: &Context<'_>,
+    rows: &R,
+    statement: &DataStatement,
+    account: &mut Account,
+) -> Result<(), Refusal>
+    ensures answer { AnswersRefusal (λ _. tt) result
+        (before_statement context.now (R.rows rows.now) statement.now) }
+    ensures told { UnlessMemory result (account.new ≡ and_told account.old
+        (before_statement_told context.now (R.rows rows.now) statement.now)) }
+    ensures unasked { account.old.asked ≡ false
+        → result ≡ before_statement context.now (R.rows rows.now) statement.now }
+{
+    if !context.has_trigger(table_of(statement)) {
+        return Ok(());
+    }
+    run_statement_triggers(rows, context.catalogue().triggers(), statement, account)
+}

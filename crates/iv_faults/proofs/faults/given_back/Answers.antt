@@ -1,6 +1,0 @@
-use Rattle.iv_faults.proofs.Shows.{shown_given}
-use Rattle.iv_faults.proofs.faults.given_back.Goals as goal
-
-pub returns-clause-shown : goal.returns-clause-shown
-returns-clause-shown c = λ rows shows.
-    shown_given c.args.constraints.now c.args.groups.now c.give_back.new.groups c.args.marks.now c.give_back.new.marks rows c.requires.taken_up.named c.give_back.ensures shows

@@ -1,5 +1,0 @@
-use Rattle.iv_faults.proofs.Rooming.{room_suffices as suffices}
-use Rattle.iv_faults.proofs.laws.room_suffices.Goals as goal
-
-pub returns : goal.returns
-returns c = suffices

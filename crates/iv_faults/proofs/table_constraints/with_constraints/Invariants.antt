@@ -1,8 +1,0 @@
-use Rattle.std.proofs.Common.{◌≡◌, ◌++◌, List, length, take}
-use Rattle.iv_faults.specs.Words.{Constraint}
-use Rattle.iv_faults.specs.Watch.{AreTabled}
-use Rattle.iv_faults.proofs.table_constraints.with_constraints.Given as goal
-
--- the constraints before the place are noted
-abbrev pub invariant-loop-place : goal.invariant-loop-place
-invariant-loop-place l = (olds : List Constraint) → length olds ≡ l.first → AreTabled olds l.tables → AreTabled (olds ++ take l.place l.more) l.lists.items

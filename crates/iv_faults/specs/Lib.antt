@@ -1,4 +1,0 @@
-pub mod Words
-pub mod Watch
-pub mod Watching
-pub mod Violating

@@ -1,7 +1,0 @@
-use Rattle.iv_following.proofs.Given.{all_given_more}
-use Rattle.iv_following.proofs.giving.give_back.Goals as goal
-
-pub loop-preserved : goal.loop-preserved
-loop-preserved c = record {
-  given = all_given_more c.args.groups.now c.loop.groups c.give_back_next.new.groups c.args.marks.now c.loop.marks c.give_back_next.new.marks c.loop.invariant.given c.give_back_next.ensures;
-}

@@ -1,5 +1,0 @@
-use Rattle.iv_index.proofs.GroupsLemmas.{sound_of}
-use Rattle.iv_index.proofs.key_index.sound.Goals as goal
-
-pub returns : goal.returns
-returns c = sound_of c.args.hashes.now c.args.groups.now c.requires

@@ -1,6 +1,0 @@
-use Rattle.iv_index_store.proofs.Clearing.{Clearing}
-use Rattle.iv_index_store.proofs.adding.clear.Given as goal
-
--- those before the number have no group
-abbrev pub invariant-loop-id : goal.invariant-loop-id
-invariant-loop-id l = Clearing l.first l.id l.initial.groups l.groups

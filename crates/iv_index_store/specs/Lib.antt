@@ -1,4 +1,0 @@
-pub mod Words
-pub mod Kept
-pub mod Keys
-pub mod Known

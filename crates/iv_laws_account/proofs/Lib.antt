@@ -1,2 +1,0 @@
-mod NoViolations
-mod Telling

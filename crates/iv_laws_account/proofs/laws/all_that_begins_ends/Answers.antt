@@ -1,5 +1,0 @@
-use Rattle.iv_laws_account.proofs.Telling.{all_that_begins_ends}
-use Rattle.iv_laws_account.proofs.laws.all_that_begins_ends.Goals as goal
-
-pub returns : goal.returns
-returns c = all_that_begins_ends

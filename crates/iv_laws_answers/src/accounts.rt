@@ -1,0 +1,20 @@
+//! Laws of accounts, each as the contract of a function that does nothing.
+ghost use Rattle.iv_laws_answers.specs.AccountLaws.{LevelsAreTold, StatementsAreTold, AllThatBeginsEnds, NoViolationOfAccepted, OneViolationOfRefused};
+
+/// The waves of an accepted data statement's account, applied one after another, give the database that the statement
+/// leaves: nothing is left out.
+pub fn accounts_lead_on()
+    ensures level { LevelsAreTold }
+    ensures state { StatementsAreTold }
+{}
+
+/// In the account of an accepted data statement each data statement that begins ends.
+pub fn all_that_begins_ends()
+    ensures { AllThatBeginsEnds }
+{}
+
+/// An account tells a violation exactly if the statement is refused for one, and as its last entry.
+pub fn accounts_tell_violations()
+    ensures accepted { NoViolationOfAccepted }
+    ensures refused { OneViolationOfRefused }
+{}

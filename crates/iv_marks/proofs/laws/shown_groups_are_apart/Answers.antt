@@ -1,5 +1,0 @@
-use Rattle.iv_marks.proofs.Apart.{shown_groups_are_apart}
-use Rattle.iv_marks.proofs.laws.shown_groups_are_apart.Goals as goal
-
-pub returns : goal.returns
-returns c = shown_groups_are_apart

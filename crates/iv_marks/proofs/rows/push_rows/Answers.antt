@@ -1,5 +1,0 @@
-use Rattle.iv_marks.proofs.Flags.{has_at}
-use Rattle.iv_marks.proofs.rows.push_rows.Goals as goal
-
-pub rows_of-requires : goal.rows_of-requires
-rows_of-requires c = c.requires _ (has_at c.args.places.now c.loop-place.place-index c.loop-place-test.true)

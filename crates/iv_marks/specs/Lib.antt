@@ -1,4 +1,0 @@
-pub mod Shown
-pub mod Marking
-pub mod Answers
-pub mod Apart

@@ -1,7 +1,0 @@
-//! Laws of groups, each as the contract of a function that does nothing.
-ghost use Rattle.iv_marks.specs.Apart.{ShownGroupsAreApart};
-
-/// Groups that show rows have no row in common within a constraint.
-pub fn shown_groups_are_apart()
-    ensures { ShownGroupsAreApart }
-{}

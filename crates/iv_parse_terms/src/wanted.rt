@@ -1,0 +1,38 @@
+//! The words that might have stood in a place.
+use iv_lex::TokenKind;
+
+/// The most kinds of words that are kept for a place.
+pub const MOST_WANTED: usize = 24;
+
+/// The kinds of words that were looked for in a place and not found there, in the order in which they were looked for.
+/// More than `MOST_WANTED` aren't kept.
+#[derive(Clone, Copy, Debug, PartialEq, Eq)]
+pub struct Wanted {
+    kinds: [TokenKind; MOST_WANTED],
+    count: usize,
+}
+
+impl Wanted {
+    /// No kind at all.
+    pub fn new() -> Wanted {
+        Wanted {
+            kinds: [TokenKind::Name; MOST_WANTED],
+            count: 0,
+        }
+    }
+
+    /// Adds a kind, where there is room for it.
+    pub fn add(&mut self, kind: TokenKind) {
+        let count = self.count;
+        if count < MOST_WANTED {
+            self.kinds[count] = kind;
+            self.count = count + 1;
+        }
+    }
+
+    /// The kinds.
+    pub fn as_slice(&self) -> &[TokenKind] {
+        let count = self.count.min(MOST_WANTED);
+        &self.kinds[..count]
+    }
+}

@@ -1,0 +1,14 @@
+use Rattle.std.proofs.Common.{length}
+use Rattle.std.specs.List.{flat_map}
+use Rattle.iv_key.specs.Keys.{key_of}
+use Rattle.iv_print.specs.Json.{further_value}
+use Rattle.iv_print.proofs.WriteLemmas.{Wrote}
+use Rattle.iv_print.proofs.json_account.write_more_columns.Given as goal
+
+abbrev pub invariant-loop-column : goal.invariant-loop-column
+invariant-loop-column g l =
+    Wrote (flat_map further_value (key_of l.fn.columns l.fn.row)) (flat_map further_value (key_of l.rest l.fn.row))
+    (g.W.Sink.state l.initial.sink) (g.W.Sink.state l.sink)
+
+abbrev pub decreases-loop-column : goal.decreases-loop-column
+decreases-loop-column g l = length l.rest

@@ -1,0 +1,227 @@
+-- An account as JSON: an array of entries. The entries of a nested statement are an array in the entry with which it begins.
+use Rattle.std.specs.Prelude.{ℕ, zero, suc, Bool, true, false, if◌then◌else◌, List, [], ◌∷◌, ◌++◌, codes, decimal, slice_get, Option, Some, None, Result, Ok, Err}
+use Rattle.std.specs.List.{flat_map}
+use Rattle.iv_value.specs.declared.value.Value.{Value}
+use Rattle.iv_key.specs.Keys.{key_of, none_null}
+use Rattle.iv_expr.specs.declared.row.StoredRow.{StoredRow}
+use Rattle.iv_expr.specs.declared.row.Change.{Change}
+use Rattle.iv_syntax.specs.declared.table.ReferentialAction.{ReferentialAction}
+use Rattle.iv_syntax.specs.declared.table.ReferentialAction.TheVariants as action
+use Rattle.iv_syntax.specs.declared.trigger.TriggerEvent.{TriggerEvent}
+use Rattle.iv_syntax.specs.declared.trigger.TriggerEvent.TheVariants as event
+use Rattle.iv_catalogue.specs.Catalogues.{Schema, trigger_numbered}
+use Rattle.iv_catalogue.specs.declared.constraint.Constraint.{Constraint}
+use Rattle.iv_catalogue.specs.declared.constraint.ForeignKey.{ForeignKey}
+use Rattle.iv_catalogue.specs.declared.constraint.Rule.{Rule}
+use Rattle.iv_catalogue.specs.declared.constraint.Rule.TheVariants as rule
+use Rattle.iv_catalogue.specs.declared.cause.Cause.{Cause}
+use Rattle.iv_catalogue.specs.declared.cause.Cause.TheVariants as cause
+use Rattle.iv_catalogue.specs.declared.cause.Refusal.{Refusal}
+use Rattle.iv_machine.specs.declared.answer.Answer.{Answer}
+use Rattle.iv_machine.specs.BeforeTriggers.{event_of_change}
+use Rattle.iv_account.specs.declared.entry.RowAction.{RowAction}
+use Rattle.iv_account.specs.declared.entry.TriggerView.{TriggerView}
+use Rattle.iv_account.specs.declared.entry.Entry.{Entry}
+use Rattle.iv_account.specs.declared.entry.Entry.TheVariants.{Changed, Acted, Ran, Began, Ended, Faulted}
+use Rattle.iv_print.specs.Lines.{name_of, trigger_name}
+use Rattle.iv_print.specs.AccountLines.{column_name_in, depth_after, table_name}
+use Rattle.iv_print.specs.Json.{json_row, json_text, json_values, key, member}
+
+-- ---- rows and changes
+
+-- the table and the number of a row
+abbrev pub place_members : Schema → ℕ → ℕ → List ℕ
+place_members s table row =
+    member (codes "table") ++ (json_text (table_name (slice_get s.tables table)) ++ (member (codes "row") ++ decimal row))
+
+-- a row by this name, where there is one
+abbrev pub side_member : List ℕ → Option (List Value) → List ℕ
+side_member name (Some values) = member name ++ json_row values
+side_member name None = []
+
+abbrev pub event_name : TriggerEvent → List ℕ
+event_name event.Insert = codes "insert"
+event_name event.Delete = codes "delete"
+event_name event.Update = codes "update"
+
+-- the event of a change
+abbrev pub event_member : Change → List ℕ
+event_member c = key (codes "event") ++ json_text (event_name (event_of_change c))
+
+-- what the row was, and what it is
+abbrev pub side_members : Change → List ℕ
+side_members c = side_member (codes "old") c.old ++ side_member (codes "new") c.new
+
+abbrev pub json_change : Schema → Change → List ℕ
+json_change s c = codes "{" ++ (event_member c ++ (place_members s c.table c.row ++ (side_members c ++ codes "}")))
+
+-- a change after another
+abbrev pub further_change : Schema → Change → List ℕ
+further_change s c = codes "," ++ json_change s c
+
+abbrev pub json_changes : Schema → List Change → List ℕ
+json_changes s [] = []
+json_changes s (c ∷ cs) = json_change s c ++ flat_map (further_change s) cs
+
+-- ---- referential actions
+
+abbrev pub action_name : ReferentialAction → List ℕ
+action_name action.NoAction = codes "NO ACTION"
+action_name action.Restrict = codes "RESTRICT"
+action_name action.Cascade = codes "CASCADE"
+action_name action.SetNull = codes "SET NULL"
+action_name action.SetDefault = codes "SET DEFAULT"
+
+-- the foreign key that acts, and its action
+abbrev pub acting_members : Schema → RowAction → List ℕ
+acting_members s a =
+    key (codes "constraint")
+    ++ (json_text (name_of (slice_get s.constraints a.constraint)) ++ (member (codes "action") ++ json_text (action_name a.action)))
+
+abbrev pub json_action : Schema → RowAction → List ℕ
+json_action s a = codes "{" ++ (acting_members s a ++ (place_members s a.table a.row ++ codes "}"))
+
+-- an action after another
+abbrev pub further_action : Schema → RowAction → List ℕ
+further_action s a = codes "," ++ json_action s a
+
+abbrev pub json_actions : Schema → List RowAction → List ℕ
+json_actions s [] = []
+json_actions s (a ∷ others) = json_action s a ++ flat_map (further_action s) others
+
+-- ---- violations
+
+abbrev pub because : List ℕ → List ℕ
+because reason = member (codes "because") ++ json_text reason
+
+-- why the key to which a row refers doesn't do
+abbrev pub cause_reason : Cause → List ℕ
+cause_reason (cause.Restrict f) = codes "protected_key"
+cause_reason (cause.ActionConflict f) = codes "action_conflict"
+cause_reason _ = codes "missing_key"
+
+-- so by the outcome of the statement
+abbrev pub reference_reason : Result Answer Refusal → List ℕ
+reference_reason (Ok answer) = codes "missing_key"
+reference_reason (Err r) = cause_reason r.cause
+
+-- the table and the key to which a row of these values refers
+abbrev pub referenced_members : Schema → List Value → ForeignKey → List ℕ
+referenced_members s values k =
+    member (codes "referenced")
+    ++ (json_text (table_name (slice_get s.tables k.referenced))
+    ++ (member (codes "key") ++ (codes "[" ++ (json_values (key_of k.columns values) ++ codes "]"))))
+
+-- The key to which a row refers doesn't do. Where its own key has a null, which only MATCH FULL refuses, it refers to none.
+abbrev pub reference_members : Schema → Result Answer Refusal → List Value → ForeignKey → List ℕ
+reference_members s outcome values k =
+    if none_null (key_of k.columns values) then because (reference_reason outcome) ++ referenced_members s values k else because (codes "some_nulls")
+
+-- the first other row that has the same key
+abbrev pub equal_members : StoredRow → List ℕ
+equal_members other =
+    because (codes "equal_key")
+    ++ (member (codes "other_row") ++ (decimal other.number ++ (member (codes "other") ++ json_row other.values)))
+
+-- so of the other rows; where there is none, a key has a null
+abbrev pub key_members : List StoredRow → List ℕ
+key_members [] = because (codes "null_in_key")
+key_members (other ∷ others) = equal_members other
+
+-- the column that is null
+abbrev pub null_members : Schema → ℕ → ℕ → List ℕ
+null_members s table column =
+    because (codes "null") ++ (member (codes "column") ++ json_text (column_name_in (slice_get s.tables table) column))
+
+-- what a rule of a table finds wrong with a row
+abbrev pub rule_members : Schema → Result Answer Refusal → StoredRow → List StoredRow → ℕ → Rule → List ℕ
+rule_members s outcome row others table (rule.ForeignKey k) = reference_members s outcome row.values k
+rule_members s outcome row others table (rule.PrimaryKey columns) = key_members others
+rule_members s outcome row others table (rule.Unique nulls columns) = key_members others
+rule_members s outcome row others table (rule.Check condition) = because (codes "false_condition")
+rule_members s outcome row others table (rule.NotNull column) = null_members s table column
+
+-- so of a constraint that is there
+abbrev pub constraint_rule_members : Schema → Result Answer Refusal → StoredRow → List StoredRow → Option Constraint → List ℕ
+constraint_rule_members s outcome row others (Some k) = rule_members s outcome row others k.table k.rule
+constraint_rule_members s outcome row others None = []
+
+-- the first of the rows, and what is wrong with it
+abbrev pub violation_members : Schema → Result Answer Refusal → Option Constraint → List StoredRow → List ℕ
+violation_members s outcome constraint [] = []
+violation_members s outcome constraint (row ∷ others) =
+    place_members s row.table row.number
+    ++ (member (codes "values") ++ (json_row row.values ++ constraint_rule_members s outcome row others constraint))
+
+-- ---- entries
+
+-- the front of an entry: its kind
+abbrev pub entry_key : List ℕ → List ℕ
+entry_key kind = codes "{" ++ (key (codes "entry") ++ json_text kind)
+
+abbrev pub changed_entry : Schema → List Change → List ℕ
+changed_entry s changes = entry_key (codes "changes") ++ (member (codes "changes") ++ (codes "[" ++ (json_changes s changes ++ codes "]}")))
+
+abbrev pub acted_entry : Schema → List RowAction → List ℕ
+acted_entry s actions = entry_key (codes "actions") ++ (member (codes "actions") ++ (codes "[" ++ (json_actions s actions ++ codes "]}")))
+
+-- the changes of a trigger's transition tables
+abbrev pub saw_member : Schema → List Change → List ℕ
+saw_member s changes = member (codes "saw") ++ (codes "[" ++ (json_changes s changes ++ codes "]}"))
+
+-- what a trigger saw: its rows, and these changes
+abbrev pub seen_members : Schema → TriggerView → List ℕ
+seen_members s seen = side_member (codes "old") seen.old ++ (side_member (codes "new") seen.new ++ saw_member s seen.transition)
+
+abbrev pub ran_entry : Schema → ℕ → TriggerView → List ℕ
+ran_entry s id seen =
+    entry_key (codes "trigger")
+    ++ (member (codes "trigger") ++ (json_text (trigger_name (trigger_numbered s id)) ++ seen_members s seen))
+
+-- A nested statement by its place in the trigger's body. Its entries follow, in an array that its end closes.
+abbrev pub began_entry : ℕ → List ℕ
+began_entry place =
+    entry_key (codes "statement")
+    ++ (member (codes "number") ++ (decimal place ++ (member (codes "account") ++ codes "[")))
+
+abbrev pub violation_entry : Schema → Result Answer Refusal → ℕ → List StoredRow → List ℕ
+violation_entry s outcome constraint rows =
+    entry_key (codes "violation")
+    ++ (member (codes "constraint")
+    ++ (json_text (name_of (slice_get s.constraints constraint))
+    ++ (violation_members s outcome (slice_get s.constraints constraint) rows ++ codes "}")))
+
+abbrev pub json_entry : Schema → Result Answer Refusal → Entry → List ℕ
+json_entry s outcome (Changed changes) = changed_entry s changes
+json_entry s outcome (Acted actions) = acted_entry s actions
+json_entry s outcome (Ran id seen) = ran_entry s id seen
+json_entry s outcome (Began place) = began_entry place
+json_entry s outcome Ended = codes "]}"
+json_entry s outcome (Faulted fault rows) = violation_entry s outcome fault.constraint rows
+
+-- what stands between an entry and what is before it: a comma, unless it is the first of its array, or ends one
+abbrev pub separator : Bool → Entry → List ℕ
+separator true entry = []
+separator false Ended = []
+separator false entry = codes ","
+
+-- whether the next entry is the first of its array
+abbrev pub begins : Entry → Bool
+begins (Began place) = true
+begins _ = false
+
+-- the ends of so many statements that are refused, and so have none
+abbrev pub ends : ℕ → List ℕ
+ends zero = []
+ends (suc depth) = codes "]}" ++ ends depth
+
+-- the entries from one on that is so deep, and is the first of its array or isn't
+abbrev pub json_entries : Schema → Result Answer Refusal → ℕ → Bool → List Entry → List ℕ
+json_entries s outcome depth first [] = ends depth
+json_entries s outcome depth first (entry ∷ entries) =
+    separator first entry
+    ++ (json_entry s outcome entry ++ json_entries s outcome (depth_after depth entry) (begins entry) entries)
+
+-- The account of a statement with this outcome, with names as the catalogue has them after it.
+abbrev pub json_account : Schema → Result Answer Refusal → List Entry → List ℕ
+json_account s outcome entries = codes "[" ++ (json_entries s outcome 0 true entries ++ codes "]")

@@ -1,0 +1,700 @@
+//! An account as JSON.
+ghost use Rattle.std.specs.Prelude.{◌≡◌, ◌++◌, slice_get, true};
+ghost use Rattle.std.specs.List.{flat_map};
+ghost use Rattle.std.specs.Option.{option_copied};
+ghost use Rattle.iv_value.specs.References.{value_of};
+ghost use Rattle.iv_key.specs.Keys.{key_of};
+ghost use Rattle.iv_print.specs.Writing.{Writes};
+ghost use Rattle.iv_print.specs.AccountLines.{column_name, column_name_in, table_name};
+ghost use Rattle.iv_print.specs.Json.{further_value, json_text, json_values};
+ghost use Rattle.iv_print.specs.JsonAccounts.{acted_entry, acting_members, action_name, because, began_entry, begins, changed_entry, constraint_rule_members, ends, entry_key, equal_members, event_member, event_name, further_action, further_change, json_account, json_action, json_actions, json_change, json_changes, json_entries, json_entry, key_members, null_members, place_members, ran_entry, reference_members, reference_reason, referenced_members, rule_members, saw_member, seen_members, separator, side_member, side_members, violation_entry, violation_members};
+ghost use Rattle.iv_machine.specs.BeforeTriggers.{event_of_change};
+
+use crate::account::depth_after;
+use crate::device::{DeviceFault, Sink};
+use crate::json::{
+    write_borrowed, write_json_text, write_key, write_member, write_name, write_number_member,
+    write_row, write_text_member, write_trigger_name,
+};
+use crate::write::{write_all, write_number};
+use iv_account::{Entry, RowAction, TriggerView};
+use iv_catalogue::{
+    Catalogue, Cause, Column, Constraint, ConstraintId, ForeignKey, Refusal, Rule, Table, TriggerId,
+};
+use iv_expr::{Change, Row, StoredRow, TableId};
+use iv_key::{Key, value_at};
+use iv_machine::Answer;
+use iv_syntax::ReferentialAction;
+use iv_value::{Value, ValueRef};
+
+// ---- rows and changes
+
+fn write_table<W: Sink>(sink: &mut W, table: Option<&Table>) -> Result<(), DeviceFault>
+    ensures { Writes (W.state sink.old) (W.state sink.new) result
+        (json_text (table_name (option_copied table.entry))) }
+{
+    match table {
+        Some(table) => write_json_text(sink, table.name.as_str().as_bytes()),
+        None => write_json_text(sink, b""),
+    }
+}
+
+// The table and the number of a row.
+fn write_place<W: Sink>(
+    sink: &mut W,
+    catalogue: &Catalogue,
+    table: TableId,
+    row: u64,
+) -> Result<(), DeviceFault>
+    ensures { Writes (W.state sink.old) (W.state sink.new) result
+        (place_members catalogue.now table row) }
+{
+    write_member(sink, b"table")?;
+    write_table(sink, catalogue.table(table))?;
+    write_number_member(sink, b"row", row)
+}
+
+// A row by this name, where there is one.
+fn write_side<W: Sink>(sink: &mut W, name: &[u8], side: &Option<Row>) -> Result<(), DeviceFault>
+    ensures { Writes (W.state sink.old) (W.state sink.new) result (side_member name.now side.now) }
+{
+    match side {
+        Some(row) => {
+            write_member(sink, name)?;
+            write_row(sink, row.values())
+        }
+        None => write_all(sink, b""),
+    }
+}
+
+fn event_name(change: &Change) -> &'static str
+    ensures { result.now ≡ event_name (event_of_change change.now) }
+{
+    if change.old.is_none() {
+        "insert"
+    } else if change.new.is_none() {
+        "delete"
+    } else {
+        "update"
+    }
+}
+
+fn write_event<W: Sink>(sink: &mut W, change: &Change) -> Result<(), DeviceFault>
+    ensures { Writes (W.state sink.old) (W.state sink.new) result (event_member change.now) }
+{
+    write_key(sink, b"event")?;
+    write_json_text(sink, event_name(change).as_bytes())
+}
+
+// What the row was, and what it is.
+fn write_sides<W: Sink>(sink: &mut W, change: &Change) -> Result<(), DeviceFault>
+    ensures { Writes (W.state sink.old) (W.state sink.new) result (side_members change.now) }
+{
+    write_side(sink, b"old", &change.old)?;
+    write_side(sink, b"new", &change.new)
+}
+
+fn write_change<W: Sink>(
+    sink: &mut W,
+    catalogue: &Catalogue,
+    change: &Change,
+) -> Result<(), DeviceFault>
+    ensures { Writes (W.state sink.old) (W.state sink.new) result
+        (json_change catalogue.now change.now) }
+{
+    write_all(sink, b"{")?;
+    write_event(sink, change)?;
+    write_place(sink, catalogue, change.table, change.row)?;
+    write_sides(sink, change)?;
+    write_all(sink, b"}")
+}
+
+fn write_further_change<W: Sink>(
+    sink: &mut W,
+    catalogue: &Catalogue,
+    change: &Change,
+) -> Result<(), DeviceFault>
+    ensures { Writes (W.state sink.old) (W.state sink.new) result
+        (further_change catalogue.now change.now) }
+{
+    write_all(sink, b",")?;
+    write_change(sink, catalogue, change)
+}
+
+// Further changes, each after a comma.
+fn write_more_changes<W: Sink>(
+    sink: &mut W,
+    catalogue: &Catalogue,
+    changes: &[Change],
+) -> Result<(), DeviceFault>
+    ensures { Writes (W.state sink.old) (W.state sink.new) result
+        (flat_map (further_change catalogue.now) changes.now) }
+{
+    let mut rest = changes;
+    while let Some((change, others)) = rest.split_first() {
+        write_further_change(sink, catalogue, change)?;
+        rest = others;
+    }
+    Ok(())
+}
+
+fn write_changes<W: Sink>(
+    sink: &mut W,
+    catalogue: &Catalogue,
+    changes: &[Change],
+) -> Result<(), DeviceFault>
+    ensures { Writes (W.state sink.old) (W.state sink.new) result
+        (json_changes catalogue.now changes.now) }
+{
+    match changes {
+        [] => write_all(sink, b""),
+        [change, more @ ..] => {
+            write_change(sink, catalogue, change)?;
+            write_more_changes(sink, catalogue, more)
+        }
+    }
+}
+
+// ---- referential actions
+
+fn action_name(action: ReferentialAction) -> &'static str
+    ensures { result.now ≡ action_name action }
+{
+    match action {
+        ReferentialAction::NoAction => "NO ACTION",
+        ReferentialAction::Restrict => "RESTRICT",
+        ReferentialAction::Cascade => "CASCADE",
+        ReferentialAction::SetNull => "SET NULL",
+        ReferentialAction::SetDefault => "SET DEFAULT",
+    }
+}
+
+// The foreign key that acts, and its action.
+fn write_acting<W: Sink>(
+    sink: &mut W,
+    catalogue: &Catalogue,
+    acted: &RowAction,
+) -> Result<(), DeviceFault>
+    ensures { Writes (W.state sink.old) (W.state sink.new) result
+        (acting_members catalogue.now acted.now) }
+{
+    write_key(sink, b"constraint")?;
+    write_name(sink, catalogue.constraints(), acted.constraint)?;
+    write_text_member(sink, b"action", action_name(acted.action).as_bytes())
+}
+
+fn write_action<W: Sink>(
+    sink: &mut W,
+    catalogue: &Catalogue,
+    acted: &RowAction,
+) -> Result<(), DeviceFault>
+    ensures { Writes (W.state sink.old) (W.state sink.new) result
+        (json_action catalogue.now acted.now) }
+{
+    write_all(sink, b"{")?;
+    write_acting(sink, catalogue, acted)?;
+    write_place(sink, catalogue, acted.table, acted.row)?;
+    write_all(sink, b"}")
+}
+
+fn write_further_action<W: Sink>(
+    sink: &mut W,
+    catalogue: &Catalogue,
+    acted: &RowAction,
+) -> Result<(), DeviceFault>
+    ensures { Writes (W.state sink.old) (W.state sink.new) result
+        (further_action catalogue.now acted.now) }
+{
+    write_all(sink, b",")?;
+    write_action(sink, catalogue, acted)
+}
+
+// Further actions, each after a comma.
+fn write_more_actions<W: Sink>(
+    sink: &mut W,
+    catalogue: &Catalogue,
+    actions: &[RowAction],
+) -> Result<(), DeviceFault>
+    ensures { Writes (W.state sink.old) (W.state sink.new) result
+        (flat_map (further_action catalogue.now) actions.now) }
+{
+    let mut rest = actions;
+    while let Some((acted, others)) = rest.split_first() {
+        write_further_action(sink, catalogue, acted)?;
+        rest = others;
+    }
+    Ok(())
+}
+
+fn write_actions<W: Sink>(
+    sink: &mut W,
+    catalogue: &Catalogue,
+    actions: &[RowAction],
+) -> Result<(), DeviceFault>
+    ensures { Writes (W.state sink.old) (W.state sink.new) result
+        (json_actions catalogue.now actions.now) }
+{
+    match actions {
+        [] => write_all(sink, b""),
+        [acted, more @ ..] => {
+            write_action(sink, catalogue, acted)?;
+            write_more_actions(sink, catalogue, more)
+        }
+    }
+}
+
+// ---- violations
+
+fn write_because<W: Sink>(sink: &mut W, reason: &[u8]) -> Result<(), DeviceFault>
+    ensures { Writes (W.state sink.old) (W.state sink.new) result (because reason.now) }
+{
+    write_text_member(sink, b"because", reason)
+}
+
+fn write_further_borrowed<W: Sink>(sink: &mut W, value: ValueRef<'_>) -> Result<(), DeviceFault>
+    ensures { Writes (W.state sink.old) (W.state sink.new) result
+        (further_value (value_of value.entry)) }
+{
+    write_all(sink, b",")?;
+    write_borrowed(sink, value)
+}
+
+// The values of further columns, each after a comma.
+fn write_more_columns<W: Sink>(
+    sink: &mut W,
+    columns: &[u32],
+    row: &[Value],
+) -> Result<(), DeviceFault>
+    ensures { Writes (W.state sink.old) (W.state sink.new) result
+        (flat_map further_value (key_of columns.now row.now)) }
+{
+    let mut rest = columns;
+    while let Some((column, others)) = rest.split_first() {
+        write_further_borrowed(sink, value_at(row, *column))?;
+        rest = others;
+    }
+    Ok(())
+}
+
+// The values of some columns.
+fn write_columns<W: Sink>(sink: &mut W, columns: &[u32], row: &[Value]) -> Result<(), DeviceFault>
+    ensures { Writes (W.state sink.old) (W.state sink.new) result
+        (json_values (key_of columns.now row.now)) }
+{
+    match columns {
+        [] => write_all(sink, b""),
+        [column, more @ ..] => {
+            write_borrowed(sink, value_at(row, *column))?;
+            write_more_columns(sink, more, row)
+        }
+    }
+}
+
+// Why the key to which a row refers doesn't do.
+fn reference_reason(outcome: &Result<Answer, Refusal>) -> &'static str
+    ensures { result.now ≡ reference_reason outcome.now }
+{
+    match outcome {
+        Ok(_) => "missing_key",
+        Err(refusal) => match &refusal.cause {
+            Cause::Restrict(_) => "protected_key",
+            Cause::ActionConflict(_) => "action_conflict",
+            _ => "missing_key",
+        },
+    }
+}
+
+// The table and the key to which a row of these values refers.
+fn write_referenced<W: Sink>(
+    sink: &mut W,
+    catalogue: &Catalogue,
+    values: &[Value],
+    key: &ForeignKey,
+) -> Result<(), DeviceFault>
+    ensures { Writes (W.state sink.old) (W.state sink.new) result
+        (referenced_members catalogue.now values.now key.now) }
+{
+    write_member(sink, b"referenced")?;
+    write_table(sink, catalogue.table(key.referenced))?;
+    write_member(sink, b"key")?;
+    write_all(sink, b"[")?;
+    write_columns(sink, key.columns.as_slice(), values)?;
+    write_all(sink, b"]")
+}
+
+// The key to which a row refers, and why it doesn't do.
+fn write_refers<W: Sink>(
+    sink: &mut W,
+    catalogue: &Catalogue,
+    outcome: &Result<Answer, Refusal>,
+    values: &[Value],
+    key: &ForeignKey,
+) -> Result<(), DeviceFault>
+    ensures { Writes (W.state sink.old) (W.state sink.new) result
+        (because (reference_reason outcome.now) ++ referenced_members catalogue.now values.now key.now) }
+{
+    write_because(sink, reference_reason(outcome).as_bytes())?;
+    write_referenced(sink, catalogue, values, key)
+}
+
+// Why a row has no key to refer to: the key isn't there or doesn't do, or the row has some nulls in its own.
+fn write_reference<W: Sink>(
+    sink: &mut W,
+    catalogue: &Catalogue,
+    outcome: &Result<Answer, Refusal>,
+    values: &[Value],
+    key: &ForeignKey,
+) -> Result<(), DeviceFault>
+    ensures { Writes (W.state sink.old) (W.state sink.new) result
+        (reference_members catalogue.now outcome.now values.now key.now) }
+{
+    if Key::new(key.columns.as_slice(), values).none_null() {
+        write_refers(sink, catalogue, outcome, values, key)
+    } else {
+        write_because(sink, b"some_nulls")
+    }
+}
+
+// The first other row that has the same key.
+fn write_equal<W: Sink>(sink: &mut W, other: &StoredRow) -> Result<(), DeviceFault>
+    ensures { Writes (W.state sink.old) (W.state sink.new) result (equal_members other.now) }
+{
+    write_because(sink, b"equal_key")?;
+    write_member(sink, b"other_row")?;
+    write_number(sink, other.number)?;
+    write_member(sink, b"other")?;
+    write_row(sink, other.values.values())
+}
+
+// The first of the rows that have a row's key, or the null in its key.
+fn write_equal_key<W: Sink>(sink: &mut W, others: &[StoredRow]) -> Result<(), DeviceFault>
+    ensures { Writes (W.state sink.old) (W.state sink.new) result (key_members others.now) }
+{
+    match others {
+        [] => write_because(sink, b"null_in_key"),
+        [other, ..] => write_equal(sink, other),
+    }
+}
+
+fn write_column<W: Sink>(sink: &mut W, columns: &[Column], column: u32) -> Result<(), DeviceFault>
+    ensures { Writes (W.state sink.old) (W.state sink.new) result
+        (json_text (column_name (slice_get columns.now column))) }
+{
+    match columns.get(column as usize) {
+        Some(column) => write_json_text(sink, column.name.as_str().as_bytes()),
+        None => write_json_text(sink, b""),
+    }
+}
+
+fn write_column_in<W: Sink>(
+    sink: &mut W,
+    table: Option<&Table>,
+    column: u32,
+) -> Result<(), DeviceFault>
+    ensures { Writes (W.state sink.old) (W.state sink.new) result
+        (json_text (column_name_in (option_copied table.entry) column)) }
+{
+    match table {
+        Some(table) => write_column(sink, table.columns.as_slice(), column),
+        None => write_json_text(sink, b""),
+    }
+}
+
+// The column that is null.
+fn write_null<W: Sink>(
+    sink: &mut W,
+    catalogue: &Catalogue,
+    table: TableId,
+    column: u32,
+) -> Result<(), DeviceFault>
+    ensures { Writes (W.state sink.old) (W.state sink.new) result
+        (null_members catalogue.now table column) }
+{
+    write_because(sink, b"null")?;
+    write_member(sink, b"column")?;
+    write_column_in(sink, catalogue.table(table), column)
+}
+
+// What a rule finds wrong with a row.
+fn write_rule<W: Sink>(
+    sink: &mut W,
+    catalogue: &Catalogue,
+    outcome: &Result<Answer, Refusal>,
+    row: &StoredRow,
+    others: &[StoredRow],
+    constraint: &Constraint,
+) -> Result<(), DeviceFault>
+    ensures { Writes (W.state sink.old) (W.state sink.new) result
+        (rule_members catalogue.now outcome.now row.now others.now constraint.now.table
+        constraint.now.rule) }
+{
+    match &constraint.rule {
+        Rule::ForeignKey(key) => {
+            write_reference(sink, catalogue, outcome, row.values.values(), key)
+        }
+        Rule::PrimaryKey(_) => write_equal_key(sink, others),
+        Rule::Unique(_, _) => write_equal_key(sink, others),
+        Rule::Check(_) => write_because(sink, b"false_condition"),
+        Rule::NotNull(column) => write_null(sink, catalogue, constraint.table, *column),
+    }
+}
+
+fn write_constraint_rule<W: Sink>(
+    sink: &mut W,
+    catalogue: &Catalogue,
+    outcome: &Result<Answer, Refusal>,
+    row: &StoredRow,
+    others: &[StoredRow],
+    constraint: Option<&Constraint>,
+) -> Result<(), DeviceFault>
+    ensures { Writes (W.state sink.old) (W.state sink.new) result
+        (constraint_rule_members catalogue.now outcome.now row.now others.now
+        (option_copied constraint.entry)) }
+{
+    match constraint {
+        Some(constraint) => write_rule(sink, catalogue, outcome, row, others, constraint),
+        None => write_all(sink, b""),
+    }
+}
+
+// The first of the rows, and what is wrong with it.
+fn write_violation<W: Sink>(
+    sink: &mut W,
+    catalogue: &Catalogue,
+    outcome: &Result<Answer, Refusal>,
+    constraint: ConstraintId,
+    rows: &[StoredRow],
+) -> Result<(), DeviceFault>
+    ensures { Writes (W.state sink.old) (W.state sink.new) result
+        (violation_members catalogue.now outcome.now
+        (slice_get catalogue.now.constraints constraint) rows.now) }
+{
+    match rows {
+        [] => write_all(sink, b""),
+        [row, others @ ..] => {
+            let constraint = catalogue.constraint(constraint);
+            write_place(sink, catalogue, row.table, row.number)?;
+            write_member(sink, b"values")?;
+            write_row(sink, row.values.values())?;
+            write_constraint_rule(sink, catalogue, outcome, row, others, constraint)
+        }
+    }
+}
+
+// ---- entries
+
+fn write_entry_key<W: Sink>(sink: &mut W, kind: &[u8]) -> Result<(), DeviceFault>
+    ensures { Writes (W.state sink.old) (W.state sink.new) result (entry_key kind.now) }
+{
+    write_all(sink, b"{")?;
+    write_key(sink, b"entry")?;
+    write_json_text(sink, kind)
+}
+
+fn write_changed<W: Sink>(
+    sink: &mut W,
+    catalogue: &Catalogue,
+    changes: &[Change],
+) -> Result<(), DeviceFault>
+    ensures { Writes (W.state sink.old) (W.state sink.new) result
+        (changed_entry catalogue.now changes.now) }
+{
+    write_entry_key(sink, b"changes")?;
+    write_member(sink, b"changes")?;
+    write_all(sink, b"[")?;
+    write_changes(sink, catalogue, changes)?;
+    write_all(sink, b"]}")
+}
+
+fn write_acted<W: Sink>(
+    sink: &mut W,
+    catalogue: &Catalogue,
+    actions: &[RowAction],
+) -> Result<(), DeviceFault>
+    ensures { Writes (W.state sink.old) (W.state sink.new) result
+        (acted_entry catalogue.now actions.now) }
+{
+    write_entry_key(sink, b"actions")?;
+    write_member(sink, b"actions")?;
+    write_all(sink, b"[")?;
+    write_actions(sink, catalogue, actions)?;
+    write_all(sink, b"]}")
+}
+
+// The changes of a trigger's transition tables.
+fn write_saw<W: Sink>(
+    sink: &mut W,
+    catalogue: &Catalogue,
+    changes: &[Change],
+) -> Result<(), DeviceFault>
+    ensures { Writes (W.state sink.old) (W.state sink.new) result
+        (saw_member catalogue.now changes.now) }
+{
+    write_member(sink, b"saw")?;
+    write_all(sink, b"[")?;
+    write_changes(sink, catalogue, changes)?;
+    write_all(sink, b"]}")
+}
+
+// What a trigger saw.
+fn write_seen<W: Sink>(
+    sink: &mut W,
+    catalogue: &Catalogue,
+    seen: &TriggerView,
+) -> Result<(), DeviceFault>
+    ensures { Writes (W.state sink.old) (W.state sink.new) result
+        (seen_members catalogue.now seen.now) }
+{
+    write_side(sink, b"old", &seen.old)?;
+    write_side(sink, b"new", &seen.new)?;
+    write_saw(sink, catalogue, seen.transition.as_slice())
+}
+
+// A trigger and what it saw.
+fn write_ran<W: Sink>(
+    sink: &mut W,
+    catalogue: &Catalogue,
+    id: TriggerId,
+    seen: &TriggerView,
+) -> Result<(), DeviceFault>
+    ensures { Writes (W.state sink.old) (W.state sink.new) result
+        (ran_entry catalogue.now id seen.now) }
+{
+    write_entry_key(sink, b"trigger")?;
+    write_member(sink, b"trigger")?;
+    write_trigger_name(sink, catalogue, id)?;
+    write_seen(sink, catalogue, seen)
+}
+
+// A nested statement, up to the array of its entries.
+fn write_began<W: Sink>(sink: &mut W, place: u32) -> Result<(), DeviceFault>
+    ensures { Writes (W.state sink.old) (W.state sink.new) result (began_entry place) }
+{
+    write_entry_key(sink, b"statement")?;
+    write_member(sink, b"number")?;
+    write_number(sink, u64::from(place))?;
+    write_member(sink, b"account")?;
+    write_all(sink, b"[")
+}
+
+fn write_faulted<W: Sink>(
+    sink: &mut W,
+    catalogue: &Catalogue,
+    outcome: &Result<Answer, Refusal>,
+    constraint: ConstraintId,
+    rows: &[StoredRow],
+) -> Result<(), DeviceFault>
+    ensures { Writes (W.state sink.old) (W.state sink.new) result
+        (violation_entry catalogue.now outcome.now constraint rows.now) }
+{
+    write_entry_key(sink, b"violation")?;
+    write_member(sink, b"constraint")?;
+    write_name(sink, catalogue.constraints(), constraint)?;
+    write_violation(sink, catalogue, outcome, constraint, rows)?;
+    write_all(sink, b"}")
+}
+
+fn write_entry<W: Sink>(
+    sink: &mut W,
+    catalogue: &Catalogue,
+    outcome: &Result<Answer, Refusal>,
+    entry: &Entry,
+) -> Result<(), DeviceFault>
+    ensures { Writes (W.state sink.old) (W.state sink.new) result
+        (json_entry catalogue.now outcome.now entry.now) }
+{
+    match entry {
+        Entry::Changed(changes) => write_changed(sink, catalogue, changes.as_slice()),
+        Entry::Acted(actions) => write_acted(sink, catalogue, actions.as_slice()),
+        Entry::Ran(id, seen) => write_ran(sink, catalogue, *id, seen),
+        Entry::Began(place) => write_began(sink, *place),
+        Entry::Ended => write_all(sink, b"]}"),
+        Entry::Faulted(fault, rows) => {
+            write_faulted(sink, catalogue, outcome, fault.constraint, rows.as_slice())
+        }
+    }
+}
+
+// What stands between an entry and what is before it.
+fn separator(first: bool, entry: &Entry) -> &'static [u8]
+    ensures { result.now ≡ separator first entry.now }
+{
+    if first {
+        return b"";
+    }
+    match entry {
+        Entry::Ended => b"",
+        _ => b",",
+    }
+}
+
+fn write_separated<W: Sink>(
+    sink: &mut W,
+    catalogue: &Catalogue,
+    outcome: &Result<Answer, Refusal>,
+    first: bool,
+    entry: &Entry,
+) -> Result<(), DeviceFault>
+    ensures { Writes (W.state sink.old) (W.state sink.new) result
+        (separator first entry.now ++ json_entry catalogue.now outcome.now entry.now) }
+{
+    write_all(sink, separator(first, entry))?;
+    write_entry(sink, catalogue, outcome, entry)
+}
+
+// Whether the next entry is the first of its array.
+fn begins(entry: &Entry) -> bool
+    ensures { result ≡ begins entry.now }
+{
+    matches!(entry, Entry::Began(_))
+}
+
+// The ends of so many statements.
+fn write_ends<W: Sink>(sink: &mut W, depth: usize) -> Result<(), DeviceFault>
+    ensures { Writes (W.state sink.old) (W.state sink.new) result (ends depth) }
+{
+    let mut left = depth;
+    while left > 0 {
+        write_all(sink, b"]}")?;
+        left -= 1;
+    }
+    Ok(())
+}
+
+fn write_entries<W: Sink>(
+    sink: &mut W,
+    catalogue: &Catalogue,
+    outcome: &Result<Answer, Refusal>,
+    entries: &[Entry],
+) -> Result<(), DeviceFault>
+    ensures { Writes (W.state sink.old) (W.state sink.new) result
+        (json_entries catalogue.now outcome.now 0 true entries.now) }
+{
+    let mut rest = entries;
+    let mut depth = 0usize;
+    let mut first = true;
+    while let Some((entry, others)) = rest.split_first() {
+        write_separated(sink, catalogue, outcome, first, entry)?;
+        depth = depth_after(depth, entry);
+        first = begins(entry);
+        rest = others;
+    }
+    write_ends(sink, depth)
+}
+
+/// Writes the account of a statement with this outcome as a JSON array, with the names of tables, columns, constraints
+/// and triggers as the catalogue has them. The entries of a nested statement are an array in the entry with which it
+/// begins. It takes no memory.
+pub fn write_json_account<W: Sink>(
+    sink: &mut W,
+    catalogue: &Catalogue,
+    outcome: &Result<Answer, Refusal>,
+    entries: &[Entry],
+) -> Result<(), DeviceFault>
+    ensures { Writes (W.state sink.old) (W.state sink.new) result
+        (json_account catalogue.now outcome.now entries.now) }
+{
+    write_all(sink, b"[")?;
+    write_entries(sink, catalogue, outcome, entries)?;
+    write_all(sink, b"]")
+}

@@ -1,8 +1,0 @@
-//! What is kept of a marked database.
-
-/// How many changes were noted at a mark, which is how many are counted, and the next number.
-#[derive(Clone, Copy, Debug, PartialEq, Eq)]
-pub struct Saved {
-    pub noted: u64,
-    pub next: u64,
-}

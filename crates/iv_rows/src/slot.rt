@@ -1,9 +1,0 @@
-//! A slot for a row.
-use iv_expr::StoredRow;
-
-/// A row, and whether it is there: one that was taken out stays in its slot.
-#[derive(Drop)]
-pub struct Slot {
-    pub row: StoredRow,
-    pub is_live: bool,
-}

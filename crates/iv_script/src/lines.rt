@@ -1,0 +1,78 @@
+//! The lines of a statement.
+ghost use Rattle.std.specs.Prelude.{◌≡◌, ◌++◌};
+ghost use Rattle.std.specs.Option.{option_copied};
+ghost use Rattle.iv_print.specs.AccountLines.{account_text};
+ghost use Rattle.iv_print.specs.Lines.{line};
+ghost use Rattle.iv_print.specs.Writing.{Writes};
+ghost use Rattle.iv_script.specs.Transcript.{name_line_of, outcome_lines};
+
+use crate::json_line::write_json_line;
+use crate::name_line::write_name;
+use crate::telling::Telling;
+use iv_account::Entry;
+use iv_catalogue::Catalogue;
+use iv_print::{DeviceFault, Format, Sink, write_account, write_all, write_outcome};
+use iv_step::Outcome;
+use iv_syntax::Statement;
+
+// Writes the name that the refusal of a statement is about, where the statement is known.
+fn write_name_of<W: Sink>(
+    writer: &mut W,
+    telling: Telling,
+    catalogue: &Catalogue,
+    statement: Option<&Statement>,
+    outcome: &Outcome,
+) -> Result<(), DeviceFault>
+    ensures { Writes (W.state writer.old) (W.state writer.new) result
+        (name_line_of telling.style.explain catalogue.now (option_copied statement.entry) outcome.now) }
+{
+    match statement {
+        Some(statement) => write_name(writer, telling, catalogue, statement, outcome),
+        None => write_all(writer, b""),
+    }
+}
+
+// The lines in words.
+#[tactic(auto, using(iv_print::proofs::WriteLemmas::writes_then))]
+fn write_words<W: Sink>(
+    writer: &mut W,
+    telling: Telling,
+    number: u64,
+    statement: Option<&Statement>,
+    outcome: &Outcome,
+    catalogue: &Catalogue,
+    account: &[Entry],
+) -> Result<(), DeviceFault>
+    ensures { Writes (W.state writer.old) (W.state writer.new) result
+        (line number outcome.now catalogue.now
+        ++ (account_text catalogue.now outcome.now account.now
+        ++ name_line_of telling.style.explain catalogue.now (option_copied statement.entry) outcome.now)) }
+{
+    write_outcome(writer, number, outcome, catalogue)?;
+    write_account(writer, catalogue, outcome, account)?;
+    write_name_of(writer, telling, catalogue, statement, outcome)
+}
+
+/// Writes the lines of a statement's outcome, those of its account, and the name that a refusal is about, where
+/// accounts are asked for and the statement is known.
+pub fn write_lines<W: Sink>(
+    writer: &mut W,
+    telling: Telling,
+    number: u64,
+    statement: Option<&Statement>,
+    outcome: &Outcome,
+    catalogue: &Catalogue,
+    account: &[Entry],
+) -> Result<(), DeviceFault>
+    ensures { Writes (W.state writer.old) (W.state writer.new) result
+        (outcome_lines telling.style number (option_copied statement.entry) catalogue.now outcome.now account.now) }
+{
+    match telling.style.format {
+        Format::Words => write_words(
+            writer, telling, number, statement, outcome, catalogue, account,
+        ),
+        Format::Json => write_json_line(
+            writer, telling, number, statement, outcome, catalogue, account,
+        ),
+    }
+}

@@ -1,0 +1,4 @@
+pub mod Types
+pub mod Watch
+pub mod Watching
+pub mod Violating

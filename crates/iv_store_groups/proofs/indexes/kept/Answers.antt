@@ -1,0 +1,8 @@
+use Rattle.iv_store_groups.proofs.indexes.kept.Goals as goal
+
+pub returns : goal.returns
+returns c = record {
+  found = λ constraint. (c.requires.each constraint).found;
+  apart = λ constraint. (c.requires.each constraint).apart;
+  rising = λ constraint. (c.requires.each constraint).rising;
+}

@@ -1,0 +1,4 @@
+pub mod Types
+pub mod Kept
+pub mod Keys
+pub mod Known

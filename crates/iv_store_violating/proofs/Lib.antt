@@ -1,0 +1,13 @@
+pub mod Exchanges
+pub mod Cut
+pub mod Flags
+pub mod FlaggedPlaces
+pub mod ViolatingWith
+pub mod Violated
+pub mod Shown
+pub mod Least
+pub mod Sorted
+pub mod Once
+pub mod Apart
+pub mod KeptRows
+pub mod KeptFaults

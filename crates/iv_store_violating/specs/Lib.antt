@@ -1,0 +1,4 @@
+pub mod Shown
+pub mod Flagging
+pub mod Answers
+pub mod Apart

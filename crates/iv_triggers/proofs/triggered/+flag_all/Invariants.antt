@@ -1,5 +1,0 @@
-use Rattle.std.proofs.Common.{length}
-use Rattle.iv_triggers.proofs.triggered.+flag_all.Given as goal
-
-abbrev pub decreases-flag_all : goal.decreases-flag_all
-decreases-flag_all l = length l.triggers.now
