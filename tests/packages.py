@@ -18,6 +18,12 @@ from pathlib import Path
 ROOT = Path(__file__).resolve().parent.parent
 WARNINGS = ["-Wall", "-Wextra", "-Wpedantic", "-Wshadow", "-Wconversion", "-Werror"]
 
+# What the examples of parameters print, in each language.
+PARAMETERS = """AUTHOR: ID INTEGER NAME VARCHAR(40)
+BOOK: TITLE VARCHAR(40) AUTHOR INTEGER
+title: x'); DELETE FROM author; --
+"""
+
 
 class Skipped(Exception):
     """A test that can't be made here; the text names the package that it wants."""
@@ -74,6 +80,14 @@ def c_by_pkg_config(place):
     assert "WRITTEN_BY" in place.run(folder, "./first")
 
 
+def c_parameters(place):
+    need("pkg-config", "pkg-config")
+    folder = place.folder("parameters")
+    shutil.copy(ROOT / "examples/c/parameters.c", folder)
+    place.run(folder, "cc", "-std=c11", *WARNINGS, "parameters.c", *flags(place), f"-Wl,-rpath,{place.prefix}/lib", "-o", "parameters")
+    assert place.run(folder, "./parameters") == PARAMETERS
+
+
 def cpp_of_the_page(place):
     need("pkg-config", "pkg-config")
     folder = place.folder("cpp")
@@ -124,6 +138,10 @@ def rust_tests(place):
     place.run(crate(place), "cargo", "test", "--offline", "--quiet")
 
 
+def rust_parameters(place):
+    assert place.run(crate(place), "cargo", "run", "--offline", "--quiet", "--example", "parameters") == PARAMETERS
+
+
 def rust_is_clean(place):
     there = crate(place)
     place.settings["RUSTDOCFLAGS"] = "-D warnings"
@@ -132,7 +150,7 @@ def rust_is_clean(place):
     place.run(there, "cargo", "clippy", "--offline", "--all-targets", "--", "-D", "warnings")
 
 
-TESTS = (c_by_pkg_config, cpp_of_the_page, cpp_by_cmake, cpp_sessions, rust_of_the_page, rust_tests, rust_is_clean)
+TESTS = (c_by_pkg_config, c_parameters, cpp_of_the_page, cpp_by_cmake, cpp_sessions, rust_of_the_page, rust_parameters, rust_tests, rust_is_clean)
 
 
 def main():

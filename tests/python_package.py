@@ -24,6 +24,7 @@ sys.dont_write_bytecode = True
 ROOT = Path(__file__).resolve().parent.parent
 sys.path[:0] = [str(ROOT / "tests" / "shell"), str(ROOT / "tools")]
 import dialogues
+import packages
 import wheel as made_by
 
 PACKAGE = ROOT / "bindings" / "python"
@@ -211,6 +212,12 @@ def readme_runs(room, python):
     assert done.stderr.rstrip("\n").split("\n")[-1] == wanted, done.stderr
 
 
+def example_runs(room, python):
+    """The example of parameters prints what those in C and Rust do."""
+    done = room.run(python, PACKAGE / "examples" / "parameters.py")
+    assert (done.stdout, done.stderr) == (packages.PARAMETERS, ""), done.stdout + done.stderr
+
+
 def shell_of_page(room, python):
     """The dialogue of the page, played on a terminal."""
     text = (PAGES / "python.md").read_text("utf-8")
@@ -328,6 +335,7 @@ def try_all(counts, room, wheel, library):
     for title, pairs in sections("python.md"):
         counts.test(f"page: {title}", section_runs, room, python, pairs)
     counts.test("page: the README", readme_runs, room, python)
+    counts.test("example", example_runs, room, python)
     counts.test("page: the shell", shell_of_page, room, python)
     counts.test("page: classes", classes_of_page, room, python)
     counts.test("help", help_is_there, room, python)

@@ -1,8 +1,9 @@
 """The library for C from Python, by ctypes: sessions as context managers, rows as tuples, refusals as exceptions.
 
     with sqlkeep.open() as session:
-        session.execute("CREATE TABLE t (a INT PRIMARY KEY); INSERT INTO t VALUES (1);")
-        for row in session.query("SELECT a FROM t;"):
+        session.execute("CREATE TABLE t (a INT PRIMARY KEY, b VARCHAR(20));")
+        session.execute("INSERT INTO t VALUES (?, ?);", [1, "it's"])
+        for row in session.query("SELECT * FROM t;"):
             print(row)
         session.commit()
 
@@ -13,6 +14,7 @@ import os
 from ctypes import POINTER, Structure, byref, c_bool, c_char, c_int64, c_size_t, c_uint8, c_uint32, c_uint64, c_void_p
 
 OK, CLOSED, OPEN, LIMITS, NOT_UTF8, TOO_LONG, NO_MEMORY, NOTHING = range(8)
+WRONG_COUNT, NO_TEMPLATE = 9, 10
 DONE, CHANGED, ROWS, REFUSED = range(4)
 OUT = os.path.join(os.path.dirname(os.path.abspath(__file__)), "..", "..", "out")
 
@@ -44,7 +46,7 @@ class Done(Structure):
 class Failed(Exception):
     """A call that didn't do what it is for, with its status."""
 
-    WORDS = {CLOSED: "the session is closed", LIMITS: "the limits are out of range", NOT_UTF8: "the script is not UTF-8", TOO_LONG: "the script is longer than 1048576 bytes", NO_MEMORY: "out of memory", NOTHING: "there is nothing at this place"}
+    WORDS = {CLOSED: "the session is closed", LIMITS: "the limits are out of range", NOT_UTF8: "the script is not UTF-8", TOO_LONG: "the script is longer than 1048576 bytes", NO_MEMORY: "out of memory", NOTHING: "there is nothing at this place", WRONG_COUNT: "there are more or fewer values than question marks", NO_TEMPLATE: "something in the text is no token"}
 
     def __init__(self, status):
         super().__init__(self.WORDS.get(status, "status %d" % status))
@@ -79,6 +81,11 @@ PARAMETERS = {
     "transcript": [HANDLE, c_size_t, c_void_p, c_size_t, SIZE],
     "explain": [HANDLE, c_uint32],
     "read": [HANDLE, c_void_p, c_size_t, POINTER(Script)],
+    "unbind": [HANDLE],
+    "bind_null": [HANDLE],
+    "bind_integer": [HANDLE, c_int64],
+    "bind_text": [HANDLE, c_void_p, c_size_t],
+    "read_bound": [HANDLE, c_void_p, c_size_t, POINTER(Script)],
     "execute": [HANDLE, c_size_t, POINTER(Outcome)],
     "lines": [HANDLE, c_uint64],
     "columns": [HANDLE, c_size_t, SIZE],
@@ -161,8 +168,32 @@ class Session:
         self.call("read", script, len(script), byref(found))
         return found.statements, found.fault_at if found.has_fault else None
 
+    def bind(self, value):
+        """Binds the value of the next question mark: None, an integer of 64 bits, or a text."""
+        if value is None:
+            self.call("bind_null")
+        elif isinstance(value, int):
+            if not -(2**63) <= value < 2**63:
+                raise OverflowError("an integer has 64 bits")
+            self.call("bind_integer", value)
+        else:
+            text = bytes_of(value)
+            self.call("bind_text", text, len(text))
+
+    def fill(self, template, values):
+        """Reads the statements of a template with these values in place of its question marks, as `read` does."""
+        text, found = bytes_of(template), Script()
+        self.call("unbind")
+        for value in values:
+            self.bind(value)
+        self.call("read_bound", text, len(text), byref(found))
+        return found.statements, found.fault_at if found.has_fault else None
+
     def execute_at(self, place):
         """Executes one of the statements that were read."""
+        # ctypes would take a larger number without its upper bits.
+        if not 0 <= place < 2**64:
+            raise Failed(NOTHING)
         outcome = Outcome()
         self.call("execute", place, byref(outcome))
         return outcome
@@ -175,16 +206,16 @@ class Session:
             return [self.row(place) for place in range(outcome.count)]
         return outcome.count if outcome.kind == CHANGED else None
 
-    def execute(self, text):
-        """Executes the statements of a text until one is refused: the answer of each."""
-        count, fault = self.read(text)
+    def execute(self, text, values=()):
+        """Executes the statements of a text until one is refused: the answer of each. Values stand in place of its question marks."""
+        count, fault = self.fill(text, values) if values else self.read(text)
         if fault is not None:
             raise NoStatement(fault)
         return [self.answer(self.execute_at(place)) for place in range(count)]
 
-    def query(self, text):
+    def query(self, text, values=()):
         """The rows of the last statement of a text, as tuples."""
-        return self.execute(text)[-1]
+        return self.execute(text, values)[-1]
 
     def row(self, place):
         count = c_size_t()

@@ -24,8 +24,8 @@ def database():
 
 
 def transfer(database, payer, payee, amount):
-    database.execute("UPDATE account SET balance = balance - %d WHERE owner = '%s';" % (amount, payer))
-    database.execute("UPDATE account SET balance = balance + %d WHERE owner = '%s';" % (amount, payee))
+    database.execute("UPDATE account SET balance = balance - ? WHERE owner = ?;", [amount, payer])
+    database.execute("UPDATE account SET balance = balance + ? WHERE owner = ?;", [amount, payee])
     database.commit()
 
 
@@ -64,6 +64,11 @@ def test_an_entry_is_of_an_account(database):
     with pytest.raises(sqlkeep.Refused) as refused:
         database.execute("INSERT INTO entry VALUES (1, 'Cid');")
     assert (refused.value.name, refused.value.constraint) == ("Violation", "BOOKED_FOR")
+
+
+def test_a_value_stays_a_value(database):
+    assert database.execute("UPDATE account SET balance = 0 WHERE owner = ?;", ["Ann' OR owner <> '"]) == [0]
+    assert balances(database) == [("Ann", 50), ("Bob", 20)]
 
 
 def test_a_text_that_is_no_statement(database):
