@@ -157,7 +157,7 @@ def outcome_lines(outcome):
 
 def fault_lines(fault, explain):
     yield '%(number)d fault %(byte)d' % fault
-    yield from ['  line %(line)d, column %(column)d' % fault] if explain else []
+    yield from ['  line %(line)d, column %(column)d' % fault['word']] if explain else []
 
 
 def words(objects, explain):

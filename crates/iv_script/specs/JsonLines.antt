@@ -2,6 +2,7 @@
 -- Each stands on a line of its own.
 use Rattle.std.specs.Prelude.{ℕ, ◌+◌, Bool, true, false, List, [], ◌++◌, codes, decimal, Option, Some, None, Result}
 use Rattle.iv_syntax.specs.declared.statement.Statement.{Statement}
+use Rattle.iv_parse.specs.declared.parser.SyntaxFault.{SyntaxFault}
 use Rattle.iv_catalogue.specs.Catalogues.{Schema}
 use Rattle.iv_catalogue.specs.declared.cause.Refusal.{Refusal}
 use Rattle.iv_machine.specs.declared.answer.Answer.{Answer}
@@ -30,13 +31,21 @@ json_line asked n st s r told =
 abbrev pub place_members : Place → List ℕ
 place_members p = member (codes "line") ++ (decimal p.line ++ (member (codes "column") ++ decimal p.column))
 
--- the line of a fault after so many statements
-abbrev pub json_fault_line : List ℕ → ℕ → Option ℕ → List ℕ
+-- a byte of a text, and its line and column
+abbrev pub byte_members : List ℕ → ℕ → List ℕ
+byte_members text at = decimal at ++ place_members (place_at text at)
+
+-- where the first word begins that can't stand where it does
+abbrev pub word_member : List ℕ → ℕ → List ℕ
+word_member text word = member (codes "word") ++ (codes "{" ++ (key (codes "byte") ++ (byte_members text word ++ codes "}")))
+
+-- The line of a fault after so many statements: where its statement begins, and where the word is.
+abbrev pub json_fault_line : List ℕ → ℕ → Option SyntaxFault → List ℕ
 json_fault_line text n None = []
-json_fault_line text n (Some at) =
+json_fault_line text n (Some f) =
     number_key (n + 1)
     ++ (kind_member (codes "fault")
-    ++ (member (codes "byte") ++ (decimal at ++ (place_members (place_at text at) ++ codes "}\n"))))
+    ++ (member (codes "byte") ++ (byte_members text f.at ++ (word_member text f.word ++ codes "}\n"))))
 
 -- the line of a transaction that is open at the end
 abbrev pub json_end_line : Bool → List ℕ
@@ -44,5 +53,5 @@ json_end_line true = codes "{\"kind\":\"end\",\"rolled_back\":true}\n"
 json_end_line false = []
 
 -- the lines after those of the statements
-abbrev pub json_closing : List ℕ → ℕ → Option ℕ → Bool → List ℕ
+abbrev pub json_closing : List ℕ → ℕ → Option SyntaxFault → Bool → List ℕ
 json_closing text n fault is_open = json_fault_line text n fault ++ json_end_line is_open

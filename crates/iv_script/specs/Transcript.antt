@@ -152,7 +152,7 @@ closing_text asked text n fault is_open = fault_line n (begin_of fault) ++ (plac
 -- so in this format
 abbrev pub closing_in : Format → Bool → List ℕ → ℕ → Option SyntaxFault → Bool → List ℕ
 closing_in Words asked text n fault is_open = closing_text asked text n fault is_open
-closing_in Json asked text n fault is_open = json_closing text n (begin_of fault) is_open
+closing_in Json asked text n fault is_open = json_closing text n fault is_open
 
 abbrev pub closing_lines : Style → List ℕ → ℕ → Option SyntaxFault → State → List ℕ
 closing_lines style text n fault s = closing_in style.format style.explain text n fault (is_some s.start)

@@ -1,8 +1,8 @@
 //! The lines of a transcript in JSON.
-ghost use Rattle.std.specs.Prelude.{◌≡◌, ◌+◌, ◌++◌, ◌<◌, ◌^◌, option_map};
+ghost use Rattle.std.specs.Prelude.{◌≡◌, ◌+◌, ◌++◌, ◌<◌, ◌^◌};
 ghost use Rattle.std.specs.Option.{option_copied};
 ghost use Rattle.iv_print.specs.Writing.{Writes};
-ghost use Rattle.iv_script.specs.JsonLines.{account_member, json_closing, json_end_line, json_fault_line, json_line, number_key, place_members};
+ghost use Rattle.iv_script.specs.JsonLines.{account_member, byte_members, json_closing, json_end_line, json_fault_line, json_line, number_key, place_members, word_member};
 ghost use Rattle.iv_script.specs.Places.{place_at};
 
 use crate::json_name::write_about;
@@ -76,6 +76,27 @@ fn write_place<W: Sink>(writer: &mut W, place: Place) -> Result<(), DeviceFault>
     write_number_member(writer, b"column", place.column)
 }
 
+// A byte of a text, and its line and column.
+#[tactic(auto, using(iv_print::proofs::WriteLemmas::writes_then))]
+fn write_byte<W: Sink>(writer: &mut W, text: &str, at: usize) -> Result<(), DeviceFault>
+    ensures { Writes (W.state writer.old) (W.state writer.new) result (byte_members text.now at) }
+{
+    write_number(writer, at as u64)?;
+    write_place(writer, place_at(text, at))
+}
+
+// Where the first word begins that can't stand where it does.
+#[tactic(auto, using(iv_print::proofs::WriteLemmas::writes_then))]
+fn write_word<W: Sink>(writer: &mut W, text: &str, word: usize) -> Result<(), DeviceFault>
+    ensures { Writes (W.state writer.old) (W.state writer.new) result (word_member text.now word) }
+{
+    write_member(writer, b"word")?;
+    write_all(writer, b"{")?;
+    write_key(writer, b"byte")?;
+    write_byte(writer, text, word)?;
+    write_all(writer, b"}")
+}
+
 // The object of a fault after so many statements.
 #[tactic(auto, using(iv_print::proofs::WriteLemmas::writes_then))]
 fn write_fault<W: Sink>(
@@ -86,7 +107,7 @@ fn write_fault<W: Sink>(
 ) -> Result<(), DeviceFault>
     requires { count < 2 ^ 63 }
     ensures { Writes (W.state writer.old) (W.state writer.new) result
-        (json_fault_line text.now count (option_map (λ f. f.at) fault)) }
+        (json_fault_line text.now count fault) }
 {
     let Some(fault) = fault else {
         return write_all(writer, b"");
@@ -94,8 +115,8 @@ fn write_fault<W: Sink>(
     write_number_key(writer, count + 1)?;
     write_text_member(writer, b"kind", b"fault")?;
     write_member(writer, b"byte")?;
-    write_number(writer, fault.at as u64)?;
-    write_place(writer, place_at(text, fault.at))?;
+    write_byte(writer, text, fault.at)?;
+    write_word(writer, text, fault.word)?;
     write_all(writer, b"}\n")
 }
 
@@ -121,7 +142,7 @@ pub fn write_json_closing<W: Sink>(
 ) -> Result<(), DeviceFault>
     requires { count < 2 ^ 63 }
     ensures { Writes (W.state writer.old) (W.state writer.new) result
-        (json_closing text.now count (option_map (λ f. f.at) fault) is_open) }
+        (json_closing text.now count fault is_open) }
 {
     write_fault(writer, text, count, fault)?;
     write_end(writer, is_open)
