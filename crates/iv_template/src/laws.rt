@@ -2,6 +2,7 @@
 ghost use Rattle.iv_template.specs.Grammar.{LiteralsArePrimaries};
 ghost use Rattle.iv_template.specs.Laws.{KeepsTheTemplates, NoneThatStops, OneReading, is_name, is_semicolon};
 ghost use Rattle.iv_template.specs.ConditionShapes.{ValuesStandInConditions};
+ghost use Rattle.iv_template.specs.DataShapes.{ValuesStandInDeletes, ValuesStandInInserts, ValuesStandInSelects, ValuesStandInUpdates};
 ghost use Rattle.iv_template.specs.Shapes.{ValuesStandAtHoles};
 
 /// A template has one list of parts.
@@ -35,4 +36,13 @@ pub fn values_stand_at_holes()
 /// expressions at its holes.
 pub fn values_stand_in_conditions()
     ensures { ValuesStandInConditions }
+{}
+
+/// The words of a filled INSERT, UPDATE, DELETE or SELECT are such a statement, and its tree is that of the template
+/// with the values' expressions at its holes.
+pub fn values_stand_in_statements()
+    ensures inserts { ValuesStandInInserts }
+    ensures updates { ValuesStandInUpdates }
+    ensures deletes { ValuesStandInDeletes }
+    ensures selects { ValuesStandInSelects }
 {}
