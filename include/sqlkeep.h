@@ -201,6 +201,14 @@ enum sqlkeep_statement_kinds {
     SQLKEEP_TRANSACTION = 3
 };
 
+/* A row of the database. */
+typedef struct sqlkeep_stored_row {
+    /* The place of its table. */
+    uint64_t table;
+    /* How many values it has. */
+    uint64_t columns;
+} sqlkeep_stored_row;
+
 /* How many tables, constraints and triggers there are. */
 typedef struct sqlkeep_sizes {
     uint64_t tables;
@@ -229,6 +237,9 @@ enum sqlkeep_constraint_kind {
     SQLKEEP_PRIMARY_KEY = 3,
     SQLKEEP_FOREIGN_KEY = 4
 };
+
+/* When a constraint is checked: at the end of each statement, or at COMMIT. */
+enum sqlkeep_mode { SQLKEEP_IMMEDIATE = 0, SQLKEEP_DEFERRED = 1 };
 
 /* What a foreign key does where the row that it refers to is deleted, or its key is updated. */
 enum sqlkeep_action {
@@ -433,6 +444,18 @@ uint32_t sqlkeep_value_text(sqlkeep *handle, size_t row, size_t column, size_t f
    SQLKEEP_CLOSED. */
 uint32_t sqlkeep_rows(sqlkeep *handle, size_t from, sqlkeep_cell *cells, size_t count, uint8_t *texts, size_t size, sqlkeep_taken *taken);
 
+/* ---- a row by its number
+
+   An outcome, a violation and an account tell rows by their numbers. These read the row of a number as it is now.
+   SQLKEEP_CLOSED; SQLKEEP_NOTHING: there is no such row now, or it has no such column. */
+
+/* Its table, and how many values it has. */
+uint32_t sqlkeep_row(sqlkeep *handle, uint64_t number, sqlkeep_stored_row *row);
+
+/* A value of it, and the bytes of a text from byte `from` on, copied as sqlkeep_transcript does. */
+uint32_t sqlkeep_row_value(sqlkeep *handle, uint64_t number, size_t column, sqlkeep_cell *value);
+uint32_t sqlkeep_row_text(sqlkeep *handle, uint64_t number, size_t column, size_t from, uint8_t *buffer, size_t size, size_t *copied);
+
 /* ---- the columns of a query
 
    These are about the statement that was executed last, where it is among those that were read last and is a query, also
@@ -472,6 +495,10 @@ uint32_t sqlkeep_constraint_at(sqlkeep *handle, size_t at, sqlkeep_constraint_de
 uint32_t sqlkeep_constraint_name(sqlkeep *handle, size_t at, size_t from, uint8_t *buffer, size_t size, size_t *copied);
 uint32_t sqlkeep_constraint_column(sqlkeep *handle, size_t at, size_t place, uint32_t *column);
 uint32_t sqlkeep_referenced_column(sqlkeep *handle, size_t at, size_t place, uint32_t *column);
+
+/* The mode of a constraint now: one of enum sqlkeep_mode. SET CONSTRAINTS sets it; at the end of the transaction it is the initial
+   one again. */
+uint32_t sqlkeep_constraint_mode(sqlkeep *handle, size_t at, uint32_t *mode);
 
 /* A trigger, its name, and a column that UPDATE OF lists, as its place in the table. */
 uint32_t sqlkeep_trigger_at(sqlkeep *handle, size_t at, sqlkeep_trigger_definition *trigger);
@@ -712,6 +739,18 @@ static inline uint32_t sqlkeep_tested_seen_value(sqlkeep *handle, size_t at, uin
 static inline uint32_t sqlkeep_tested_seen_text(sqlkeep *handle, size_t at, uint32_t side, size_t column, size_t from, uint8_t *buffer, size_t size, size_t *copied) {
     return handle == NULL ? (uint32_t)SQLKEEP_NO_HANDLE : sqlkeep_seen_text(handle, at, side, column, from, buffer, size, copied);
 }
+static inline uint32_t sqlkeep_tested_row(sqlkeep *handle, uint64_t number, sqlkeep_stored_row *row) {
+    return handle == NULL ? (uint32_t)SQLKEEP_NO_HANDLE : sqlkeep_row(handle, number, row);
+}
+static inline uint32_t sqlkeep_tested_row_value(sqlkeep *handle, uint64_t number, size_t column, sqlkeep_cell *value) {
+    return handle == NULL ? (uint32_t)SQLKEEP_NO_HANDLE : sqlkeep_row_value(handle, number, column, value);
+}
+static inline uint32_t sqlkeep_tested_row_text(sqlkeep *handle, uint64_t number, size_t column, size_t from, uint8_t *buffer, size_t size, size_t *copied) {
+    return handle == NULL ? (uint32_t)SQLKEEP_NO_HANDLE : sqlkeep_row_text(handle, number, column, from, buffer, size, copied);
+}
+static inline uint32_t sqlkeep_tested_constraint_mode(sqlkeep *handle, size_t at, uint32_t *mode) {
+    return handle == NULL ? (uint32_t)SQLKEEP_NO_HANDLE : sqlkeep_constraint_mode(handle, at, mode);
+}
 
 #define sqlkeep_open sqlkeep_tested_open
 #define sqlkeep_close sqlkeep_tested_close
@@ -767,6 +806,10 @@ static inline uint32_t sqlkeep_tested_seen_text(sqlkeep *handle, size_t at, uint
 #define sqlkeep_entry_text sqlkeep_tested_entry_text
 #define sqlkeep_seen_value sqlkeep_tested_seen_value
 #define sqlkeep_seen_text sqlkeep_tested_seen_text
+#define sqlkeep_row sqlkeep_tested_row
+#define sqlkeep_row_value sqlkeep_tested_row_value
+#define sqlkeep_row_text sqlkeep_tested_row_text
+#define sqlkeep_constraint_mode sqlkeep_tested_constraint_mode
 
 /* ---- a template with its values
 

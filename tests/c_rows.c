@@ -104,6 +104,40 @@ static int json(sqlkeep *session) {
     return 0;
 }
 
+/* Rows by their numbers: 1 is (1, 'ab'), 2 is (-2, NULL), 3 is (NULL, 'cde'), all of the first table. */
+static int stored(sqlkeep *session) {
+    sqlkeep_stored_row row = {9, 9};
+    sqlkeep_cell cell = {9, 9, 9};
+    uint8_t text[4] = "----";
+    size_t copied = 9;
+    WANT(sqlkeep_row(session, 3, &row) == SQLKEEP_OK && row.table == 0 && row.columns == 2);
+    WANT(sqlkeep_row_value(session, 2, 0, &cell) == SQLKEEP_OK && is_integer(cell, -2));
+    WANT(sqlkeep_row_value(session, 2, 1, &cell) == SQLKEEP_OK && is_null(cell));
+    WANT(sqlkeep_row_value(session, 3, 1, &cell) == SQLKEEP_OK && is_text(cell, 3));
+    WANT(sqlkeep_row_text(session, 3, 1, 1, text, 4, &copied) == SQLKEEP_OK && copied == 2 && memcmp(text, "de--", 4) == 0);
+    WANT(sqlkeep_row_text(session, 3, 0, 0, text, 4, &copied) == SQLKEEP_OK && copied == 0);
+    WANT(sqlkeep_row_value(session, 1, 2, &cell) == SQLKEEP_NOTHING && is_text(cell, 3));
+    WANT(sqlkeep_row_text(session, 4, 0, 0, text, 4, &copied) == SQLKEEP_NOTHING && copied == 0 && memcmp(text, "de--", 4) == 0);
+    row.table = 9;
+    WANT(sqlkeep_row(session, 0, &row) == SQLKEEP_NOTHING && sqlkeep_row(session, UINT64_MAX, &row) == SQLKEEP_NOTHING && row.table == 9);
+    WANT(done(session, "DELETE FROM t WHERE a = 1;") && sqlkeep_row(session, 1, &row) == SQLKEEP_NOTHING);
+    WANT(done(session, "ROLLBACK;") && sqlkeep_row(session, 1, &row) == SQLKEEP_OK && row.table == 0);
+    return 0;
+}
+
+/* The modes of constraints as they are now: T_C1 can't be deferred, LATE is deferred at first. */
+static int modes(sqlkeep *session) {
+    uint32_t mode = 9;
+    WANT(done(session, "CREATE TABLE late (a INT, CONSTRAINT late CHECK (a > 0) INITIALLY DEFERRED);"));
+    WANT(sqlkeep_constraint_mode(session, 0, &mode) == SQLKEEP_OK && mode == SQLKEEP_IMMEDIATE);
+    WANT(sqlkeep_constraint_mode(session, 1, &mode) == SQLKEEP_OK && mode == SQLKEEP_DEFERRED);
+    WANT(done(session, "START TRANSACTION; SET CONSTRAINTS late IMMEDIATE;"));
+    WANT(sqlkeep_constraint_mode(session, 1, &mode) == SQLKEEP_OK && mode == SQLKEEP_IMMEDIATE);
+    WANT(done(session, "COMMIT;") && sqlkeep_constraint_mode(session, 1, &mode) == SQLKEEP_OK && mode == SQLKEEP_DEFERRED);
+    WANT(sqlkeep_constraint_mode(session, 2, &mode) == SQLKEEP_NOTHING && mode == SQLKEEP_DEFERRED);
+    return 0;
+}
+
 /* Each of the calls over an empty handle leaves what it was given. */
 static int closed(sqlkeep *session) {
     sqlkeep_cell cell = {9, 9, 9};
@@ -114,11 +148,18 @@ static int closed(sqlkeep *session) {
     WANT(sqlkeep_statement_kind(session, 0, &kind) == SQLKEEP_CLOSED && kind == 9 && sqlkeep_lines_json(session, 1) == SQLKEEP_CLOSED);
     WANT(sqlkeep_rows(NULL, 0, &cell, 1, texts, 1, &taken) == SQLKEEP_NO_HANDLE && sqlkeep_statement_kind(NULL, 0, &kind) == SQLKEEP_NO_HANDLE);
     WANT(sqlkeep_lines_json(NULL, 1) == SQLKEEP_NO_HANDLE);
+    sqlkeep_stored_row row = {9, 9};
+    size_t copied = 9;
+    WANT(sqlkeep_row(session, 1, &row) == SQLKEEP_CLOSED && row.table == 9 && sqlkeep_row_value(session, 1, 0, &cell) == SQLKEEP_CLOSED && cell.kind == 9);
+    WANT(sqlkeep_row_text(session, 1, 0, 0, texts, 1, &copied) == SQLKEEP_CLOSED && copied == 9 && texts[0] == '-');
+    WANT(sqlkeep_constraint_mode(session, 0, &kind) == SQLKEEP_CLOSED && kind == 9);
+    WANT(sqlkeep_row(NULL, 1, &row) == SQLKEEP_NO_HANDLE && sqlkeep_row_value(NULL, 1, 0, &cell) == SQLKEEP_NO_HANDLE);
+    WANT(sqlkeep_row_text(NULL, 1, 0, 0, texts, 1, &copied) == SQLKEEP_NO_HANDLE && sqlkeep_constraint_mode(NULL, 0, &kind) == SQLKEEP_NO_HANDLE);
     return 0;
 }
 
 int main(void) {
-    static int (*const PARTS[])(sqlkeep *) = {all_rows, some_rows, no_rows, kinds, json};
+    static int (*const PARTS[])(sqlkeep *) = {all_rows, some_rows, no_rows, kinds, json, stored, modes};
     sqlkeep session = SQLKEEP_EMPTY;
     int line = closed(&session);
     if (line != 0) return line;

@@ -77,11 +77,13 @@ static PyObject *referenced_column(sqlkeep *handle, size_t constraint, size_t at
 }
 
 /* (name, kind, table, columns, deferrable, initially deferred, nulls not distinct, referenced, its columns, match full, on delete,
-   on update) */
+   on update, deferred now) */
 static PyObject *constraint_at(sqlkeep *handle, size_t unused, size_t at) {
     sqlkeep_constraint_definition found = {0};
+    uint32_t mode = SQLKEEP_IMMEDIATE;
     (void)unused;
     uint32_t status = sqlkeep_constraint_at(handle, at, &found);
+    status = status != SQLKEEP_OK ? status : sqlkeep_constraint_mode(handle, at, &mode);
     if (status != SQLKEEP_OK) {
         return failed(status);
     }
@@ -94,8 +96,8 @@ static PyObject *constraint_at(sqlkeep *handle, size_t unused, size_t at) {
         Py_XDECREF(columns);
         return NULL;
     }
-    return Py_BuildValue("NIINIIIINIII", name, found.kind, found.table, columns, found.deferrable, found.initially_deferred, found.nulls_not_distinct,
-                         found.referenced, referenced, found.match_full, found.on_delete, found.on_update);
+    return Py_BuildValue("NIINIIIINIIII", name, found.kind, found.table, columns, found.deferrable, found.initially_deferred, found.nulls_not_distinct,
+                         found.referenced, referenced, found.match_full, found.on_delete, found.on_update, mode);
 }
 
 static PyObject *trigger_column(sqlkeep *handle, size_t trigger, size_t at) {
@@ -147,4 +149,33 @@ PyObject *query_columns(sqlkeep *handle) {
     size_t count = 0;
     uint32_t status = sqlkeep_query(handle, &count);
     return status == SQLKEEP_OK ? list_of(handle, 0, count, query_column) : failed(status);
+}
+
+static uint32_t row_text(sqlkeep *handle, size_t row, size_t column, size_t from, uint8_t *buffer, size_t size, size_t *copied) {
+    return sqlkeep_row_text(handle, row, column, from, buffer, size, copied);
+}
+
+static PyObject *value_of_row(sqlkeep *handle, size_t number, size_t column) {
+    sqlkeep_cell cell = {SQLKEEP_NULL, 0, 0};
+    uint32_t status = sqlkeep_row_value(handle, number, column, &cell);
+    return status == SQLKEEP_OK ? value_of(handle, &cell, number, column, row_text) : failed(status);
+}
+
+PyObject *stored_row(sqlkeep *handle, size_t number) {
+    sqlkeep_stored_row row = {0, 0};
+    uint32_t status = sqlkeep_row(handle, number, &row);
+    if (status == SQLKEEP_NOTHING) {
+        Py_INCREF(Py_None);
+        return Py_None;
+    }
+    if (status != SQLKEEP_OK) {
+        return failed(status);
+    }
+    PyObject *name = name_of(handle, (size_t)row.table, sqlkeep_table_name);
+    PyObject *values = name == NULL ? NULL : list_of(handle, number, (size_t)row.columns, value_of_row);
+    if (values == NULL) {
+        Py_XDECREF(name);
+        return NULL;
+    }
+    return Py_BuildValue("NN", name, values);
 }

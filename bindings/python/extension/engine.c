@@ -393,6 +393,15 @@ static PyObject *engine_catalogue(engine *self, PyObject *unused) {
     return engine_begin(self) != 0 ? NULL : engine_end(self, catalogue_of(&self->handle));
 }
 
+/* row(number): the row of this number as (table, values), or None. */
+static PyObject *engine_row(engine *self, PyObject *arguments) {
+    unsigned long long number;
+    if (!PyArg_ParseTuple(arguments, "K:row", &number) || engine_begin(self) != 0) {
+        return NULL;
+    }
+    return engine_end(self, stored_row(&self->handle, (size_t)number));
+}
+
 static PyObject *engine_explain(engine *self, PyObject *arguments) {
     int asked;
     if (!PyArg_ParseTuple(arguments, "p:explain", &asked) || engine_ready(self) != 0) {
@@ -430,6 +439,7 @@ static PyMethodDef methods[] = {
     {"work", (PyCFunction)engine_work, METH_NOARGS, NULL},
     {"pending", (PyCFunction)engine_pending, METH_NOARGS, NULL},
     {"catalogue", (PyCFunction)engine_catalogue, METH_NOARGS, NULL},
+    {"row", (PyCFunction)engine_row, METH_VARARGS, NULL},
     {"progress", (PyCFunction)engine_progress, METH_NOARGS, NULL},
     {"explain", (PyCFunction)engine_explain, METH_VARARGS, NULL},
     {"account", (PyCFunction)engine_account, METH_VARARGS, NULL},

@@ -5,7 +5,7 @@ import unittest
 from pathlib import Path
 
 import sqlkeep
-from sqlkeep import Column, Constraint, TriggerDefinition
+from sqlkeep import Column, Constraint, StoredRow, TriggerDefinition
 from sqlkeep.text import is_whole, statements
 
 ROOT = Path(os.environ.get("SQLKEEP_ROOT", Path(__file__).resolve().parents[3]))
@@ -159,6 +159,21 @@ class Outcomes(unittest.TestCase):
                 call()
 
 
+class StoredRows(unittest.TestCase):
+    def test_rows_by_their_numbers(self):
+        session, long = sqlkeep.Session(), "é" * 300
+        session.execute("CREATE TABLE t (a INT, b VARCHAR(400))").check()
+        session.execute("INSERT INTO t VALUES (1, 'x'), (NULL, ?)", (long,)).check()
+        self.assertEqual(session.row(2), StoredRow(2, "T", (None, long)))
+        session.execute("UPDATE t SET a = -5 WHERE a = 1").check()
+        self.assertEqual(session.row(1), StoredRow(1, "T", (-5, "x")))
+        session.execute("DELETE FROM t WHERE a = -5").check()
+        for number in (1, 3, 0, -1, 2**64, 2**64 + 2):
+            self.assertIsNone(session.row(number), number)
+        session.execute("ROLLBACK").check()
+        self.assertIsNone(session.row(2))
+
+
 class OfTheCatalogue(unittest.TestCase):
     def setUp(self):
         self.session = sqlkeep.Session()
@@ -183,10 +198,21 @@ class OfTheCatalogue(unittest.TestCase):
             Constraint("SHELF_C1", "NOT NULL", "SHELF", ("ROOM",)),
             Constraint("SHELF_C2", "PRIMARY KEY", "SHELF", ("NUMBER", "ROOM")),
             Constraint("ONE_TITLE", "UNIQUE", "BOOK", ("TITLE",), nulls_not_distinct=True),
-            Constraint("BOOK_C2", "CHECK", "BOOK", deferrable=True, initially_deferred=True),
+            Constraint("BOOK_C2", "CHECK", "BOOK", deferrable=True, initially_deferred=True, deferred=True),
             Constraint("STANDS", "FOREIGN KEY", "BOOK", ("NUMBER", "ROOM"), deferrable=True, referenced="SHELF", referenced_columns=("NUMBER", "ROOM"), match_full=True,
                        on_delete="CASCADE", on_update="SET NULL"),
         ])
+
+    def modes(self):
+        return {name: each.deferred for name, each in self.session.catalogue.constraints.items() if each.deferrable}
+
+    def test_modes_of_now(self):
+        self.assertEqual(self.modes(), {"BOOK_C2": True, "STANDS": False})
+        for statement in ("START TRANSACTION", "SET CONSTRAINTS stands DEFERRED", "SET CONSTRAINTS book_c2 IMMEDIATE"):
+            self.session.execute(statement).check()
+        self.assertEqual(self.modes(), {"BOOK_C2": False, "STANDS": True})
+        self.session.execute("COMMIT").check()
+        self.assertEqual(self.modes(), {"BOOK_C2": True, "STANDS": False})
 
     def test_triggers(self):
         moved = TriggerDefinition("MOVED", "BOOK", "AFTER", "UPDATE", True, ("NUMBER", "ROOM"), 2)

@@ -99,6 +99,8 @@ pub struct Constraint {
     pub deferrable: bool,
     /// Whether it is deferred at the start of a transaction.
     pub initially_deferred: bool,
+    /// Whether it is deferred now.
+    pub deferred: bool,
 }
 
 /// When a trigger runs.
@@ -230,8 +232,9 @@ impl Session {
     }
 
     fn constraint_at(&mut self, catalogue: &Catalogue, at: usize) -> Constraint {
-        let mut it = ffi::ConstraintDefinition::default();
+        let (mut it, mut mode) = (ffi::ConstraintDefinition::default(), 0);
         unsafe { ffi::sqlkeep_constraint_at(self.handle(), at, &mut it) };
+        unsafe { ffi::sqlkeep_constraint_mode(self.handle(), at, &mut mode) };
         let columns = self.places(at, ffi::sqlkeep_constraint_column);
         let referenced = self.places(at, ffi::sqlkeep_referenced_column);
         Constraint {
@@ -248,6 +251,7 @@ impl Session {
             }),
             deferrable: it.deferrable == 1,
             initially_deferred: it.initially_deferred == 1,
+            deferred: mode == 1,
         }
     }
 

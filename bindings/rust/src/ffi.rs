@@ -73,6 +73,13 @@ pub struct Done {
 }
 
 #[repr(C)]
+#[derive(Clone, Copy, Default)]
+pub struct StoredRow {
+    pub table: u64,
+    pub columns: u64,
+}
+
+#[repr(C)]
 #[derive(Default)]
 pub struct Sizes {
     pub tables: u64,
@@ -152,6 +159,10 @@ extern "C" {
     pub fn sqlkeep_constraint_name(handle: *mut Handle, at: usize, from: usize, buffer: *mut u8, size: usize, copied: *mut usize) -> u32;
     pub fn sqlkeep_constraint_column(handle: *mut Handle, at: usize, place: usize, column: *mut u32) -> u32;
     pub fn sqlkeep_referenced_column(handle: *mut Handle, at: usize, place: usize, column: *mut u32) -> u32;
+    pub fn sqlkeep_constraint_mode(handle: *mut Handle, at: usize, mode: *mut u32) -> u32;
+    pub fn sqlkeep_row(handle: *mut Handle, number: u64, row: *mut StoredRow) -> u32;
+    pub fn sqlkeep_row_value(handle: *mut Handle, number: u64, column: usize, value: *mut Cell) -> u32;
+    pub fn sqlkeep_row_text(handle: *mut Handle, number: u64, column: usize, from: usize, buffer: *mut u8, size: usize, copied: *mut usize) -> u32;
     pub fn sqlkeep_trigger_at(handle: *mut Handle, at: usize, trigger: *mut TriggerDefinition) -> u32;
     pub fn sqlkeep_trigger_name(handle: *mut Handle, at: usize, from: usize, buffer: *mut u8, size: usize, copied: *mut usize) -> u32;
     pub fn sqlkeep_trigger_column(handle: *mut Handle, at: usize, place: usize, column: *mut u32) -> u32;

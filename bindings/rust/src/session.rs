@@ -427,6 +427,28 @@ impl Session {
         (status == ffi::OK).then(|| Violation { constraint: String::from_utf8_lossy(&name[..length]).into_owned(), row })
     }
 
+    /// The row of this number as it is now: the name of its table, and its values. Refusals, violations and accounts tell rows by their
+    /// numbers.
+    pub fn row(&mut self, number: u64) -> Option<(String, Vec<Value>)> {
+        let mut row = ffi::StoredRow::default();
+        if unsafe { ffi::sqlkeep_row(&mut self.handle, number, &mut row) } != ffi::OK {
+            return None;
+        }
+        let table = row.table as usize;
+        let name = copied(|from, buffer, size, count| unsafe { ffi::sqlkeep_table_name(&mut self.handle, table, from, buffer, size, count) });
+        Some((name.unwrap_or_default(), (0..row.columns as usize).map(|column| self.value_of_row(number, column)).collect()))
+    }
+
+    fn value_of_row(&mut self, number: u64, column: usize) -> Value {
+        let mut cell = ffi::Cell::default();
+        unsafe { ffi::sqlkeep_row_value(&mut self.handle, number, column, &mut cell) };
+        match cell.kind {
+            1 => Value::Integer(cell.integer),
+            2 => Value::Text(copied(|from, buffer, size, count| unsafe { ffi::sqlkeep_row_text(&mut self.handle, number, column, from, buffer, size, count) }).unwrap_or_default()),
+            _ => Value::Null,
+        }
+    }
+
     /// Runs a whole script in a new database of its own, as the program does, and gives what the program writes. The limits, and whether
     /// accounts are asked for, are those of this session, whose database isn't touched.
     ///

@@ -31,3 +31,28 @@ fn everything_has_its_parts() {
     assert_eq!((&trigger.name[..], &trigger.table[..], trigger.time, trigger.event), ("SECOND", "BOOK", Time::After, Event::Update));
     assert_eq!((&trigger.columns[..], trigger.for_each_row, trigger.statements), (&["TITLE".to_string()][..], false, 2));
 }
+
+fn modes(session: &mut Session) -> Vec<bool> {
+    session.catalogue().constraints.iter().map(|constraint| constraint.deferred).collect()
+}
+
+#[test]
+fn modes_are_those_of_now() {
+    let mut session = Session::open().unwrap();
+    session.execute_batch("CREATE TABLE t (a INT CONSTRAINT one CHECK (a > 0) DEFERRABLE, CONSTRAINT two CHECK (a < 9) INITIALLY DEFERRED);").unwrap();
+    assert_eq!(modes(&mut session), [false, true]);
+    session.execute_batch("START TRANSACTION; SET CONSTRAINTS one DEFERRED; SET CONSTRAINTS two IMMEDIATE;").unwrap();
+    assert_eq!(modes(&mut session), [true, false]);
+    session.rollback().unwrap();
+    assert_eq!(modes(&mut session), [false, true]);
+}
+
+#[test]
+fn rows_are_read_by_their_numbers() {
+    let mut session = Session::open().unwrap();
+    session.execute_batch("CREATE TABLE t (a INT, b VARCHAR(9)); INSERT INTO t VALUES (-3, NULL), (4, 'four');").unwrap();
+    assert_eq!(session.row(1), Some(("T".into(), vec![Value::Integer(-3), Value::Null])));
+    assert_eq!(session.row(2), Some(("T".into(), vec![Value::Integer(4), Value::Text("four".into())])));
+    session.execute_batch("DELETE FROM t WHERE a = 4;").unwrap();
+    assert_eq!((session.row(2), session.row(0), session.row(u64::MAX)), (None, None, None));
+}

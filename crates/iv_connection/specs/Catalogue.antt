@@ -57,6 +57,10 @@ abbrev pub mode_number : ConstraintMode → ℕ
 mode_number mode.Immediate = 0
 mode_number mode.Deferred = 1
 
+-- the mode now of the constraint at this place
+abbrev pub mode_at : List ConstraintMode → ℕ → Option ℕ
+mode_at modes at = option_map mode_number (slice_get modes at)
+
 abbrev pub nulls_number : NullTreatment → ℕ
 nulls_number nulls.Distinct = 0
 nulls_number nulls.NotDistinct = 1

@@ -9,6 +9,7 @@ pub mod Scripts
 pub mod Sessions
 pub mod Statements
 pub mod Statuses
+pub mod StoredRows
 pub mod Templates
 pub mod Texts
 pub mod Transactions

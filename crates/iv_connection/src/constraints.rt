@@ -1,6 +1,6 @@
 //! The catalogue's constraints, by their places.
 ghost use Rattle.std.specs.Prelude.{◌≡◌, ◌≢◌, length, slice_get, IfSome, option_copied};
-ghost use Rattle.iv_connection.specs.Catalogue.{action_number, columns_of, constraint_column, constraint_name, constraint_shown, match_number, match_of, mode_number, nulls_number, nulls_of, on_delete_of, on_update_of, referenced_column, referenced_table_of, rule_number};
+ghost use Rattle.iv_connection.specs.Catalogue.{action_number, columns_of, constraint_column, constraint_name, constraint_shown, match_number, match_of, mode_at, mode_number, nulls_number, nulls_of, on_delete_of, on_update_of, referenced_column, referenced_table_of, rule_number};
 ghost use Rattle.iv_connection.specs.Statuses.{found};
 
 use crate::connection::Connection;
@@ -195,6 +195,14 @@ pub fn referenced_column(connection: &Connection, at: usize, place: usize) -> Op
         Rule::ForeignKey(key) => key.key.as_slice().get(place).copied(),
         _ => None,
     }
+}
+
+/// The mode now of the constraint at this place: 0 is IMMEDIATE, 1 DEFERRED.
+pub fn mode_at(connection: &Connection, at: usize) -> Option<u32>
+    ensures { result ≡ mode_at connection.now.session.state.modes at }
+{
+    let mode = connection.session.modes().get(at)?;
+    Some(mode_number(*mode))
 }
 
 /// Writes a place, where there is one.

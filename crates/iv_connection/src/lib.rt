@@ -15,6 +15,7 @@ mod scripts;
 mod sessions;
 mod statements;
 mod status;
+mod stored_rows;
 mod summary;
 mod tables;
 mod templates;
@@ -30,7 +31,7 @@ pub use accounts::{
 pub use bound_values::{bind, bind_text};
 pub use connection::{Connection, Database};
 pub use constraints::{
-    ShownConstraint, constraint_at, constraint_column, constraint_name, constraint_shown,
+    ShownConstraint, constraint_at, constraint_column, constraint_name, constraint_shown, mode_at,
     referenced_column, write_place,
 };
 pub use copying::{copied, copied_if_there};
@@ -44,6 +45,7 @@ pub use statements::{ReadScript, execute_kept, executed, keep_lines, read_shown,
 pub use status::{
     CLOSED, LIMITS, NO_MEMORY, NO_TEMPLATE, NOT_UTF8, NOTHING, OK, OPEN, TOO_LONG, WRONG_COUNT,
 };
+pub use stored_rows::{ShownStoredRow, stored_row, stored_row_shown, stored_value};
 pub use summary::{RunSummary, summary_shown};
 pub use tables::{
     ShownCatalogue, ShownColumn, column_at, column_name, columns_at, kind_shown, table_name,

@@ -1,8 +1,8 @@
 //! The calls that need no resolution.
-ghost use Rattle.std.specs.Prelude.{◌≡◌, ◌≢◌, ◌-◌, ◌^◌, [], length, min, true, false, is_some, IfOk, OnErr, OnOk};
+ghost use Rattle.std.specs.Prelude.{◌≡◌, ◌≢◌, ◌-◌, ◌^◌, [], length, min, true, false, is_some, IfOk, OnErr, OnOk, option_copied};
 ghost use Rattle.iv_catalogue.specs.Refusals.{is_memory};
 ghost use Rattle.iv_machine.specs.declared.database.Which.TheVariants.{All, Deferred};
-ghost use Rattle.iv_machine.specs.Databases.{is_chosen, scan};
+ghost use Rattle.iv_machine.specs.Databases.{is_chosen, row_at, scan};
 ghost use Rattle.iv_machine.specs.Machine.{commit_outcome, empty_state, inside, is_open, no_work, outcome_unless, rollback_outcome, rollback_to_outcome, savepoint_named, transaction_cause};
 ghost use Rattle.iv_account.specs.Sessions.{commit_told};
 ghost use Rattle.iv_account.specs.Telling.{MayTell, no_account};
@@ -13,10 +13,12 @@ ghost use Rattle.iv_session.specs.FewLookups.{FewLookups};
 
 use iv_account::{Account, Entry};
 use iv_catalogue::{Catalogue, Fault};
+use iv_expr::StoredRow;
 use iv_machine::Limits;
 use iv_state::{SessionState, Work};
 use iv_step::Outcome;
 use iv_store::Keeper;
+use iv_syntax::ConstraintMode;
 use std::alloc::{AllocError, Global};
 use std::marker::Model;
 
@@ -106,6 +108,21 @@ impl<K: Keeper + Drop> Session<K> {
         ensures { result.now ≡ self.now.state.schema }
     {
         self.state.catalogue()
+    }
+
+    /// The mode of each constraint now, by its number. Outside a transaction each is in its initial mode.
+    pub fn modes(&self) -> &[ConstraintMode]
+        ensures { result.now ≡ self.now.state.modes }
+    {
+        self.state.constraint_modes()
+    }
+
+    /// The row of this number, with its table; none if there is no such row now. It looks no key up and allocates
+    /// nothing.
+    pub fn row(&self, number: u64) -> Option<&StoredRow>
+        ensures { option_copied result ≡ row_at self.now.state.database.rows number }
+    {
+        self.state.row(number)
     }
 
     /// Whether a transaction is open.

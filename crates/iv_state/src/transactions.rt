@@ -1,16 +1,18 @@
 //! The ends of a transaction, and what is pending in it.
-ghost use Rattle.std.specs.Prelude.{◌≡◌, ◌≢◌, ◌-◌, ◌^◌, [], length, map, min, true, IfOk, OnErr, OnOk, None, if◌then◌else◌};
+ghost use Rattle.std.specs.Prelude.{◌≡◌, ◌≢◌, ◌-◌, ◌^◌, [], length, map, min, true, IfOk, OnErr, OnOk, None, if◌then◌else◌, option_copied};
 ghost use Rattle.iv_machine.specs.declared.database.Which.TheVariants.{All, Deferred};
-ghost use Rattle.iv_machine.specs.Databases.{is_chosen, scan};
+ghost use Rattle.iv_machine.specs.Databases.{is_chosen, row_at, scan};
 ghost use Rattle.iv_machine.specs.Machine.{commit_outcome, first_violation, is_open, no_work, rollback_outcome, state_at_end};
 ghost use Rattle.iv_state.specs.Ending.{commit_answer};
 ghost use Rattle.iv_state.specs.Looking.{LookedUp, LooksUpFew};
 
 use crate::session_state::{SessionState, Work};
 use iv_catalogue::Fault;
+use iv_expr::StoredRow;
 use iv_machine::Which;
 use iv_modes::Modes;
 use iv_store::{Keeper, Mark};
+use iv_syntax::ConstraintMode;
 use std::alloc::AllocError;
 
 impl<K: Keeper + Drop> SessionState<K> {
@@ -24,6 +26,20 @@ impl<K: Keeper + Drop> SessionState<K> {
             Some(modes) => modes,
             None => &self.initial,
         }
+    }
+
+    /// The mode of each constraint now, by its number.
+    pub fn constraint_modes(&self) -> &[ConstraintMode]
+        ensures { result.now ≡ self.now.state.modes }
+    {
+        self.modes().as_slice()
+    }
+
+    /// The row of this number. It looks no key up and allocates nothing.
+    pub fn row(&self, number: u64) -> Option<&StoredRow>
+        ensures { option_copied result ≡ row_at self.now.state.database.rows number }
+    {
+        self.store.row(number)
     }
 
     /// The violations of deferred constraints, in creation order of the constraints, then by row.

@@ -2,8 +2,8 @@
 //! drops it, and all else borrows it: what owns a session has its drop proved at each of its exits.
 use crate::load::{Load, load_rows};
 use crate::shown::{
-    compare, show, show_account, show_catalogue, show_fault, show_number, show_outcome,
-    show_outcomes, show_work,
+    compare, show, show_account, show_catalogue, show_fault, show_modes, show_number, show_outcome,
+    show_outcomes, show_row, show_work,
 };
 use iv_machine::Limits;
 use iv_parse::script;
@@ -47,6 +47,10 @@ pub enum Call {
     LookUps(u64),
     /// How many tables and constraints there are.
     Catalogue,
+    /// The place of the table of the row of this number, and how many values it has.
+    Row(u64),
+    /// The mode of each constraint.
+    Modes,
 }
 
 // Which outcomes are shown.
@@ -185,6 +189,8 @@ fn make_call<K: Keeper + Drop>(
         Call::Work => show_work(rt, session.work(), shown),
         Call::LookUps(most) => show_look_ups(rt, session.work().lookups, *most, shown),
         Call::Catalogue => show_catalogue(rt, session.catalogue(), shown),
+        Call::Row(number) => show_row(rt, session.row(*number), shown),
+        Call::Modes => show_modes(rt, session.modes(), shown),
     }
 }
 

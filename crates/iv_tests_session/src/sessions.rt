@@ -1,5 +1,6 @@
 //! Sessions between the statements of scripts: work, what is pending, and the calls that no statement makes.
 use crate::calls::{Call, shows};
+use iv_store_index::IndexStore;
 use iv_store_plain::PlainStore;
 
 const AFTER_A_REFUSED_COMMIT: &str =
@@ -19,6 +20,12 @@ const TWO_CHECKS: &str =
 
 const ONE_ROW_PENDING: &str =
     "CREATE TABLE t (a INT, CONSTRAINT pos CHECK (a > 0) INITIALLY DEFERRED); INSERT INTO t VALUES (0);";
+
+const SET_IMMEDIATE: &str =
+    "CREATE TABLE t (a INT, CONSTRAINT pos CHECK (a > 0) INITIALLY DEFERRED, CONSTRAINT big CHECK (a < 9)); START TRANSACTION; SET CONSTRAINTS pos IMMEDIATE;";
+
+const TWO_ROWS: &str =
+    "CREATE TABLE t (a INT); CREATE TABLE u (a INT, b INT); INSERT INTO t VALUES (1); INSERT INTO u VALUES (2, 3); DELETE FROM t;";
 
 // P's key and POS are the constraint at place 0, FK and BIG the one at place 1.
 #[test]
@@ -75,4 +82,32 @@ fn refused_commit_ends_the_transaction(rt: HostRuntime) {
     ];
     let wanted = "1 open 1 0; violated 0 row 1; 0 closed 0 1; committed; 0 closed 0 0; ";
     shows::<PlainStore>(&rt, rt.alloc(), ONE_ROW_PENDING, &CALLS, wanted)
+}
+
+// The first CHECK is deferred at first, the second one never.
+#[test]
+fn modes_are_those_of_now(rt: HostRuntime) {
+    static CALLS: [Call; 4] = [Call::Run, Call::Modes, Call::Rollback, Call::Modes];
+    shows::<PlainStore>(
+        &rt,
+        rt.alloc(),
+        SET_IMMEDIATE,
+        &CALLS,
+        "immediate immediate ; deferred immediate ; ",
+    )
+}
+
+// Row 1 is deleted, and row 2 stands in the second table.
+#[test]
+fn rows_are_read_by_their_numbers(rt: HostRuntime) {
+    static CALLS: [Call; 5] = [
+        Call::Run,
+        Call::Row(0),
+        Call::Row(1),
+        Call::Row(2),
+        Call::Row(3),
+    ];
+    let wanted = "no row; no row; table 1 with 2; no row; ";
+    shows::<PlainStore>(&rt, rt.alloc(), TWO_ROWS, &CALLS, wanted);
+    shows::<IndexStore>(&rt, rt.alloc(), TWO_ROWS, &CALLS, wanted)
 }

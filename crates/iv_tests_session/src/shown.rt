@@ -2,8 +2,10 @@
 //! prove.
 use iv_account::{Entry, RowAction, TriggerView};
 use iv_catalogue::{Catalogue, Cause, Fault, TriggerId};
+use iv_expr::StoredRow;
 use iv_machine::Answer;
 use iv_session::{Outcome, Work};
+use iv_syntax::ConstraintMode;
 use std::panic::Expect;
 use std::process::Abort;
 
@@ -147,4 +149,27 @@ pub fn show_account(rt: &impl Abort, account: &[Entry], shown: &mut String) {
 /// Asserts that this is shown of a text.
 pub fn compare(rt: &impl Abort, text: &str, shown: &str, wanted: &str) {
     assert_eq!(rt; shown, wanted, "{text}");
+}
+
+/// The place of a row's table, and how many values it has.
+pub fn show_row(rt: &impl Abort, row: Option<&StoredRow>, shown: &mut String) {
+    match row {
+        Some(row) => {
+            let count = row.values.values().len() as u64;
+            show_number(rt, "table ", row.table.place() as u64, " with ", shown);
+            show_number(rt, "", count, "; ", shown)
+        }
+        None => show(rt, "no row; ", shown),
+    }
+}
+
+/// The mode of each constraint.
+pub fn show_modes(rt: &impl Abort, modes: &[ConstraintMode], shown: &mut String) {
+    for mode in modes {
+        match mode {
+            ConstraintMode::Immediate => show(rt, "immediate ", shown),
+            ConstraintMode::Deferred => show(rt, "deferred ", shown),
+        }
+    }
+    show(rt, "; ", shown)
 }

@@ -1,6 +1,6 @@
 //! The catalogue's constraints, by their places.
 ghost use Rattle.std.specs.Prelude.{◌≡◌, ◌≢◌, slice_get, IfSome};
-ghost use Rattle.iv_connection.specs.Catalogue.{constraint_column, constraint_name, constraint_shown, referenced_column};
+ghost use Rattle.iv_connection.specs.Catalogue.{constraint_column, constraint_name, constraint_shown, mode_at, referenced_column};
 ghost use Rattle.iv_connection.specs.Copying.{Copies};
 ghost use Rattle.iv_connection.specs.Statuses.{found};
 ghost use Rattle.sqlkeep_c.specs.Statuses.{status_by};
@@ -8,7 +8,7 @@ ghost use Rattle.sqlkeep_c.specs.Statuses.{status_by};
 use crate::handle::{Handle, put, take};
 use iv_connection::{
     CLOSED, NOTHING, OK, ShownConstraint, constraint_at, constraint_column, constraint_name,
-    constraint_shown, copied_if_there, referenced_column, write_place,
+    constraint_shown, copied_if_there, mode_at, referenced_column, write_place,
 };
 use std::alloc::Global;
 
@@ -110,6 +110,29 @@ pub extern "C" fn sqlkeep_referenced_column(
         return CLOSED;
     };
     let status = write_place(referenced_column(&connection, at, place), column);
+    put(handle, connection);
+    status
+}
+
+/// The mode of the constraint at this place now: 0 is IMMEDIATE, 1 DEFERRED.
+#[unsafe(no_mangle)]
+pub extern "C" fn sqlkeep_constraint_mode(
+    alloc: Global,
+    handle: &mut Handle,
+    at: usize,
+    mode: &mut u32,
+) -> u32
+    ensures mode { IfSome handle.old.kept.behind (λ old. IfSome (mode_at old.session.state.modes at) (λ it.
+        mode.new ≡ it)) }
+    ensures kept { handle.new.kept.behind ≡ handle.old.kept.behind }
+    ensures others { result ≢ OK → mode.new ≡ mode.old }
+    ensures status { result
+        ≡ status_by (λ old. found (mode_at old.session.state.modes at)) handle.old.kept.behind }
+{
+    let Some(connection) = take(handle, alloc) else {
+        return CLOSED;
+    };
+    let status = write_place(mode_at(&connection, at), mode);
     put(handle, connection);
     status
 }

@@ -38,6 +38,14 @@ class Pending(NamedTuple):
     row: int
 
 
+class StoredRow(NamedTuple):
+    """A row of the database: its number, its table, and its values."""
+
+    number: int
+    table: str
+    values: tuple[Value, ...]
+
+
 @dataclass(frozen=True)
 class Run:
     """What a script did: its transcript, how many statements were accepted and refused, how many of the refused had no memory,
@@ -191,6 +199,13 @@ class Session:
     def pending(self) -> list[Pending]:
         """What COMMIT would find: the violations of deferred constraints, by the constraint's creation, then by row."""
         return [Pending(*found) for found in self._engine.pending()]
+
+    def row(self, number: int) -> StoredRow | None:
+        """The row of this number as it is now, or None if there is none. Refusals, violations and accounts tell rows by their numbers."""
+        if not 0 <= number < 2**64:
+            return None
+        found = self._engine.row(number)
+        return None if found is None else StoredRow(number, found[0], tuple(found[1]))
 
     def work(self) -> Work:
         """What the last statement did."""
