@@ -11,8 +11,7 @@ pub fn fit(value: &Value, kind: Kind) -> Fit
     ensures { result ≡ fit_of value.now kind }
 {
     match (value, kind) {
-        (Value::Null, _) => Fit::Yes,
-        (Value::Int(_), Kind::Integer) => Fit::Yes,
+        (Value::Null, _) | (Value::Int(_), Kind::Integer) => Fit::Yes,
         (Value::Text(text), Kind::Varchar(most)) => fit_text(text.as_str(), most),
         _ => Fit::WrongKind,
     }
