@@ -50,7 +50,7 @@ range_canonical ws r (alias, p, e) w =
     let a = alias_canonical alias r.alias p v.1.1 in
     ((alias_words r.alias, a.0, refl), (refl, (v.1.0, a.1)))
 
-closed : (ws : List Word) → AreWritten ws → AreWritten (ws ++ plain kind.RightParenthesis ∷ [])
+pub closed : (ws : List Word) → AreWritten ws → AreWritten (ws ++ plain kind.RightParenthesis ∷ [])
 closed ws h = joined ws (plain kind.RightParenthesis ∷ []) h (refl, tt {0})
 
 exists_written : (ws : List Word) → AreWritten ws → AreWritten (exists_spelling ws)

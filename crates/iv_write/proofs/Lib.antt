@@ -3,3 +3,9 @@ pub mod Lexed
 pub mod LaidOut
 pub mod Steps
 pub mod Canonical
+pub mod ReadBack
+pub mod CanonicalParts
+pub mod CanonicalData
+pub mod CanonicalTables
+pub mod CanonicalTriggers
+pub mod CanonicalStatements

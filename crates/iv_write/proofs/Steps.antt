@@ -1,5 +1,6 @@
 -- Trees in parts: what is written after each other is the tree.
-use Rattle.std.proofs.Common.{◌≡◌, List, [], ◌∷◌, ◌++◌, Result, Ok, refl, sym, ◌∙◌, ap, subst, append_assoc}
+use Rattle.std.proofs.Common.{◌≡◌, Bool, true, false, length, List, [], ◌∷◌, ◌++◌, Result, Ok, refl, sym, ◌∙◌, ap, subst, append_assoc}
+use Rattle.std.specs.Prelude.{◌==◌}
 use Rattle.std.specs.declared.alloc.AllocError.{AllocError}
 use Rattle.iv_lex.specs.declared.kind.TokenKind.TheVariants as kind
 use Rattle.iv_lex.specs.Words.{Word, plain}
@@ -14,6 +15,9 @@ use Rattle.iv_syntax.proofs.TreeShapes.{group_is, signed_is, product_is, sum_is,
 use Rattle.iv_parse_terms.specs.Expressions.{spelling, sign_kind}
 use Rattle.iv_parse_terms.specs.Conditions.{comparison_kind}
 use Rattle.iv_write.specs.declared.writer.Writer.{Writer}
+use Rattle.iv_write.specs.Types.{Referencing}
+use Rattle.iv_write.specs.Parts.{sequence_words}
+use Rattle.iv_write.specs.Triggers.{item_words, referencing_words}
 use Rattle.iv_write.specs.Terms.{range_words, condition_words}
 use Rattle.iv_write.specs.Writing.{Writes}
 use Rattle.iv_write.proofs.WriteLemmas.{writes_then}
@@ -21,12 +25,16 @@ use Rattle.iv_write.proofs.WriteLemmas.{writes_then}
 abbrev Answer : Type 0
 Answer = Result (Unit {0}) AllocError
 
--- two, three and five writes, and what they write together
+-- two to five writes, and what they write together
 pub two : (p q r : Writer) (x : Answer) (a b all : List Word) → all ≡ a ++ b → Writes p q (Ok tt) a → Writes q r x b → Writes p r x all
 two p q r x a b all e f g = subst (Writes p r x) (sym e) (writes_then p q r x a b f g)
 
 pub three : (p q r s : Writer) (x : Answer) (a b c all : List Word) → all ≡ a ++ (b ++ c) → Writes p q (Ok tt) a → Writes q r (Ok tt) b → Writes r s x c → Writes p s x all
 three p q r s x a b c all e f g h = two p q s x a (b ++ c) all e f (writes_then q r s x b c g h)
+
+pub four : (p q r s t : Writer) (x : Answer) (a b c d all : List Word) → all ≡ a ++ (b ++ (c ++ d))
+    → Writes p q (Ok tt) a → Writes q r (Ok tt) b → Writes r s (Ok tt) c → Writes s t x d → Writes p t x all
+four p q r s t x a b c d all e i j k l = three p q r t x a b (c ++ d) all e i j (writes_then r s t x c d k l)
 
 pub five : (p q r s t u : Writer) (x : Answer) (a b c d f all : List Word) → all ≡ a ++ (b ++ (c ++ (d ++ f)))
     → Writes p q (Ok tt) a → Writes q r (Ok tt) b → Writes r s (Ok tt) c → Writes s t (Ok tt) d → Writes t u x f → Writes p u x all
@@ -113,3 +121,9 @@ either_written e a b c d p q r s x h i j =
     three p q r s x (condition_words c) (plain kind.Or ∷ []) (condition_words d) (condition_words e)
     (ap condition_words (h ∙ either_is a b) ∙ ap (λ z. condition_words z ++ plain kind.Or ∷ condition_words b) (sym i)
     ∙ ap (λ z. condition_words c ++ plain kind.Or ∷ condition_words z) (sym j))
+
+-- ---- REFERENCING
+
+pub referencing_is : (rs : List Referencing) (b : Bool) → b ≡ (length rs == 0) → b ≡ false → referencing_words rs ≡ plain kind.Referencing ∷ sequence_words item_words rs
+referencing_is [] b e f = absurd (let g : true ≡ false = sym e ∙ f in cc)
+referencing_is (r ∷ rs) b e f = refl
