@@ -1,0 +1,11 @@
+pub mod WriteLemmas
+pub mod Lexed
+pub mod LaidOut
+pub mod Steps
+pub mod Canonical
+pub mod ReadBack
+pub mod CanonicalParts
+pub mod CanonicalData
+pub mod CanonicalTables
+pub mod CanonicalTriggers
+pub mod CanonicalStatements

@@ -1,0 +1,14 @@
+pub mod Types
+pub mod Names
+pub mod Spelling
+pub mod Layouts
+pub mod Writing
+pub mod Terms
+pub mod Parts
+pub mod Data
+pub mod Tables
+pub mod Triggers
+pub mod Statements
+pub mod Says
+pub mod Scripts
+pub mod Laws
