@@ -4,6 +4,7 @@
 For each fault of grammar/statements.txt: no statement of that file that is read begins with the words up to the one that is named
 and with it; and the words before it, cut there, are completed by the end of some statement that is read, or it is the first.
 For each statement that is read: cut after any of its words, the word that is named is the end of the text.
+For the first faults the word is the one of grammar/words.txt, which is written by hand.
 The last line is `N passed, N failed`; the status is 1 where something failed."""
 import argparse
 import os
@@ -94,6 +95,21 @@ def judge_cuts(program, text):
     return [text[:place] for place in places if (answer(program, text[:place]) or (0, 0))[1] != len(text[:place].encode())]
 
 
+def by_hand():
+    """The first faults with the places of their words, in bytes."""
+    with open(os.path.join(HERE, 'grammar', 'words.txt'), encoding='utf-8') as file:
+        lines = [line.rstrip('\n') for line in file if line[0] != '#']
+    whole = [line if '«;»' in line and line.endswith('»') else line + ';' for line in lines]
+    return [(line.replace('«', '').replace('»', ''), len(line[:line.index('«')].encode())) for line in whole]
+
+
+def judge_by_hand(program, faults):
+    """The first faults whose word isn't the one that is written by hand."""
+    wanted = by_hand()
+    missed = [] if [text for text, _ in wanted] == faults[:len(wanted)] else ['words.txt has other statements than statements.txt']
+    return missed + [text for text, at in wanted if (answer(program, text) or (0, -1))[1] != at]
+
+
 def main():
     parser = argparse.ArgumentParser()
     parser.add_argument('--program', action='append', required=True)
@@ -108,6 +124,10 @@ def main():
             for (word, _), (_, place) in zip(found, found[1:]):
                 if text[place:] not in ends.setdefault(same(word), []):
                     ends[same(word)].append(text[place:])
+        missed = judge_by_hand(program, faults)
+        good, bad = good + len(by_hand()) - len(missed), bad + len(missed)
+        for text in missed:
+            print('%r: the word is not the one of words.txt' % text)
         for text in faults:
             why = judge_fault(program, text, read, ends)
             good, bad = good + (why == ''), bad + (why != '')

@@ -8,8 +8,10 @@ mod reserved;
 mod scan;
 mod spelling;
 mod token;
+mod told;
 
 pub use kind::TokenKind;
 pub use lexer::{Lexed, tokens};
 pub use spelling::{folded_text, unquoted_text};
 pub use token::Token;
+pub use told::kind_text;

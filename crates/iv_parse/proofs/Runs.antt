@@ -1,5 +1,5 @@
 -- One statement of a script more, and the end of its statements.
-use Rattle.std.proofs.Common.{◌≡◌, ℕ, zero, suc, ◌+◌, ◌-◌, ◌<◌, ◌≤◌, ◌⊎◌, inl, inr, max, Bool, true, false, Option, Some, None, option_map, unwrap_or, IfSome, List, [], ◌∷◌, ◌++◌, length, take, drop, Result, Ok, Err, refl, sym, ◌∙◌, ap, subst, arith, append_assoc, length-append, length-drop}
+use Rattle.std.proofs.Common.{◌≡◌, ℕ, zero, suc, ◌+◌, ◌-◌, ◌<◌, ◌≤◌, ◌⊎◌, inl, inr, max, Bool, true, false, Option, Some, None, option_map, unwrap_or, IfSome, List, [], ◌∷◌, ◌++◌, length, take, drop, slice_get, Result, Ok, Err, refl, sym, ◌∙◌, ap, subst, arith, append_assoc, length-append, length-drop}
 use Rattle.std.proofs.lemmas.Bool.{false≢true}
 use Rattle.std.proofs.lemmas.Grind.{common_steps}
 use Rattle.std.proofs.lemmas.List.{map-append, length-map}
@@ -16,7 +16,7 @@ use Rattle.iv_parse_terms.specs.Reading.{Reads as ReadsRule}
 use Rattle.iv_parse.specs.Types.{Statement}
 use Rattle.iv_parse.specs.Statements.{Reads}
 use Rattle.iv_parse.specs.readers.Statements.{read_statement}
-use Rattle.iv_parse.specs.Script.{AreStatements, BeginsStatement, first_place, NoneBegins, IsScript, IsEnd, IsFault}
+use Rattle.iv_parse.specs.Script.{AreStatements, BeginsStatement, ends_there, first_place, token_before, NoneBegins, IsScript, IsEnd, IsFault}
 use Rattle.iv_parse.proofs.Rules.{statement_good, none_begins}
 
 -- these statements are the tokens up to a place
@@ -239,10 +239,12 @@ script_is text tokens ss place word f r e h = record {
   place = h;
 }
 
-pub fault_is : (text : List ℕ) (tokens : List Token) (ss : List Statement) (place word at byte : ℕ) → IsEnd text tokens ss place word → tokens ≡ (tokens_of text).tokens
-    → Some at ≡ first_place (drop place tokens) (tokens_of text).fault → byte ≡ unwrap_or (first_place (drop word tokens) (tokens_of text).fault) (length text) → IsFault text ss at byte
-fault_is text tokens ss place word at byte r e h b =
+pub fault_is : (text : List ℕ) (tokens : List Token) (ss : List Statement) (place word : ℕ) (f : SyntaxFault) → IsEnd text tokens ss place word → tokens ≡ (tokens_of text).tokens
+    → Some f.at ≡ first_place (drop place tokens) (tokens_of text).fault → f.word ≡ unwrap_or (first_place (drop word tokens) (tokens_of text).fault) (length text)
+    → f.token ≡ slice_get (drop word tokens) 0 → f.before ≡ token_before (drop place tokens) (word - place) → f.is_cut ≡ ends_there f.token (tokens_of text).fault → IsFault text ss f
+fault_is text tokens ss place word f r e h b g k l =
     let sum : place + (word - place) ≡ word = let o = r.order in omega (arith, o) in
+    let left : drop (word - place) (drop place tokens) ≡ drop word tokens = drop_drop place (word - place) tokens ∙ ap (λ n. drop n tokens) sum in
     record {
       run = r.run;
       left = drop place tokens;
@@ -250,15 +252,20 @@ fault_is text tokens ss place word at byte r e h b =
       tokens = sym e ∙ r.whole;
       whole = r.are;
       at_is = h;
-      word_is = b ∙ ap (λ z. unwrap_or (first_place z (tokens_of text).fault) (length text)) (sym (drop_drop place (word - place) tokens ∙ ap (λ n. drop n tokens) sum));
+      word_is = b ∙ ap (λ z. unwrap_or (first_place z (tokens_of text).fault) (length text)) (sym left);
+      token_is = g ∙ ap (λ z. slice_get z 0) (sym left);
+      before_is = k;
+      cut_is = l;
       none = r.none;
     }
 
 pub fault_has : (text : List ℕ) (tokens : List Token) (ss : List Statement) (place word : ℕ) (o : Option SyntaxFault) → IsEnd text tokens ss place word → tokens ≡ (tokens_of text).tokens
     → option_map (λ f. f.at) o ≡ first_place (drop place tokens) (tokens_of text).fault
-    → IfSome o (λ f. f.word ≡ unwrap_or (first_place (drop word tokens) (tokens_of text).fault) (length text)) → IfSome o (λ f. IsFault text ss f.at f.word)
-fault_has text tokens ss place word None r e h b = b
-fault_has text tokens ss place word (Some f) r e h b = fault_is text tokens ss place word f.at f.word r e h b
+    → IfSome o (λ f. f.word ≡ unwrap_or (first_place (drop word tokens) (tokens_of text).fault) (length text))
+    → IfSome o (λ f. f.token ≡ slice_get (drop word tokens) 0) → IfSome o (λ f. f.before ≡ token_before (drop place tokens) (word - place))
+    → IfSome o (λ f. f.is_cut ≡ ends_there f.token (tokens_of text).fault) → IfSome o (λ f. IsFault text ss f)
+fault_has text tokens ss place word None r e h b g k l = b
+fault_has text tokens ss place word (Some f) r e h b g k l = fault_is text tokens ss place word f r e h b g k l
 
 -- the fault as the code finds it
 pub word_found : (text : List ℕ) (ts us : List Token) (lexed : Lexed) (word : ℕ) (o : Option SyntaxFault) → us ≡ ts → lexed ≡ tokens_of text
@@ -267,3 +274,18 @@ pub word_found : (text : List ℕ) (ts us : List Token) (lexed : Lexed) (word : 
 word_found text ts us lexed word None e d h = h
 word_found text ts us lexed word (Some f) e d h =
     h ∙ (ap (λ z. unwrap_or (first_place (drop word z) lexed.fault) (length text)) e ∙ ap (λ (l : Lexed). unwrap_or (first_place (drop word ts) l.fault) (length text)) d)
+
+pub token_found : (ts us : List Token) (word : ℕ) (o : Option SyntaxFault) → us ≡ ts → IfSome o (λ f. f.token ≡ slice_get (drop word us) 0)
+    → IfSome o (λ f. f.token ≡ slice_get (drop word ts) 0)
+token_found ts us word None e h = h
+token_found ts us word (Some f) e h = h ∙ ap (λ z. slice_get (drop word z) 0) e
+
+pub before_found : (ts us : List Token) (place word : ℕ) (o : Option SyntaxFault) → us ≡ ts → IfSome o (λ f. f.before ≡ token_before (drop place us) (word - place))
+    → IfSome o (λ f. f.before ≡ token_before (drop place ts) (word - place))
+before_found ts us place word None e h = h
+before_found ts us place word (Some f) e h = h ∙ ap (λ z. token_before (drop place z) (word - place)) e
+
+pub cut_found : (text : List ℕ) (lexed : Lexed) (o : Option SyntaxFault) → lexed ≡ tokens_of text → IfSome o (λ f. f.is_cut ≡ ends_there f.token lexed.fault)
+    → IfSome o (λ f. f.is_cut ≡ ends_there f.token (tokens_of text).fault)
+cut_found text lexed None e h = h
+cut_found text lexed (Some f) e h = h ∙ ap (λ (l : Lexed). ends_there f.token l.fault) e

@@ -1,9 +1,10 @@
 -- Scripts: the longest run of whole statements, and the fault where it ends too soon.
-use Rattle.std.specs.Prelude.{◌≡◌, ◌≤◌, ◌-◌, ℕ, suc, Option, Some, unwrap_or, List, [], ◌∷◌, ◌++◌, length, take, drop}
+use Rattle.std.specs.Prelude.{◌≡◌, ◌≤◌, ◌-◌, ℕ, zero, suc, Bool, ◌&&◌, Option, Some, None, is_none, unwrap_or, List, [], ◌∷◌, ◌++◌, length, take, drop, slice_get}
 use Rattle.iv_lex.specs.declared.kind.TokenKind.TheVariants as kind
 use Rattle.iv_lex.specs.declared.token.Token.{Token}
 use Rattle.iv_lex.specs.Words.{Word, plain, words}
 use Rattle.iv_lex.specs.Tokens.{tokens_of}
+use Rattle.iv_parse.specs.declared.parser.SyntaxFault.{SyntaxFault}
 use Rattle.iv_parse.specs.Types.{Statement}
 use Rattle.iv_parse.specs.Statements.{Reads}
 
@@ -47,14 +48,27 @@ pub record IsEnd (text : List ℕ) (tokens : List Token) (statements : List Stat
   pub order : place ≤ word
   pub none : NoneBegins (words text (drop place tokens)) (word - place)
 
--- The fault of a script: the statements before it, the place where the tokens after them begin, and the place of the first word
--- that can't stand where it does. Where no token is left that place is the lexical fault, or else the end of the text.
-pub record IsFault (text : List ℕ) (statements : List Statement) (at word : ℕ) : Type 0 where
+-- the token before so many of these and one more; none before the first
+abbrev pub token_before : List Token → ℕ → Option Token
+token_before ts zero = None
+token_before ts (suc n) = slice_get ts n
+
+-- whether the text ends where a word is wanted: no token is left, and no lexical fault
+abbrev pub ends_there : Option Token → Option ℕ → Bool
+ends_there token fault = is_none token && is_none fault
+
+-- The fault of a script: the statements before it, the place where the tokens after them begin, the place of the first word that
+-- can't stand where it does, the token there and the one before it. Where no token is left that place is the lexical fault, or else
+-- the end of the text.
+pub record IsFault (text : List ℕ) (statements : List Statement) (f : SyntaxFault) : Type 0 where
   pub run : List Token
   pub left : List Token
   pub count : ℕ
   pub tokens : (tokens_of text).tokens ≡ run ++ left
   pub whole : AreStatements (words text run) statements
-  pub at_is : Some at ≡ first_place left (tokens_of text).fault
-  pub word_is : word ≡ unwrap_or (first_place (drop count left) (tokens_of text).fault) (length text)
+  pub at_is : Some f.at ≡ first_place left (tokens_of text).fault
+  pub word_is : f.word ≡ unwrap_or (first_place (drop count left) (tokens_of text).fault) (length text)
+  pub token_is : f.token ≡ slice_get (drop count left) 0
+  pub before_is : f.before ≡ token_before left count
+  pub cut_is : f.is_cut ≡ ends_there f.token (tokens_of text).fault
   pub none : NoneBegins (words text left) count

@@ -1,7 +1,7 @@
 //! Scripts.
-ghost use Rattle.std.specs.Prelude.{◌≡◌, IfOk, IfSome, length, drop, max, option_map, unwrap_or};
+ghost use Rattle.std.specs.Prelude.{◌≡◌, ◌-◌, IfOk, IfSome, length, drop, max, option_map, slice_get, unwrap_or};
 ghost use Rattle.iv_lex.specs.Tokens.{tokens_of};
-ghost use Rattle.iv_parse.specs.Script.{first_place, IsScript, IsEnd, IsFault};
+ghost use Rattle.iv_parse.specs.Script.{ends_there, first_place, token_before, IsScript, IsEnd, IsFault};
 
 use crate::statement::statement;
 use iv_lex::{Token, tokens};
@@ -18,6 +18,12 @@ pub struct SyntaxFault {
     /// Where the first word begins that can't stand where it does: no statement begins with the words from `at` up to
     /// it and with it. The text's end where the text ends within a statement.
     pub word: usize,
+    /// That word; none where no token begins there, and where the text ends.
+    pub token: Option<Token>,
+    /// The word before it, where it isn't the first of its statement.
+    pub before: Option<Token>,
+    /// Whether the text ends where a word is wanted.
+    pub is_cut: bool,
     /// What might have stood there.
     pub wanted: Wanted,
     /// Whether what is read there is deeper than `DEEPEST_TREE`.
@@ -113,16 +119,42 @@ fn first_place(tokens: &[Token], fault: Option<usize>) -> Option<usize>
     }
 }
 
+// The token before so many of these and one more; none before the first.
+fn token_before(tokens: &[Token], count: usize) -> Option<Token>
+    ensures { result ≡ token_before tokens.now count }
+{
+    if count == 0 {
+        return None;
+    }
+    tokens.get(count - 1).copied()
+}
+
+fn ends_there(token: Option<Token>, lexical: Option<usize>) -> bool
+    ensures { result ≡ ends_there token lexical }
+{
+    token.is_none() && lexical.is_none()
+}
+
 fn fault_of(text: &str, tokens: &[Token], lexical: Option<usize>, end: End) -> Option<SyntaxFault>
     ensures at { option_map (λ f. f.at) result ≡ first_place (drop end.place tokens.now) lexical }
     ensures word { IfSome result (λ f. f.word
         ≡ unwrap_or (first_place (drop end.word tokens.now) lexical) (length text.now)) }
+    ensures token { IfSome result (λ f. f.token ≡ slice_get (drop end.word tokens.now) 0) }
+    ensures before { IfSome result (λ f. f.before
+        ≡ token_before (drop end.place tokens.now) (end.word - end.place)) }
+    ensures cut { IfSome result (λ f. f.is_cut ≡ ends_there f.token lexical) }
 {
-    let at = first_place(from(tokens, end.place), lexical)?;
-    let word = first_place(from(tokens, end.word), lexical).unwrap_or(text.len());
+    let left = from(tokens, end.place);
+    let at = first_place(left, lexical)?;
+    let rest = from(tokens, end.word);
+    let word = first_place(rest, lexical).unwrap_or(text.len());
+    let token = rest.first().copied();
     Some(SyntaxFault {
         at,
         word,
+        token,
+        before: token_before(left, end.word.saturating_sub(end.place)),
+        is_cut: ends_there(token, lexical),
         wanted: end.wanted,
         too_deep: end.too_deep,
     })
@@ -132,7 +164,7 @@ fn fault_of(text: &str, tokens: &[Token], lexical: Option<usize>, end: End) -> O
 /// follow it.
 pub fn script(alloc: Global, text: &str) -> Result<Parsed, AllocError>
     ensures script { IfOk result (λ p. IsScript text.now p.statements (option_map (λ f. f.at) p.fault)) }
-    ensures word { IfOk result (λ p. IfSome p.fault (λ f. IsFault text.now p.statements f.at f.word)) }
+    ensures word { IfOk result (λ p. IfSome p.fault (λ f. IsFault text.now p.statements f)) }
 {
     let lexed = tokens(alloc, text)?;
     let (statements, end) = run(alloc, text, lexed.tokens.as_slice())?;

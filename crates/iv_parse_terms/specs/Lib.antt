@@ -1,5 +1,6 @@
 pub mod Types
 pub mod After
+pub mod WantedKinds
 pub mod Reading
 pub mod Expressions
 pub mod Seen

@@ -57,9 +57,9 @@ impl Cursor {
         self.furthest
     }
 
-    /// What was looked for at the furthest place and not found there.
+    /// What was looked for at the furthest place and not found there, each kind once.
     pub fn wanted(&self) -> Wanted {
-        self.wanted
+        self.wanted.once()
     }
 
     // Looks at the word at the place.

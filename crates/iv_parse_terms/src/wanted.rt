@@ -1,4 +1,7 @@
 //! The words that might have stood in a place.
+ghost use Rattle.std.specs.Prelude.{◌≡◌, ◌++◌, ◌∷◌, [], if◌then◌else◌, length, nat_lt};
+ghost use Rattle.iv_parse_terms.specs.WantedKinds.{wanted_kinds};
+
 use iv_lex::TokenKind;
 
 /// The most kinds of words that are kept for a place.
@@ -14,7 +17,9 @@ pub struct Wanted {
 
 impl Wanted {
     /// No kind at all.
-    pub fn new() -> Wanted {
+    pub fn new() -> Wanted
+        ensures { wanted_kinds result ≡ [] }
+    {
         Wanted {
             kinds: [TokenKind::Name; MOST_WANTED],
             count: 0,
@@ -30,8 +35,21 @@ impl Wanted {
         }
     }
 
+    /// These kinds, each once.
+    pub fn once(&self) -> Wanted {
+        let mut found = Wanted::new();
+        for kind in self.as_slice() {
+            if !found.as_slice().contains(kind) {
+                found.add(*kind);
+            }
+        }
+        found
+    }
+
     /// The kinds.
-    pub fn as_slice(&self) -> &[TokenKind] {
+    pub fn as_slice(&self) -> &[TokenKind]
+        ensures { result.now ≡ wanted_kinds self.now }
+    {
         let count = self.count.min(MOST_WANTED);
         &self.kinds[..count]
     }
