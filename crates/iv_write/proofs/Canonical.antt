@@ -1,14 +1,14 @@
 -- The words that a tree is written with are the tree by the grammar if any words are, and can be written if those can.
-use Rattle.std.proofs.Common.{inl, inr, ◌≡◌, ℕ, true, Option, Some, None, List, [], ◌∷◌, ◌++◌, refl, sym, ◌∙◌, ap, subst, append-nil}
+use Rattle.std.proofs.Common.{inl, inr, ◌≡◌, ℕ, Some, None, List, [], ◌∷◌, ◌++◌, refl, sym, ◌∙◌, ap, subst, append-nil}
 use Rattle.std.specs.Prelude.{IsUtf8}
 use Rattle.iv_syntax.specs.declared.limits.TheConstants.{DEEPEST_TREE}
 use Rattle.iv_syntax.specs.Trees.{enclosed, negated, both, either, exists_where}
 use Rattle.iv_lex.specs.declared.kind.TokenKind.TheVariants as kind
 use Rattle.iv_lex.specs.Words.{Word, name, plain}
-use Rattle.iv_parse_terms.specs.Types.{RangeName, Condition, Expression}
+use Rattle.iv_parse_terms.specs.Types.{Condition, Expression}
 use Rattle.iv_parse_terms.specs.Types.condition.{Compare, IsNull, IsNotNull, Exists}
 use Rattle.iv_parse_terms.specs.Expressions.{spelling, IsExpression}
-use Rattle.iv_parse_terms.specs.Conditions.{AliasSpelled, RangeSpelled, Spelled, comparison_kind, exists_spelling, IsCondition}
+use Rattle.iv_parse_terms.specs.Conditions.{AliasSpelled, RangeSpelled, Spelled, exists_spelling, IsCondition}
 use Rattle.iv_parse_terms.specs.readers.Expressions.{read_expression}
 use Rattle.iv_parse_terms.specs.readers.Conditions.{read_condition}
 use Rattle.iv_parse_terms.proofs.Theorems.{expression_complete, condition_complete, one_expression, one_condition}
@@ -16,7 +16,7 @@ use Rattle.iv_template.specs.Templates.{words_of}
 use Rattle.iv_write.specs.Spelling.{AreWritten}
 use Rattle.iv_write.specs.Layouts.{text_of}
 use Rattle.iv_write.specs.Terms.{alias_words, range_words, condition_words}
-use Rattle.iv_write.specs.Says.{CanBeWrittenAs, ExpressionCanBeWritten, ConditionCanBeWritten, SaysExpression, SaysCondition}
+use Rattle.iv_write.specs.Says.{ExpressionCanBeWritten, ConditionCanBeWritten, SaysExpression, SaysCondition}
 use Rattle.iv_write.proofs.LaidOut.{written_words}
 
 -- ---- words in parts

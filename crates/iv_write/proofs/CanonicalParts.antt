@@ -1,5 +1,5 @@
 -- Parts that come several times, in the words that they are written with.
-use Rattle.std.proofs.Common.{inl, inr, ◌≡◌, Option, Some, None, List, [], ◌∷◌, ◌++◌, refl, subst}
+use Rattle.std.proofs.Common.{inl, inr, List, [], ◌∷◌, ◌++◌, refl, subst}
 use Rattle.iv_lex.specs.declared.kind.TokenKind.TheVariants as kind
 use Rattle.iv_lex.specs.Words.{Word, plain}
 use Rattle.iv_parse_data.specs.Series.{More, Series, Sequence, InParentheses, InEitherOrder}

@@ -1,5 +1,5 @@
 -- Statements in the words that they are written with, and what a script says that was written from some.
-use Rattle.std.proofs.Common.{inl, inr, ◌≡◌, ℕ, Option, Some, None, List, [], ◌∷◌, ◌++◌, refl, sym, ◌∙◌, ap, subst, append-nil, append_assoc}
+use Rattle.std.proofs.Common.{inl, ◌≡◌, ℕ, Option, None, List, [], ◌∷◌, ◌++◌, refl, sym, ◌∙◌, ap, subst, append-nil, append_assoc}
 use Rattle.std.specs.Prelude.{IsUtf8}
 use Rattle.std.proofs.lemmas.List.{map-append}
 use Rattle.iv_lex.specs.declared.kind.TokenKind.TheVariants as kind
@@ -10,13 +10,13 @@ use Rattle.iv_parse.specs.Statements.{IsConstraintList, Reads}
 use Rattle.iv_parse.specs.Script.{AreStatements, BeginsStatement, IsScript}
 use Rattle.iv_parse.proofs.OneReading.{one_script}
 use Rattle.iv_template.specs.Templates.{words_of}
-use Rattle.iv_write.specs.Types.{Statement, ConstraintList}
+use Rattle.iv_write.specs.Types.{Statement}
 use Rattle.iv_write.specs.Types.statement
 use Rattle.iv_write.specs.Types.constraints.{All, Named}
 use Rattle.iv_write.specs.Spelling.{AreWritten}
 use Rattle.iv_write.specs.Layouts.{text_of}
 use Rattle.iv_write.specs.Statements.{constraint_list_words, statement_words, whole_words, script_words}
-use Rattle.iv_write.specs.Scripts.{CanBeWritten, AllCanBeWritten, SaysScript}
+use Rattle.iv_write.specs.Scripts.{AllCanBeWritten, SaysScript}
 use Rattle.iv_write.proofs.Canonical.{joined, parts, Canonical}
 use Rattle.iv_write.proofs.CanonicalData.{names_canonical, insert_canonical, update_canonical, delete_canonical, select_canonical}
 use Rattle.iv_write.proofs.CanonicalTables.{create_table_canonical, alter_table_canonical}

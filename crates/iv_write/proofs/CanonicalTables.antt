@@ -1,11 +1,11 @@
 -- CREATE TABLE and ALTER TABLE in the words that they are written with.
-use Rattle.std.proofs.Common.{inl, inr, ◌≡◌, ℕ, true, false, Option, Some, None, List, [], ◌∷◌, ◌++◌, refl, subst}
+use Rattle.std.proofs.Common.{inl, ℕ, true, false, Some, None, List, [], ◌∷◌, ◌++◌, refl, subst}
 use Rattle.iv_lex.specs.declared.kind.TokenKind.{TokenKind}
 use Rattle.iv_lex.specs.declared.kind.TokenKind.TheVariants as kind
 use Rattle.iv_lex.specs.Words.{Word, name, number, plain}
-use Rattle.iv_parse_data.specs.Series.{Series, Sequence, Maybe, InParentheses}
+use Rattle.iv_parse_data.specs.Series.{Series, Maybe, InParentheses}
 use Rattle.iv_parse_data.specs.Data.{Names, IsShallowCondition}
-use Rattle.iv_parse_data.specs.Tables.{null_words, IsType, IsLiteral, IsDefault, IsConstraintName, IsDeferrable, IsInitially, IsTime, IsMatch, IsOn, AreActions, IsReferences, IsColumnRule, IsColumnConstraint, IsColumn, IsTableRule, IsTableConstraint, IsElement, IsCreateTable, IsAlterTable}
+use Rattle.iv_parse_data.specs.Tables.{null_words, IsType, IsLiteral, IsDefault, IsConstraintName, IsDeferrable, IsInitially, IsTime, IsMatch, IsOn, IsReferences, IsColumnRule, IsColumnConstraint, IsColumn, IsTableRule, IsTableConstraint, IsElement, IsCreateTable, IsAlterTable}
 use Rattle.iv_write.specs.Types.{TableElement, TableConstraint}
 use Rattle.iv_write.specs.Types.literal
 use Rattle.iv_write.specs.Types.type.{Integer, Varchar}

@@ -1,11 +1,11 @@
 -- CREATE TRIGGER in the words that it is written with.
-use Rattle.std.proofs.Common.{inl, inr, ◌≡◌, ℕ, Option, Some, None, List, [], ◌∷◌, ◌++◌, refl, subst}
+use Rattle.std.proofs.Common.{inl, inr, ℕ, Some, None, List, [], ◌∷◌, ◌++◌, refl, subst}
 use Rattle.iv_lex.specs.declared.kind.TokenKind.TheVariants as kind
 use Rattle.iv_lex.specs.Words.{Word, name, plain}
 use Rattle.iv_parse_terms.specs.Expressions.{spelling}
-use Rattle.iv_parse_data.specs.Series.{Sequence, Maybe, Optional}
+use Rattle.iv_parse_data.specs.Series.{Sequence, Maybe}
 use Rattle.iv_parse_data.specs.Data.{IsShallowCondition}
-use Rattle.iv_parse.specs.Triggers.{side_kind, time_kind, IsTransition, IsItem, IsReferencing, IsGranularity, IsWhen, IsAction, IsEndedAction, IsSingle, IsBlock, IsBody, IsUpdateColumns, IsEvent, IsTrigger}
+use Rattle.iv_parse.specs.Triggers.{side_kind, time_kind, IsTransition, IsItem, IsReferencing, IsGranularity, IsWhen, IsAction, IsEndedAction, IsBody, IsUpdateColumns, IsEvent, IsTrigger}
 use Rattle.iv_write.specs.Types.{TriggerAction, TriggerEvent}
 use Rattle.iv_write.specs.Types.event
 use Rattle.iv_write.specs.Types.granularity

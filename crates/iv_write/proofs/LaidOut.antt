@@ -1,5 +1,5 @@
 -- Words with spaces and line ends between them lex to the words.
-use Rattle.std.proofs.Common.{inl, inr, ◌≡◌, ◌⊎◌, ℕ, suc, ◌+◌, Bool, true, false, Option, Some, None, List, [], ◌∷◌, ◌++◌, length, refl, sym, ◌∙◌, ap, subst, arith, nat_eq}
+use Rattle.std.proofs.Common.{inl, inr, ◌≡◌, ◌⊎◌, ℕ, suc, ◌+◌, Bool, true, false, Option, Some, None, List, [], ◌∷◌, ◌++◌, refl, sym, ap, subst, arith, nat_eq}
 use Rattle.std.specs.Prelude.{if◌then◌else◌, slice_index, IsUtf8}
 use Rattle.std.specs.List.{list_all}
 use Rattle.std.proofs.lemmas.Bool.{and_parts}
@@ -17,7 +17,7 @@ use Rattle.iv_write.specs.declared.layout.Class.{Class}
 use Rattle.iv_write.specs.declared.layout.Class.TheVariants as class
 use Rattle.iv_write.specs.declared.layout.Layout.{Layout}
 use Rattle.iv_write.specs.Spelling.{word_text, IsWritten, AreWritten}
-use Rattle.iv_write.specs.Layouts.{class_of, word_class, is_among_elements, is_block, line, indented_line, comma_gap, caller_gap, statement_gap, gap_after, gap, ending, after, start, text_from, text_of}
+use Rattle.iv_write.specs.Layouts.{class_of, word_class, is_among_elements, is_block, comma_gap, caller_gap, statement_gap, gap_after, gap, ending, after, start, text_from, text_of}
 use Rattle.iv_write.proofs.Lexed.{Clear, open_lexes, period_lexes, semicolon_lexes, clear_lexes}
 
 -- ---- white space

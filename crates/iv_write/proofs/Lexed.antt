@@ -1,6 +1,6 @@
 -- The text of words lexes to them.
 use Rattle.std.proofs.Common.{◌≡◌, ℕ, suc, ◌+◌, ◌-◌, ◌*◌, ◌%◌, ◌^◌, ◌≤◌, ◌<◌, Bool, true, false, ◌&&◌, Option, Some, None, option_map, List, [], ◌∷◌, ◌++◌, length, drop, take, refl, sym, ◌∙◌, ap, subst, arith, nat_le, nat_eq, length-append, append_assoc, append-nil}
-use Rattle.std.specs.Prelude.{if◌then◌else◌, slice_index, nat_lt, codes, flat_map, decimal, IsUtf8}
+use Rattle.std.specs.Prelude.{if◌then◌else◌, slice_index, codes, flat_map, decimal}
 use Rattle.std.specs.List.{list_all}
 use Rattle.std.specs.Char.{to_ascii_uppercase}
 use Rattle.std.proofs.lemmas.Bool.{and_parts, eqb-true}
@@ -17,12 +17,11 @@ use Rattle.iv_lex.specs.Words.{Word, name, number, quoted, plain, single_quotes,
 use Rattle.iv_lex.proofs.Longest.{front, front_is}
 use Rattle.iv_parse_terms.specs.After.{is_plain}
 use Rattle.iv_template.specs.Literals.{quote_doubled}
-use Rattle.iv_template.specs.Templates.{words_of, fault_of}
-use Rattle.iv_template.proofs.Local.{IsApart, apart_space, word_inside, number_inside}
-use Rattle.iv_template.proofs.Lexing.{word_from, past_gap, Lexes, ended, more, after_space, skipped}
-use Rattle.iv_template.proofs.Found.{inner_is, whole_text}
+use Rattle.iv_template.proofs.Local.{IsApart, word_inside, number_inside}
+use Rattle.iv_template.proofs.Lexing.{word_from, past_gap, Lexes, more}
+use Rattle.iv_template.proofs.Found.{inner_is}
 use Rattle.iv_write.specs.Names.{is_upper_case, is_name_byte, is_name}
-use Rattle.iv_write.specs.Spelling.{kind_text, word_text, IsName, IsWritten, AreWritten}
+use Rattle.iv_write.specs.Spelling.{kind_text, word_text, IsName, IsWritten}
 
 -- ---- what may follow a word
 

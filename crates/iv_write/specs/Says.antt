@@ -1,5 +1,5 @@
 -- Which trees can be written, and what a text says that was written from one.
-use Rattle.std.specs.Prelude.{◌≡◌, ◌≤◌, ℕ, Option, Some, None, List, []}
+use Rattle.std.specs.Prelude.{◌≡◌, ◌≤◌, ℕ, Some, None, List, []}
 use Rattle.iv_syntax.specs.declared.limits.TheConstants.{DEEPEST_TREE}
 use Rattle.iv_syntax.specs.Trees.{depth, condition_depth}
 use Rattle.iv_lex.specs.Words.{Word}

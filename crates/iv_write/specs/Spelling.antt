@@ -1,6 +1,6 @@
 -- What a word is written as, and which words can be written.
 use Rattle.std.specs.Prelude.{◌≡◌, ◌≤◌, ℕ, true, List, [], ◌∷◌, ◌++◌, codes, flat_map, decimal}
-use Rattle.iv_syntax.specs.declared.limits.TheConstants.{GREATEST_INTEGER, LONGEST_NAME}
+use Rattle.iv_syntax.specs.declared.limits.TheConstants.{GREATEST_INTEGER}
 use Rattle.iv_lex.specs.declared.kind.TokenKind.{TokenKind}
 use Rattle.iv_lex.specs.declared.kind.TokenKind.TheVariants as kind
 use Rattle.iv_lex.specs.Reserved.{word_kind}

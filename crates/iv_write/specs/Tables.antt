@@ -5,7 +5,7 @@ use Rattle.iv_lex.specs.declared.kind.TokenKind.{TokenKind}
 use Rattle.iv_lex.specs.declared.kind.TokenKind.TheVariants as kind
 use Rattle.iv_lex.specs.Words.{Word, name, number, quoted, plain}
 use Rattle.iv_parse_terms.specs.Expressions.{sign_kind}
-use Rattle.iv_write.specs.Types.{ConstraintMode, Literal, ColumnType, ConstraintTime, MatchType, NullTreatment, ReferentialAction, References, ColumnRule, ColumnConstraint, TableRule, TableConstraint, ColumnDefinition, TableElement}
+use Rattle.iv_write.specs.Types.{ConstraintMode, Literal, ColumnType, ConstraintTime, MatchType, ReferentialAction, References, ColumnRule, ColumnConstraint, TableRule, TableConstraint, ColumnDefinition, TableElement}
 use Rattle.iv_write.specs.Types.literal
 use Rattle.iv_write.specs.Types.type.{Integer, Varchar}
 use Rattle.iv_write.specs.Types.column_rule

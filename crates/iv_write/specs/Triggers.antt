@@ -9,7 +9,7 @@ use Rattle.iv_write.specs.Types.granularity
 use Rattle.iv_write.specs.Types.transition
 use Rattle.iv_write.specs.Types.action
 use Rattle.iv_parse.specs.Triggers.{side_kind, time_kind}
-use Rattle.iv_write.specs.Parts.{series_words, sequence_words, enclosed_words}
+use Rattle.iv_write.specs.Parts.{sequence_words, enclosed_words}
 use Rattle.iv_write.specs.Terms.{condition_words}
 use Rattle.iv_write.specs.Data.{names_words, insert_words, update_words, delete_words}
 

@@ -1,4 +1,4 @@
-use Rattle.std.proofs.Common.{◌≡◌, [], ◌∷◌, ◌++◌, Ok, rules, ap}
+use Rattle.std.proofs.Common.{◌≡◌, [], ◌∷◌, Ok, rules, ap}
 use Rattle.iv_lex.specs.declared.kind.TokenKind.TheVariants as kind
 use Rattle.iv_lex.specs.Words.{plain}
 use Rattle.iv_write.specs.Parts.{more_words}

@@ -1,4 +1,4 @@
-use Rattle.std.proofs.Common.{[], ◌∷◌, ap, Some}
+use Rattle.std.proofs.Common.{[], ◌∷◌, ap}
 use Rattle.iv_lex.specs.declared.kind.TokenKind.TheVariants as kind
 use Rattle.iv_lex.specs.Words.{plain}
 use Rattle.iv_write.specs.Terms.{condition_words}
