@@ -9,7 +9,7 @@ ghost use Rattle.iv_account.specs.declared.entry.Entry.TheVariants as entry;
 ghost use Rattle.iv_account.specs.Accounts.{acted_told, action_fault_told, following_told, if_some};
 ghost use Rattle.iv_account.specs.Telling.{and_told};
 ghost use Rattle.iv_laws_rows.specs.Changing.{UnlessMemory};
-ghost use Rattle.iv_laws_actions.specs.RowByRow.{LedTo};
+ghost use Rattle.iv_laws_kept.specs.FollowingWaves.{LedTo};
 ghost use Rattle.iv_exec_actions.specs.Answers.{AnswersWave};
 
 use iv_account::Account;
