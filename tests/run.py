@@ -16,9 +16,6 @@ HERE = os.path.dirname(os.path.abspath(__file__))
 READ = re.compile(rb'1 (ok( \d+)?|rows \d+|refused \d+ [^\n]*)\n(\| [^\n]*\n)*(end rolled back\n)?')
 
 
-PARTS = ['scripts', 'options', 'pages', 'statements', 'prefixes', 'devices']
-
-
 def files(directory):
     """The files of a folder; the folders in it are left out."""
     return sorted(entry.name for entry in os.scandir(os.path.join(HERE, directory)) if entry.is_file())
@@ -187,6 +184,9 @@ def devices(program):
         os.close(descriptor)
 
 
+PARTS = {part.__name__: part for part in (scripts, options, pages, statements, prefixes, devices)}
+
+
 def main():
     parser = argparse.ArgumentParser()
     parser.add_argument('--program', action='append', required=True)
@@ -194,7 +194,7 @@ def main():
     given, passed, failed = parser.parse_args(), 0, 0
     for program in given.program:
         for part in [given.only] if given.only else PARTS:
-            for name, why in globals()[part](os.path.abspath(program)):
+            for name, why in PARTS[part](os.path.abspath(program)):
                 passed, failed = passed + (not why), failed + bool(why)
                 if why:
                     print('FAILED %s over %s: %s' % (name, program, '; '.join(why)))

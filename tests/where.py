@@ -30,7 +30,10 @@ GUARDS = {
     'explain': 'A new option',
     'MatchType': 'A new match type',
     'Comparison': 'A new condition or operator',
-    'ActionTime': 'A new time of a trigger',
+    'ActionTime': 'A new time or event of a trigger',
+    'TriggerEvent': 'A new time or event of a trigger',
+    'default_at': 'A new part of a column',
+    'ValueOrDefault': 'A new part of a column',
 }
 
 # An enum, the file that declares it, how many of its variants a file names that takes cases, and how the paragraph begins.

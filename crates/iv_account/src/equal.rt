@@ -111,7 +111,7 @@ fn find_among<'a, R: Rows>(
     let mut after = 0;
     while let Some((number, values)) = next_row(rows, table, found, after) {
         after = number;
-        if shares_key(nulls, columns, row, number, &*values) {
+        if shares_key(nulls, columns, row, number, values) {
             return Some((number, values));
         }
     }

@@ -1,8 +1,11 @@
 //! Tables, and the catalogue of a database.
-ghost use Rattle.std.specs.Prelude.{◌≡◌, ◌≤◌, ◌<◌, ◌+◌, ◌-◌, ◌*◌, ◌^◌, ◌++◌, ◌∷◌, [], List, ◌==◌, length, map, position, get_or, set, take, slice_get, false, IfOk, IfSome, option_map, OnOk, OnErr};
+ghost use Rattle.std.specs.Prelude.{◌≡◌, ◌≤◌, ◌<◌, ◌+◌, ◌-◌, ◌*◌, ◌^◌, ◌++◌, ◌∷◌, [], List, ◌==◌, length, map, position, get_or, set, take};
+ghost use Rattle.std.specs.Prelude.{slice_get, false, IfOk, IfSome, option_map, OnOk, OnErr};
 ghost use Rattle.std.specs.Option.{option_copied};
 ghost use Rattle.std.specs.Vec.{vec_len, vec_capacity};
-ghost use Rattle.iv_catalogue.specs.Catalogues.{Schema, empty_schema, after, has_table, has_constraint, has_trigger, table_named, constraint_named, trigger_named, trigger_numbered, places_from, constraint_places, AllOn, AllWithinTables, AfterTable, BodiesWithinLimit, TriggersNumbered};
+ghost use Rattle.iv_catalogue.specs.Catalogues.{Schema, empty_schema, after, has_table, has_constraint, has_trigger, table_named, constraint_named};
+ghost use Rattle.iv_catalogue.specs.Catalogues.{trigger_named, trigger_numbered, places_from, constraint_places, AllOn, AllWithinTables, AfterTable};
+ghost use Rattle.iv_catalogue.specs.Catalogues.{BodiesWithinLimit, TriggersNumbered};
 ghost use Rattle.iv_catalogue.specs.Names.{has_repeated};
 ghost use Rattle.iv_catalogue.specs.declared.plan.SchemaPlan.TheVariants.{CreateTable, AddConstraint, CreateTrigger, DropTrigger};
 

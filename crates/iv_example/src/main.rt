@@ -101,7 +101,7 @@ fn commit(rt: &HostRuntime, database: &mut Database) -> io::Result<()> {
 fn transfers(rt: &HostRuntime, database: &mut Database) -> io::Result<()> {
     run(rt, database, ACCOUNTS)?;
     run(rt, database, TRANSFER)?;
-    show_violations(rt, &*database)?;
+    show_violations(rt, database)?;
     roll_back_to(rt, database, "TAKEN")?;
     commit(rt, database)?;
     database.explain(true);

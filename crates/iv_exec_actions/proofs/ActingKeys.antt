@@ -15,8 +15,8 @@ use Rattle.iv_account.specs.Accounts.{acts, action_for_loss, actions_at as actio
 use Rattle.iv_laws_levels.specs.Holders.{row_before, keys_lost_by}
 use Rattle.iv_laws_levels.proofs.Holders.{rows_before}
 use Rattle.iv_laws_levels.proofs.LosingWaves.{lost_by_wave}
-use Rattle.iv_laws_actions.specs.RowByRow.{LedTo}
-use Rattle.iv_laws_actions.proofs.Idle.{lost_key}
+use Rattle.iv_laws_kept.specs.FollowingWaves.{LedTo}
+use Rattle.iv_laws_kept.proofs.Idle.{lost_key}
 use Rattle.iv_exec_actions.specs.AffectedForeignKey.{AffectedForeignKey, under_wave, acts_in, affected_from, change_losing}
 use Rattle.iv_exec_actions.specs.ByTable.{on_table, at_places}
 use Rattle.iv_exec_actions.specs.RowActions.{actions_for, actions_by, actions_among, actions_at, actions_on_all}

@@ -14,8 +14,8 @@ use Rattle.iv_machine.specs.ReferentialActions.{Reference, foreign_key, referenc
 use Rattle.iv_store.specs.Lookups.{foreign_keys}
 use Rattle.iv_store.specs.Stores.{StoreState, RisingNumbers}
 use Rattle.iv_laws_levels.proofs.Members.{In, of_filter}
-use Rattle.iv_laws_actions.specs.RowByRow.{is_among, LedTo}
-use Rattle.iv_laws_actions.proofs.Followed.{waves_follow_row_by_row}
+use Rattle.iv_laws_kept.specs.FollowingWaves.{is_among, LedTo}
+use Rattle.iv_laws_kept.proofs.Followed.{waves_follow_row_by_row}
 use Rattle.iv_exec_actions.specs.AffectedForeignKey.{AffectedForeignKey, under_wave, acts_in, affected_where, affected_from}
 use Rattle.iv_exec_actions.specs.Finding.{found}
 use Rattle.iv_exec_actions.specs.Following.{answer_among}

@@ -2,7 +2,7 @@
 use Rattle.std.proofs.Common.{◌≡◌, refl, ℕ, zero, suc, ◌+◌, Bool, true, false, ◌&&◌, ◌||◌, if◌then◌else◌, List, [], ◌∷◌, map, filter, flat_map, find, Option, Some, None, is_some, slice_get, sym, ap, subst, ◌∙◌, inl, inr, arith}
 use Rattle.std.specs.Bool.{◌==◌}
 use Rattle.std.specs.List.{enumerate_from}
-use Rattle.std.proofs.lemmas.Bool.{eq-eqb, true≢false}
+use Rattle.std.proofs.lemmas.Bool.{eq-eqb, true≢false, or_right, or_left}
 use Rattle.iv_value.specs.declared.value.Value.{Value}
 use Rattle.iv_value.specs.Values.{all_same}
 use Rattle.iv_expr.specs.declared.row.StoredRow.{StoredRow}
@@ -21,7 +21,7 @@ use Rattle.iv_laws_levels.specs.Holders.{loses_key, loss_of_new, keys_lost_by}
 use Rattle.iv_laws_levels.proofs.RowNumbers.{some_none, some_same}
 use Rattle.iv_laws_levels.proofs.Keys.{false_true, all_same_itself, all_same_is}
 use Rattle.iv_laws_levels.proofs.Members.{In, in_filter, any_in, of_filter_map, in_flat_map, in_rows}
-use Rattle.iv_laws_actions.specs.RowByRow.{is_among, EachReference, IsIdle, IsIdleElsewhere, FindsRows}
+use Rattle.iv_laws_kept.specs.FollowingWaves.{is_among, EachReference, IsIdle, IsIdleElsewhere, FindsRows}
 use Rattle.iv_account.specs.Accounts.{acts}
 use Rattle.iv_exec_actions.specs.AffectedForeignKey.{AffectedForeignKey, under_wave, action_for, acts_on, acts_in, key_taken}
 use Rattle.iv_exec_actions.specs.Finding.{leads, found_by, found_by_all, found}
@@ -131,19 +131,11 @@ module _ (changes : List Change) where
     rows_of [] number = refl
     rows_of (c ∷ some) number = ap (λ b. (c.row == number) || b) (rows_of some number)
 
-    or_right : (a b : Bool) → b ≡ true → (a || b) ≡ true
-    or_right true b e = refl
-    or_right false b e = e
-
     changed_found : (number : ℕ) → has_change changes number ≡ true → is_among numbers number ≡ true
     changed_found number e =
         all number
         ∙ any_of_both (λ n. n == number) by_keys (map (λ c. c.row) changes)
         ∙ or_right (is_among by_keys number) (is_among (map (λ c. c.row) changes) number) (rows_of changes number ∙ e)
-
-    or_left : (a b : Bool) → a ≡ true → (a || b) ≡ true
-    or_left true b e = refl
-    or_left false b e = absurd (false_true e)
 
     -- a row that refers to a key for which something is done is found
     row_found : (k : Reference) → In k ks → (row : StoredRow) (c : Change) → row_at s.base.rows row.number ≡ Some row → (row.table == k.table) ≡ true

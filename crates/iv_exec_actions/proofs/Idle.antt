@@ -15,7 +15,7 @@ use Rattle.iv_machine.specs.declared.effect.Effect.{Effect}
 use Rattle.iv_machine.specs.Databases.{row_at, fault_at}
 use Rattle.iv_machine.specs.ReferentialActions.{action_on, disagree, foreign_key, have_deletion, is_restrict, keeps_reference}
 use Rattle.iv_laws_levels.specs.Holders.{loss_of_new, row_before}
-use Rattle.iv_laws_actions.specs.RowByRow.{clashes, first_conflict, least}
+use Rattle.iv_laws_kept.specs.FollowingWaves.{clashes, first_conflict, least}
 use Rattle.iv_exec_actions.specs.AffectedForeignKey.{AffectedForeignKey, action_for, affected_from, affected_where, change_losing}
 use Rattle.iv_exec_actions.specs.Following.{conflict_at, effects_among, effects_at, effects_by, effects_for, may_restrict, restricted_at, restricted_fault, restricts}
 use Rattle.iv_exec_actions.proofs.Nothing.{none_least}

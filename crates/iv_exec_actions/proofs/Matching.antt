@@ -19,7 +19,7 @@ use Rattle.iv_key.specs.Keys.{key_of, none_null}
 use Rattle.iv_machine.specs.Databases.{row_at, fault_at}
 use Rattle.iv_machine.specs.ReferentialActions.{Reference, reference, Loss, LostKeys, lost_reference, action_on, is_restrict, effects_of_loss, keeps_reference, change_by, sets_values, referencing_columns}
 use Rattle.iv_laws_levels.specs.Holders.{loss_of_new, loses_key, keys_lost_by, row_before}
-use Rattle.iv_laws_actions.specs.RowByRow as laws
+use Rattle.iv_laws_kept.specs.FollowingWaves as laws
 use Rattle.iv_exec_actions.specs.AffectedForeignKey.{AffectedForeignKey, under_wave, acts_in, affected_where, affected_from, change_losing, action_for}
 use Rattle.iv_exec_actions.specs.Following.{restricts, restricted_fault, effects_for, effects_by, effects_among, restricted_at, effects_at, conflict_at, change_at, sets_at, columns_where, columns_at, answer_among}
 

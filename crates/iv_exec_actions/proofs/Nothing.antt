@@ -16,7 +16,7 @@ use Rattle.iv_machine.specs.Context.{Failure, fails}
 use Rattle.iv_machine.specs.Databases.{row_at, fault_at}
 use Rattle.iv_machine.specs.ReferentialActions.{change_by}
 use Rattle.iv_laws_levels.specs.Holders.{row_before}
-use Rattle.iv_laws_actions.specs.RowByRow.{first_conflict, earlier, least}
+use Rattle.iv_laws_kept.specs.FollowingWaves.{first_conflict, earlier, least}
 use Rattle.iv_exec_actions.specs.Following.{restricted_fault, effects_among, restricted_at, effects_at, conflict_at, change_at, answer_among}
 
 pub none_there : {A : Type 0} (xs : List A) → (length xs == 0) ≡ true → xs ≡ []

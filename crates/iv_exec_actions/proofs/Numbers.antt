@@ -7,7 +7,7 @@ use Rattle.std.proofs.lemmas.Bool.{eqb-true, ne_eqb, true≢false}
 use Rattle.iv_expr.specs.declared.row.Change.{Change}
 use Rattle.iv_expr.specs.Changes.{RisingChangesFrom, last_above, last_row}
 use Rattle.iv_store.specs.Stores.{RisingNumbers}
-use Rattle.iv_laws_actions.specs.RowByRow.{is_among}
+use Rattle.iv_laws_kept.specs.FollowingWaves.{is_among}
 
 -- ---- no number is 0
 

@@ -1,12 +1,13 @@
 -- The tables of changes.
 use Rattle.std.proofs.Common.{◌≡◌, refl, ℕ, ◌+◌, ◌<◌, Bool, true, false, ◌&&◌, ◌||◌, if◌then◌else◌, List, [], ◌∷◌, ◌++◌, length, get_or, drop, is_some, None, sym, ap, ◌∙◌}
+use Rattle.std.proofs.Math.Bool.{or_assoc}
 use mathlib.Core.Bool.{or-false, and-false}
 use Rattle.std.specs.Bool.{◌==◌}
 use Rattle.std.specs.List.{list_any}
 use Rattle.std.proofs.lemmas.Bool.{eqb-true, or_parts}
 use Rattle.iv_expr.specs.declared.row.Change.{Change}
 use Rattle.iv_catalogue.specs.declared.constraint.ForeignKey.{ForeignKey}
-use Rattle.iv_laws_actions.specs.RowByRow.{is_among}
+use Rattle.iv_laws_kept.specs.FollowingWaves.{is_among}
 use Rattle.iv_account.specs.Accounts.{acts}
 use Rattle.iv_exec_actions.specs.AffectedForeignKey.{taken_from, action_for, acts_on}
 use Rattle.iv_exec_actions.proofs.Numbers.{any_of_both}
@@ -22,16 +23,12 @@ there_already tables table t e =
       | false ↦ λ f. sym (or-false (is_among tables t))
     ] refl
 
-or_moved : (a b c : Bool) → ((a || b) || c) ≡ (a || (b || c))
-or_moved true b c = refl
-or_moved false b c = refl
-
 pub next_table : (before after : List ℕ) (changes : List Change) (i : ℕ) (c : Change) (t : ℕ) → i < length changes → c ≡ get_or changes i c
     → is_among after t ≡ (is_among before t || (c.table == t))
     → (is_among after t || list_any (λ x. x.table == t) (drop (i + 1) changes)) ≡ (is_among before t || list_any (λ x. x.table == t) (drop i changes))
 next_table before after changes i c t h is e =
     ap (λ b. b || list_any (λ x. x.table == t) (drop (i + 1) changes)) e
-    ∙ or_moved (is_among before t) (c.table == t) (list_any (λ x. x.table == t) (drop (i + 1) changes))
+    ∙ or_assoc (is_among before t) (c.table == t) (list_any (λ x. x.table == t) (drop (i + 1) changes))
     ∙ ap (λ l. is_among before t || list_any (λ x. x.table == t) l) (sym (left_from changes i c h is))
 
 -- no change of another table takes a key away

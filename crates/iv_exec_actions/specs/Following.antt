@@ -15,7 +15,7 @@ use Rattle.iv_machine.specs.Context.{Failure, fails}
 use Rattle.iv_machine.specs.Databases.{row_at, fault_at}
 use Rattle.iv_machine.specs.ReferentialActions.{is_restrict, effects_of_action, keeps_reference, change_by, sets_values, referencing_columns}
 use Rattle.iv_laws_levels.specs.Holders.{loss_of_new, row_before}
-use Rattle.iv_laws_actions.specs.RowByRow.{first_conflict, least}
+use Rattle.iv_laws_kept.specs.FollowingWaves.{first_conflict, least}
 use Rattle.iv_exec_actions.specs.AffectedForeignKey.{AffectedForeignKey, action_for, change_losing}
 
 -- ---- RESTRICT

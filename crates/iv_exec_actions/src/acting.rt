@@ -6,7 +6,7 @@ ghost use Rattle.iv_machine.specs.Databases.{row_at};
 ghost use Rattle.iv_machine.specs.ReferentialActions.{keeps_reference};
 ghost use Rattle.iv_account.specs.Accounts.{actions_at as actions_between, if_some};
 ghost use Rattle.iv_laws_levels.specs.Holders.{row_before};
-ghost use Rattle.iv_laws_actions.specs.RowByRow.{LedTo};
+ghost use Rattle.iv_laws_kept.specs.FollowingWaves.{LedTo};
 ghost use Rattle.iv_exec_actions.specs.ByTable.{at_places};
 ghost use Rattle.iv_exec_actions.specs.RowActions.{actions_among, actions_at, actions_by, actions_for, actions_on_all};
 

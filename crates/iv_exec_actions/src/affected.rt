@@ -6,9 +6,10 @@ ghost use Rattle.iv_value.specs.declared.value.Value.{Value as Cell};
 ghost use Rattle.iv_store_groups.specs.Groups.{groups_of, rows_of};
 ghost use Rattle.iv_machine.specs.ReferentialActions.{foreign_key, reference};
 ghost use Rattle.iv_laws_levels.specs.Holders.{leaves_key};
-ghost use Rattle.iv_laws_actions.specs.RowByRow.{is_among};
+ghost use Rattle.iv_laws_kept.specs.FollowingWaves.{is_among};
 ghost use Rattle.iv_account.specs.Accounts.{acts};
-ghost use Rattle.iv_exec_actions.specs.AffectedForeignKey.{key_taken, first_taking, action_for, acts_on, under_wave, affected_where, affected_from, change_taking};
+ghost use Rattle.iv_exec_actions.specs.AffectedForeignKey.{key_taken, first_taking, action_for, acts_on, under_wave, affected_where};
+ghost use Rattle.iv_exec_actions.specs.AffectedForeignKey.{affected_from, change_taking};
 
 use iv_catalogue::{Constraint, ForeignKey, Rule};
 use iv_expr::{Change, Row, TableId};

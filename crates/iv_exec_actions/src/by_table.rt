@@ -32,7 +32,7 @@ impl<'a> Model for ByTable<'a> {
 }
 
 // Adds empty lists until there is one of this table.
-fn widen(lists: &mut Vec<Items<usize>>, alloc: Global, table: usize) -> Result<(), AllocError>
+fn widen(alloc: Global, lists: &mut Vec<Items<usize>>, table: usize) -> Result<(), AllocError>
     ensures wide { OnOk result (table < length lists.new.items) }
     ensures same { OnOk result ((t : ℕ)
         → get_or lists.new.items t [] ≡ get_or lists.old.items t []) }
@@ -54,8 +54,8 @@ fn push_place(lists: &mut Vec<Items<usize>>, table: usize, place: usize) -> Resu
 
 // Adds a place to those of a table.
 fn note_place(
-    lists: &mut Vec<Items<usize>>,
     alloc: Global,
+    lists: &mut Vec<Items<usize>>,
     table: TableId,
     place: usize,
 ) -> Result<(), AllocError>
@@ -64,7 +64,7 @@ fn note_place(
         ++ place ∷ [] else get_or lists.old.items t [])) }
 {
     let table = table.place() as usize;
-    widen(lists, alloc, table)?;
+    widen(alloc, lists, table)?;
     push_place(lists, table, place)
 }
 
@@ -78,7 +78,7 @@ fn places_of(
 {
     let mut lists = Vec::new(alloc);
     for (place, affected) in affected_keys.iter().enumerate() {
-        note_place(&mut lists, alloc, affected.table(), place)?;
+        note_place(alloc, &mut lists, affected.table(), place)?;
     }
     Ok(lists)
 }

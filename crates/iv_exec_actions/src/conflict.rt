@@ -4,7 +4,7 @@ ghost use Rattle.std.specs.List.{list_any};
 ghost use Rattle.std.specs.Option.{option_map};
 ghost use Rattle.iv_value.specs.Values.{is_same};
 ghost use Rattle.iv_machine.specs.ReferentialActions.{is_deletion, columns_set, have_deletion, is_set_otherwise, disagree};
-ghost use Rattle.iv_laws_actions.specs.RowByRow.{clashes, first_conflict};
+ghost use Rattle.iv_laws_kept.specs.FollowingWaves.{clashes, first_conflict};
 
 use iv_machine::Effect;
 use iv_value::{Value, same};

@@ -3,7 +3,7 @@ ghost use Rattle.std.specs.Prelude.{◌≡◌, ◌++◌, ◌+◌, ◌*◌, ◌�
 ghost use Rattle.std.specs.List.Sorted.{IsStrictlyIncreasing};
 ghost use Rattle.iv_expr.specs.Changes.{RisingChanges};
 ghost use Rattle.iv_store.specs.Stores.{RisingNumbers};
-ghost use Rattle.iv_laws_actions.specs.RowByRow.{is_among};
+ghost use Rattle.iv_laws_kept.specs.FollowingWaves.{is_among};
 ghost use Rattle.iv_exec_actions.specs.Finding.{leads, found_by, found_by_all, found};
 
 use crate::affected::{AffectedForeignKey, action_for, acts, key_taken};
@@ -111,8 +111,8 @@ fn sort_once(numbers: &mut Vec<u64>)
 
 /// The numbers of the rows that refer to a key which the wave removed, and of the wave's own rows, in rising order.
 pub fn found<K: ReferencingRows>(
-    store: &mut K,
     alloc: Global,
+    store: &mut K,
     affected_keys: &[AffectedForeignKey<'_>],
     changes: &[Change],
 ) -> Result<Vec<u64>, AllocError>

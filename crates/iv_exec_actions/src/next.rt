@@ -7,7 +7,7 @@ ghost use Rattle.iv_machine.specs.Context.{Context};
 ghost use Rattle.iv_machine.specs.ReferentialActions.{following_wave};
 ghost use Rattle.iv_store.specs.Lookups.{foreign_keys};
 ghost use Rattle.iv_store.specs.Stores.{RisingNumbers};
-ghost use Rattle.iv_laws_actions.specs.RowByRow.{earlier, least, LedTo};
+ghost use Rattle.iv_laws_kept.specs.FollowingWaves.{earlier, least, LedTo};
 ghost use Rattle.iv_exec_actions.specs.Following.{restricted_at, effects_at, conflict_at, change_at, sets_at, next_at, answer_among};
 ghost use Rattle.iv_exec_actions.specs.Answers.{AnswersWave};
 
@@ -310,15 +310,6 @@ fn next_at<K: ReferencingRows>(
     Ok(with_columns(next, columns))
 }
 
-fn refusal(cause: Cause) -> Refusal
-    ensures { result ≡ record { cause = cause; trigger = None } }
-{
-    Refusal {
-        cause,
-        trigger: None,
-    }
-}
-
 // What follows, from the rows of these numbers.
 fn answer_among<K: ReferencingRows>(
     store: &K,
@@ -336,10 +327,10 @@ fn answer_among<K: ReferencingRows>(
         return Ok(Wave::new(store.allocator()));
     }
     if let Some(fault) = restricted(store, affected_keys, changes, numbers) {
-        return Err(refusal(Cause::Restrict(fault)));
+        return Err(Refusal::of(Cause::Restrict(fault)));
     }
     if let Some(fault) = disagreement(store, catalogue, affected_keys, changes, numbers)? {
-        return Err(refusal(Cause::ActionConflict(fault)));
+        return Err(Refusal::of(Cause::ActionConflict(fault)));
     }
     Ok(next_at(store, catalogue, affected_keys, changes, numbers)?)
 }
@@ -363,9 +354,9 @@ pub fn next_wave<K: ReferencingRows>(
     let alloc = store.allocator();
     let changes = wave.changes();
     let affected_keys = affected_by_table(alloc, catalogue.constraints(), changes)?;
-    let numbers = found(store, alloc, affected_keys.as_slice(), changes)?;
+    let numbers = found(alloc, store, affected_keys.as_slice(), changes)?;
     answer_among(
-        &*store,
+        store,
         catalogue,
         &affected_keys,
         changes,

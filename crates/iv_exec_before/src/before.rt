@@ -1,14 +1,17 @@
 //! BEFORE triggers: those of a statement, and those of the rows of a wave ("Execution of BEFORE triggers").
 ghost use Rattle.std.specs.Prelude.{◌≡◌, ◌≤◌, ◌<◌, ◌+◌, ◌^◌, ◌&&◌, false, [], ◌∷◌, length, slice_set, filter, IfOk, OnOk};
 ghost use Rattle.std.specs.List.{enumerate_from};
-ghost use Rattle.iv_account.specs.Accounts.{before_each_told, before_row_told, before_rows_told, before_statement_told, before_triggers_told, ran, ran_where_true, told_in_turn};
+ghost use Rattle.iv_account.specs.Accounts.{before_each_told, before_row_told, before_rows_told, before_statement_told};
+ghost use Rattle.iv_account.specs.Accounts.{before_triggers_told, ran, ran_where_true, told_in_turn};
 ghost use Rattle.iv_account.specs.Telling.{and_told};
+ghost use Rattle.iv_exec_before.specs.Recording.{Records};
 ghost use Rattle.iv_catalogue.specs.Catalogues.{BodiesWithinLimit};
 ghost use Rattle.iv_catalogue.specs.declared.limits.TheConstants.{MOST_BODY_STATEMENTS};
 ghost use Rattle.iv_expr.specs.Evaluation.{value};
 ghost use Rattle.iv_expr.specs.Scopes.{no_frame, scope_of};
-ghost use Rattle.iv_laws_rows.specs.Changing.{UnlessMemory};
-ghost use Rattle.iv_machine.specs.BeforeTriggers.{before_row_run, before_statement, before_statement_run, change_after_set, change_after_statement, change_after_trigger, change_frame, changes_after_triggers, is_before_row_on, is_before_this, is_signal, placed_statements, unless_signal, with_new_value};
+ghost use Rattle.iv_machine.specs.BeforeTriggers.{before_row_run, before_statement, before_statement_run, change_after_set, change_after_statement};
+ghost use Rattle.iv_machine.specs.BeforeTriggers.{change_after_trigger, change_frame, changes_after_triggers, is_before_row_on, is_before_this, is_signal};
+ghost use Rattle.iv_machine.specs.BeforeTriggers.{placed_statements, unless_signal, with_new_value};
 ghost use Rattle.iv_machine.specs.Context.{each, in_turn, while_running};
 ghost use Rattle.iv_machine.specs.Proposals.{holds, stored_value};
 ghost use Rattle.iv_exec_context.specs.Answering.{AnswersCause, AnswersRefusal, UnlessMemoryCause};
@@ -96,7 +99,7 @@ fn set<R: Rows>(
     ensures { AnswersCause (λ _. change.exit.now) result
         (change_after_set context.now (R.rows rows.now) setting.now change.entry.now) }
 {
-    let value = value_of_set(context, rows, setting, &*change)?;
+    let value = value_of_set(context, rows, setting, change)?;
     set_new_value(alloc, change, setting.column, value)?;
     Ok(())
 }
@@ -178,8 +181,8 @@ fn run_at_row<R: Rows>(
     ensures told { UnlessMemoryCause result (account.new ≡ and_told account.old
         (ran_where_true (R.rows rows.now) trigger.now (change_frame change.entry.now))) }
 {
-    if fires(rows, trigger, &*change)? {
-        tell_at_row(trigger, &*change, account)?;
+    if fires(rows, trigger, change)? {
+        tell_at_row(trigger, change, account)?;
         run_body(alloc, context, rows, trigger, change)
     } else {
         Ok(())
@@ -199,10 +202,10 @@ fn run_at_change<R: Rows>(
     requires { length trigger.now.body ≤ MOST_BODY_STATEMENTS }
     ensures answer { AnswersRefusal (λ _. change.exit.now) result
         (change_after_trigger context.now (R.rows rows.now) trigger.now change.entry.now) }
-    ensures told { UnlessMemory result (account.new ≡ and_told account.old
-        (before_row_told (R.rows rows.now) trigger.now change.entry.now)) }
+    ensures told { Records result account.old account.new
+        (before_row_told (R.rows rows.now) trigger.now change.entry.now) }
 {
-    if is_on(change.table, event_of_change(&*change), trigger) {
+    if is_on(change.table, event_of_change(change), trigger) {
         match run_at_row(alloc, context, rows, trigger, change, account) {
             Ok(()) => Ok(()),
             Err(cause) => Err(Refusal {
@@ -228,8 +231,8 @@ fn run_at_each<R: Rows>(
     ensures length { length changes.exit.now ≡ length changes.entry.now }
     ensures answer { AnswersRefusal (λ _. changes.exit.now) result
         (each (change_after_trigger context.now (R.rows rows.now) trigger.now) changes.entry.now) }
-    ensures told { UnlessMemory result (account.new ≡ and_told account.old
-        (before_each_told context.now (R.rows rows.now) trigger.now changes.entry.now)) }
+    ensures told { Records result account.old account.new
+        (before_each_told context.now (R.rows rows.now) trigger.now changes.entry.now) }
 {
     let mut at = 0usize;
     while at < changes.len() {
@@ -262,9 +265,9 @@ fn run_all<R: Rows>(
     ensures answer { AnswersRefusal (λ _. changes.exit.now) result
         (changes_after_triggers context.now (R.rows rows.now)
         (filter (is_before_row_on columns.now) triggers.now) changes.entry.now) }
-    ensures told { UnlessMemory result (account.new ≡ and_told account.old
+    ensures told { Records result account.old account.new
         (before_triggers_told context.now (R.rows rows.now)
-        (filter (is_before_row_on columns.now) triggers.now) changes.entry.now)) }
+        (filter (is_before_row_on columns.now) triggers.now) changes.entry.now) }
 {
     match triggers {
         [] => Ok(()),
@@ -295,10 +298,10 @@ pub fn before_rows<R: Rows>(
     ensures answer { AnswersRefusal (λ _. changes.exit.now) result
         (changes_after_triggers context.now (R.rows rows.now)
         (filter (is_before_row_on columns.now) context.now.schema.triggers) changes.entry.now) }
-    ensures told { UnlessMemory result (account.new ≡ and_told account.old
-        (before_rows_told context.now (R.rows rows.now) columns.now changes.entry.now)) }
+    ensures told { Records result account.old account.new
+        (before_rows_told context.now (R.rows rows.now) columns.now changes.entry.now) }
 {
-    if !context.has_trigger_on(&*changes) {
+    if !context.has_trigger_on(changes) {
         return Ok(());
     }
     run_all(
@@ -370,8 +373,8 @@ fn run_named<R: Rows>(rows: &R, trigger: &Trigger, account: &mut Account) -> Res
     requires { length trigger.now.body ≤ MOST_BODY_STATEMENTS }
     ensures answer { AnswersRefusal (λ _. tt) result
         (while_running trigger.now.id (before_statement_run (R.rows rows.now) trigger.now)) }
-    ensures told { UnlessMemory result (account.new ≡ and_told account.old
-        (ran_where_true (R.rows rows.now) trigger.now no_frame)) }
+    ensures told { Records result account.old account.new
+        (ran_where_true (R.rows rows.now) trigger.now no_frame) }
     ensures unasked { account.old.asked ≡ false → result ≡ while_running trigger.now.id
         (before_statement_run (R.rows rows.now) trigger.now) }
 {
@@ -405,10 +408,10 @@ fn run_statement_triggers<R: Rows>(
     ensures answer { AnswersRefusal (λ _. tt) result (in_turn
         (λ t _. while_running t.id (before_statement_run (R.rows rows.now) t))
         (filter (is_before_this statement.now) triggers.now) tt) }
-    ensures told { UnlessMemory result (account.new ≡ and_told account.old (told_in_turn
+    ensures told { Records result account.old account.new (told_in_turn
         (λ t _. while_running t.id (before_statement_run (R.rows rows.now) t))
         (λ t _. ran_where_true (R.rows rows.now) t no_frame)
-        (filter (is_before_this statement.now) triggers.now) tt)) }
+        (filter (is_before_this statement.now) triggers.now) tt) }
     ensures unasked { account.old.asked ≡ false → result ≡ in_turn
         (λ t _. while_running t.id (before_statement_run (R.rows rows.now) t))
         (filter (is_before_this statement.now) triggers.now) tt }
@@ -438,8 +441,8 @@ pub fn before_statement<R: Rows>(
 ) -> Result<(), Refusal>
     ensures answer { AnswersRefusal (λ _. tt) result
         (before_statement context.now (R.rows rows.now) statement.now) }
-    ensures told { UnlessMemory result (account.new ≡ and_told account.old
-        (before_statement_told context.now (R.rows rows.now) statement.now)) }
+    ensures told { Records result account.old account.new
+        (before_statement_told context.now (R.rows rows.now) statement.now) }
     ensures unasked { account.old.asked ≡ false
         → result ≡ before_statement context.now (R.rows rows.now) statement.now }
 {

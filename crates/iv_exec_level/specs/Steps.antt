@@ -4,7 +4,9 @@ use Rattle.iv_expr.specs.declared.wave.TableColumn.{TableColumn}
 use Rattle.iv_expr.specs.Changes.{Wave}
 use Rattle.iv_expr.specs.Evaluation.{and_then}
 use Rattle.iv_expr.specs.Scopes.{Frame, scope_of}
+use Rattle.iv_catalogue.specs.declared.cause.Refusal.{Refusal}
 use Rattle.iv_catalogue.specs.declared.plan.DataStatement.{DataStatement}
+use Rattle.iv_catalogue.specs.declared.plan.Trigger.{Trigger}
 use Rattle.iv_machine.specs.declared.database.Database.{Database}
 use Rattle.iv_machine.specs.BeforeTriggers.{before_statement, placed_statements}
 use Rattle.iv_machine.specs.Context.{Context, Failure, over, with_count}
@@ -12,11 +14,29 @@ use Rattle.iv_machine.specs.Databases.{size}
 use Rattle.iv_machine.specs.Levels.{Finished, Firing, Runs, Progress, body_run, firings, firings_run, immediate_check, level_columns}
 use Rattle.iv_machine.specs.Proposals.{holds, proposed_wave}
 use Rattle.iv_machine.specs.Waves.{net_wave, settled_waves}
+use Rattle.iv_laws_rows.specs.Changing.{AnswersAt}
 use Rattle.iv_account.specs.declared.entry.Entry.{Entry}
 use Rattle.iv_account.specs.Accounts.{before_statement_told, unless_refused}
 
+-- this database, with this much of the budget left
 abbrev pub progress : Database → ℕ → Progress
 progress db budget = record { database = db; budget = budget }
+
+-- a trigger with what it sees
+abbrev pub firing_of : Trigger → Frame → Firing
+firing_of trigger frame = record { trigger = trigger; frame = frame }
+
+-- ---- what the calls answer
+
+-- A call that leaves this database and budget answers as the definition of its step says.
+abbrev pub Progresses : {A : Type 0} → Result A Refusal → Database → ℕ → Result Progress Failure → Type 0
+Progresses result db budget step = AnswersAt (λ _. progress db budget) db.count result step
+
+-- The same of a call that answers how many rows a data statement changes itself.
+abbrev pub Finishes : Result ℕ Refusal → Database → ℕ → Result Finished Failure → Type 0
+Finishes result db budget level = AnswersAt (λ size. record { database = db; rest = budget; size = size }) db.count result level
+
+-- ---- the steps
 
 -- the body of a trigger, if its WHEN is true
 abbrev pub body_run_where_true : Runs → Firing → Progress → Result Progress Failure

@@ -12,16 +12,17 @@ ghost use Rattle.iv_machine.specs.Levels.{body_run, firing_run, firings_run, lev
 ghost use Rattle.iv_laws_rows.specs.RowFits.{BodyFits, StatementFits, changes_fit};
 ghost use Rattle.iv_exec_transitions.specs.ByTable.{after_firings, all_firings};
 ghost use Rattle.iv_laws_rows.specs.Changing.{AnswersAt, StoreFits, UnlessMemory, database_and_size, with_database};
+ghost use Rattle.iv_exec_before.specs.Recording.{Records};
 ghost use Rattle.iv_exec_waves.specs.Applying.{Proposes};
 ghost use Rattle.iv_exec_waves.specs.Running.{LeavesStore};
 ghost use Rattle.iv_store.specs.Lookups.{LooksUp};
-ghost use Rattle.iv_account.specs.Accounts.{account as account_of, body_told, finished_told, firing_told, firings_told, level_told, nested_told, statement_told, waves_and_after_told};
-ghost use Rattle.iv_account.specs.Telling.{and_told};
+ghost use Rattle.iv_account.specs.Accounts.{account as account_of, body_told, finished_told, firing_told, firings_told, level_told};
+ghost use Rattle.iv_account.specs.Accounts.{nested_told, statement_told, waves_and_after_told};
 ghost use Rattle.iv_exec_level.specs.Firing.{ActionFits, AreParts, AreTransitions, CanFire, MayBeParts};
 ghost use Rattle.iv_exec_level.specs.Settled.{Tells};
 ghost use Rattle.iv_exec_waves.specs.Steps.{wave_with};
 ghost use Rattle.iv_machine.specs.Proposals.{set_columns};
-ghost use Rattle.iv_exec_level.specs.Steps.{body_run_where_true, finished, innermost, progress, waves_and_after};
+ghost use Rattle.iv_exec_level.specs.Steps.{Finishes, Progresses, body_run_where_true, finished, firing_of, innermost, progress, waves_and_after};
 
 use crate::lent::{are_transitions, row_frame, statement_at, statement_frame, trigger_at};
 use crate::start::{LevelChanges, allowed, check, settle_waves, takes_effect};
@@ -50,23 +51,22 @@ fn run_statement<K: ChangeableRows>(
 ) -> Result<(), Refusal>
     requires store { StoreFits context.now.schema (K.view store.old) }
     requires statement { ActionFits context.now.schema.tables frame.now statement.now }
-    ensures answer { AnswersAt (λ _. progress (K.view store.new).base budget.new)
-        (K.view store.new).base.count result
+    ensures answer { Progresses result (K.view store.new).base budget.new
         (statement_run (nested_level deeper context.now)
-        (record { trigger = trigger.now; frame = frame.now }) place statement.now
+        (firing_of trigger.now frame.now) place statement.now
         (progress (K.view store.old).base budget.old)) }
     ensures store { LeavesStore context.now.schema result
         (K.view store.old) (K.lookups store.old) (K.view store.new) (K.lookups store.new) }
-    ensures told { UnlessMemory result (account.new ≡ and_told account.old
+    ensures told { Records result account.old account.new
         (statement_told (nested_level deeper context.now) (nested_told deeper context.now)
-        (record { trigger = trigger.now; frame = frame.now }) place statement.now
-        (progress (K.view store.old).base budget.old))) }
+        (firing_of trigger.now frame.now) place statement.now
+        (progress (K.view store.old).base budget.old)) }
 {
     match statement {
         BodyStatement::Data(statement) => {
             account.began(place)?;
             nested(
-                store, &*context, trigger.id, statement, &*frame, deeper, budget, account,
+                store, context, trigger.id, statement, frame, deeper, budget, account,
             )?;
             account.ended()?;
             Ok(())
@@ -90,25 +90,23 @@ fn nested<K: ChangeableRows>(
 ) -> Result<u64, Refusal>
     requires store { StoreFits context.now.schema (K.view store.old) }
     requires statement { StatementFits context.now.schema.tables frame.now statement.now }
-    ensures answer { AnswersAt
-        (λ size. record { database = (K.view store.new).base; rest = budget.new; size = size })
-        (K.view store.new).base.count result
+    ensures answer { Finishes result (K.view store.new).base budget.new
         (nested_level deeper context.now trigger statement.now frame.now
         (K.view store.old).base budget.old) }
     ensures store { LeavesStore context.now.schema result
         (K.view store.old) (K.lookups store.old) (K.view store.new) (K.lookups store.new) }
-    ensures told { UnlessMemory result (account.new ≡ and_told account.old
+    ensures told { Records result account.old account.new
         (nested_told deeper context.now trigger statement.now frame.now
-        (K.view store.old).base budget.old)) }
+        (K.view store.old).base budget.old) }
 {
     if deeper == 0 {
         return Err(Refusal::of(Cause::DepthLimit(trigger)));
     }
     run_level(
         store,
-        &*context,
+        context,
         statement,
-        &*frame,
+        frame,
         deeper - 1,
         budget,
         account,
@@ -129,17 +127,16 @@ fn run_body<K: ChangeableRows>(
     requires store { StoreFits context.now.schema (K.view store.old) }
     requires fires { CanFire context.now.schema.tables trigger.now }
     requires body { BodyFits context.now.schema.tables frame.now trigger.now.body }
-    ensures answer { AnswersAt (λ _. progress (K.view store.new).base budget.new)
-        (K.view store.new).base.count result
+    ensures answer { Progresses result (K.view store.new).base budget.new
         (body_run (nested_level deeper context.now)
-        (record { trigger = trigger.now; frame = frame.now }) (placed_statements trigger.now)
+        (firing_of trigger.now frame.now) (placed_statements trigger.now)
         (progress (K.view store.old).base budget.old)) }
     ensures store { LeavesStore context.now.schema result
         (K.view store.old) (K.lookups store.old) (K.view store.new) (K.lookups store.new) }
-    ensures told { UnlessMemory result (account.new ≡ and_told account.old
+    ensures told { Records result account.old account.new
         (body_told (nested_level deeper context.now) (nested_told deeper context.now)
-        (record { trigger = trigger.now; frame = frame.now }) (placed_statements trigger.now)
-        (progress (K.view store.old).base budget.old))) }
+        (firing_of trigger.now frame.now) (placed_statements trigger.now)
+        (progress (K.view store.old).base budget.old)) }
 {
     let body = trigger.body.as_slice();
     let mut at = 0usize;
@@ -147,7 +144,7 @@ fn run_body<K: ChangeableRows>(
     while at < body.len() {
         let statement = statement_at(&*context, &*frame, body, at);
         run_statement(
-            store, &*context, trigger, &*frame, place, statement, deeper, budget, account,
+            store, context, trigger, frame, place, statement, deeper, budget, account,
         )?;
         at += 1;
         place += 1;
@@ -169,22 +166,21 @@ fn run_where_true<K: ChangeableRows>(
     requires store { StoreFits context.now.schema (K.view store.old) }
     requires fires { CanFire context.now.schema.tables trigger.now }
     requires body { BodyFits context.now.schema.tables frame.now trigger.now.body }
-    ensures answer { AnswersAt (λ _. progress (K.view store.new).base budget.new)
-        (K.view store.new).base.count result
+    ensures answer { Progresses result (K.view store.new).base budget.new
         (body_run_where_true (nested_level deeper context.now)
-        (record { trigger = trigger.now; frame = frame.now })
+        (firing_of trigger.now frame.now)
         (progress (K.view store.old).base budget.old)) }
     ensures store { LeavesStore context.now.schema result
         (K.view store.old) (K.lookups store.old) (K.view store.new) (K.lookups store.new) }
-    ensures told { UnlessMemory result (account.new ≡ and_told account.old
+    ensures told { Records result account.old account.new
         (firing_told (nested_level deeper context.now) (nested_told deeper context.now)
-        (record { trigger = trigger.now; frame = frame.now })
-        (progress (K.view store.old).base budget.old))) }
+        (firing_of trigger.now frame.now)
+        (progress (K.view store.old).base budget.old)) }
 {
-    match takes_effect(&*store, trigger, &*frame) {
+    match takes_effect(store, trigger, frame) {
         Ok(true) => {
-            account.ran(trigger, &*frame)?;
-            run_body(store, &*context, trigger, &*frame, deeper, budget, account)
+            account.ran(trigger, frame)?;
+            run_body(store, context, trigger, frame, deeper, budget, account)
         }
         Ok(false) => Ok(()),
         Err(cause) => Err(Refusal::of(cause)),
@@ -215,19 +211,18 @@ fn fire<K: ChangeableRows>(
     requires store { StoreFits context.now.schema (K.view store.old) }
     requires fires { CanFire context.now.schema.tables trigger.now }
     requires body { BodyFits context.now.schema.tables frame.now trigger.now.body }
-    ensures answer { AnswersAt (λ _. progress (K.view store.new).base budget.new)
-        (K.view store.new).base.count result
+    ensures answer { Progresses result (K.view store.new).base budget.new
         (firing_run (nested_level deeper context.now)
-        (record { trigger = trigger.now; frame = frame.now })
+        (firing_of trigger.now frame.now)
         (progress (K.view store.old).base budget.old)) }
     ensures store { LeavesStore context.now.schema result
         (K.view store.old) (K.lookups store.old) (K.view store.new) (K.lookups store.new) }
-    ensures told { UnlessMemory result (account.new ≡ and_told account.old
+    ensures told { Records result account.old account.new
         (firing_told (nested_level deeper context.now) (nested_told deeper context.now)
-        (record { trigger = trigger.now; frame = frame.now })
-        (progress (K.view store.old).base budget.old))) }
+        (firing_of trigger.now frame.now)
+        (progress (K.view store.old).base budget.old)) }
 {
-    match run_where_true(store, &*context, trigger, &*frame, deeper, budget, account) {
+    match run_where_true(store, context, trigger, frame, deeper, budget, account) {
         Ok(()) => Ok(()),
         Err(refusal) => Err(Refusal {
             cause: refusal.cause,
@@ -250,22 +245,21 @@ fn fire_rows<K: ChangeableRows>(
     requires store { StoreFits context.now.schema (K.view store.old) }
     requires fires { CanFire context.now.schema.tables trigger.now }
     requires transitions { AreTransitions context.now.schema.tables trigger.now transitions.now }
-    ensures answer { AnswersAt (λ _. progress (K.view store.new).base budget.new)
-        (K.view store.new).base.count result
+    ensures answer { Progresses result (K.view store.new).base budget.new
         (firings_run (nested_level deeper context.now)
         (map (row_firing trigger.now transitions.now) transitions.now)
         (progress (K.view store.old).base budget.old)) }
     ensures store { LeavesStore context.now.schema result
         (K.view store.old) (K.lookups store.old) (K.view store.new) (K.lookups store.new) }
-    ensures told { UnlessMemory result (account.new ≡ and_told account.old
+    ensures told { Records result account.old account.new
         (firings_told (nested_level deeper context.now) (nested_told deeper context.now)
         (map (row_firing trigger.now transitions.now) transitions.now)
-        (progress (K.view store.old).base budget.old))) }
+        (progress (K.view store.old).base budget.old)) }
 {
     let mut at = 0usize;
     while at < transitions.len() {
         let frame = row_frame(&*context, trigger, transitions, at);
-        fire(store, &*context, trigger, &frame, deeper, budget, account)?;
+        fire(store, context, trigger, &frame, deeper, budget, account)?;
         at += 1;
     }
     Ok(())
@@ -286,19 +280,18 @@ fn fire_once<K: ChangeableRows>(
     requires fires { CanFire context.now.schema.tables trigger.now }
     requires once { for_each_row trigger.now ≡ false }
     requires transitions { AreTransitions context.now.schema.tables trigger.now transitions.now }
-    ensures answer { AnswersAt (λ _. progress (K.view store.new).base budget.new)
-        (K.view store.new).base.count result
+    ensures answer { Progresses result (K.view store.new).base budget.new
         (firing_run (nested_level deeper context.now) (statement_firing trigger.now transitions.now)
         (progress (K.view store.old).base budget.old)) }
     ensures store { LeavesStore context.now.schema result
         (K.view store.old) (K.lookups store.old) (K.view store.new) (K.lookups store.new) }
-    ensures told { UnlessMemory result (account.new ≡ and_told account.old
+    ensures told { Records result account.old account.new
         (firing_told (nested_level deeper context.now) (nested_told deeper context.now)
         (statement_firing trigger.now transitions.now)
-        (progress (K.view store.old).base budget.old))) }
+        (progress (K.view store.old).base budget.old)) }
 {
     let frame = statement_frame(&*context, trigger, transitions);
-    fire(store, &*context, trigger, &frame, deeper, budget, account)
+    fire(store, context, trigger, &frame, deeper, budget, account)
 }
 
 // A trigger, as often as it fires.
@@ -317,27 +310,26 @@ fn fire_trigger<K: ChangeableRows>(
     requires store { StoreFits context.now.schema (K.view store.old) }
     requires fires { CanFire context.now.schema.tables trigger.now }
     requires parts { AreParts context.now.schema.tables transitions.now }
-    ensures answer { AnswersAt (λ _. progress (K.view store.new).base budget.new)
-        (K.view store.new).base.count result
+    ensures answer { Progresses result (K.view store.new).base budget.new
         (firings_run (nested_level deeper context.now)
         (after_firings statement.now columns.now transitions.now trigger.now)
         (progress (K.view store.old).base budget.old)) }
     ensures store { LeavesStore context.now.schema result
         (K.view store.old) (K.lookups store.old) (K.view store.new) (K.lookups store.new) }
-    ensures told { UnlessMemory result (account.new ≡ and_told account.old
+    ensures told { Records result account.old account.new
         (firings_told (nested_level deeper context.now) (nested_told deeper context.now)
         (after_firings statement.now columns.now transitions.now trigger.now)
-        (progress (K.view store.old).base budget.old))) }
+        (progress (K.view store.old).base budget.old)) }
 {
     match firings(statement, trigger, columns, &*transitions) {
         Fires::Never => Ok(()),
         Fires::Once(changes) => {
-            are_transitions(&*context, trigger, &*transitions, changes);
-            fire_once(store, &*context, trigger, changes, deeper, budget, account)
+            are_transitions(context, trigger, transitions, changes);
+            fire_once(store, context, trigger, changes, deeper, budget, account)
         }
         Fires::EachRow(changes) => {
-            are_transitions(&*context, trigger, &*transitions, changes);
-            fire_rows(store, &*context, trigger, changes, deeper, budget, account)
+            are_transitions(context, trigger, transitions, changes);
+            fire_rows(store, context, trigger, changes, deeper, budget, account)
         }
     }
 }
@@ -359,28 +351,27 @@ fn fire_all<K: ChangeableRows>(
     requires short { BodiesWithinLimit triggers.now }
     requires suit { list_all (trigger_suits context.now.schema.tables) triggers.now ≡ true }
     requires parts { AreParts context.now.schema.tables transitions.now }
-    ensures answer { AnswersAt (λ _. progress (K.view store.new).base budget.new)
-        (K.view store.new).base.count result
+    ensures answer { Progresses result (K.view store.new).base budget.new
         (firings_run (nested_level deeper context.now)
         (all_firings statement.now columns.now transitions.now triggers.now)
         (progress (K.view store.old).base budget.old)) }
     ensures store { LeavesStore context.now.schema result
         (K.view store.old) (K.lookups store.old) (K.view store.new) (K.lookups store.new) }
-    ensures told { UnlessMemory result (account.new ≡ and_told account.old
+    ensures told { Records result account.old account.new
         (firings_told (nested_level deeper context.now) (nested_told deeper context.now)
         (all_firings statement.now columns.now transitions.now triggers.now)
-        (progress (K.view store.old).base budget.old))) }
+        (progress (K.view store.old).base budget.old)) }
 {
     let mut at = 0usize;
     while at < triggers.len() {
         let trigger = trigger_at(&*context, triggers, at);
         fire_trigger(
             store,
-            &*context,
+            context,
             statement,
             trigger,
             columns,
-            &*transitions,
+            transitions,
             deeper,
             budget,
             account,
@@ -405,25 +396,24 @@ fn finish<K: ChangeableRows>(
     requires parts { MayBeParts context.now.schema.tables told.now }
     ensures answer { (columns : List Column) (net : Changes)
         → Tells context.now statement.now columns net told.now
-        → AnswersAt (λ _. progress (K.view store.new).base budget.new)
-        (K.view store.new).base.count result
+        → Progresses result (K.view store.new).base budget.new
         (finished (nested_level deeper context.now) context.now statement.now columns net
         (progress (K.view store.old).base budget.old)) }
     ensures store { LeavesStore context.now.schema result
         (K.view store.old) (K.lookups store.old) (K.view store.new) (K.lookups store.new) }
     ensures told { (columns : List Column) (net : Changes)
         → Tells context.now statement.now columns net told.now
-        → UnlessMemory result (account.new ≡ and_told account.old
+        → Records result account.old account.new
         (finished_told (nested_level deeper context.now) (nested_told deeper context.now)
         context.now statement.now columns net
-        (progress (K.view store.old).base budget.old))) }
+        (progress (K.view store.old).base budget.old)) }
 {
-    check(&*store, &*context, account)?;
+    check(store, context, account)?;
     match told {
         None => Ok(()),
         Some(changes) => fire_all(
             store,
-            &*context,
+            context,
             statement,
             context.catalogue().triggers(),
             &changes.columns,
@@ -449,21 +439,19 @@ fn run_waves<K: ChangeableRows>(
     requires store { StoreFits context.now.schema (K.view store.old) }
     requires fit { changes_fit context.now.schema.tables changes.items ≡ true }
     requires proposed { Proposes context.now (K.view store.old).base changes.items }
-    ensures answer { AnswersAt
-        (λ size. record { database = (K.view store.new).base; rest = budget.new; size = size })
-        (K.view store.new).base.count result
+    ensures answer { Finishes result (K.view store.new).base budget.new
         (waves_and_after (nested_level deeper context.now) context.now statement.now
         (K.view store.old).base budget.old (wave_with (set_columns statement.now) changes.items)) }
     ensures store { LeavesStore context.now.schema result
         (K.view store.old) (K.lookups store.old) (K.view store.new) (K.lookups store.new) }
-    ensures told { UnlessMemory result (account.new ≡ and_told account.old
+    ensures told { Records result account.old account.new
         (waves_and_after_told (nested_level deeper context.now) (nested_told deeper context.now)
         context.now statement.now (K.view store.old).base budget.old
-        (wave_with (set_columns statement.now) changes.items))) }
+        (wave_with (set_columns statement.now) changes.items)) }
 {
     let size = changes.len() as u64;
-    let told = settle_waves(store, &*context, statement, budget, changes, account)?;
-    finish(store, &*context, statement, &told, deeper, budget, account)?;
+    let told = settle_waves(store, context, statement, budget, changes, account)?;
+    finish(store, context, statement, &told, deeper, budget, account)?;
     Ok(size)
 }
 
@@ -480,24 +468,20 @@ fn run_level<K: ChangeableRows>(
 ) -> Result<u64, Refusal>
     requires store { StoreFits context.now.schema (K.view store.old) }
     requires statement { StatementFits context.now.schema.tables frame.now statement.now }
-    ensures answer { AnswersAt
-        (λ size. record { database = (K.view store.new).base; rest = budget.new; size = size })
-        (K.view store.new).base.count result
+    ensures answer { Finishes result (K.view store.new).base budget.new
         (level deeper context.now statement.now frame.now (K.view store.old).base budget.old) }
     ensures store { LeavesStore context.now.schema result
         (K.view store.old) (K.lookups store.old) (K.view store.new) (K.lookups store.new) }
-    ensures told { UnlessMemory result (account.new ≡ and_told account.old
+    ensures told { Records result account.old account.new
         (level_told (nested_level deeper context.now) (nested_told deeper context.now)
-        context.now statement.now frame.now (K.view store.old).base budget.old)) }
+        context.now statement.now frame.now (K.view store.old).base budget.old) }
 {
     if *budget == 0 {
         return Err(Refusal::of(Cause::TooManyChanges));
     }
     *budget -= 1;
-    let changes = allowed(&*store, &*context, statement, &*frame, account)?;
-    run_waves(
-        store, &*context, statement, changes, deeper, budget, account,
-    )
+    let changes = allowed(store, context, statement, frame, account)?;
+    run_waves(store, context, statement, changes, deeper, budget, account)
 }
 
 /// Runs INSERT, UPDATE or DELETE of a script, with all that follows from it, and answers how many rows it changed
@@ -524,10 +508,10 @@ pub fn change<K: ChangeableRows>(
     ensures looked_up { UnlessMemory result (LooksUp
         (K.view store.old) (K.lookups store.old) (K.view store.new) (K.lookups store.new)) }
     ensures store { OnOk result (StoreFits catalogue.now (K.view store.new)) }
-    ensures told { UnlessMemory result (account.new ≡ and_told account.old
+    ensures told { Records result account.old account.new
         (account_of (limits.depth - 1)
         (record { schema = catalogue.now; modes = modes.now.modes }) statement.now no_frame
-        (K.view store.old).base limits.changes)) }
+        (K.view store.old).base limits.changes) }
 {
     let context = Context::new(catalogue, modes);
     let frame = Frame::none();

@@ -7,11 +7,11 @@ ghost use Rattle.iv_machine.specs.Levels.{immediate_check, level_columns};
 ghost use Rattle.iv_machine.specs.Proposals.{holds, set_columns};
 ghost use Rattle.iv_machine.specs.Waves.{net_wave};
 ghost use Rattle.iv_laws_rows.specs.RowFits.{StatementFits, changes_fit};
-ghost use Rattle.iv_laws_rows.specs.Changing.{AnswersAt, StoreFits, UnlessMemory};
+ghost use Rattle.iv_laws_rows.specs.Changing.{AnswersAt, StoreFits};
+ghost use Rattle.iv_exec_before.specs.Recording.{Records};
 ghost use Rattle.iv_exec_waves.specs.Applying.{Proposes};
 ghost use Rattle.iv_exec_waves.specs.Running.{LeavesStore};
 ghost use Rattle.iv_account.specs.Accounts.{check_told, waves_told};
-ghost use Rattle.iv_account.specs.Telling.{and_told};
 ghost use Rattle.iv_exec_level.specs.Firing.{MayBeParts};
 ghost use Rattle.iv_exec_waves.specs.Steps.{wave_with};
 ghost use Rattle.iv_exec_level.specs.Settled.{Settles, Tells};
@@ -46,8 +46,8 @@ pub fn allowed<'x, K: ChangeableRows>(
         ≡ true) }
     ensures proposed { IfOk result
         (λ changes. Proposes context.now (K.view store.now).base changes.items) }
-    ensures told { UnlessMemory result (account.new ≡ and_told account.old
-        (allowed_told context.now statement.now frame.now (K.view store.now).base)) }
+    ensures told { Records result account.old account.new
+        (allowed_told context.now statement.now frame.now (K.view store.now).base) }
 {
     let changes = proposed(store, context, frame, statement)?;
     match before_statement(context, store, statement, account) {
@@ -68,8 +68,8 @@ pub fn check<K: ChangeableRows>(
     requires { (K.view store.now).constraints ≡ context.now.schema.constraints }
     ensures answer { AnswersAt (λ _. tt) (K.view store.now).base.count result
         (immediate_check context.now (K.view store.now).base) }
-    ensures told { UnlessMemory result (account.new ≡ and_told account.old
-        (check_told context.now (K.view store.now).base)) }
+    ensures told { Records result account.old account.new
+        (check_told context.now (K.view store.now).base) }
 {
     match store.first_fault(context.modes(), Which::Immediate) {
         Some(fault) => {
@@ -130,9 +130,9 @@ pub fn settle_waves<K: ChangeableRows>(
     ensures parts { IfOk result (λ told. MayBeParts context.now.schema.tables told) }
     ensures store { LeavesStore context.now.schema result
         (K.view store.old) (K.lookups store.old) (K.view store.new) (K.lookups store.new) }
-    ensures told { UnlessMemory result (account.new ≡ and_told account.old
+    ensures told { Records result account.old account.new
         (waves_told context.now (K.view store.old).base budget.old
-        (wave_with (set_columns statement.now) changes.items))) }
+        (wave_with (set_columns statement.now) changes.items)) }
 {
     let columns = set_columns(store.allocator(), statement)?;
     let waves = settle(store, context, budget, changes, columns, account)?;

@@ -7,7 +7,8 @@ ghost use Rattle.iv_expr.specs.Evaluation.{and_then};
 ghost use Rattle.iv_machine.specs.Databases.{row_at};
 ghost use Rattle.iv_machine.specs.Proposals.{holds, matching_rows};
 ghost use Rattle.iv_exec_context.specs.Answering.{AnswersCause};
-ghost use Rattle.iv_exec_proposals.specs.Steps.{added_of_numbers, added_of_row, number_taken, numbers_taken, row_counted, row_taken, rows_counted, side_taken, sides_taken};
+ghost use Rattle.iv_exec_proposals.specs.Steps.{added_of_numbers, added_of_row, number_taken, numbers_taken, row_counted, row_taken};
+ghost use Rattle.iv_exec_proposals.specs.Steps.{rows_counted, side_taken, sides_taken};
 
 use iv_catalogue::Cause;
 use iv_exec_context::holds;
@@ -20,8 +21,8 @@ use std::alloc::Global;
 fn holds_at<R: Rows>(filter: &Cond, row: &[Value], scope: &Scope<'_, R>) -> Result<bool, Cause>
     ensures { result ≡ holds (within scope.now row.now) filter.now }
 {
-    let ranges = (&*scope).ranges_with(&*row);
-    holds(&*filter, &(&*scope).over(&ranges))
+    let ranges = scope.ranges_with(row);
+    holds(filter, &scope.over(&ranges))
 }
 
 // Adds one item.
@@ -64,11 +65,11 @@ pub fn numbers_where<R: Rows>(
 {
     let mut found = Vec::new(alloc);
     let mut after = 0;
-    let search = (&*scope).search(table, filter);
+    let search = scope.search(table, filter);
     search.known();
     while let Some((number, row)) = search.next(after) {
         after = number;
-        take_number(&*scope, filter, number, row, &mut found)?;
+        take_number(scope, filter, number, row, &mut found)?;
     }
     Ok(found)
 }
@@ -103,11 +104,11 @@ pub fn count_where<R: Rows>(
 {
     let mut found = 0;
     let mut after = 0;
-    let search = (&*scope).search(table, filter);
+    let search = scope.search(table, filter);
     search.known();
     while let Some((number, row)) = search.next(after) {
         after = number;
-        found = count_row(&*scope, filter, row, found)?;
+        found = count_row(scope, filter, row, found)?;
     }
     Ok(Value::Int(found as i64))
 }
@@ -150,7 +151,7 @@ pub fn rows_where<K: ChangeableRows>(
         (and_then (matching_rows scope.now filter.now (table_rows scope.now.rows table))
         (λ found. Ok (contents found))) }
 {
-    (&*scope).known();
+    scope.known();
     let numbers = numbers_where(store.allocator(), scope, table, filter)?;
     rows_numbered(store, numbers.as_slice())
 }
@@ -210,7 +211,7 @@ pub fn sides_where<R: Rows>(
 {
     let mut found = Vec::new(alloc);
     for change in changes {
-        take_side(&*scope, filter, side, change, &mut found)?;
+        take_side(scope, filter, side, change, &mut found)?;
     }
     Ok(found)
 }

@@ -107,14 +107,14 @@ fn row_of_outputs<R: Rows>(
     match outputs {
         Outputs::Star => row_of_copies(alloc, context, table, listed, row.values()),
         Outputs::Values(expressions) => {
-            let ranges = (&*scope).ranges_with(row.values());
+            let ranges = scope.ranges_with(row.values());
             row_of_expressions(
                 alloc,
                 context,
                 table,
                 listed,
                 expressions.as_slice(),
-                &(&*scope).over(&ranges),
+                &scope.over(&ranges),
             )
         }
     }

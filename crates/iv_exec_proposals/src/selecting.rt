@@ -56,8 +56,8 @@ fn output_row<R: Rows>(
     ensures { AnswersCause (λ r. r) result
         (output_at scope.now expressions.now row.now) }
 {
-    let ranges = (&*scope).ranges_with(row.values());
-    let values = outputs_at(alloc, &(&*scope).over(&ranges), expressions)?;
+    let ranges = scope.ranges_with(row.values());
+    let values = outputs_at(alloc, &scope.over(&ranges), expressions)?;
     row_of(values)
 }
 

@@ -15,7 +15,7 @@ use Rattle.iv_machine.specs.Context.{Context, Failure, fails, unless_first}
 use Rattle.iv_machine.specs.ReferentialActions.{conflicts, following_wave, lost_keys, next_wave, restricted_rows}
 use Rattle.iv_machine.specs.Waves.{AppliedWave}
 use Rattle.iv_laws_levels.proofs.NumberedRows.{parts_of}
-use Rattle.iv_laws_actions.specs.RowByRow.{LedTo}
+use Rattle.iv_laws_kept.specs.FollowingWaves.{LedTo}
 use Rattle.iv_exec_actions.specs.Answers.{AnswersWave, uncounted}
 use Rattle.iv_exec_context.proofs.Answers.{unless_memory}
 use Rattle.iv_exec_waves.specs.Applying.{Applicable}

@@ -2,8 +2,8 @@
 ghost use Rattle.std.specs.Prelude.{◌≡◌, length};
 ghost use Rattle.iv_machine.specs.Waves.{wave_as_applied};
 ghost use Rattle.iv_account.specs.Accounts.{entered_told};
-ghost use Rattle.iv_account.specs.Telling.{and_told};
-ghost use Rattle.iv_laws_rows.specs.Changing.{AnswersAt, UnlessMemory};
+ghost use Rattle.iv_laws_rows.specs.Changing.{AnswersAt};
+ghost use Rattle.iv_exec_before.specs.Recording.{Records};
 ghost use Rattle.iv_exec_waves.specs.Progress.{Progress};
 ghost use Rattle.iv_exec_waves.specs.Steps.{wave_with};
 
@@ -31,9 +31,9 @@ fn prepare<K: ChangeableRows>(
         (K.view store.now).base.count result
         (wave_as_applied context.now (K.view store.now).base budget
         (wave_with columns.now changes.entry.now)) }
-    ensures told { UnlessMemory result (account.new ≡ and_told account.old
+    ensures told { Records result account.old account.new
         (entered_told context.now (K.view store.now).base budget
-        (wave_with columns.now changes.entry.now))) }
+        (wave_with columns.now changes.entry.now)) }
 {
     let size = changes.len() as u64;
     if budget < size {
@@ -62,9 +62,9 @@ pub fn enter<K: ChangeableRows>(
     ensures answer { AnswersAt (λ wave. wave) (K.view store.now).base.count result
         (wave_as_applied context.now (K.view store.now).base budget
         (wave_with columns.items changes.items)) }
-    ensures told { UnlessMemory result (account.new ≡ and_told account.old
+    ensures told { Records result account.old account.new
         (entered_told context.now (K.view store.now).base budget
-        (wave_with columns.items changes.items))) }
+        (wave_with columns.items changes.items)) }
 {
     let mut changes = changes;
     prepare(

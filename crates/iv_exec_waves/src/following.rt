@@ -8,8 +8,8 @@ ghost use Rattle.iv_store.specs.Lookups.{foreign_keys};
 ghost use Rattle.iv_account.specs.declared.entry.Entry.TheVariants as entry;
 ghost use Rattle.iv_account.specs.Accounts.{acted_told, action_fault_told, following_told, if_some};
 ghost use Rattle.iv_account.specs.Telling.{and_told};
-ghost use Rattle.iv_laws_rows.specs.Changing.{UnlessMemory};
-ghost use Rattle.iv_laws_actions.specs.RowByRow.{LedTo};
+ghost use Rattle.iv_exec_before.specs.Recording.{Records};
+ghost use Rattle.iv_laws_kept.specs.FollowingWaves.{LedTo};
 ghost use Rattle.iv_exec_actions.specs.Answers.{AnswersWave};
 
 use iv_account::Account;
@@ -99,16 +99,16 @@ pub fn next_wave_told<K: ReferencingRows>(
         → context.schema ≡ catalogue.now
         → (K.view store.old).constraints ≡ catalogue.now.constraints
         → LedTo before wave.now.changes (K.view store.old).base
-        → UnlessMemory result (account.new ≡ and_told account.old
-        (following_told context before (K.view store.old).base)) }
+        → Records result account.old account.new
+        (following_told context before (K.view store.old).base) }
 {
     match next_wave(store, catalogue, wave) {
         Ok(next) => {
-            tell_actions(&*store, catalogue, wave, &next, account)?;
+            tell_actions(store, catalogue, wave, &next, account)?;
             Ok(next)
         }
         Err(refusal) => {
-            tell_refusal(&*store, wave, &refusal.cause, account)?;
+            tell_refusal(store, wave, &refusal.cause, account)?;
             Err(refusal)
         }
     }

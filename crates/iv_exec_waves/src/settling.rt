@@ -4,9 +4,9 @@ ghost use Rattle.iv_laws_levels.specs.FittingWaves.{Chain};
 ghost use Rattle.iv_machine.specs.Databases.{database_after};
 ghost use Rattle.iv_machine.specs.Waves.{one_wave, settled_waves};
 ghost use Rattle.iv_account.specs.Accounts.{applied_told, one_wave_told, waves_told};
-ghost use Rattle.iv_account.specs.Telling.{and_told};
 ghost use Rattle.iv_laws_rows.specs.RowFits.{changes_fit};
-ghost use Rattle.iv_laws_rows.specs.Changing.{AnswersAt, StoreFits, UnlessMemory};
+ghost use Rattle.iv_laws_rows.specs.Changing.{AnswersAt, StoreFits};
+ghost use Rattle.iv_exec_before.specs.Recording.{Records};
 ghost use Rattle.iv_exec_waves.specs.Applying.{Applicable, Proposes};
 ghost use Rattle.iv_exec_waves.specs.Progress.{Progress};
 ghost use Rattle.iv_exec_waves.specs.Running.{LeavesStore};
@@ -46,8 +46,8 @@ fn follow<K: ChangeableRows>(
         ≡ database_after (K.view store.old).base x.wave) }
     ensures store { LeavesStore context.now.schema result
         (K.view store.old) (K.lookups store.old) (K.view store.new) (K.lookups store.new) }
-    ensures told { UnlessMemory result (account.new ≡ and_told account.old
-        (applied_told context.now (K.view store.old).base wave)) }
+    ensures told { Records result account.old account.new
+        (applied_told context.now (K.view store.old).base wave) }
 {
     apply_all(store, wave.changes())?;
     account.changed(wave.changes())?;
@@ -73,11 +73,11 @@ fn one_wave<K: ChangeableRows>(
         ≡ database_after (K.view store.old).base x.wave) }
     ensures store { LeavesStore context.now.schema result
         (K.view store.old) (K.lookups store.old) (K.view store.new) (K.lookups store.new) }
-    ensures told { UnlessMemory result (account.new ≡ and_told account.old
+    ensures told { Records result account.old account.new
         (one_wave_told context.now (K.view store.old).base budget
-        (wave_with columns.items changes.items))) }
+        (wave_with columns.items changes.items)) }
 {
-    let wave = enter(&*store, context, budget, changes, columns, account)?;
+    let wave = enter(store, context, budget, changes, columns, account)?;
     follow(store, context, wave, account)
 }
 
@@ -115,9 +115,9 @@ pub fn settle<K: ChangeableRows>(
         (λ waves. Chain (K.view store.old).base waves.items (K.view store.new).base) }
     ensures store { LeavesStore context.now.schema result
         (K.view store.old) (K.lookups store.old) (K.view store.new) (K.lookups store.new) }
-    ensures told { UnlessMemory result (account.new ≡ and_told account.old
+    ensures told { Records result account.old account.new
         (waves_told context.now (K.view store.old).base budget.old
-        (wave_with columns.items changes.items))) }
+        (wave_with columns.items changes.items)) }
 {
     // Called for what its contract says: the rows are numbered in rising order.
     store.next_row();

@@ -46,7 +46,8 @@ pub fn nulls(alloc: Global, count: usize) -> Result<Vec<Value>, AllocError>
 
 // Asks for this value in a column, if nothing is asked for there yet.
 fn set(asked: &mut Vec<Value>, column: u32, value: Value)
-    ensures asks { (row : List Cell) → AreTexts row → IsText value → IsEqualAt row column value → has_all asked.old.items row ≡ true → has_all asked.new.items row ≡ true }
+    ensures asks { (row : List Cell) → AreTexts row → IsText value → IsEqualAt row column value
+        → has_all asked.old.items row ≡ true → has_all asked.new.items row ≡ true }
 {
     let place = column as usize;
     if place < asked.len() {
@@ -61,10 +62,12 @@ fn ask_value<R: Rows>(
     inside: &Scope<'_, R>,
     asked: &mut Vec<Value>,
 ) -> Result<bool, AllocError>
-    ensures asks { IfOk result (λ may. (v : Cell) → value inside.now expr.now ≡ Ok v → (row : List Cell) → AreTexts row → IsEqualAt row column v → has_all asked.old.items row ≡ true → has_all asked.new.items row ≡ true) }
+    ensures asks { IfOk result (λ may. (v : Cell) → value inside.now expr.now ≡ Ok v
+        → (row : List Cell) → AreTexts row → IsEqualAt row column v
+        → has_all asked.old.items row ≡ true → has_all asked.new.items row ≡ true) }
     ensures never { IfOk result (λ may. may ≡ false → value inside.now expr.now ≡ Ok Null) }
 {
-    match value_in(expr, &*inside) {
+    match value_in(expr, inside) {
         Ok(ValueRef::Null) => Ok(false),
         Ok(value) => {
             known_value(value);
@@ -104,17 +107,20 @@ fn ask_equal<R: Rows>(
     inside: &Scope<'_, R>,
     asked: &mut Vec<Value>,
 ) -> Result<bool, AllocError>
-    ensures asks { IfOk result (λ may. may ≡ true → AsksMore (λ row. both (comparison_of comparison) (value (at_other inside.now row) left.now) (value (at_other inside.now row) right.now)) asked.old.items asked.new.items) }
-    ensures never { IfOk result (λ may. may ≡ false → IsNeverTrue (λ row. both (comparison_of comparison) (value (at_other inside.now row) left.now) (value (at_other inside.now row) right.now))) }
+    ensures asks { IfOk result (λ may. may ≡ true → AsksMore (λ row. both (comparison_of comparison)
+        (value (at_other inside.now row) left.now) (value (at_other inside.now row) right.now))
+        asked.old.items asked.new.items) }
+    ensures never { IfOk result (λ may. may ≡ false → IsNeverTrue (λ row. both (comparison_of comparison)
+        (value (at_other inside.now row) left.now) (value (at_other inside.now row) right.now))) }
 {
     if !is_equal(comparison) {
         return Ok(true);
     }
     if let Some(column) = column_asked(left, right) {
-        return ask_value(column, right, &*inside, asked);
+        return ask_value(column, right, inside, asked);
     }
     if let Some(column) = column_asked(right, left) {
-        return ask_value(column, left, &*inside, asked);
+        return ask_value(column, left, inside, asked);
     }
     Ok(true)
 }
@@ -131,13 +137,13 @@ pub fn ask<R: Rows>(
 {
     match cond {
         Cond::Compare(comparison, left, right) => {
-            ask_equal(*comparison, left, right, &*inside, asked)
+            ask_equal(*comparison, left, right, inside, asked)
         }
         Cond::And(left, right) => {
-            if !ask(left.get(), &*inside, asked)? {
+            if !ask(left.get(), inside, asked)? {
                 return Ok(false);
             }
-            ask(right.get(), &*inside, asked)
+            ask(right.get(), inside, asked)
         }
         _ => Ok(true),
     }

@@ -38,18 +38,15 @@ fn truth_in<R: Rows>(cond: &Cond, scope: &Scope<'_, R>) -> Result<Truth, ExprFau
             )
         }
         Cond::IsNull(operand) => is_null_of(value_in(operand, &*scope)),
-        Cond::Not(operand) => not_of(truth_in(operand.get(), &*scope)),
+        Cond::Not(operand) => not_of(truth_in(operand.get(), scope)),
         Cond::And(left, right) => and_both(
-            truth_in(left.get(), &*scope),
-            truth_in(right.get(), &*scope),
+            truth_in(left.get(), scope),
+            truth_in(right.get(), scope),
         ),
-        Cond::Or(left, right) => or_both(
-            truth_in(left.get(), &*scope),
-            truth_in(right.get(), &*scope),
-        ),
+        Cond::Or(left, right) => or_both(truth_in(left.get(), scope), truth_in(right.get(), scope)),
         Cond::Exists(range, operand) => match range {
-            Range::Table(table) => exists_in_table(*table, operand.get(), &*scope),
-            Range::Transition(side) => exists_in_transition(*side, operand.get(), &*scope),
+            Range::Table(table) => exists_in_table(*table, operand.get(), scope),
+            Range::Transition(side) => exists_in_transition(*side, operand.get(), scope),
         },
     }
 }
@@ -150,6 +147,6 @@ pub fn truth_at_row<R: Rows>(
 ) -> Result<Truth, ExprFault>
     ensures { result ≡ truth_at (within scope.now row.now) cond.now }
 {
-    let ranges = (&*scope).ranges_with(&*row);
-    truth(&*cond, &(&*scope).over(&ranges))
+    let ranges = scope.ranges_with(row);
+    truth(cond, &scope.over(&ranges))
 }

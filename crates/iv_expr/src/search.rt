@@ -86,8 +86,8 @@ fn holders_for<'a, R: Rows>(
     rows.known();
     let known = rows.known_kinds(table)?;
     let any: &[Value] = &[];
-    let ranges = (&*scope).ranges_with(any);
-    let inside = (&*scope).over(&ranges);
+    let ranges = scope.ranges_with(any);
+    let inside = scope.over(&ranges);
     if !is_never_refused(cond, &RangeKinds::new(known.kinds, None), &inside) {
         return None;
     }
@@ -111,7 +111,7 @@ impl<'a, R: Rows> Scope<'a, R> {
     pub fn search(&self, table: TableId, cond: &Cond) -> Search<'_, R>
         ensures { LeavesOut (λ row. truth (within self.now row) cond.now) (table_rows self.now.rows table) result }
     {
-        let found = holders_for(self.rows, &*self, table, cond);
+        let found = holders_for(self.rows, self, table, cond);
         Search {
             rows: self.rows,
             table,

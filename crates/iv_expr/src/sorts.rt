@@ -1,7 +1,8 @@
 //! Which values an expression can have at the rows of a table, and whether a row can refuse a condition.
 ghost use Rattle.std.specs.Prelude.{◌≡◌, ◌&&◌, ◌∷◌, [], List, true, option_map, slice_get};
 ghost use Rattle.iv_value.specs.References.{value_of};
-ghost use Rattle.iv_expr.specs.Asking.{IsNeverRefused, is_fixed as fixed, is_outside as outside, meant, own_column as column_of_own, sort_in as sort_there, sort_of_column as sort_by_column};
+ghost use Rattle.iv_expr.specs.Asking.{IsNeverRefused, is_fixed as fixed, is_outside as outside, meant, own_column as column_of_own};
+ghost use Rattle.iv_expr.specs.Asking.{sort_in as sort_there, sort_of_column as sort_by_column};
 ghost use Rattle.iv_expr.specs.Scopes.{table_rows, within};
 ghost use Rattle.iv_expr.specs.Searches.{AllFit};
 ghost use Rattle.iv_value.specs.declared.value.Kind.{Kind as Column};
@@ -47,18 +48,9 @@ fn is_fixed(expr: &Expr, kinds: &RangeKinds<'_>) -> bool
         Expr::Literal(_) => true,
         Expr::Column(range, _) => kinds.at(*range).is_none(),
         Expr::Variable(_, _) => true,
-        Expr::Plus(left, right) => and(
-            is_fixed(left.get(), &*kinds),
-            is_fixed(right.get(), &*kinds),
-        ),
-        Expr::Minus(left, right) => and(
-            is_fixed(left.get(), &*kinds),
-            is_fixed(right.get(), &*kinds),
-        ),
-        Expr::Times(left, right) => and(
-            is_fixed(left.get(), &*kinds),
-            is_fixed(right.get(), &*kinds),
-        ),
+        Expr::Plus(left, right) => and(is_fixed(left.get(), kinds), is_fixed(right.get(), kinds)),
+        Expr::Minus(left, right) => and(is_fixed(left.get(), kinds), is_fixed(right.get(), kinds)),
+        Expr::Times(left, right) => and(is_fixed(left.get(), kinds), is_fixed(right.get(), kinds)),
     }
 }
 
@@ -117,7 +109,7 @@ fn sort_of<R: Rows>(expr: &Expr, kinds: &RangeKinds<'_>, inside: &Scope<'_, R>) 
     if !is_fixed(expr, kinds) {
         return sort_of_column(expr, kinds);
     }
-    match value_in(expr, &*inside) {
+    match value_in(expr, inside) {
         Ok(value) => Some(sort_of_value(value)),
         Err(_) => None,
     }
@@ -153,21 +145,19 @@ pub fn is_never_refused<R: Rows>(cond: &Cond, kinds: &RangeKinds<'_>, inside: &S
 {
     match cond {
         Cond::Always => true,
-        Cond::Compare(_, left, right) => compares(left, right, &*kinds, &*inside),
-        Cond::IsNull(operand) => sort_of(operand, &*kinds, &*inside).is_some(),
-        Cond::Not(operand) => is_never_refused(operand.get(), &*kinds, &*inside),
+        Cond::Compare(_, left, right) => compares(left, right, kinds, inside),
+        Cond::IsNull(operand) => sort_of(operand, kinds, inside).is_some(),
+        Cond::Not(operand) => is_never_refused(operand.get(), kinds, inside),
         Cond::And(left, right) => and(
-            is_never_refused(left.get(), &*kinds, &*inside),
-            is_never_refused(right.get(), &*kinds, &*inside),
+            is_never_refused(left.get(), kinds, inside),
+            is_never_refused(right.get(), kinds, inside),
         ),
         Cond::Or(left, right) => and(
-            is_never_refused(left.get(), &*kinds, &*inside),
-            is_never_refused(right.get(), &*kinds, &*inside),
+            is_never_refused(left.get(), kinds, inside),
+            is_never_refused(right.get(), kinds, inside),
         ),
         Cond::Exists(range, operand) => match range {
-            Range::Table(table) => {
-                never_refused_within(*table, operand.get(), &*kinds, &*inside)
-            }
+            Range::Table(table) => { never_refused_within(*table, operand.get(), kinds, inside) }
             Range::Transition(_) => false,
         },
     }

@@ -1,8 +1,10 @@
 //! Laws of answers, each as the contract of a function that does nothing.
-ghost use Rattle.iv_laws_answers.specs.Memory.{LevelsWantNoMemory, NestedLevelsWantNoMemory, ProposalsWantNoMemory, RowTriggersWantNoMemory, StatementTriggersWantNoMemory, TruthsWantNoMemory, ValuesWantNoMemory, WavesWantNoMemory};
+ghost use Rattle.iv_laws_answers.specs.Memory.{LevelsWantNoMemory, NestedLevelsWantNoMemory, ProposalsWantNoMemory, RowTriggersWantNoMemory};
+ghost use Rattle.iv_laws_answers.specs.Memory.{StatementTriggersWantNoMemory, TruthsWantNoMemory, ValuesWantNoMemory, WavesWantNoMemory};
 ghost use Rattle.iv_laws_answers.specs.Answers.{PlansWantNoMemory, ResolutionsWantNoMemory, RunsWantNoMemory, StepsWantNoMemory};
 ghost use Rattle.iv_laws_answers.specs.FittingStates.{ReachedStatesFit};
-ghost use Rattle.iv_laws_answers.specs.Shapes.{AddedChecksAreWellTyped, ChecksAreWellTyped, QueriesAreWellTyped, ReachedChecksAreWellTyped, ReachedQueriesAreWellTyped, SettledChecksAreWellTyped, WrongShapesAreOfResolution};
+ghost use Rattle.iv_laws_answers.specs.Shapes.{AddedChecksAreWellTyped, ChecksAreWellTyped, QueriesAreWellTyped, ReachedChecksAreWellTyped};
+ghost use Rattle.iv_laws_answers.specs.Shapes.{ReachedQueriesAreWellTyped, SettledChecksAreWellTyped, WrongShapesAreOfResolution};
 
 /// No expression and no condition has the fault of a failed allocation, in any scope.
 pub fn evaluation_wants_no_memory()

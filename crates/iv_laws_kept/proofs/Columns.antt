@@ -1,5 +1,6 @@
 -- Keys in the order of other columns.
 use Rattle.std.proofs.Common.{◌≡◌, refl, ℕ, Bool, true, false, ◌&&◌, ◌||◌, not, if◌then◌else◌, List, [], ◌∷◌, map, sym, ap, ◌∙◌}
+use Rattle.std.proofs.Math.Bool.{or-true}
 use Rattle.std.specs.Bool.{◌==◌}
 use Rattle.std.specs.List.{list_any}
 use Rattle.std.proofs.lemmas.Bool.{eqb-true, eq-eqb}
@@ -55,12 +56,8 @@ pub all_among_more : (c : ℕ) (some columns : List ℕ) → all_among some colu
 all_among_more c [] columns e = refl
 all_among_more c (d ∷ some) columns e =
     (λ i. ((d == c) || and_first (among d columns) (all_among some columns) e i) && all_among some (c ∷ columns))
-    ∙ (λ i. true_right (d == c) i && all_among some (c ∷ columns))
+    ∙ (λ i. or-true (d == c) i && all_among some (c ∷ columns))
     ∙ all_among_more c some columns (and_second (among d columns) (all_among some columns) e)
-  where
-    true_right : (b : Bool) → (b || true) ≡ true
-    true_right true = refl
-    true_right false = refl
 
 pub all_among_itself : (columns : List ℕ) → all_among columns columns ≡ true
 all_among_itself [] = refl

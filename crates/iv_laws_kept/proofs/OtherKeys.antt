@@ -1,7 +1,7 @@
 -- Keys that a change doesn't concern.
 use Rattle.std.proofs.Common.{◌≡◌, refl, ℕ, Bool, true, false, ◌&&◌, ◌||◌, not, List, length, slice_get, Option, Some, None, sym, ap, ◌∙◌}
 use Rattle.std.specs.Bool.{◌==◌, nat_lt}
-use Rattle.std.proofs.lemmas.Bool.{true≢false, or_parts}
+use Rattle.std.proofs.lemmas.Bool.{true≢false, or_parts, not-false}
 use Rattle.iv_laws_kept.specs.Types.{Value, StoredRow, Change, Constraint, Rule, ForeignKey}
 use Rattle.iv_laws_kept.specs.Types.rule
 use Rattle.iv_key.specs.Keys.{none_null}
@@ -58,9 +58,6 @@ still_referenced constraints change groups after fk key named follow given old n
     by_can false e = (λ i. e i && not (is_empty (rows_under after named.key.id other))) ∙ (λ i. sym e i && not (is_empty (rows_under groups named.key.id other)))
 
 -- a key under which no row of a foreign key violates it by itself
-without_null : (b : Bool) → not b ≡ false → b ≡ true
-without_null true e = refl
-without_null false e = absurd (true≢false e)
 
 -- Rows that are as empty and as many as before, under a key that neither side is what it refers to.
 pub status_stays : (constraints : List Constraint) (change : Change) (groups after : Groups) (id : ℕ) (c : Constraint) (key : List Value) (numbers later : List ℕ)
@@ -86,7 +83,7 @@ status_stays constraints change groups after id c key numbers later all follow a
     by_rule (rule.ForeignKey fk) is e =
         let parts = or_parts (referenced_side fk key change change.old) (referenced_side fk key change change.new) e in
         joined (rule.ForeignKey fk) (λ alone. ap (λ b. not (is_free fk.matching key || b))
-        (still_referenced constraints change groups after fk key (named_of constraints id c fk all at is) follow (without_null (none_null key) alone) parts.0 parts.1))
+        (still_referenced constraints change groups after fk key (named_of constraints id c fk all at is) follow (not-false (none_null key) alone) parts.0 parts.1))
 
 pub other_keys_stay : (constraints : List Constraint) (change : Change) (groups after : Groups) (id : ℕ) (c : Constraint) (key : List Value)
     → AllNamed constraints → Follow constraints change groups after → slice_get constraints id ≡ Some c → concerns_key c key change ≡ false

@@ -1,10 +1,12 @@
-//! Laws of kept violations, each as the contract of a function that does nothing.
+//! Laws of what is found by keys and row numbers in place of scans: kept violations, and what follows a wave. Each is the
+//! contract of a function that does nothing.
 #![tactic(auto)]
 
 ghost use Rattle.iv_laws_kept.specs.Numbers.{SameNumbersAreOneList};
 ghost use Rattle.iv_laws_kept.specs.KeptIsScan.{KeptIsTheScan};
 ghost use Rattle.iv_laws_kept.specs.Moves.{ChangesAreFollowed, ChangesAreTakenBack};
 ghost use Rattle.iv_laws_kept.specs.GroupFlags.{FlaggedRowsAreKept, OtherKeysStay};
+ghost use Rattle.iv_laws_kept.specs.FollowingWaves.{WavesFollowRowByRow};
 
 /// Two rising lists with the same members are one.
 pub fn same_numbers_are_one_list()
@@ -34,4 +36,10 @@ pub fn other_keys_stay()
 /// The rows of the flagged groups are the kept rows.
 pub fn flagged_rows_are_kept()
     ensures { FlaggedRowsAreKept }
+{}
+
+/// What follows a wave depends only on the rows of the wave, on those that refer after it to a key which it removed,
+/// and on the foreign keys that act.
+pub fn waves_follow_row_by_row()
+    ensures { WavesFollowRowByRow }
 {}

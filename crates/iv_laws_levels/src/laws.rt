@@ -1,9 +1,11 @@
 //! Laws of the machine's definitions, each as the contract of a function that does nothing.
-ghost use Rattle.iv_laws_levels.specs.Budgets.{LevelsTakeFromTheBudget, NestedLevelsTakeFromTheBudget, WavesTakeWhatTheyChange, WavesCountTheirChanges, LevelsCountTheirChanges, NestedLevelsCountTheirChanges, RefusedLevelsKeepTheCount};
+ghost use Rattle.iv_laws_levels.specs.Budgets.{LevelsTakeFromTheBudget, NestedLevelsTakeFromTheBudget, WavesTakeWhatTheyChange, WavesCountTheirChanges};
+ghost use Rattle.iv_laws_levels.specs.Budgets.{LevelsCountTheirChanges, NestedLevelsCountTheirChanges, RefusedLevelsKeepTheCount};
 ghost use Rattle.iv_laws_levels.specs.Checks.{LevelsCheck, NestedLevelsCheck};
 ghost use Rattle.iv_laws_levels.specs.Closures.{TakenRowsAreGone, GoneRowsAreTaken, OtherRowsStay};
 ghost use Rattle.iv_laws_levels.specs.FittingWaves.{WavesAreAChain, LevelsKeepNumbers, NestedLevelsKeepNumbers, NoRowsAreNumbered};
-ghost use Rattle.iv_laws_levels.specs.Holders.{HoldersBeforeAWave, RowsBeforeAWave, KeysAreLostByTheWave, RestrictedRowsFollow, ConflictsFollow, NextWavesFollow, WavesFollowFromWaves};
+ghost use Rattle.iv_laws_levels.specs.Holders.{HoldersBeforeAWave, RowsBeforeAWave, KeysAreLostByTheWave, RestrictedRowsFollow};
+ghost use Rattle.iv_laws_levels.specs.Holders.{ConflictsFollow, NextWavesFollow, WavesFollowFromWaves};
 ghost use Rattle.iv_laws_levels.specs.Locality.{AChangeIsLocal, ViolationsElsewhereStay};
 ghost use Rattle.iv_laws_levels.specs.NetChanges.{RowsBeforeWaves, RowsAfterWaves, NetChangesFollowFromTheWaves};
 ghost use Rattle.iv_laws_levels.specs.Reached.{PlannedStatesAreSound};

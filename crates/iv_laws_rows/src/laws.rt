@@ -1,6 +1,9 @@
 //! Laws of rows, each as the contract of a function that does nothing.
-ghost use Rattle.iv_laws_rows.specs.Laws.{AppliedWavesFit, FiringsFit, FollowingWavesFit, LevelsKeepRowsFitting, NestedLevelsKeepRowsFitting, NetChangesFit, NumberedChangesFit, PlainStatementsFit, ProposalsFit, RowFiringsFit, RowsAfterFit, RowsFitMoreTables, SettledWavesFit, StatementFiringsFit, TriggeredChangesFit};
-ghost use Rattle.iv_laws_rows.specs.WellTyped.{LevelsAreWellTyped, NestedLevelsAreWellTyped, RowTriggersAreWellTyped, StatementTriggersAreWellTyped, WavesAreWellTyped};
+ghost use Rattle.iv_laws_rows.specs.Laws.{AppliedWavesFit, FiringsFit, FollowingWavesFit, LevelsKeepRowsFitting, NestedLevelsKeepRowsFitting, NetChangesFit};
+ghost use Rattle.iv_laws_rows.specs.Laws.{NumberedChangesFit, PlainStatementsFit, ProposalsFit, RowFiringsFit, RowsAfterFit, RowsFitMoreTables};
+ghost use Rattle.iv_laws_rows.specs.Laws.{SettledWavesFit, StatementFiringsFit, TriggeredChangesFit};
+ghost use Rattle.iv_laws_rows.specs.WellTyped.{LevelsAreWellTyped, NestedLevelsAreWellTyped, RowTriggersAreWellTyped};
+ghost use Rattle.iv_laws_rows.specs.WellTyped.{StatementTriggersAreWellTyped, WavesAreWellTyped};
 ghost use Rattle.iv_laws_rows.specs.Starting.{ChangesMayBeMade, NextWavesStart, ProposalsStart, StartedWavesFit};
 
 /// A plan that suits the tables fits outside of triggers; rows still fit if there are more tables.

@@ -1,13 +1,15 @@
 //! The plain program of the scan: whether a row satisfies a constraint, the first violation, how many there are, and
 //! all of them. It looks at whole lists: `satisfies` takes time in proportion to the rows, and a scan to the square of
 //! the rows of each table times the chosen constraints, but only to the rows for CHECK and NOT NULL.
-ghost use Rattle.std.specs.Prelude.{◌≡◌, ◌++◌, ◌≤◌, ◌+◌, ◌*◌, ◌-◌, ◌^◌, ◌&&◌, ◌||◌, ℕ, not, length, filter, map, min, option_map, find, if◌then◌else◌, [], IfOk, OnOk, OnErr, ◌==◌, slice_get};
+ghost use Rattle.std.specs.Prelude.{◌≡◌, ◌++◌, ◌≤◌, ◌+◌, ◌*◌, ◌-◌, ◌^◌, ◌&&◌, ◌||◌, ℕ, not, length, filter, map, min, option_map, find};
+ghost use Rattle.std.specs.Prelude.{if◌then◌else◌, [], IfOk, OnOk, OnErr, ◌==◌, slice_get};
 ghost use Rattle.std.specs.List.{list_any};
 ghost use Rattle.iv_value.specs.Truths.{is_false};
 ghost use Rattle.iv_value.specs.Values.{is_null};
 ghost use Rattle.iv_expr.specs.Scopes.{table_rows};
 ghost use Rattle.iv_key.specs.Keys.{value_at, key_of, none_null, all_null};
-ghost use Rattle.iv_machine.specs.Databases.{shares_key, is_unique, has_referenced, matches, obeys, satisfies, violates, fault_at, violations, chosen_violations, is_deferred, is_chosen, scan, first};
+ghost use Rattle.iv_machine.specs.Databases.{shares_key, is_unique, has_referenced, matches, obeys, satisfies, violates, fault_at, violations};
+ghost use Rattle.iv_machine.specs.Databases.{chosen_violations, is_deferred, is_chosen, scan, first};
 
 use crate::database::Which;
 use iv_catalogue::{

@@ -1,6 +1,7 @@
 //! The plain program of a wave: the database after its changes. It takes time in proportion to the square of
 //! the rows, and to the rows times the changes.
-ghost use Rattle.std.specs.Prelude.{◌≡◌, ◌≤◌, ◌+◌, ◌==◌, nat_lt, max, length, filter_map, option_map, unwrap_or, false, slice_get, if◌then◌else◌, IsTrue, MatchOption, IfOk, OnOk};
+ghost use Rattle.std.specs.Prelude.{◌≡◌, ◌≤◌, ◌+◌, ◌==◌, nat_lt, max, length, filter_map, option_map, unwrap_or, false, slice_get};
+ghost use Rattle.std.specs.Prelude.{if◌then◌else◌, IsTrue, MatchOption, IfOk, OnOk};
 ghost use Rattle.std.specs.List.{prefix_len};
 ghost use Rattle.iv_machine.specs.Bounds.{most_changes_in_a_transaction, last_row_number};
 ghost use Rattle.iv_machine.specs.Databases.{has_change, rows_with, in_order, new_row, rows_after, next_after, size, database_after};
@@ -15,12 +16,7 @@ use std::alloc::{AllocError, Global};
 fn has_change(changes: &[Change], number: u64) -> bool
     ensures { result ≡ has_change changes.now number }
 {
-    for change in changes {
-        if change.row == number {
-            return true;
-        }
-    }
-    false
+    changes.iter().any(|change| change.row == number)
 }
 
 // How many rows from the front on have numbers below this one.

@@ -1,9 +1,23 @@
 -- The worked statements compute.
 use Rattle.std.proofs.Common.{refl}
 use Rattle.iv_resolution.specs.Worked.{WorkedStatements}
+use Rattle.iv_resolution.specs.Scopes.{column_meant, source_named, is_source, source_columns, source_range, range_of}
+use Rattle.iv_resolution.specs.NameFaults.{unknown_in_condition, unknown_in_set, unknown_in_action}
+use Rattle.iv_resolution.specs.Terms.{clash, some_text, misshaped_condition, integer_of, bound_condition}
+use Rattle.iv_resolution.specs.Changes.{clashes_with, value_clashes, misshaped_value, tuple_clashes, misshaped_tuple, kinds_clash, values_clash}
+use Rattle.iv_resolution.specs.Changes.{columns_clash, list_clashes, misshaped_source, misshaped_assignment}
+use Rattle.iv_resolution.specs.Triggers.{subject_of, trigger_names, trigger_variables, variable_named, is_allowed_item, is_allowed_action, sets_old}
+use Rattle.iv_resolution.specs.Triggers.{misshaped_action}
+use Rattle.iv_resolution.specs.Bound.{table_id, default_at, bound_value, target_place, bound_tuple, bound_list, bound_source, bound_columns}
+use Rattle.iv_resolution.specs.Bound.{bound_assignment}
+use Rattle.iv_catalogue.specs.Names.{generated_name}
 
 pub statements : WorkedStatements
-unfolding Rattle.iv_resolution.specs.Scopes.column_meant Rattle.iv_resolution.specs.Scopes.source_named Rattle.iv_resolution.specs.Scopes.is_source Rattle.iv_resolution.specs.Scopes.source_columns Rattle.iv_resolution.specs.Scopes.source_range Rattle.iv_resolution.specs.Scopes.range_of Rattle.iv_resolution.specs.NameFaults.unknown_in_condition Rattle.iv_resolution.specs.Terms.clash Rattle.iv_resolution.specs.Terms.some_text Rattle.iv_resolution.specs.Terms.misshaped_condition Rattle.iv_resolution.specs.Terms.integer_of Rattle.iv_resolution.specs.Terms.bound_condition Rattle.iv_resolution.specs.Changes.clashes_with Rattle.iv_resolution.specs.Changes.value_clashes Rattle.iv_resolution.specs.Changes.misshaped_value Rattle.iv_resolution.specs.Changes.tuple_clashes Rattle.iv_resolution.specs.Changes.misshaped_tuple Rattle.iv_resolution.specs.Changes.kinds_clash Rattle.iv_resolution.specs.Changes.values_clash Rattle.iv_resolution.specs.Changes.columns_clash Rattle.iv_resolution.specs.Changes.list_clashes Rattle.iv_resolution.specs.Changes.misshaped_source Rattle.iv_resolution.specs.Changes.misshaped_assignment Rattle.iv_resolution.specs.Triggers.subject_of Rattle.iv_resolution.specs.Triggers.trigger_names Rattle.iv_resolution.specs.Triggers.trigger_variables Rattle.iv_resolution.specs.Triggers.variable_named Rattle.iv_resolution.specs.NameFaults.unknown_in_set Rattle.iv_resolution.specs.NameFaults.unknown_in_action Rattle.iv_resolution.specs.Triggers.is_allowed_item Rattle.iv_resolution.specs.Triggers.is_allowed_action Rattle.iv_resolution.specs.Triggers.sets_old Rattle.iv_resolution.specs.Triggers.misshaped_action Rattle.iv_resolution.specs.Bound.table_id Rattle.iv_resolution.specs.Bound.default_at Rattle.iv_resolution.specs.Bound.bound_value Rattle.iv_resolution.specs.Bound.target_place Rattle.iv_resolution.specs.Bound.bound_tuple Rattle.iv_resolution.specs.Bound.bound_list Rattle.iv_resolution.specs.Bound.bound_source Rattle.iv_resolution.specs.Bound.bound_columns Rattle.iv_resolution.specs.Bound.bound_assignment Rattle.iv_catalogue.specs.Names.generated_name
+unfolding column_meant source_named is_source source_columns source_range range_of unknown_in_condition clash some_text misshaped_condition
+    integer_of bound_condition clashes_with value_clashes misshaped_value tuple_clashes misshaped_tuple kinds_clash values_clash columns_clash
+    list_clashes misshaped_source misshaped_assignment subject_of trigger_names trigger_variables variable_named unknown_in_set unknown_in_action
+    is_allowed_item is_allowed_action sets_old misshaped_action table_id default_at bound_value target_place bound_tuple bound_list bound_source
+    bound_columns bound_assignment generated_name
 statements = record {
   unknown_target = refl;
   unknown_in_list = refl;

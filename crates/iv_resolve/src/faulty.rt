@@ -3,8 +3,8 @@ ghost use Rattle.std.specs.Prelude.{◌≡◌};
 ghost use Rattle.iv_resolution.specs.Resolution.{is_faulty};
 
 use iv_catalogue::Catalogue;
-use iv_resolve_table_causes::{faulty_addition, faulty_table};
-use iv_resolve_triggers::faulty_trigger;
+use iv_resolve_statements::faulty_trigger;
+use iv_resolve_tables::{faulty_addition, faulty_table};
 use iv_syntax::Statement;
 use std::alloc::Global;
 

@@ -5,7 +5,7 @@ ghost use Rattle.iv_resolution.specs.Triggers.{trigger_beyond_limits};
 
 use crate::is_writable;
 use iv_catalogue::{Catalogue, MOST_BODY_STATEMENTS, MOST_TRIGGERS, MOST_TRIGGERS_EVER};
-use iv_resolve_table_causes::{addition_beyond_limits, table_beyond_limits};
+use iv_resolve_tables::{addition_beyond_limits, table_beyond_limits};
 use iv_syntax::{Statement, TriggerDefinition};
 
 fn trigger_beyond_limits(trigger: &TriggerDefinition, catalogue: &Catalogue) -> bool

@@ -5,10 +5,11 @@ ghost use Rattle.iv_resolution.specs.Resolution.{is_misshaped};
 ghost use Rattle.iv_resolution.specs.Tables.{table_names};
 
 use iv_catalogue::Catalogue;
-use iv_resolve_changes::{misshaped_delete, misshaped_insert, misshaped_select, misshaped_update};
 use iv_resolve_scope::{Ranges, table_names};
-use iv_resolve_table_causes::{misshaped_addition, misshaped_table};
-use iv_resolve_triggers::misshaped_trigger;
+use iv_resolve_statements::{
+    misshaped_delete, misshaped_insert, misshaped_select, misshaped_trigger, misshaped_update,
+};
+use iv_resolve_tables::{misshaped_addition, misshaped_table};
 use iv_syntax::{Delete, Insert, Select, Statement, Update};
 use std::alloc::Global;
 

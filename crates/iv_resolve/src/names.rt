@@ -1,7 +1,8 @@
 //! Names.
 ghost use Rattle.std.specs.Prelude.{◌≡◌};
 ghost use Rattle.std.specs.List.{list_all};
-ghost use Rattle.iv_resolution.specs.Writable.{are_names, is_digit, is_name, is_name_byte, is_name_list, is_name_list_or_none, is_name_or_none, is_upper_case, starts_name};
+ghost use Rattle.iv_resolution.specs.Writable.{are_names, is_digit, is_name, is_name_byte, is_name_list, is_name_list_or_none};
+ghost use Rattle.iv_resolution.specs.Writable.{is_name_or_none, is_upper_case, starts_name};
 
 use iv_syntax::{LONGEST_NAME, Name};
 use sqlite_items::Items;

@@ -3,15 +3,17 @@ ghost use Rattle.std.specs.Prelude.{◌≡◌, [], IfOk, map};
 ghost use Rattle.iv_catalogue.specs.declared.plan.Plan.TheVariants as plan;
 ghost use Rattle.iv_catalogue.specs.declared.plan.SchemaPlan.TheVariants.{CreateTrigger};
 ghost use Rattle.iv_catalogue.specs.declared.plan.TransactionPlan.TheVariants.{SetConstraints};
-ghost use Rattle.iv_resolution.specs.Bound.{bound_constraints, bound_delete, bound_insert, bound_select, bound_trigger, bound_update, constraint_id, trigger_id};
+ghost use Rattle.iv_resolution.specs.Bound.{bound_constraints, bound_delete, bound_insert, bound_select, bound_trigger};
+ghost use Rattle.iv_resolution.specs.Bound.{bound_update, constraint_id, trigger_id};
 ghost use Rattle.iv_resolution.specs.Tables.{table_names};
 
 use iv_catalogue::{
     Catalogue, ConstraintId, ConstraintSet, Plan, SchemaPlan, TransactionPlan, TriggerId,
 };
-use iv_resolve_changes::{bound_delete, bound_insert, bound_select, bound_update};
 use iv_resolve_scope::{Ranges, table_names};
-use iv_resolve_triggers::bound_trigger;
+use iv_resolve_statements::{
+    bound_delete, bound_insert, bound_select, bound_trigger, bound_update,
+};
 use iv_syntax::{
     ConstraintList, ConstraintMode, Delete, Insert, Name, Select, TriggerDefinition, Update,
 };
@@ -28,7 +30,7 @@ pub fn plan_of_insert(
         ≡ plan.Change (bound_insert (table_names catalogue.now) [] insert.now)) }
 {
     let names = table_names(catalogue);
-    Ok(Plan::Change(bound_insert(insert, alloc, &names, &Ranges::Nothing)?))
+    Ok(Plan::Change(bound_insert(alloc, insert, &names, &Ranges::Nothing)?))
 }
 
 /// The plan of an UPDATE.
@@ -41,7 +43,7 @@ pub fn plan_of_update(
         ≡ plan.Change (bound_update (table_names catalogue.now) [] update.now)) }
 {
     let names = table_names(catalogue);
-    Ok(Plan::Change(bound_update(update, alloc, &names, &Ranges::Nothing)?))
+    Ok(Plan::Change(bound_update(alloc, update, &names, &Ranges::Nothing)?))
 }
 
 /// The plan of a DELETE.
@@ -54,7 +56,7 @@ pub fn plan_of_delete(
         ≡ plan.Change (bound_delete (table_names catalogue.now) [] delete.now)) }
 {
     let names = table_names(catalogue);
-    Ok(Plan::Change(bound_delete(delete, alloc, &names, &Ranges::Nothing)?))
+    Ok(Plan::Change(bound_delete(alloc, delete, &names, &Ranges::Nothing)?))
 }
 
 /// The plan of a SELECT.
@@ -67,7 +69,7 @@ pub fn plan_of_select(
         ≡ plan.Query (bound_select (table_names catalogue.now) select.now)) }
 {
     let names = table_names(catalogue);
-    Ok(Plan::Query(bound_select(select, alloc, &names, &Ranges::Nothing)?))
+    Ok(Plan::Query(bound_select(alloc, select, &names, &Ranges::Nothing)?))
 }
 
 /// The plan of a CREATE TRIGGER.
@@ -79,7 +81,7 @@ pub fn plan_of_trigger(
     ensures { IfOk result (λ p. p
         ≡ plan.Schema (CreateTrigger (bound_trigger catalogue.now trigger.now))) }
 {
-    let bound = bound_trigger(trigger, alloc, catalogue, catalogue.triggers_ever())?;
+    let bound = bound_trigger(alloc, trigger, catalogue, catalogue.triggers_ever())?;
     Ok(Plan::Schema(SchemaPlan::CreateTrigger(bound)))
 }
 

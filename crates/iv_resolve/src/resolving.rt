@@ -11,10 +11,10 @@ use crate::planning::{
     plan_of_update, trigger_id,
 };
 use iv_catalogue::{Catalogue, Cause, Plan, Refusal, SchemaPlan, TransactionPlan};
-use iv_resolve_changes::table_id;
 use iv_resolve_name_faults::{duplicate_name, unknown_name};
 use iv_resolve_scope::table_names;
-use iv_resolve_table_constraints::{bound_alteration, bound_table};
+use iv_resolve_statements::table_id;
+use iv_resolve_tables::{bound_alteration, bound_table};
 use iv_syntax::Statement;
 use std::alloc::{AllocError, Global};
 

@@ -1,7 +1,8 @@
 //! Statements.
 ghost use Rattle.std.specs.Prelude.{◌≡◌};
 ghost use Rattle.std.specs.List.{list_all};
-ghost use Rattle.iv_resolution.specs.Writable.{is_assignment, is_constraint_list, is_delete, is_expression, is_insert, is_list, is_select, is_insert_source, is_tuple, is_update, is_value, is_writable};
+ghost use Rattle.iv_resolution.specs.Writable.{is_assignment, is_constraint_list, is_delete, is_expression, is_insert, is_list, is_select};
+ghost use Rattle.iv_resolution.specs.Writable.{is_insert_source, is_tuple, is_update, is_value, is_writable};
 
 use crate::names::{is_name, is_name_list, is_name_list_or_none};
 use crate::tables::{is_addition, is_table_definition};

@@ -1,7 +1,8 @@
 //! CREATE TABLE and ALTER TABLE.
 ghost use Rattle.std.specs.Prelude.{◌≡◌, ◌&&◌, map};
 ghost use Rattle.std.specs.List.{list_all};
-ghost use Rattle.iv_resolution.specs.Constraints.{column_constraint, element_constraints, rule_of_column, rule_of_table, table_constraint, written_columns, written_constraints};
+ghost use Rattle.iv_resolution.specs.Constraints.{column_constraint, element_constraints, rule_of_column, rule_of_table, table_constraint};
+ghost use Rattle.iv_resolution.specs.Constraints.{written_columns, written_constraints};
 ghost use Rattle.iv_resolution.specs.Writable.{is_written_constraint, is_definition, is_literal, is_name, is_name_list_or_none, is_rule, is_table_definition};
 
 use crate::names::{is_name, is_name_list, is_name_list_or_none, is_name_or_none};

@@ -46,12 +46,7 @@ fn again_by_set<'t, T: Named>(alloc: Global, items: &'t [T]) -> Result<Option<&'
 fn is_named<T: Named>(items: &[T], name: &str) -> bool
     ensures { result ≡ is_among (map T.named items.now) name.now }
 {
-    for item in items {
-        if name == item.name() {
-            return true;
-        }
-    }
-    false
+    items.iter().any(|item| name == item.name())
 }
 
 fn again_in_place<'t, T: Named>(items: &'t [T]) -> Option<&'t str>

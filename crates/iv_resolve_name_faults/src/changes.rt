@@ -5,7 +5,9 @@ ghost use Rattle.iv_syntax.specs.declared.statement.SelectList.TheVariants.{Star
 ghost use Rattle.iv_resolution.specs.Scopes.{has_column};
 ghost use Rattle.iv_resolve_scope.specs.Seen.{columns_seen, names_seen, ranges_seen};
 ghost use Rattle.iv_resolution.specs.Items.{column_item, first_of, told_if};
-ghost use Rattle.iv_resolution.specs.NameFaults.{unknown_in_assignment, unknown_in_delete, unknown_in_expression, unknown_in_insert, unknown_in_listed, unknown_in_query, unknown_in_select, unknown_in_select_list, unknown_in_source, unknown_in_target, unknown_in_update, unknown_in_value};
+ghost use Rattle.iv_resolution.specs.NameFaults.{unknown_in_assignment, unknown_in_delete, unknown_in_expression, unknown_in_insert, unknown_in_listed};
+ghost use Rattle.iv_resolution.specs.NameFaults.{unknown_in_query, unknown_in_select, unknown_in_select_list, unknown_in_source, unknown_in_target};
+ghost use Rattle.iv_resolution.specs.NameFaults.{unknown_in_update, unknown_in_value};
 ghost use Rattle.iv_resolve_name_faults.specs.Seen.{item_seen};
 
 use crate::catalogued::is_table;
@@ -53,7 +55,7 @@ fn unknown_in_value<'t, 'a>(
         ≡ unknown_in_value (ranges_seen ranges.now) value.entry.now }
 {
     match value {
-        ValueOrDefault::Value(expression) => unknown_in_expression(expression, &*ranges),
+        ValueOrDefault::Value(expression) => unknown_in_expression(expression, ranges),
         ValueOrDefault::Default => None,
     }
 }
@@ -66,7 +68,7 @@ fn unknown_in_tuple<'t, 'a>(
         ≡ first_of (unknown_in_value (ranges_seen ranges.now)) tuple.entry.now }
 {
     for value in tuple {
-        if let Some(item) = unknown_in_value(value, &*ranges) {
+        if let Some(item) = unknown_in_value(value, ranges) {
             return Some(item);
         }
     }
@@ -81,7 +83,7 @@ fn unknown_in_tuples<'t, 'a>(
         (λ tuple. first_of (unknown_in_value (ranges_seen ranges.now)) tuple) tuples.entry.now }
 {
     for tuple in tuples {
-        if let Some(item) = unknown_in_tuple(tuple.as_slice(), &*ranges) {
+        if let Some(item) = unknown_in_tuple(tuple.as_slice(), ranges) {
             return Some(item);
         }
     }
@@ -96,7 +98,7 @@ fn unknown_in_values<'t, 'a>(
         ≡ first_of (unknown_in_expression (ranges_seen ranges.now)) values.entry.now }
 {
     for value in values {
-        if let Some(item) = unknown_in_expression(value, &*ranges) {
+        if let Some(item) = unknown_in_expression(value, ranges) {
             return Some(item);
         }
     }
@@ -112,7 +114,7 @@ fn unknown_in_select_list<'t, 'a>(
 {
     match list {
         SelectList::Star => None,
-        SelectList::Values(values) => unknown_in_values(values.as_slice(), &*ranges),
+        SelectList::Values(values) => unknown_in_values(values.as_slice(), ranges),
     }
 }
 
@@ -158,9 +160,9 @@ fn unknown_in_source<'t, 'a>(
         (ranges_seen ranges.now) source.entry.now }
 {
     match source {
-        InsertSource::Values(tuples) => unknown_in_tuples(tuples.as_slice(), &*ranges),
+        InsertSource::Values(tuples) => unknown_in_tuples(tuples.as_slice(), ranges),
         InsertSource::Select(list, range, filter) => {
-            unknown_in_query(list, range, filter, &*names, &*ranges)
+            unknown_in_query(list, range, filter, names, ranges)
         }
     }
 }
@@ -176,7 +178,7 @@ pub fn unknown_in_insert<'t, 'a>(
         (ranges_seen ranges.now) insert.entry.now }
 {
     match insert {
-        Insert::DefaultValues(table) => unknown_in_target(&*names, table.as_str()),
+        Insert::DefaultValues(table) => unknown_in_target(names, table.as_str()),
         Insert::Rows {
             table,
             columns,
@@ -184,8 +186,8 @@ pub fn unknown_in_insert<'t, 'a>(
         } => {
             let stored = Columns::Stored(stored_columns(names.tables, table.as_str()));
             let listed = unknown_in_listed(&stored, columns);
-            let after = first_item(listed, unknown_in_source(source, &*names, &*ranges));
-            first_item(unknown_in_target(&*names, table.as_str()), after)
+            let after = first_item(listed, unknown_in_source(source, names, ranges));
+            first_item(unknown_in_target(names, table.as_str()), after)
         }
     }
 }
@@ -211,7 +213,7 @@ fn unknown_in_assignment<'t, 'a>(
         (ranges_seen ranges.now) assignment.entry.now }
 {
     let column = unknown_in_set_clause(columns, assignment.column.as_str());
-    first_item(column, unknown_in_value(&assignment.value, &*ranges))
+    first_item(column, unknown_in_value(&assignment.value, ranges))
 }
 
 fn unknown_in_assignments<'t, 'a>(
@@ -224,7 +226,7 @@ fn unknown_in_assignments<'t, 'a>(
         assignments.entry.now }
 {
     for assignment in assignments {
-        if let Some(item) = unknown_in_assignment(assignment, &*columns, &*ranges) {
+        if let Some(item) = unknown_in_assignment(assignment, columns, ranges) {
             return Some(item);
         }
     }
@@ -275,9 +277,9 @@ pub fn unknown_in_select<'t, 'a>(
         (ranges_seen ranges.now) select.entry.now }
 {
     match select {
-        Select::Count(range, filter) => unknown_in_count(range, filter, &*names, &*ranges),
+        Select::Count(range, filter) => unknown_in_count(range, filter, names, ranges),
         Select::Rows(list, range, filter) => {
-            unknown_in_query(list, range, filter, &*names, &*ranges)
+            unknown_in_query(list, range, filter, names, ranges)
         }
     }
 }

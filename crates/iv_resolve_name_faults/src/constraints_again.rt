@@ -9,7 +9,7 @@ ghost use Rattle.iv_catalogue.specs.Names.{generated_name, is_among};
 ghost use Rattle.iv_resolution.specs.Constraints.{written_constraints};
 ghost use Rattle.iv_resolution.specs.Items.{constraint_item, generated_item, in_use_fault, told_if, twice_fault};
 ghost use Rattle.iv_resolution.specs.NameFaults.{duplicate_in_constraints};
-ghost use Rattle.iv_resolve_table_constraints.specs.Seen.{constraint_seen};
+ghost use Rattle.iv_resolve_tables.specs.Seen.{constraint_seen};
 ghost use Rattle.iv_resolve_name_faults.specs.Places.{constraint_names, duplicate_where};
 ghost use Rattle.iv_resolve_name_faults.specs.Seen.{fault_seen, item_seen};
 
@@ -19,7 +19,7 @@ use crate::item::{NameFault, NamedItem, first_fault};
 use crate::lists::duplicate_in_rule;
 use iv_catalogue::{Catalogue, Constraint};
 use iv_resolve_scope::NameSet;
-use iv_resolve_table_constraints::{
+use iv_resolve_tables::{
     Unread, WrittenConstraint, are_same, count_constraints, generated, is_named,
 };
 use iv_syntax::{Name, TableElement};

@@ -6,7 +6,9 @@ ghost use Rattle.iv_catalogue.specs.Catalogues.{has_table, has_trigger};
 ghost use Rattle.iv_resolution.specs.Constraints.{table_constraint};
 ghost use Rattle.iv_resolution.specs.Tables.{altered_at};
 ghost use Rattle.iv_resolution.specs.Items.{column_item, first_of, in_use_fault, table_item, told_if, trigger_item, twice_fault};
-ghost use Rattle.iv_resolution.specs.NameFaults.{addition_in_use, column_twice, column_twice_listed, duplicate_in_action, duplicate_in_alteration, duplicate_in_insert, duplicate_in_rule, duplicate_in_table, duplicate_in_trigger, duplicate_in_update, told_of_altered, transition_twice};
+ghost use Rattle.iv_resolution.specs.NameFaults.{addition_in_use, column_twice, column_twice_listed, duplicate_in_action, duplicate_in_alteration};
+ghost use Rattle.iv_resolution.specs.NameFaults.{duplicate_in_insert, duplicate_in_rule, duplicate_in_table, duplicate_in_trigger, duplicate_in_update};
+ghost use Rattle.iv_resolution.specs.NameFaults.{told_of_altered, transition_twice};
 ghost use Rattle.iv_resolve_name_faults.specs.Seen.{fault_seen};
 
 use crate::again::name_again;
@@ -17,7 +19,7 @@ use crate::item::{NameFault, NamedItem, first_fault};
 use crate::lists::{column_twice, column_twice_listed, duplicate_in_rule};
 use iv_catalogue::{Catalogue, Table};
 use iv_resolve_scope::table_place;
-use iv_resolve_table_constraints::{count_stored, table_constraint};
+use iv_resolve_tables::{count_stored, table_constraint};
 use iv_syntax::{
     Assignment, Insert, Name, Referencing, TableConstraint, TableElement, TriggerAction,
     TriggerDefinition, Update,

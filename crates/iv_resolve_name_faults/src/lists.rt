@@ -1,12 +1,12 @@
 //! Columns that come twice in a list. No call can fail for lack of memory.
 ghost use Rattle.std.specs.Prelude.{◌≡◌, option_map};
 ghost use Rattle.iv_resolution.specs.NameFaults.{column_twice, column_twice_listed, duplicate_in_rule};
-ghost use Rattle.iv_resolve_table_constraints.specs.Seen.{rule_seen};
+ghost use Rattle.iv_resolve_tables.specs.Seen.{rule_seen};
 ghost use Rattle.iv_resolve_name_faults.specs.Seen.{fault_seen};
 
 use crate::again::name_again;
 use crate::item::{NameFault, NamedItem, first_fault};
-use iv_resolve_table_constraints::WrittenRule;
+use iv_resolve_tables::WrittenRule;
 use iv_syntax::Name;
 use sqlite_items::Items;
 use std::alloc::Global;

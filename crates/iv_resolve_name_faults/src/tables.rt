@@ -5,9 +5,10 @@ ghost use Rattle.iv_resolution.specs.Constraints.{foreign_key, table_constraint,
 ghost use Rattle.iv_resolution.specs.Scopes.{has_column};
 ghost use Rattle.iv_resolution.specs.Tables.{altered_at, check_ranges, table_names};
 ghost use Rattle.iv_resolve_scope.specs.Seen.{columns_seen, ranges_seen};
-ghost use Rattle.iv_resolve_table_constraints.specs.Seen.{names_of_own, own_seen, reference_seen, rule_seen};
+ghost use Rattle.iv_resolve_tables.specs.Seen.{names_of_own, own_seen, reference_seen, rule_seen};
 ghost use Rattle.iv_resolution.specs.Items.{column_item, first_of, told_if};
-ghost use Rattle.iv_resolution.specs.NameFaults.{told_of_altered, unknown_in_alteration, unknown_in_condition, unknown_in_reference, unknown_in_rule, unknown_in_table};
+ghost use Rattle.iv_resolution.specs.NameFaults.{told_of_altered, unknown_in_alteration, unknown_in_condition, unknown_in_reference};
+ghost use Rattle.iv_resolution.specs.NameFaults.{unknown_in_rule, unknown_in_table};
 ghost use Rattle.iv_resolve_name_faults.specs.Seen.{item_seen};
 
 use crate::changes::unknown_in_target;
@@ -15,7 +16,7 @@ use crate::item::{NamedItem, first_item};
 use crate::terms::{unknown_in_columns, unknown_in_condition};
 use iv_catalogue::{Catalogue, Table};
 use iv_resolve_scope::{ColumnIndex, Columns, Ranges, table_names, table_place};
-use iv_resolve_table_constraints::{
+use iv_resolve_tables::{
     Own, Unread, WrittenRule, own_columns, own_names, own_range, referenced, table_constraint,
 };
 use iv_syntax::{Condition, Name, References, TableConstraint, TableElement};

@@ -26,7 +26,7 @@ fn unknown_column<'t, 'a>(column: &'t ColumnName, ranges: &'a Ranges<'a>) -> Opt
         ≡ told_if (unknown_column (ranges_seen ranges.now) column.entry.now)
         (column_item column.entry.now.qualifier column.entry.now.name) }
 {
-    match column_meant(column, &*ranges) {
+    match column_meant(column, ranges) {
         Some(_) => None,
         None => Some(item_of_column(column)),
     }
@@ -43,16 +43,16 @@ pub fn unknown_in_expression<'t, 'a>(
 {
     match expression {
         Expression::Number(_) | Expression::Text(_) | Expression::Null => None,
-        Expression::Column(column) => unknown_column(column, &*ranges),
-        Expression::Group(a) => unknown_in_expression(a.get(), &*ranges),
-        Expression::Signed(_, a) => unknown_in_expression(a.get(), &*ranges),
+        Expression::Column(column) => unknown_column(column, ranges),
+        Expression::Group(a) => unknown_in_expression(a.get(), ranges),
+        Expression::Signed(_, a) => unknown_in_expression(a.get(), ranges),
         Expression::Product(a, b) => {
-            let first = unknown_in_expression(a.get(), &*ranges);
-            first_item(first, unknown_in_expression(b.get(), &*ranges))
+            let first = unknown_in_expression(a.get(), ranges);
+            first_item(first, unknown_in_expression(b.get(), ranges))
         }
         Expression::Sum(_, a, b) => {
-            let first = unknown_in_expression(a.get(), &*ranges);
-            first_item(first, unknown_in_expression(b.get(), &*ranges))
+            let first = unknown_in_expression(a.get(), ranges);
+            first_item(first, unknown_in_expression(b.get(), ranges))
         }
     }
 }
@@ -117,7 +117,7 @@ pub fn unknown_in_filter<'t, 'a>(
         (ranges_seen ranges.now) filter.entry.now }
 {
     match filter {
-        Some(condition) => unknown_in_condition(condition, &*names, &*ranges),
+        Some(condition) => unknown_in_condition(condition, names, ranges),
         None => None,
     }
 }

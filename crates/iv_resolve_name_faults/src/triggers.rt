@@ -12,7 +12,7 @@ use crate::item::{NamedItem, first_item};
 use crate::terms::{unknown_in_columns, unknown_in_expression, unknown_in_filter};
 use iv_catalogue::{Catalogue, MOST_TABLES};
 use iv_resolve_scope::{Names, Ranges, ReferencingIndex, ReferencingItems};
-use iv_resolve_triggers::{names_among, subject, variable_named, variables};
+use iv_resolve_statements::{names_among, subject, variable_named, variables};
 use iv_syntax::{TriggerAction, TriggerDefinition};
 use std::alloc::Global;
 
@@ -72,13 +72,13 @@ fn unknown_in_action<'t, 'a>(
         (ranges_seen ranges.now) action.entry.now }
 {
     match action {
-        TriggerAction::Insert(insert) => unknown_in_insert(insert, &*names, &*ranges),
-        TriggerAction::Update(update) => unknown_in_update(update, &*names, &*ranges),
-        TriggerAction::Delete(delete) => unknown_in_delete(delete, &*names, &*ranges),
+        TriggerAction::Insert(insert) => unknown_in_insert(insert, names, ranges),
+        TriggerAction::Update(update) => unknown_in_update(update, names, ranges),
+        TriggerAction::Delete(delete) => unknown_in_delete(delete, names, ranges),
         TriggerAction::Signal(_) => None,
         TriggerAction::Set(variable, column, value) => {
             let set = unknown_in_set(names, variable.as_str(), column.as_str());
-            first_item(set, unknown_in_expression(value, &*ranges))
+            first_item(set, unknown_in_expression(value, ranges))
         }
     }
 }
@@ -95,7 +95,7 @@ fn unknown_in_body<'t, 'a>(
         (unknown_in_action (names_seen names.now) (ranges_seen ranges.now)) body.entry.now }
 {
     for action in body {
-        if let Some(item) = unknown_in_action(action, &*names, &*ranges) {
+        if let Some(item) = unknown_in_action(action, names, ranges) {
             return Some(item);
         }
     }

@@ -3,7 +3,8 @@ ghost use Rattle.std.specs.Prelude.{◌≡◌, [], not, option_map};
 ghost use Rattle.iv_catalogue.specs.Catalogues.{has_constraint, has_trigger};
 ghost use Rattle.iv_resolution.specs.Tables.{table_names};
 ghost use Rattle.iv_resolution.specs.Items.{constraint_item, first_of, told_if, trigger_item};
-ghost use Rattle.iv_resolution.specs.NameFaults.{unknown_in_constraints, unknown_in_delete, unknown_in_insert, unknown_in_select, unknown_in_update, unknown_name};
+ghost use Rattle.iv_resolution.specs.NameFaults.{unknown_in_constraints, unknown_in_delete, unknown_in_insert, unknown_in_select};
+ghost use Rattle.iv_resolution.specs.NameFaults.{unknown_in_update, unknown_name};
 ghost use Rattle.iv_resolve_name_faults.specs.Seen.{item_seen};
 
 use crate::catalogued::{has_constraint, has_trigger};

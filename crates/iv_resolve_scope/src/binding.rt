@@ -85,8 +85,8 @@ fn bound_product(alloc: Global, a: Expr, b: Expr) -> Result<Expr, AllocError>
 /// What an expression means.
 #[tactic(auto, using(crate::proofs::Steps::bound_expression_steps))]
 pub fn bound_expression<'a>(
-    expression: &'a Expression,
     alloc: Global,
+    expression: &'a Expression,
     ranges: &'a Ranges<'a>,
 ) -> Result<Expr, AllocError>
     ensures { IfOk result (λ e. e ≡ bound_expression (ranges_seen ranges.now) expression.now) }
@@ -95,20 +95,20 @@ pub fn bound_expression<'a>(
         Expression::Number(number) => Ok(Expr::Literal(Value::Int(integer_of(*number)))),
         Expression::Text(text) => Ok(Expr::Literal(Value::Text(text.clone()?))),
         Expression::Null => Ok(Expr::Literal(Value::Null)),
-        Expression::Column(column) => Ok(bound_column(column_meant(column, &*ranges))),
-        Expression::Group(a) => bound_expression(a.get(), alloc, &*ranges),
+        Expression::Column(column) => Ok(bound_column(column_meant(column, ranges))),
+        Expression::Group(a) => bound_expression(alloc, a.get(), ranges),
         Expression::Signed(sign, a) => {
-            let a = bound_expression(a.get(), alloc, &*ranges)?;
+            let a = bound_expression(alloc, a.get(), ranges)?;
             bound_sign(alloc, *sign, a)
         }
         Expression::Product(a, b) => {
-            let a = bound_expression(a.get(), alloc, &*ranges)?;
-            let (a, b) = pair(a, bound_expression(b.get(), alloc, &*ranges))?;
+            let a = bound_expression(alloc, a.get(), ranges)?;
+            let (a, b) = pair(a, bound_expression(alloc, b.get(), ranges))?;
             bound_product(alloc, a, b)
         }
         Expression::Sum(sign, a, b) => {
-            let a = bound_expression(a.get(), alloc, &*ranges)?;
-            let (a, b) = pair(a, bound_expression(b.get(), alloc, &*ranges))?;
+            let a = bound_expression(alloc, a.get(), ranges)?;
+            let (a, b) = pair(a, bound_expression(alloc, b.get(), ranges))?;
             bound_sum(alloc, *sign, a, b)
         }
     }
@@ -147,8 +147,8 @@ fn exists(alloc: Global, range: Range, a: Cond) -> Result<Cond, AllocError>
 /// What a condition means.
 #[tactic(auto, using(crate::proofs::Steps::bound_condition_steps))]
 pub fn bound_condition<'a>(
-    condition: &'a Condition,
     alloc: Global,
+    condition: &'a Condition,
     names: &'a Names<'a>,
     ranges: &'a Ranges<'a>,
 ) -> Result<Cond, AllocError>
@@ -158,38 +158,38 @@ pub fn bound_condition<'a>(
 {
     match condition {
         Condition::Compare(op, a, b) => {
-            let a = bound_expression(a, alloc, &*ranges)?;
-            let (a, b) = pair(a, bound_expression(b, alloc, &*ranges))?;
+            let a = bound_expression(alloc, a, ranges)?;
+            let (a, b) = pair(a, bound_expression(alloc, b, ranges))?;
             Ok(Cond::Compare(*op, a, b))
         }
-        Condition::IsNull(a) => Ok(Cond::IsNull(bound_expression(a, alloc, &*ranges)?)),
+        Condition::IsNull(a) => Ok(Cond::IsNull(bound_expression(alloc, a, ranges)?)),
         Condition::IsNotNull(a) => {
-            let a = bound_expression(a, alloc, &*ranges)?;
+            let a = bound_expression(alloc, a, ranges)?;
             negated(alloc, Cond::IsNull(a))
         }
         Condition::Exists(range) => {
-            let source = source_range(&*names, range.table.as_str());
+            let source = source_range(names, range.table.as_str());
             exists(alloc, source, Cond::Always)
         }
         Condition::ExistsWhere(range, a) => {
-            let inner = inside(range, &*names, &*ranges);
-            let a = bound_condition(a.get(), alloc, &*names, &inner)?;
-            let source = source_range(&*names, range.table.as_str());
+            let inner = inside(range, names, ranges);
+            let a = bound_condition(alloc, a.get(), names, &inner)?;
+            let source = source_range(names, range.table.as_str());
             exists(alloc, source, a)
         }
-        Condition::Group(a) => bound_condition(a.get(), alloc, &*names, &*ranges),
+        Condition::Group(a) => bound_condition(alloc, a.get(), names, ranges),
         Condition::Not(a) => {
-            let a = bound_condition(a.get(), alloc, &*names, &*ranges)?;
+            let a = bound_condition(alloc, a.get(), names, ranges)?;
             negated(alloc, a)
         }
         Condition::And(a, b) => {
-            let a = bound_condition(a.get(), alloc, &*names, &*ranges)?;
-            let (a, b) = pair(a, bound_condition(b.get(), alloc, &*names, &*ranges))?;
+            let a = bound_condition(alloc, a.get(), names, ranges)?;
+            let (a, b) = pair(a, bound_condition(alloc, b.get(), names, ranges))?;
             both(alloc, a, b)
         }
         Condition::Or(a, b) => {
-            let a = bound_condition(a.get(), alloc, &*names, &*ranges)?;
-            let (a, b) = pair(a, bound_condition(b.get(), alloc, &*names, &*ranges))?;
+            let a = bound_condition(alloc, a.get(), names, ranges)?;
+            let (a, b) = pair(a, bound_condition(alloc, b.get(), names, ranges))?;
             either(alloc, a, b)
         }
     }
@@ -197,8 +197,8 @@ pub fn bound_condition<'a>(
 
 /// The same of a condition that may be left out, which is true of every row.
 pub fn bound_filter<'a>(
-    filter: &'a Option<Condition>,
     alloc: Global,
+    filter: &'a Option<Condition>,
     names: &'a Names<'a>,
     ranges: &'a Ranges<'a>,
 ) -> Result<Cond, AllocError>
@@ -207,7 +207,7 @@ pub fn bound_filter<'a>(
         c ≡ bound_filter (names_seen names.now) (ranges_seen ranges.now) filter.now) }
 {
     match filter {
-        Some(condition) => bound_condition(condition, alloc, &*names, &*ranges),
+        Some(condition) => bound_condition(alloc, condition, names, ranges),
         None => Ok(Cond::Always),
     }
 }

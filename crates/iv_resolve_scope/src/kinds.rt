@@ -2,7 +2,8 @@
 //! the tree, and for each name to the ranges that it is inside of.
 ghost use Rattle.std.specs.Prelude.{◌≡◌, ◌≤◌, length, option_map};
 ghost use Rattle.iv_resolution.specs.Changes.{clashes_with, kinds_clash};
-ghost use Rattle.iv_resolution.specs.Terms.{clash, has_exists, is_integer, is_integer_column, is_integer_type, is_text, is_text_column, is_text_type, misshaped_condition, misshaped_expression, misshaped_filter, some_text};
+ghost use Rattle.iv_resolution.specs.Terms.{clash, has_exists, is_integer, is_integer_column, is_integer_type, is_text, is_text_column, is_text_type};
+ghost use Rattle.iv_resolution.specs.Terms.{misshaped_condition, misshaped_expression, misshaped_filter, some_text};
 ghost use Rattle.iv_resolve_scope.specs.Seen.{found_seen, names_seen, ranges_seen};
 
 use crate::names::{Names, inside};
@@ -49,8 +50,8 @@ fn is_integer<'a>(expression: &Expression, ranges: &'a Ranges<'a>) -> bool
     match expression {
         Expression::Number(_) => true,
         Expression::Text(_) | Expression::Null => false,
-        Expression::Column(column) => is_integer_column(column_meant(column, &*ranges)),
-        Expression::Group(a) => is_integer(a.get(), &*ranges),
+        Expression::Column(column) => is_integer_column(column_meant(column, ranges)),
+        Expression::Group(a) => is_integer(a.get(), ranges),
         Expression::Signed(_, _) => true,
         Expression::Product(_, _) => true,
         Expression::Sum(_, _, _) => true,
@@ -64,8 +65,8 @@ fn is_text<'a>(expression: &Expression, ranges: &'a Ranges<'a>) -> bool
     match expression {
         Expression::Text(_) => true,
         Expression::Number(_) | Expression::Null => false,
-        Expression::Column(column) => is_text_column(column_meant(column, &*ranges)),
-        Expression::Group(a) => is_text(a.get(), &*ranges),
+        Expression::Column(column) => is_text_column(column_meant(column, ranges)),
+        Expression::Group(a) => is_text(a.get(), ranges),
         Expression::Signed(_, _) => false,
         Expression::Product(_, _) => false,
         Expression::Sum(_, _, _) => false,
@@ -76,8 +77,7 @@ fn is_text<'a>(expression: &Expression, ranges: &'a Ranges<'a>) -> bool
 fn clash<'a>(a: &Expression, b: &Expression, ranges: &'a Ranges<'a>) -> bool
     ensures { result ≡ clash (ranges_seen ranges.now) a.now b.now }
 {
-    (is_integer(a, &*ranges) && is_text(b, &*ranges))
-        || (is_text(a, &*ranges) && is_integer(b, &*ranges))
+    (is_integer(a, ranges) && is_text(b, ranges)) || (is_text(a, ranges) && is_integer(b, ranges))
 }
 
 /// Whether an integer meets a text in the value of a column of this type. A column that isn't there suits every value.
@@ -91,8 +91,8 @@ pub fn clashes_with<'a>(
 {
     match kind {
         Some(kind) => {
-            (is_integer_type(kind) && is_text(expression, &*ranges))
-                || (is_text_type(kind) && is_integer(expression, &*ranges))
+            (is_integer_type(kind) && is_text(expression, ranges))
+                || (is_text_type(kind) && is_integer(expression, ranges))
         }
         None => false,
     }
@@ -116,7 +116,7 @@ pub fn kinds_clash(into: Option<ColumnType>, from: ColumnType) -> bool
 fn some_text<'a>(a: &Expression, b: &Expression, ranges: &'a Ranges<'a>) -> bool
     ensures { result ≡ some_text (ranges_seen ranges.now) a.now b.now }
 {
-    is_text(a, &*ranges) || is_text(b, &*ranges)
+    is_text(a, ranges) || is_text(b, ranges)
 }
 
 /// Whether a sign or arithmetic meets a text.
@@ -127,19 +127,17 @@ pub fn misshaped_expression<'a>(expression: &Expression, ranges: &'a Ranges<'a>)
     match expression {
         Expression::Number(_) | Expression::Text(_) | Expression::Null => false,
         Expression::Column(_) => false,
-        Expression::Group(a) => misshaped_expression(a.get(), &*ranges),
+        Expression::Group(a) => misshaped_expression(a.get(), ranges),
         Expression::Signed(_, a) => {
-            is_text(a.get(), &*ranges) | misshaped_expression(a.get(), &*ranges)
+            is_text(a.get(), ranges) | misshaped_expression(a.get(), ranges)
         }
         Expression::Product(a, b) => {
-            some_text(a.get(), b.get(), &*ranges)
-                | (misshaped_expression(a.get(), &*ranges)
-                    | misshaped_expression(b.get(), &*ranges))
+            some_text(a.get(), b.get(), ranges)
+                | (misshaped_expression(a.get(), ranges) | misshaped_expression(b.get(), ranges))
         }
         Expression::Sum(_, a, b) => {
-            some_text(a.get(), b.get(), &*ranges)
-                | (misshaped_expression(a.get(), &*ranges)
-                    | misshaped_expression(b.get(), &*ranges))
+            some_text(a.get(), b.get(), ranges)
+                | (misshaped_expression(a.get(), ranges) | misshaped_expression(b.get(), ranges))
         }
     }
 }
@@ -157,24 +155,24 @@ pub fn misshaped_condition<'a>(
 {
     match condition {
         Condition::Compare(_, a, b) => {
-            clash(a, b, &*ranges)
-                | (misshaped_expression(a, &*ranges) | misshaped_expression(b, &*ranges))
+            clash(a, b, ranges)
+                | (misshaped_expression(a, ranges) | misshaped_expression(b, ranges))
         }
-        Condition::IsNull(a) | Condition::IsNotNull(a) => misshaped_expression(a, &*ranges),
+        Condition::IsNull(a) | Condition::IsNotNull(a) => misshaped_expression(a, ranges),
         Condition::Exists(_) => false,
         Condition::ExistsWhere(range, a) => {
             let inner = inside(range, &*names, &*ranges);
             misshaped_condition(a.get(), &*names, &inner)
         }
-        Condition::Group(a) => misshaped_condition(a.get(), &*names, &*ranges),
-        Condition::Not(a) => misshaped_condition(a.get(), &*names, &*ranges),
+        Condition::Group(a) => misshaped_condition(a.get(), names, ranges),
+        Condition::Not(a) => misshaped_condition(a.get(), names, ranges),
         Condition::And(a, b) => {
-            misshaped_condition(a.get(), &*names, &*ranges)
-                | misshaped_condition(b.get(), &*names, &*ranges)
+            misshaped_condition(a.get(), names, ranges)
+                | misshaped_condition(b.get(), names, ranges)
         }
         Condition::Or(a, b) => {
-            misshaped_condition(a.get(), &*names, &*ranges)
-                | misshaped_condition(b.get(), &*names, &*ranges)
+            misshaped_condition(a.get(), names, ranges)
+                | misshaped_condition(b.get(), names, ranges)
         }
     }
 }
@@ -189,7 +187,7 @@ pub fn misshaped_filter<'a>(
     ensures { result ≡ misshaped_filter (names_seen names.now) (ranges_seen ranges.now) filter.now }
 {
     match filter {
-        Some(condition) => misshaped_condition(condition, &*names, &*ranges),
+        Some(condition) => misshaped_condition(condition, names, ranges),
         None => false,
     }
 }

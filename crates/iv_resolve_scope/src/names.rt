@@ -2,7 +2,8 @@
 ghost use Rattle.std.specs.Prelude.{◌≡◌, ◌<◌, ◌≤◌, ◌∷◌, find, is_some, option_map, IfSome, length};
 ghost use Rattle.std.specs.Str.{bytes_eq};
 ghost use Rattle.iv_resolution.specs.Changes.{stored_columns};
-ghost use Rattle.iv_resolution.specs.Scopes.{created_source, is_source, range_of, source_columns, source_named, source_range, stored_source, table_place, transition_source};
+ghost use Rattle.iv_resolution.specs.Scopes.{created_source, is_source, range_of, source_columns, source_named, source_range};
+ghost use Rattle.iv_resolution.specs.Scopes.{stored_source, table_place, transition_source};
 ghost use Rattle.iv_resolve_scope.specs.Seen.{columns_seen, names_seen, ranges_seen, source_seen};
 
 use crate::columns::Columns;

@@ -122,7 +122,7 @@ pub fn column_meant<'a>(column: &ColumnName, ranges: &'a Ranges<'a>) -> Option<F
     ensures { option_map found_seen result ≡ column_meant (ranges_seen ranges.now) column.now }
 {
     match &column.qualifier {
-        Some(range) => qualified(&*ranges, range.as_str(), column.name.as_str(), 0),
-        None => unqualified(&*ranges, column.name.as_str(), 0),
+        Some(range) => qualified(ranges, range.as_str(), column.name.as_str(), 0),
+        None => unqualified(ranges, column.name.as_str(), 0),
     }
 }

@@ -3,7 +3,8 @@ ghost use Rattle.std.specs.Prelude.{◌≡◌, ◌≢◌, ◌-◌, ◌^◌, [], 
 ghost use Rattle.iv_catalogue.specs.Refusals.{is_memory};
 ghost use Rattle.iv_machine.specs.declared.database.Which.TheVariants.{All, Deferred};
 ghost use Rattle.iv_machine.specs.Databases.{is_chosen, row_at, scan};
-ghost use Rattle.iv_machine.specs.Machine.{commit_outcome, empty_state, inside, is_open, no_work, outcome_unless, rollback_outcome, rollback_to_outcome, savepoint_named, transaction_cause};
+ghost use Rattle.iv_machine.specs.Machine.{commit_outcome, empty_state, inside, is_open, no_work, outcome_unless, rollback_outcome};
+ghost use Rattle.iv_machine.specs.Machine.{rollback_to_outcome, savepoint_named, transaction_cause};
 ghost use Rattle.iv_account.specs.Sessions.{commit_told};
 ghost use Rattle.iv_account.specs.Telling.{MayTell, no_account};
 ghost use Rattle.iv_state.specs.Kept.{with_account};

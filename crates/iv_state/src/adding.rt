@@ -58,7 +58,7 @@ pub(crate) fn add_table<K: Keeper>(
     catalogue.add_table(table, constraints)?;
     let added = &catalogue.tables()[place];
     let others = &catalogue.constraints()[first..];
-    match copy_table(store, &*catalogue, added, others) {
+    match copy_table(store, catalogue, added, others) {
         Ok(modes) => Ok(modes),
         Err(error) => {
             catalogue.take_table();
@@ -108,7 +108,7 @@ pub(crate) fn add_constraint<K: Keeper>(
     let place = catalogue.constraints().len();
     catalogue.add_constraint(constraint)?;
     let added = &catalogue.constraints()[place];
-    match copy_constraint(store, &*catalogue, added) {
+    match copy_constraint(store, catalogue, added) {
         Ok(modes) => Ok(modes),
         Err(fault) => {
             catalogue.take_constraint();

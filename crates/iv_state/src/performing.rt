@@ -1,7 +1,8 @@
 //! What a resolved statement does.
 ghost use Rattle.std.specs.Prelude.{◌≡◌, true, false, None};
 ghost use Rattle.iv_catalogue.specs.Refusals.{is_memory, refusal_answer};
-ghost use Rattle.iv_machine.specs.Machine.{change_outcome, commit_outcome, is_open, no_work, occasion_of, query_outcome, rollback_outcome, schema_outcome, transaction_cause, transaction_occasion, transaction_outcome};
+ghost use Rattle.iv_machine.specs.Machine.{change_outcome, commit_outcome, is_open, no_work, occasion_of, query_outcome, rollback_outcome, schema_outcome};
+ghost use Rattle.iv_machine.specs.Machine.{transaction_cause, transaction_occasion, transaction_outcome};
 ghost use Rattle.iv_laws_fitting.specs.PlanShapes.{data_suits, plain_shape};
 ghost use Rattle.iv_account.specs.Sessions.{change_told, commit_told};
 ghost use Rattle.iv_account.specs.Telling.{MayTell, and_told};

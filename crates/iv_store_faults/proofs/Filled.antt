@@ -2,7 +2,7 @@
 use Rattle.std.proofs.Common.{◌≡◌, refl, ℕ, zero, suc, ◌<◌, ◌≤◌, Bool, true, false, ◌&&◌, ◌||◌, not, if◌then◌else◌, List, [], ◌∷◌, ◌++◌, length, map, filter, find, slice_get, option_map, Option, Some, None, sym, ap, subst, ◌∙◌, arith}
 use Rattle.std.specs.Bool.{◌==◌, nat_lt}
 use Rattle.std.specs.Prelude.{◌≢◌}
-use Rattle.std.proofs.lemmas.Bool.{true≢false, eqb-true, eq-eqb}
+use Rattle.std.proofs.lemmas.Bool.{true≢false, eqb-true, eq-eqb, or_right}
 use Rattle.std.proofs.lemmas.Bool.Decides.{nat_tests}
 use Rattle.iv_store_faults.specs.Types.{Value, StoredRow, Rule, Constraint, ForeignKey}
 use Rattle.iv_store_faults.specs.Types.rule
@@ -97,11 +97,7 @@ with_last n (m ∷ numbers) h =
     let other : (m == n) ≡ false = grind (arith, nat_tests) in
     ap (λ b. if b then n ∷ m ∷ numbers else (if m == n then m ∷ numbers else m ∷ with_number n numbers)) later
     ∙ ap (λ b. if b then m ∷ numbers else m ∷ with_number n numbers) other
-    ∙ ap (λ l. m ∷ l) (with_last n numbers (λ k there. h k (more (m == k) (has k numbers) there)))
-  where
-    more : (a b : Bool) → b ≡ true → (a || b) ≡ true
-    more true b e = refl
-    more false b e = e
+    ∙ ap (λ l. m ∷ l) (with_last n numbers (λ k there. h k (or_right (m == k) (has k numbers) there)))
 
 -- the numbers under a key, after these rows have come one after the other
 abbrev pub filled : Rule → List Value → List StoredRow → List ℕ → List ℕ

@@ -1,6 +1,6 @@
 -- What is kept after constraints were taken up.
 use Rattle.std.proofs.Common.{◌≡◌, refl, ℕ, zero, suc, ◌+◌, ◌<◌, ◌≤◌, Bool, true, false, ◌&&◌, ◌||◌, not, if◌then◌else◌, List, [], ◌∷◌, ◌++◌, length, map, filter, flat_map, slice_get, Some, None, sym, ap, ◌∙◌, arith, ⊎_elim}
-use Rattle.std.proofs.lemmas.Bool.{true≢false, cases_lt}
+use Rattle.std.proofs.lemmas.Bool.{true≢false, cases_lt, not-true}
 use Rattle.std.proofs.lemmas.List.{length-append}
 use Rattle.iv_store_faults.specs.Types.{StoredRow, Rule, Constraint}
 use Rattle.iv_store_faults.specs.Types.rule
@@ -124,11 +124,7 @@ shown_more olds more groups violating later rows all named once count stay s sho
     nothing (suc place) = refl
 
     has_rows : (c : Constraint) (g : Group) → is_violating (olds ++ more) (shown groups.groups) c g ≡ true → is_empty g.rows ≡ false
-    has_rows c g e = by_empty (is_empty g.rows) (and_first (not (is_empty g.rows)) _ e)
-      where
-        by_empty : (b : Bool) → not b ≡ true → b ≡ false
-        by_empty true h = absurd (false_true h)
-        by_empty false h = refl
+    has_rows c g e = not-true (is_empty g.rows) (and_first (not (is_empty g.rows)) _ e)
 
 pub shown_same : (olds : List Constraint) (groups : Contents) (violating later : GroupFlags) (rows : List StoredRow) → ViolatingStay violating later → IsShownBy rows (watching olds violating) groups → IsShownBy rows (watching olds later) groups
 shown_same olds groups violating later rows stay s = record {

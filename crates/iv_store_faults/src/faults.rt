@@ -23,7 +23,9 @@ use iv_catalogue::{Constraint, Fault};
 use iv_expr::{Change, Rows, TableId};
 use iv_machine::Which;
 use iv_modes::Modes;
-use iv_store_following::{BorrowedChange, KeyReference, follow, give_back, make_room_and_follow};
+use iv_store_following::{
+    BorrowedChange, KeyReference, WatchedConstraints, follow, give_back, make_room_and_follow,
+};
 use iv_store_groups::{CountedGroups, Groups};
 use iv_store_violating::ViolatingGroups;
 use std::alloc::{AllocError, Global};
@@ -105,15 +107,13 @@ fn moved(
     ensures ok { OnOk result (Followed constraints.now change.now 7 groups.old groups.new violating.old violating.new) }
     ensures err { OnErr result (AllStay constraints.now (length constraints.now) groups.old groups.new violating.old violating.new) }
 {
-    make_room_and_follow(
-        groups,
-        violating,
-        keys_of(tables, change.table),
-        foreign_keys_of(tables, change.table),
+    let lists = WatchedConstraints {
         constraints,
         references,
-        &BorrowedChange::of(change),
-    )
+        keys: keys_of(tables, change.table),
+        foreign_keys: foreign_keys_of(tables, change.table),
+    };
+    make_room_and_follow(groups, violating, &lists, &BorrowedChange::of(change))
 }
 
 // Follows the taking back of a change.
@@ -131,15 +131,13 @@ fn moved_back(
     requires room { HasRoomBack constraints.now groups.old.groups change.now }
     ensures { Followed constraints.now (taken_back change.now) 6 groups.old groups.new violating.old violating.new }
 {
-    follow(
-        groups,
-        violating,
-        keys_of(tables, change.table),
-        foreign_keys_of(tables, change.table),
+    let lists = WatchedConstraints {
         constraints,
         references,
-        &BorrowedChange::back(change),
-    );
+        keys: keys_of(tables, change.table),
+        foreign_keys: foreign_keys_of(tables, change.table),
+    };
+    follow(groups, violating, &lists, &BorrowedChange::back(change));
 }
 
 // Gives groups without rows back.

@@ -1,5 +1,6 @@
 //! The groups of a constraint that is to be watched: its rows enter them, and the first row that violates it is found.
-ghost use Rattle.std.specs.Prelude.{◌≡◌, ◌≢◌, ℕ, ◌+◌, ◌*◌, ◌<◌, ◌≤◌, ◌++◌, ◌∷◌, [], List, length, filter, find, option_map, slice_get, Some, None, false, IfOk, OnOk};
+ghost use Rattle.std.specs.Prelude.{◌≡◌, ◌≢◌, ℕ, ◌+◌, ◌*◌, ◌<◌, ◌≤◌, ◌++◌, ◌∷◌, [], List, length, filter, find, option_map};
+ghost use Rattle.std.specs.Prelude.{slice_get, Some, None, false, IfOk, OnOk};
 ghost use Rattle.iv_value.specs.declared.value.Value.{Value};
 ghost use Rattle.iv_value.specs.Values.{all_same};
 ghost use Rattle.iv_catalogue.specs.declared.constraint.Constraint.{Constraint};

@@ -1,5 +1,6 @@
 -- A change of a row, followed by all constraints.
 use Rattle.std.proofs.Common.{◌≡◌, refl, ℕ, zero, suc, ◌<◌, Bool, true, false, ◌&&◌, ◌||◌, not, List, [], ◌∷◌, length, map, slice_get, Option, Some, None, sym, ap, subst, ◌∙◌, arith}
+use Rattle.std.proofs.Math.Bool.{and-false}
 use Rattle.std.proofs.lemmas.Bool.{true≢false}
 use Rattle.std.specs.Bool.{◌==◌}
 use Rattle.iv_store_following.specs.Types.{Value, Rule, Change, Constraint, ForeignKey}
@@ -97,11 +98,7 @@ module _ (constraints : List Constraint) (table : ℕ) (keys foreign_keys : List
   foreign_key_is = met.foreign_keys_are k ∙ ap (λ o. elim o [ Some c ↦ meets c.rule c.table table | None ↦ false ]) at
 
   pub no_key : is_reference c.rule ≡ true → has k keys ≡ false
-  no_key e = key_is ∙ ap (λ b. (table == c.table) && not b) e ∙ and_never (table == c.table)
-    where
-      and_never : (b : Bool) → (b && false) ≡ false
-      and_never true = refl
-      and_never false = refl
+  no_key e = key_is ∙ ap (λ b. (table == c.table) && not b) e ∙ and-false (table == c.table)
 
   pub no_foreign_key : is_reference c.rule ≡ false → has k foreign_keys ≡ false
   no_foreign_key e = foreign_key_is ∙ no_meeting c.rule c.table table e

@@ -19,32 +19,42 @@ use iv_store_groups::CountedGroups;
 use iv_store_violating::ViolatingGroups;
 use std::alloc::AllocError;
 
-/// Follows a change for which there is room. `keys` and `foreign_keys` are the numbers of the constraints that the rows
-/// of the change's table meet. It allocates nothing, and takes at most six look-ups for each.
+/// The constraints that the rows of one table meet, by their places among all constraints.
+#[derive(Drop)]
+pub struct WatchedConstraints<'a> {
+    /// All constraints, in creation order.
+    pub constraints: &'a [Constraint],
+    /// The key that each of them refers to, if it is a foreign key.
+    pub references: &'a [Option<KeyReference>],
+    /// The constraints on the table, except foreign keys.
+    pub keys: &'a [u32],
+    /// The foreign keys that are on the table or refer to it.
+    pub foreign_keys: &'a [u32],
+}
+
+/// Follows a change for which there is room. `lists` has the constraints that the rows of its table meet. It
+/// allocates nothing, and takes at most six look-ups for each of them.
 pub fn follow(
     groups: &mut CountedGroups,
     violating: &mut ViolatingGroups,
-    keys: &[u32],
-    foreign_keys: &[u32],
-    constraints: &[Constraint],
-    references: &[Option<KeyReference>],
+    lists: &WatchedConstraints<'_>,
     change: &BorrowedChange<'_>,
 )
-    requires met { AreMet constraints.now change.now.table keys.now foreign_keys.now }
-    requires references { AreReferences constraints.now references.now }
-    requires named { AllNamed constraints.now }
-    requires watched { (k : ℕ) → k < length constraints.now → IsWatched k groups.old.groups violating.old }
-    requires ready { (k : ℕ) (c : Constraint) → slice_get constraints.now k ≡ Some c
+    requires met { AreMet lists.now.constraints.now change.now.table lists.now.keys.now lists.now.foreign_keys.now }
+    requires references { AreReferences lists.now.constraints.now lists.now.references.now }
+    requires named { AllNamed lists.now.constraints.now }
+    requires watched { (k : ℕ) → k < length lists.now.constraints.now → IsWatched k groups.old.groups violating.old }
+    requires ready { (k : ℕ) (c : Constraint) → slice_get lists.now.constraints.now k ≡ Some c
         → IsReady change.now c (groups_of groups.old.groups k) }
-    ensures { Followed constraints.now change.now 6 groups.old groups.new violating.old violating.new }
+    ensures { Followed lists.now.constraints.now change.now 6 groups.old groups.new violating.old violating.new }
 {
-    move_keys(groups, violating, keys, constraints, change);
+    move_keys(groups, violating, lists.keys, lists.constraints, change);
     move_references(
         groups,
         violating,
-        foreign_keys,
-        constraints,
-        references,
+        lists.foreign_keys,
+        lists.constraints,
+        lists.references,
         change,
     );
 }
@@ -53,21 +63,25 @@ pub fn follow(
 fn make_all_rooms(
     groups: &mut CountedGroups,
     violating: &mut ViolatingGroups,
-    keys: &[u32],
-    foreign_keys: &[u32],
-    constraints: &[Constraint],
+    lists: &WatchedConstraints<'_>,
     change: &BorrowedChange<'_>,
 ) -> Result<(), AllocError>
-    requires met { AreMet constraints.now change.now.table keys.now foreign_keys.now }
-    requires watched { (k : ℕ) → k < length constraints.now → IsWatched k groups.old.groups violating.old }
-    ensures keys { OnOk result ((k : ℕ) → has k keys.now ≡ true
-        → HasRoom constraints.now change.now k (groups_of groups.new.groups k)) }
-    ensures foreign_keys { OnOk result ((k : ℕ) → has k foreign_keys.now ≡ true
-        → HasRoom constraints.now change.now k (groups_of groups.new.groups k)) }
-    ensures stay { AllStay constraints.now (length constraints.now) groups.old groups.new violating.old violating.new }
+    requires met { AreMet lists.now.constraints.now change.now.table lists.now.keys.now lists.now.foreign_keys.now }
+    requires watched { (k : ℕ) → k < length lists.now.constraints.now → IsWatched k groups.old.groups violating.old }
+    ensures keys { OnOk result ((k : ℕ) → has k lists.now.keys.now ≡ true
+        → HasRoom lists.now.constraints.now change.now k (groups_of groups.new.groups k)) }
+    ensures foreign_keys { OnOk result ((k : ℕ) → has k lists.now.foreign_keys.now ≡ true
+        → HasRoom lists.now.constraints.now change.now k (groups_of groups.new.groups k)) }
+    ensures stay { AllStay lists.now.constraints.now (length lists.now.constraints.now) groups.old groups.new violating.old violating.new }
 {
-    make_rooms(groups, violating, keys, constraints, change)?;
-    make_rooms(groups, violating, foreign_keys, constraints, change)?;
+    make_rooms(groups, violating, lists.keys, lists.constraints, change)?;
+    make_rooms(
+        groups,
+        violating,
+        lists.foreign_keys,
+        lists.constraints,
+        change,
+    )?;
     Ok(())
 }
 
@@ -76,29 +90,18 @@ fn make_all_rooms(
 pub fn make_room_and_follow(
     groups: &mut CountedGroups,
     violating: &mut ViolatingGroups,
-    keys: &[u32],
-    foreign_keys: &[u32],
-    constraints: &[Constraint],
-    references: &[Option<KeyReference>],
+    lists: &WatchedConstraints<'_>,
     change: &BorrowedChange<'_>,
 ) -> Result<(), AllocError>
-    requires met { AreMet constraints.now change.now.table keys.now foreign_keys.now }
-    requires references { AreReferences constraints.now references.now }
-    requires named { AllNamed constraints.now }
-    requires watched { (k : ℕ) → k < length constraints.now → IsWatched k groups.old.groups violating.old }
-    requires present { IsPresent constraints.now (shown groups.old.groups) change.now }
-    ensures ok { OnOk result (Followed constraints.now change.now 7 groups.old groups.new violating.old violating.new) }
-    ensures err { OnErr result (AllStay constraints.now (length constraints.now) groups.old groups.new violating.old violating.new) }
+    requires met { AreMet lists.now.constraints.now change.now.table lists.now.keys.now lists.now.foreign_keys.now }
+    requires references { AreReferences lists.now.constraints.now lists.now.references.now }
+    requires named { AllNamed lists.now.constraints.now }
+    requires watched { (k : ℕ) → k < length lists.now.constraints.now → IsWatched k groups.old.groups violating.old }
+    requires present { IsPresent lists.now.constraints.now (shown groups.old.groups) change.now }
+    ensures ok { OnOk result (Followed lists.now.constraints.now change.now 7 groups.old groups.new violating.old violating.new) }
+    ensures err { OnErr result (AllStay lists.now.constraints.now (length lists.now.constraints.now) groups.old groups.new violating.old violating.new) }
 {
-    make_all_rooms(groups, violating, keys, foreign_keys, constraints, change)?;
-    follow(
-        groups,
-        violating,
-        keys,
-        foreign_keys,
-        constraints,
-        references,
-        change,
-    );
+    make_all_rooms(groups, violating, lists, change)?;
+    follow(groups, violating, lists, change);
     Ok(())
 }

@@ -11,7 +11,7 @@ mod step;
 mod turns;
 
 pub use borrowed_change::BorrowedChange;
-pub use following::{follow, make_room_and_follow};
+pub use following::{WatchedConstraints, follow, make_room_and_follow};
 pub use giving::give_back;
 pub use keys::kept_key;
 pub use reference::{KeyReference, is_referenced};

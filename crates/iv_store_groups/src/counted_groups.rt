@@ -2,7 +2,8 @@
 ghost use Rattle.std.specs.Prelude.{◌≡◌, ℕ, ◌<◌, ◌≤◌, ◌^◌, [], length, option_map, true, false, IfOk, IfSome, OnOk, OnErr, Some};
 ghost use Rattle.std.specs.Borrow.{sem};
 ghost use Rattle.iv_numbers.specs.Rows.{IsRising, has_row};
-ghost use Rattle.iv_store_groups.specs.Groups.{EachIsApart, EachIsFound, EachRises, counted, groups_of, place_in, room_of, rows_at, rows_of, with_groups, with_room_under, with_row_put, with_row_under, without_row_under};
+ghost use Rattle.iv_store_groups.specs.Groups.{EachIsApart, EachIsFound, EachRises, counted, groups_of, place_in, room_of, rows_at, rows_of, with_groups};
+ghost use Rattle.iv_store_groups.specs.Groups.{with_room_under, with_row_put, with_row_under, without_row_under};
 ghost use Rattle.iv_store_groups.specs.Lending.{CountedAreLooked};
 
 use crate::hand::{Hand, count_left, count_made};

@@ -2,7 +2,8 @@
 ghost use Rattle.std.specs.Prelude.{◌≡◌, ℕ, ◌<◌, ◌≤◌, ◌^◌, [], length, max, true, false, IfSome, OnOk, OnErr, Some};
 ghost use Rattle.std.specs.Borrow.{sem};
 ghost use Rattle.iv_numbers.specs.Rows.{IsRising, has_row};
-ghost use Rattle.iv_store_groups.specs.Groups.{EachIsApart, EachIsFound, EachRises, counted, given_back, groups_of, is_dead, place_in, room_of, rows_at, rows_of, with_groups, with_room_under, with_row_put, with_row_under, without_row_under};
+ghost use Rattle.iv_store_groups.specs.Groups.{EachIsApart, EachIsFound, EachRises, counted, given_back, groups_of, is_dead, place_in, room_of, rows_at};
+ghost use Rattle.iv_store_groups.specs.Groups.{rows_of, with_groups, with_room_under, with_row_put, with_row_under, without_row_under};
 ghost use Rattle.iv_store_groups.specs.Lending.{LendsCounted, Looked};
 
 use crate::counted_groups::CountedGroups;

@@ -1,6 +1,8 @@
 //! The places of hashes in a list, found by the hash.
-ghost use Rattle.std.specs.Prelude.{◌≡◌, ◌≢◌, ℕ, suc, ◌+◌, ◌-◌, ◌^◌, ◌<◌, ◌≤◌, ◌==◌, List, [], ◌∷◌, ◌++◌, length, take, slice_get, slice_index, slice_index_or, slice_set, swap_remove, Some, None, true, false, if◌then◌else◌, IfOk, OnOk, OnErr};
-ghost use Rattle.iv_store_groups.specs.Linked.{AreFiled, AreFree, EndsAt, Ended, HasEnds, IsLinked, IsParted, IsReached, LeadDown, NoneFrom, NoneWhereFree, Noted, end_by, gone, has_at, is_open, last_end, map_end, slot_of};
+ghost use Rattle.std.specs.Prelude.{◌≡◌, ◌≢◌, ℕ, suc, ◌+◌, ◌-◌, ◌^◌, ◌<◌, ◌≤◌, ◌==◌, List, [], ◌∷◌, ◌++◌, length, take, slice_get, slice_index};
+ghost use Rattle.std.specs.Prelude.{slice_index_or, slice_set, swap_remove, Some, None, true, false, if◌then◌else◌, IfOk, OnOk, OnErr};
+ghost use Rattle.iv_store_groups.specs.Linked.{AreFiled, AreFree, EndsAt, Ended, HasEnds, IsLinked, IsParted, IsReached, LeadDown, NoneFrom, NoneWhereFree};
+ghost use Rattle.iv_store_groups.specs.Linked.{Noted, end_by, gone, has_at, is_open, last_end, map_end, slot_of};
 
 use iv_numbers::give_room_back;
 use std::alloc::{AllocError, Global};

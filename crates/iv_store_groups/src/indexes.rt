@@ -1,7 +1,8 @@
 //! The groups of a constraint, by its number.
 ghost use Rattle.std.specs.Prelude.{◌≡◌, ℕ, ◌<◌, ◌≤◌, ◌^◌, [], length, max, option_map, true, false, IfSome, OnOk, OnErr, Some};
 ghost use Rattle.iv_numbers.specs.Rows.{IsRising, has_row};
-ghost use Rattle.iv_store_groups.specs.Groups.{AreSound, EachIsApart, EachIsFound, EachRises, given_back, groups_of, is_dead, place_in, room_of, rows_at, rows_of, with_groups, with_room_under, with_row_put, with_row_under, without_row_under};
+ghost use Rattle.iv_store_groups.specs.Groups.{AreSound, EachIsApart, EachIsFound, EachRises, given_back, groups_of, is_dead, place_in, room_of, rows_at};
+ghost use Rattle.iv_store_groups.specs.Groups.{rows_of, with_groups, with_room_under, with_row_put, with_row_under, without_row_under};
 
 use crate::key_index::KeyIndex;
 use iv_key::Key;

@@ -1,12 +1,14 @@
 //! The groups of one constraint.
-ghost use Rattle.std.specs.Prelude.{◌≡◌, ◌<◌, ◌≤◌, ◌^◌, [], ◌∷◌, ◌++◌, ◌==◌, length, swap_remove, true, false, if◌then◌else◌, IfSome, OnOk, OnErr, Some, slice_index_or, slice_set};
+ghost use Rattle.std.specs.Prelude.{◌≡◌, ◌<◌, ◌≤◌, ◌^◌, [], ◌∷◌, ◌++◌, ◌==◌, length, swap_remove, true, false, if◌then◌else◌, IfSome};
+ghost use Rattle.std.specs.Prelude.{OnOk, OnErr, Some, slice_index_or, slice_set};
 ghost use Rattle.iv_value.specs.Values.{all_same};
 ghost use Rattle.iv_key.specs.Hashes.{hash_of};
 ghost use Rattle.std.specs.Borrow.{sem};
 ghost use Rattle.iv_store_groups.specs.Closing.{IndexStays};
 ghost use Rattle.iv_store_groups.specs.Linked.{EndsAt, NoneFrom};
 ghost use Rattle.iv_numbers.specs.Rows.{IsRising, added, has_row, put, removed, roomy};
-ghost use Rattle.iv_store_groups.specs.Groups.{GroupOf, IsIndexed, IsSound, changed, given_back, is_dead, place_in, room_of, rows_at, rows_of, tight, with_room_under, with_row_put, with_row_under, without_group, without_row_under};
+ghost use Rattle.iv_store_groups.specs.Groups.{GroupOf, IsIndexed, IsSound, changed, given_back, is_dead, place_in, room_of, rows_at, rows_of, tight};
+ghost use Rattle.iv_store_groups.specs.Groups.{with_room_under, with_row_put, with_row_under, without_group, without_row_under};
 
 use crate::group::Group;
 use crate::hash_index::{HashIndex, push};

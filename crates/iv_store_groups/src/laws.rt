@@ -1,5 +1,6 @@
 //! What follows from the definitions of groups, as contracts of functions that do nothing.
-ghost use Rattle.iv_store_groups.specs.Laws.{SameIsEqual, GroupsAfter, ConstraintsStay, HeldAfter, IsFiniteMap, PlaceStays, GroupAtPlace, OtherPlacesStay, PutIsAdded, RemovedAndPutBack, AddedAndRemoved, SizeGrows, SizeStays, GroupsLeave, GivenBackIsNothing};
+ghost use Rattle.iv_store_groups.specs.Laws.{SameIsEqual, GroupsAfter, ConstraintsStay, HeldAfter, IsFiniteMap, PlaceStays, GroupAtPlace, OtherPlacesStay};
+ghost use Rattle.iv_store_groups.specs.Laws.{PutIsAdded, RemovedAndPutBack, AddedAndRemoved, SizeGrows, SizeStays, GroupsLeave, GivenBackIsNothing};
 
 /// Does nothing. Its contract states that groups are a finite map from constraints and keys to rows, and that places
 /// stay.

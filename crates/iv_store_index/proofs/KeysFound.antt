@@ -1,5 +1,6 @@
 -- The rows of a key are those among which a search by the key's values finds all.
 use Rattle.std.proofs.Common.{◌≡◌, refl, ℕ, zero, suc, Bool, true, false, ◌&&◌, ◌||◌, not, if◌then◌else◌, List, [], ◌∷◌, filter, Option, Some, None, IfSome, ap, sym, ◌∙◌}
+use Rattle.std.proofs.lemmas.Bool.{not-true}
 use Rattle.std.specs.Bool.{◌==◌}
 use Rattle.std.proofs.lemmas.Bool.Decides.{Decides-int_eq}
 use Rattle.std.proofs.lemmas.Slice.Eq.{bytes_eq-Decides}
@@ -46,15 +47,11 @@ value_asked (a ∷ asked) (v ∷ row) zero h n = sym (same_is a v (by (is_null a
     by true e g = cc
 value_asked (a ∷ asked) (v ∷ row) (suc c) h n = value_asked asked row c (two (is_null a || is_same a v) (has_all asked row) h).1 n
 
-not_null : (b : Bool) → not b ≡ true → b ≡ false
-not_null true h = cc
-not_null false h = refl
-
 key_asked : (columns : List ℕ) (asked row : List Value) → has_all asked row ≡ true → none_null (key_of columns asked) ≡ true → key_of columns row ≡ key_of columns asked
 key_asked [] asked row h n = refl
 key_asked (c ∷ columns) asked row h n =
     let p = two (not (is_null (value_at asked c))) (none_null (key_of columns asked)) n in
-    ap (λ (v : Value). v ∷ key_of columns row) (value_asked asked row c h (not_null (is_null (value_at asked c)) p.0))
+    ap (λ (v : Value). v ∷ key_of columns row) (value_asked asked row c h (not-true (is_null (value_at asked c)) p.0))
     ∙ ap (λ (l : List Value). value_at asked c ∷ l) (key_asked columns asked row h p.1)
 
 -- the row is kept under the key

@@ -1,5 +1,6 @@
 -- Which constraints may be violated: after a change of one row, with more tables or constraints, and among marks.
 use Rattle.std.proofs.Common.{◌≡◌, ℕ, zero, suc, ◌+◌, ◌*◌, ◌<◌, ◌≤◌, ◌⊎◌, inl, inr, Bool, true, false, not, ◌&&◌, ◌||◌, if◌then◌else◌, ◌==◌, Option, Some, None, List, [], ◌∷◌, ◌++◌, ◌∙◌, max, option_map, map, filter, length, length-append, take, drop, remove, arith, refl, ap, sym, subst, IfSome}
+use Rattle.std.proofs.Math.Numerals.{add-one}
 use Rattle.std.proofs.lemmas.Bool.{cases_Bool, or_parts}
 use Rattle.std.specs.Prelude.{nat_lt, find, slice_get, slice_index_or}
 use Rattle.std.specs.List.{list_any}
@@ -389,13 +390,10 @@ split_at (db ∷ d ∷ dbs) (x ∷ xs) (suc n) last base l e =
     let p : (elim (slice_get (d ∷ dbs) n) [ Some found ↦ found | None ↦ base ] ≡ last) × (take n (d ∷ dbs) ≡ xs) = split_at (d ∷ dbs) xs n last base (omega (arith, l)) rest_is in
     (p.0, ap (λ (k : List Database). db ∷ k) p.1 ∙ ap (λ (k : Database). k ∷ xs) first_is)
 
-plus_one : (n : ℕ) → n + 1 ≡ suc n
-plus_one n = omega arith
-
 pub undone_is : (s : StoreState) (n : ℕ) (last : Database) (earlier : List Database) → n < length s.marks → take (n + 1) s.marks ≡ earlier ++ last ∷ []
     → record { tables = s.tables; constraints = s.constraints; base = last; marks = earlier } ≡ store_before_mark s n
 undone_is s n last earlier l e =
-    let p : (marked_database s n ≡ last) × (take n s.marks ≡ earlier) = split_at s.marks earlier n last s.base l (subst (λ k. take k s.marks ≡ earlier ++ last ∷ []) (plus_one n) e) in
+    let p : (marked_database s n ≡ last) × (take n s.marks ≡ earlier) = split_at s.marks earlier n last s.base l (subst (λ k. take k s.marks ≡ earlier ++ last ∷ []) (add-one n) e) in
     ap (λ (db : Database). record { tables = s.tables; constraints = s.constraints; base = db; marks = earlier }) (sym p.0)
     ∙ ap (λ (dbs : List Database). record { tables = s.tables; constraints = s.constraints; base = marked_database s n; marks = dbs }) (sym p.1)
 

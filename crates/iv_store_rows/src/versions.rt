@@ -9,7 +9,9 @@ ghost use Rattle.iv_machine.specs.Invariants.{Rising};
 ghost use Rattle.iv_machine.specs.Waves.{values_at};
 ghost use Rattle.iv_store_rows.specs.InSlots.{live_rows, slots_after};
 ghost use Rattle.iv_store_rows.specs.Filing.{OneChanged, RoomStays, held_after, held_for};
-ghost use Rattle.iv_store_rows.specs.Histories.{marked_databases, marked_of, after_change, with_mark, at_mark, before_mark, without_mark, settled, history_after, saved_of, last_change, noted_at, rows_before, rows_before_last, stepped_back, AllBelow, AllMade, EnoughRoom, HaveSlots};
+ghost use Rattle.iv_store_rows.specs.Histories.{marked_databases, marked_of, after_change, with_mark, at_mark, before_mark, without_mark, settled};
+ghost use Rattle.iv_store_rows.specs.Histories.{history_after, saved_of, last_change, noted_at, rows_before, rows_before_last, stepped_back, AllBelow};
+ghost use Rattle.iv_store_rows.specs.Histories.{AllMade, EnoughRoom, HaveSlots};
 
 use crate::Journal;
 use crate::marked_point::MarkedPoint;

@@ -1,5 +1,6 @@
 -- Numbers that come once.
 use Rattle.std.proofs.Common.{◌≡◌, refl, ℕ, ◌+◌, Bool, true, false, ◌&&◌, ◌||◌, if◌then◌else◌, List, [], ◌∷◌, ◌++◌, filter, flat_map, length, sym, ap, ◌∙◌, arith, length-append}
+use Rattle.std.proofs.Math.Bool.{and-false}
 use Rattle.std.specs.Bool.{◌==◌, nat_lt}
 use Rattle.std.proofs.lemmas.Bool.{eqb-true, eq-eqb, or_parts, or_left, or_right, or_from, false_from_ne_true}
 use Rattle.iv_laws_levels.proofs.Keys.{false_true}
@@ -30,13 +31,9 @@ pub once_filter : (p : ℕ → Bool) (numbers : List ℕ) → NoRepeats numbers 
 once_filter p [] once = tt
 once_filter p (n ∷ numbers) once =
     elim (p n) as (λ b. NoRepeats (if b then n ∷ filter p numbers else filter p numbers)) [
-      | true ↦ (has_filter p n numbers ∙ ap (λ b. p n && b) once.0 ∙ and_false (p n), once_filter p numbers once.1)
+      | true ↦ (has_filter p n numbers ∙ ap (λ b. p n && b) once.0 ∙ and-false (p n), once_filter p numbers once.1)
       | false ↦ once_filter p numbers once.1
     ]
-  where
-    and_false : (b : Bool) → (b && false) ≡ false
-    and_false true = refl
-    and_false false = refl
 
 -- ---- what a list of numbers has, in rising order
 

@@ -1,5 +1,6 @@
 //! Places, some of them flagged.
-ghost use Rattle.std.specs.Prelude.{◌≡◌, ℕ, ◌+◌, ◌-◌, ◌<◌, ◌≤◌, ◌==◌, if◌then◌else◌, List, [], ◌∷◌, ◌++◌, length, slice_index, vec_len, true, false, OnOk, OnErr};
+ghost use Rattle.std.specs.Prelude.{◌≡◌, ℕ, ◌+◌, ◌-◌, ◌<◌, ◌≤◌, ◌==◌, if◌then◌else◌, List, [], ◌∷◌, ◌++◌, length, slice_index};
+ghost use Rattle.std.specs.Prelude.{vec_len, true, false, OnOk, OnErr};
 ghost use Rattle.iv_laws_kept.specs.Numbers.{has};
 ghost use Rattle.iv_store_violating.specs.Flagging.{Paired, flag, flags, with_flag, is_any, NoRepeats};
 

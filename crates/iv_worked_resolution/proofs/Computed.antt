@@ -1,7 +1,6 @@
 -- The worked statements compute.
 use Rattle.std.proofs.Common.{refl}
 use Rattle.std.specs.Fmt.{digits}
-use Rattle.std.specs.Fmt.{digits}
 use Rattle.iv_value.proofs.OnLiterals.{values_on_literals}
 use Rattle.iv_worked_resolution.specs.WorkedUnknown.{WorkedUnknown}
 use Rattle.iv_worked_resolution.specs.WorkedDuplicates.{WorkedDuplicates}
@@ -13,9 +12,23 @@ use Rattle.iv_worked_resolution.specs.WorkedUpdateOf.{WorkedUpdateOf}
 use Rattle.iv_worked_resolution.specs.WorkedNulls.{WorkedNulls}
 use Rattle.iv_worked_resolution.specs.WorkedNames.{WorkedNames}
 use Rattle.iv_worked_resolution.specs.WorkedMeanings.{WorkedMeanings}
+use Rattle.iv_resolution.specs.Scopes.{column_meant, source_named, is_source, source_columns, source_range, range_of}
+use Rattle.iv_resolution.specs.NameFaults.{unknown_in_condition, unknown_in_set, unknown_in_action}
+use Rattle.iv_resolution.specs.Terms.{clash, some_text, misshaped_condition, integer_of, bound_condition}
+use Rattle.iv_resolution.specs.Changes.{clashes_with, value_clashes, misshaped_value, tuple_clashes, misshaped_tuple, kinds_clash, values_clash}
+use Rattle.iv_resolution.specs.Changes.{columns_clash, list_clashes, misshaped_source, misshaped_assignment}
+use Rattle.iv_resolution.specs.Triggers.{subject_of, trigger_names, trigger_variables, variable_named, is_allowed_item, is_allowed_action, sets_old}
+use Rattle.iv_resolution.specs.Triggers.{misshaped_action}
+use Rattle.iv_resolution.specs.Bound.{table_id, default_at, bound_value, target_place, bound_tuple, bound_list, bound_source, bound_columns}
+use Rattle.iv_resolution.specs.Bound.{bound_assignment}
+use Rattle.iv_catalogue.specs.Names.{generated_name}
 
 pub unknown : WorkedUnknown
-unfolding Rattle.iv_resolution.specs.Scopes.column_meant Rattle.iv_resolution.specs.Scopes.source_named Rattle.iv_resolution.specs.Scopes.is_source Rattle.iv_resolution.specs.Scopes.source_columns Rattle.iv_resolution.specs.Scopes.source_range Rattle.iv_resolution.specs.Scopes.range_of Rattle.iv_resolution.specs.NameFaults.unknown_in_condition Rattle.iv_resolution.specs.Terms.clash Rattle.iv_resolution.specs.Terms.some_text Rattle.iv_resolution.specs.Terms.misshaped_condition Rattle.iv_resolution.specs.Terms.integer_of Rattle.iv_resolution.specs.Terms.bound_condition Rattle.iv_resolution.specs.Changes.clashes_with Rattle.iv_resolution.specs.Changes.value_clashes Rattle.iv_resolution.specs.Changes.misshaped_value Rattle.iv_resolution.specs.Changes.tuple_clashes Rattle.iv_resolution.specs.Changes.misshaped_tuple Rattle.iv_resolution.specs.Changes.kinds_clash Rattle.iv_resolution.specs.Changes.values_clash Rattle.iv_resolution.specs.Changes.columns_clash Rattle.iv_resolution.specs.Changes.list_clashes Rattle.iv_resolution.specs.Changes.misshaped_source Rattle.iv_resolution.specs.Changes.misshaped_assignment Rattle.iv_resolution.specs.Triggers.subject_of Rattle.iv_resolution.specs.Triggers.trigger_names Rattle.iv_resolution.specs.Triggers.trigger_variables Rattle.iv_resolution.specs.Triggers.variable_named Rattle.iv_resolution.specs.NameFaults.unknown_in_set Rattle.iv_resolution.specs.NameFaults.unknown_in_action Rattle.iv_resolution.specs.Triggers.is_allowed_item Rattle.iv_resolution.specs.Triggers.is_allowed_action Rattle.iv_resolution.specs.Triggers.sets_old Rattle.iv_resolution.specs.Triggers.misshaped_action Rattle.iv_resolution.specs.Bound.table_id Rattle.iv_resolution.specs.Bound.default_at Rattle.iv_resolution.specs.Bound.bound_value Rattle.iv_resolution.specs.Bound.target_place Rattle.iv_resolution.specs.Bound.bound_tuple Rattle.iv_resolution.specs.Bound.bound_list Rattle.iv_resolution.specs.Bound.bound_source Rattle.iv_resolution.specs.Bound.bound_columns Rattle.iv_resolution.specs.Bound.bound_assignment Rattle.iv_catalogue.specs.Names.generated_name digits
+unfolding column_meant source_named is_source source_columns source_range range_of unknown_in_condition clash some_text misshaped_condition
+    integer_of bound_condition clashes_with value_clashes misshaped_value tuple_clashes misshaped_tuple kinds_clash values_clash columns_clash
+    list_clashes misshaped_source misshaped_assignment subject_of trigger_names trigger_variables variable_named unknown_in_set unknown_in_action
+    is_allowed_item is_allowed_action sets_old misshaped_action table_id default_at bound_value target_place bound_tuple bound_list bound_source
+    bound_columns bound_assignment generated_name digits
 unknown = record {
   unique_of_nothing = refl;
   unique_of_a_column = refl;
@@ -178,7 +191,11 @@ unknown = record {
 }
 
 pub duplicates : WorkedDuplicates
-unfolding Rattle.iv_resolution.specs.Scopes.column_meant Rattle.iv_resolution.specs.Scopes.source_named Rattle.iv_resolution.specs.Scopes.is_source Rattle.iv_resolution.specs.Scopes.source_columns Rattle.iv_resolution.specs.Scopes.source_range Rattle.iv_resolution.specs.Scopes.range_of Rattle.iv_resolution.specs.NameFaults.unknown_in_condition Rattle.iv_resolution.specs.Terms.clash Rattle.iv_resolution.specs.Terms.some_text Rattle.iv_resolution.specs.Terms.misshaped_condition Rattle.iv_resolution.specs.Terms.integer_of Rattle.iv_resolution.specs.Terms.bound_condition Rattle.iv_resolution.specs.Changes.clashes_with Rattle.iv_resolution.specs.Changes.value_clashes Rattle.iv_resolution.specs.Changes.misshaped_value Rattle.iv_resolution.specs.Changes.tuple_clashes Rattle.iv_resolution.specs.Changes.misshaped_tuple Rattle.iv_resolution.specs.Changes.kinds_clash Rattle.iv_resolution.specs.Changes.values_clash Rattle.iv_resolution.specs.Changes.columns_clash Rattle.iv_resolution.specs.Changes.list_clashes Rattle.iv_resolution.specs.Changes.misshaped_source Rattle.iv_resolution.specs.Changes.misshaped_assignment Rattle.iv_resolution.specs.Triggers.subject_of Rattle.iv_resolution.specs.Triggers.trigger_names Rattle.iv_resolution.specs.Triggers.trigger_variables Rattle.iv_resolution.specs.Triggers.variable_named Rattle.iv_resolution.specs.NameFaults.unknown_in_set Rattle.iv_resolution.specs.NameFaults.unknown_in_action Rattle.iv_resolution.specs.Triggers.is_allowed_item Rattle.iv_resolution.specs.Triggers.is_allowed_action Rattle.iv_resolution.specs.Triggers.sets_old Rattle.iv_resolution.specs.Triggers.misshaped_action Rattle.iv_resolution.specs.Bound.table_id Rattle.iv_resolution.specs.Bound.default_at Rattle.iv_resolution.specs.Bound.bound_value Rattle.iv_resolution.specs.Bound.target_place Rattle.iv_resolution.specs.Bound.bound_tuple Rattle.iv_resolution.specs.Bound.bound_list Rattle.iv_resolution.specs.Bound.bound_source Rattle.iv_resolution.specs.Bound.bound_columns Rattle.iv_resolution.specs.Bound.bound_assignment Rattle.iv_catalogue.specs.Names.generated_name digits
+unfolding column_meant source_named is_source source_columns source_range range_of unknown_in_condition clash some_text misshaped_condition
+    integer_of bound_condition clashes_with value_clashes misshaped_value tuple_clashes misshaped_tuple kinds_clash values_clash columns_clash
+    list_clashes misshaped_source misshaped_assignment subject_of trigger_names trigger_variables variable_named unknown_in_set unknown_in_action
+    is_allowed_item is_allowed_action sets_old misshaped_action table_id default_at bound_value target_place bound_tuple bound_list bound_source
+    bound_columns bound_assignment generated_name digits
 duplicates = record {
   table_not_in_use = refl;
   table_called_as_a_trigger = refl;
@@ -237,7 +254,11 @@ duplicates = record {
 }
 
 pub faults : WorkedSchemaFaults
-unfolding Rattle.iv_resolution.specs.Scopes.column_meant Rattle.iv_resolution.specs.Scopes.source_named Rattle.iv_resolution.specs.Scopes.is_source Rattle.iv_resolution.specs.Scopes.source_columns Rattle.iv_resolution.specs.Scopes.source_range Rattle.iv_resolution.specs.Scopes.range_of Rattle.iv_resolution.specs.NameFaults.unknown_in_condition Rattle.iv_resolution.specs.Terms.clash Rattle.iv_resolution.specs.Terms.some_text Rattle.iv_resolution.specs.Terms.misshaped_condition Rattle.iv_resolution.specs.Terms.integer_of Rattle.iv_resolution.specs.Terms.bound_condition Rattle.iv_resolution.specs.Changes.clashes_with Rattle.iv_resolution.specs.Changes.value_clashes Rattle.iv_resolution.specs.Changes.misshaped_value Rattle.iv_resolution.specs.Changes.tuple_clashes Rattle.iv_resolution.specs.Changes.misshaped_tuple Rattle.iv_resolution.specs.Changes.kinds_clash Rattle.iv_resolution.specs.Changes.values_clash Rattle.iv_resolution.specs.Changes.columns_clash Rattle.iv_resolution.specs.Changes.list_clashes Rattle.iv_resolution.specs.Changes.misshaped_source Rattle.iv_resolution.specs.Changes.misshaped_assignment Rattle.iv_resolution.specs.Triggers.subject_of Rattle.iv_resolution.specs.Triggers.trigger_names Rattle.iv_resolution.specs.Triggers.trigger_variables Rattle.iv_resolution.specs.Triggers.variable_named Rattle.iv_resolution.specs.NameFaults.unknown_in_set Rattle.iv_resolution.specs.NameFaults.unknown_in_action Rattle.iv_resolution.specs.Triggers.is_allowed_item Rattle.iv_resolution.specs.Triggers.is_allowed_action Rattle.iv_resolution.specs.Triggers.sets_old Rattle.iv_resolution.specs.Triggers.misshaped_action Rattle.iv_resolution.specs.Bound.table_id Rattle.iv_resolution.specs.Bound.default_at Rattle.iv_resolution.specs.Bound.bound_value Rattle.iv_resolution.specs.Bound.target_place Rattle.iv_resolution.specs.Bound.bound_tuple Rattle.iv_resolution.specs.Bound.bound_list Rattle.iv_resolution.specs.Bound.bound_source Rattle.iv_resolution.specs.Bound.bound_columns Rattle.iv_resolution.specs.Bound.bound_assignment Rattle.iv_catalogue.specs.Names.generated_name digits values_on_literals
+unfolding column_meant source_named is_source source_columns source_range range_of unknown_in_condition clash some_text misshaped_condition
+    integer_of bound_condition clashes_with value_clashes misshaped_value tuple_clashes misshaped_tuple kinds_clash values_clash columns_clash
+    list_clashes misshaped_source misshaped_assignment subject_of trigger_names trigger_variables variable_named unknown_in_set unknown_in_action
+    is_allowed_item is_allowed_action sets_old misshaped_action table_id default_at bound_value target_place bound_tuple bound_list bound_source
+    bound_columns bound_assignment generated_name digits values_on_literals
 faults = record {
   one_column = refl;
   number_for_a_text = refl;
@@ -345,7 +366,11 @@ faults = record {
 }
 
 pub shapes : WorkedShapes
-unfolding Rattle.iv_resolution.specs.Scopes.column_meant Rattle.iv_resolution.specs.Scopes.source_named Rattle.iv_resolution.specs.Scopes.is_source Rattle.iv_resolution.specs.Scopes.source_columns Rattle.iv_resolution.specs.Scopes.source_range Rattle.iv_resolution.specs.Scopes.range_of Rattle.iv_resolution.specs.NameFaults.unknown_in_condition Rattle.iv_resolution.specs.Terms.clash Rattle.iv_resolution.specs.Terms.some_text Rattle.iv_resolution.specs.Terms.misshaped_condition Rattle.iv_resolution.specs.Terms.integer_of Rattle.iv_resolution.specs.Terms.bound_condition Rattle.iv_resolution.specs.Changes.clashes_with Rattle.iv_resolution.specs.Changes.value_clashes Rattle.iv_resolution.specs.Changes.misshaped_value Rattle.iv_resolution.specs.Changes.tuple_clashes Rattle.iv_resolution.specs.Changes.misshaped_tuple Rattle.iv_resolution.specs.Changes.kinds_clash Rattle.iv_resolution.specs.Changes.values_clash Rattle.iv_resolution.specs.Changes.columns_clash Rattle.iv_resolution.specs.Changes.list_clashes Rattle.iv_resolution.specs.Changes.misshaped_source Rattle.iv_resolution.specs.Changes.misshaped_assignment Rattle.iv_resolution.specs.Triggers.subject_of Rattle.iv_resolution.specs.Triggers.trigger_names Rattle.iv_resolution.specs.Triggers.trigger_variables Rattle.iv_resolution.specs.Triggers.variable_named Rattle.iv_resolution.specs.NameFaults.unknown_in_set Rattle.iv_resolution.specs.NameFaults.unknown_in_action Rattle.iv_resolution.specs.Triggers.is_allowed_item Rattle.iv_resolution.specs.Triggers.is_allowed_action Rattle.iv_resolution.specs.Triggers.sets_old Rattle.iv_resolution.specs.Triggers.misshaped_action Rattle.iv_resolution.specs.Bound.table_id Rattle.iv_resolution.specs.Bound.default_at Rattle.iv_resolution.specs.Bound.bound_value Rattle.iv_resolution.specs.Bound.target_place Rattle.iv_resolution.specs.Bound.bound_tuple Rattle.iv_resolution.specs.Bound.bound_list Rattle.iv_resolution.specs.Bound.bound_source Rattle.iv_resolution.specs.Bound.bound_columns Rattle.iv_resolution.specs.Bound.bound_assignment Rattle.iv_catalogue.specs.Names.generated_name digits
+unfolding column_meant source_named is_source source_columns source_range range_of unknown_in_condition clash some_text misshaped_condition
+    integer_of bound_condition clashes_with value_clashes misshaped_value tuple_clashes misshaped_tuple kinds_clash values_clash columns_clash
+    list_clashes misshaped_source misshaped_assignment subject_of trigger_names trigger_variables variable_named unknown_in_set unknown_in_action
+    is_allowed_item is_allowed_action sets_old misshaped_action table_id default_at bound_value target_place bound_tuple bound_list bound_source
+    bound_columns bound_assignment generated_name digits
 shapes = record {
   text_compared_in_a_check = refl;
   integer_compared_in_a_check = refl;
@@ -466,7 +491,11 @@ shapes = record {
 }
 
 pub limits : WorkedLimits
-unfolding Rattle.iv_resolution.specs.Scopes.column_meant Rattle.iv_resolution.specs.Scopes.source_named Rattle.iv_resolution.specs.Scopes.is_source Rattle.iv_resolution.specs.Scopes.source_columns Rattle.iv_resolution.specs.Scopes.source_range Rattle.iv_resolution.specs.Scopes.range_of Rattle.iv_resolution.specs.NameFaults.unknown_in_condition Rattle.iv_resolution.specs.Terms.clash Rattle.iv_resolution.specs.Terms.some_text Rattle.iv_resolution.specs.Terms.misshaped_condition Rattle.iv_resolution.specs.Terms.integer_of Rattle.iv_resolution.specs.Terms.bound_condition Rattle.iv_resolution.specs.Changes.clashes_with Rattle.iv_resolution.specs.Changes.value_clashes Rattle.iv_resolution.specs.Changes.misshaped_value Rattle.iv_resolution.specs.Changes.tuple_clashes Rattle.iv_resolution.specs.Changes.misshaped_tuple Rattle.iv_resolution.specs.Changes.kinds_clash Rattle.iv_resolution.specs.Changes.values_clash Rattle.iv_resolution.specs.Changes.columns_clash Rattle.iv_resolution.specs.Changes.list_clashes Rattle.iv_resolution.specs.Changes.misshaped_source Rattle.iv_resolution.specs.Changes.misshaped_assignment Rattle.iv_resolution.specs.Triggers.subject_of Rattle.iv_resolution.specs.Triggers.trigger_names Rattle.iv_resolution.specs.Triggers.trigger_variables Rattle.iv_resolution.specs.Triggers.variable_named Rattle.iv_resolution.specs.NameFaults.unknown_in_set Rattle.iv_resolution.specs.NameFaults.unknown_in_action Rattle.iv_resolution.specs.Triggers.is_allowed_item Rattle.iv_resolution.specs.Triggers.is_allowed_action Rattle.iv_resolution.specs.Triggers.sets_old Rattle.iv_resolution.specs.Triggers.misshaped_action Rattle.iv_resolution.specs.Bound.table_id Rattle.iv_resolution.specs.Bound.default_at Rattle.iv_resolution.specs.Bound.bound_value Rattle.iv_resolution.specs.Bound.target_place Rattle.iv_resolution.specs.Bound.bound_tuple Rattle.iv_resolution.specs.Bound.bound_list Rattle.iv_resolution.specs.Bound.bound_source Rattle.iv_resolution.specs.Bound.bound_columns Rattle.iv_resolution.specs.Bound.bound_assignment Rattle.iv_catalogue.specs.Names.generated_name digits
+unfolding column_meant source_named is_source source_columns source_range range_of unknown_in_condition clash some_text misshaped_condition
+    integer_of bound_condition clashes_with value_clashes misshaped_value tuple_clashes misshaped_tuple kinds_clash values_clash columns_clash
+    list_clashes misshaped_source misshaped_assignment subject_of trigger_names trigger_variables variable_named unknown_in_set unknown_in_action
+    is_allowed_item is_allowed_action sets_old misshaped_action table_id default_at bound_value target_place bound_tuple bound_list bound_source
+    bound_columns bound_assignment generated_name digits
 limits = record {
   table_65 = refl;
   table_64 = refl;
@@ -587,7 +616,11 @@ limits = record {
 }
 
 pub order : WorkedOrder
-unfolding Rattle.iv_resolution.specs.Scopes.column_meant Rattle.iv_resolution.specs.Scopes.source_named Rattle.iv_resolution.specs.Scopes.is_source Rattle.iv_resolution.specs.Scopes.source_columns Rattle.iv_resolution.specs.Scopes.source_range Rattle.iv_resolution.specs.Scopes.range_of Rattle.iv_resolution.specs.NameFaults.unknown_in_condition Rattle.iv_resolution.specs.Terms.clash Rattle.iv_resolution.specs.Terms.some_text Rattle.iv_resolution.specs.Terms.misshaped_condition Rattle.iv_resolution.specs.Terms.integer_of Rattle.iv_resolution.specs.Terms.bound_condition Rattle.iv_resolution.specs.Changes.clashes_with Rattle.iv_resolution.specs.Changes.value_clashes Rattle.iv_resolution.specs.Changes.misshaped_value Rattle.iv_resolution.specs.Changes.tuple_clashes Rattle.iv_resolution.specs.Changes.misshaped_tuple Rattle.iv_resolution.specs.Changes.kinds_clash Rattle.iv_resolution.specs.Changes.values_clash Rattle.iv_resolution.specs.Changes.columns_clash Rattle.iv_resolution.specs.Changes.list_clashes Rattle.iv_resolution.specs.Changes.misshaped_source Rattle.iv_resolution.specs.Changes.misshaped_assignment Rattle.iv_resolution.specs.Triggers.subject_of Rattle.iv_resolution.specs.Triggers.trigger_names Rattle.iv_resolution.specs.Triggers.trigger_variables Rattle.iv_resolution.specs.Triggers.variable_named Rattle.iv_resolution.specs.NameFaults.unknown_in_set Rattle.iv_resolution.specs.NameFaults.unknown_in_action Rattle.iv_resolution.specs.Triggers.is_allowed_item Rattle.iv_resolution.specs.Triggers.is_allowed_action Rattle.iv_resolution.specs.Triggers.sets_old Rattle.iv_resolution.specs.Triggers.misshaped_action Rattle.iv_resolution.specs.Bound.table_id Rattle.iv_resolution.specs.Bound.default_at Rattle.iv_resolution.specs.Bound.bound_value Rattle.iv_resolution.specs.Bound.target_place Rattle.iv_resolution.specs.Bound.bound_tuple Rattle.iv_resolution.specs.Bound.bound_list Rattle.iv_resolution.specs.Bound.bound_source Rattle.iv_resolution.specs.Bound.bound_columns Rattle.iv_resolution.specs.Bound.bound_assignment Rattle.iv_catalogue.specs.Names.generated_name digits values_on_literals
+unfolding column_meant source_named is_source source_columns source_range range_of unknown_in_condition clash some_text misshaped_condition
+    integer_of bound_condition clashes_with value_clashes misshaped_value tuple_clashes misshaped_tuple kinds_clash values_clash columns_clash
+    list_clashes misshaped_source misshaped_assignment subject_of trigger_names trigger_variables variable_named unknown_in_set unknown_in_action
+    is_allowed_item is_allowed_action sets_old misshaped_action table_id default_at bound_value target_place bound_tuple bound_list bound_source
+    bound_columns bound_assignment generated_name digits values_on_literals
 order = record {
   table_in_use_that_refers_to_nothing = refl;
   check_of_nothing_with_exists = refl;
@@ -630,7 +663,11 @@ order = record {
 }
 
 pub update_of : WorkedUpdateOf
-unfolding Rattle.iv_resolution.specs.Scopes.column_meant Rattle.iv_resolution.specs.Scopes.source_named Rattle.iv_resolution.specs.Scopes.is_source Rattle.iv_resolution.specs.Scopes.source_columns Rattle.iv_resolution.specs.Scopes.source_range Rattle.iv_resolution.specs.Scopes.range_of Rattle.iv_resolution.specs.NameFaults.unknown_in_condition Rattle.iv_resolution.specs.Terms.clash Rattle.iv_resolution.specs.Terms.some_text Rattle.iv_resolution.specs.Terms.misshaped_condition Rattle.iv_resolution.specs.Terms.integer_of Rattle.iv_resolution.specs.Terms.bound_condition Rattle.iv_resolution.specs.Changes.clashes_with Rattle.iv_resolution.specs.Changes.value_clashes Rattle.iv_resolution.specs.Changes.misshaped_value Rattle.iv_resolution.specs.Changes.tuple_clashes Rattle.iv_resolution.specs.Changes.misshaped_tuple Rattle.iv_resolution.specs.Changes.kinds_clash Rattle.iv_resolution.specs.Changes.values_clash Rattle.iv_resolution.specs.Changes.columns_clash Rattle.iv_resolution.specs.Changes.list_clashes Rattle.iv_resolution.specs.Changes.misshaped_source Rattle.iv_resolution.specs.Changes.misshaped_assignment Rattle.iv_resolution.specs.Triggers.subject_of Rattle.iv_resolution.specs.Triggers.trigger_names Rattle.iv_resolution.specs.Triggers.trigger_variables Rattle.iv_resolution.specs.Triggers.variable_named Rattle.iv_resolution.specs.NameFaults.unknown_in_set Rattle.iv_resolution.specs.NameFaults.unknown_in_action Rattle.iv_resolution.specs.Triggers.is_allowed_item Rattle.iv_resolution.specs.Triggers.is_allowed_action Rattle.iv_resolution.specs.Triggers.sets_old Rattle.iv_resolution.specs.Triggers.misshaped_action Rattle.iv_resolution.specs.Bound.table_id Rattle.iv_resolution.specs.Bound.default_at Rattle.iv_resolution.specs.Bound.bound_value Rattle.iv_resolution.specs.Bound.target_place Rattle.iv_resolution.specs.Bound.bound_tuple Rattle.iv_resolution.specs.Bound.bound_list Rattle.iv_resolution.specs.Bound.bound_source Rattle.iv_resolution.specs.Bound.bound_columns Rattle.iv_resolution.specs.Bound.bound_assignment Rattle.iv_catalogue.specs.Names.generated_name digits values_on_literals
+unfolding column_meant source_named is_source source_columns source_range range_of unknown_in_condition clash some_text misshaped_condition
+    integer_of bound_condition clashes_with value_clashes misshaped_value tuple_clashes misshaped_tuple kinds_clash values_clash columns_clash
+    list_clashes misshaped_source misshaped_assignment subject_of trigger_names trigger_variables variable_named unknown_in_set unknown_in_action
+    is_allowed_item is_allowed_action sets_old misshaped_action table_id default_at bound_value target_place bound_tuple bound_list bound_source
+    bound_columns bound_assignment generated_name digits values_on_literals
 update_of = record {
   column_of_the_table = refl;
   all_columns_of_the_table = refl;
@@ -654,7 +691,11 @@ update_of = record {
 }
 
 pub nulls : WorkedNulls
-unfolding Rattle.iv_resolution.specs.Scopes.column_meant Rattle.iv_resolution.specs.Scopes.source_named Rattle.iv_resolution.specs.Scopes.is_source Rattle.iv_resolution.specs.Scopes.source_columns Rattle.iv_resolution.specs.Scopes.source_range Rattle.iv_resolution.specs.Scopes.range_of Rattle.iv_resolution.specs.NameFaults.unknown_in_condition Rattle.iv_resolution.specs.Terms.clash Rattle.iv_resolution.specs.Terms.some_text Rattle.iv_resolution.specs.Terms.misshaped_condition Rattle.iv_resolution.specs.Terms.integer_of Rattle.iv_resolution.specs.Terms.bound_condition Rattle.iv_resolution.specs.Changes.clashes_with Rattle.iv_resolution.specs.Changes.value_clashes Rattle.iv_resolution.specs.Changes.misshaped_value Rattle.iv_resolution.specs.Changes.tuple_clashes Rattle.iv_resolution.specs.Changes.misshaped_tuple Rattle.iv_resolution.specs.Changes.kinds_clash Rattle.iv_resolution.specs.Changes.values_clash Rattle.iv_resolution.specs.Changes.columns_clash Rattle.iv_resolution.specs.Changes.list_clashes Rattle.iv_resolution.specs.Changes.misshaped_source Rattle.iv_resolution.specs.Changes.misshaped_assignment Rattle.iv_resolution.specs.Triggers.subject_of Rattle.iv_resolution.specs.Triggers.trigger_names Rattle.iv_resolution.specs.Triggers.trigger_variables Rattle.iv_resolution.specs.Triggers.variable_named Rattle.iv_resolution.specs.NameFaults.unknown_in_set Rattle.iv_resolution.specs.NameFaults.unknown_in_action Rattle.iv_resolution.specs.Triggers.is_allowed_item Rattle.iv_resolution.specs.Triggers.is_allowed_action Rattle.iv_resolution.specs.Triggers.sets_old Rattle.iv_resolution.specs.Triggers.misshaped_action Rattle.iv_resolution.specs.Bound.table_id Rattle.iv_resolution.specs.Bound.default_at Rattle.iv_resolution.specs.Bound.bound_value Rattle.iv_resolution.specs.Bound.target_place Rattle.iv_resolution.specs.Bound.bound_tuple Rattle.iv_resolution.specs.Bound.bound_list Rattle.iv_resolution.specs.Bound.bound_source Rattle.iv_resolution.specs.Bound.bound_columns Rattle.iv_resolution.specs.Bound.bound_assignment Rattle.iv_catalogue.specs.Names.generated_name digits values_on_literals
+unfolding column_meant source_named is_source source_columns source_range range_of unknown_in_condition clash some_text misshaped_condition
+    integer_of bound_condition clashes_with value_clashes misshaped_value tuple_clashes misshaped_tuple kinds_clash values_clash columns_clash
+    list_clashes misshaped_source misshaped_assignment subject_of trigger_names trigger_variables variable_named unknown_in_set unknown_in_action
+    is_allowed_item is_allowed_action sets_old misshaped_action table_id default_at bound_value target_place bound_tuple bound_list bound_source
+    bound_columns bound_assignment generated_name digits values_on_literals
 nulls = record {
   in_a_column = refl;
   of_two_columns = refl;
@@ -736,7 +777,11 @@ names = record {
 }
 
 pub meanings : WorkedMeanings
-unfolding Rattle.iv_resolution.specs.Scopes.column_meant Rattle.iv_resolution.specs.Scopes.source_named Rattle.iv_resolution.specs.Scopes.is_source Rattle.iv_resolution.specs.Scopes.source_columns Rattle.iv_resolution.specs.Scopes.source_range Rattle.iv_resolution.specs.Scopes.range_of Rattle.iv_resolution.specs.NameFaults.unknown_in_condition Rattle.iv_resolution.specs.Terms.clash Rattle.iv_resolution.specs.Terms.some_text Rattle.iv_resolution.specs.Terms.misshaped_condition Rattle.iv_resolution.specs.Terms.integer_of Rattle.iv_resolution.specs.Terms.bound_condition Rattle.iv_resolution.specs.Changes.clashes_with Rattle.iv_resolution.specs.Changes.value_clashes Rattle.iv_resolution.specs.Changes.misshaped_value Rattle.iv_resolution.specs.Changes.tuple_clashes Rattle.iv_resolution.specs.Changes.misshaped_tuple Rattle.iv_resolution.specs.Changes.kinds_clash Rattle.iv_resolution.specs.Changes.values_clash Rattle.iv_resolution.specs.Changes.columns_clash Rattle.iv_resolution.specs.Changes.list_clashes Rattle.iv_resolution.specs.Changes.misshaped_source Rattle.iv_resolution.specs.Changes.misshaped_assignment Rattle.iv_resolution.specs.Triggers.subject_of Rattle.iv_resolution.specs.Triggers.trigger_names Rattle.iv_resolution.specs.Triggers.trigger_variables Rattle.iv_resolution.specs.Triggers.variable_named Rattle.iv_resolution.specs.NameFaults.unknown_in_set Rattle.iv_resolution.specs.NameFaults.unknown_in_action Rattle.iv_resolution.specs.Triggers.is_allowed_item Rattle.iv_resolution.specs.Triggers.is_allowed_action Rattle.iv_resolution.specs.Triggers.sets_old Rattle.iv_resolution.specs.Triggers.misshaped_action Rattle.iv_resolution.specs.Bound.table_id Rattle.iv_resolution.specs.Bound.default_at Rattle.iv_resolution.specs.Bound.bound_value Rattle.iv_resolution.specs.Bound.target_place Rattle.iv_resolution.specs.Bound.bound_tuple Rattle.iv_resolution.specs.Bound.bound_list Rattle.iv_resolution.specs.Bound.bound_source Rattle.iv_resolution.specs.Bound.bound_columns Rattle.iv_resolution.specs.Bound.bound_assignment Rattle.iv_catalogue.specs.Names.generated_name digits values_on_literals
+unfolding column_meant source_named is_source source_columns source_range range_of unknown_in_condition clash some_text misshaped_condition
+    integer_of bound_condition clashes_with value_clashes misshaped_value tuple_clashes misshaped_tuple kinds_clash values_clash columns_clash
+    list_clashes misshaped_source misshaped_assignment subject_of trigger_names trigger_variables variable_named unknown_in_set unknown_in_action
+    is_allowed_item is_allowed_action sets_old misshaped_action table_id default_at bound_value target_place bound_tuple bound_list bound_source
+    bound_columns bound_assignment generated_name digits values_on_literals
 meanings = record {
   match_full_and_two_actions = refl;
   match_simple_and_no_action = refl;

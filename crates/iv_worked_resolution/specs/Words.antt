@@ -112,7 +112,11 @@ signalling name = record {
 abbrev pub schema : Schema
 schema = record {
   tables =
-      record { name = t; columns = record { name = a; kind = kind.Integer; default = value.Null } ∷ record { name = b; kind = kind.Varchar 2; default = value.Null } ∷ [] }
+      record {
+        name = t;
+        columns = record { name = a; kind = kind.Integer; default = value.Null }
+            ∷ record { name = b; kind = kind.Varchar 2; default = value.Null } ∷ [];
+      }
       ∷ record { name = p; columns = record { name = k; kind = kind.Integer; default = value.Null } ∷ [] }
       ∷ record {
         name = q;
@@ -120,7 +124,11 @@ schema = record {
             record { name = a; kind = kind.Integer; default = value.Null } ∷ record { name = b; kind = kind.Varchar 2; default = value.Null }
             ∷ record { name = k; kind = kind.Integer; default = value.Null } ∷ record { name = z; kind = kind.Integer; default = value.Null } ∷ [];
       }
-      ∷ record { name = d; columns = record { name = k; kind = kind.Integer; default = value.Null } ∷ record { name = a; kind = kind.Integer; default = value.Null } ∷ [] }
+      ∷ record {
+        name = d;
+        columns = record { name = k; kind = kind.Integer; default = value.Null }
+            ∷ record { name = a; kind = kind.Integer; default = value.Null } ∷ [];
+      }
       ∷ [];
   constraints =
       record { name = codes "P_C1"; table = 1; rule = rule.PrimaryKey (0 ∷ []); deferrable = false; initially = mode.Immediate }

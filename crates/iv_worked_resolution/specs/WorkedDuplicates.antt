@@ -41,7 +41,8 @@ pub record WorkedDuplicates : Type 0 where
   pub given_name_in_use :
       least schema (create (column_of a type.Integer None (in_column (Some (codes "P_C1")) (column_rule.Unique Distinct) any_time ∷ []) ∷ [])) ≡ Some Duplicate
   -- CREATE TABLE w (a INT CONSTRAINT p_c2 UNIQUE);
-  pub given_name_not_in_use : least schema (create (column_of a type.Integer None (in_column (Some (codes "P_C2")) (column_rule.Unique Distinct) any_time ∷ []) ∷ [])) ≡ None
+  pub given_name_not_in_use : least schema
+      (create (column_of a type.Integer None (in_column (Some (codes "P_C2")) (column_rule.Unique Distinct) any_time ∷ []) ∷ [])) ≡ None
   -- CREATE TABLE w (a INT, CONSTRAINT t UNIQUE (a));
   pub constraint_called_as_a_table : least schema (create (defined a type.Integer None [] ∷ named t (table_rule.Unique Distinct (a ∷ [])) ∷ [])) ≡ None
   -- CREATE TABLE v (a INT NOT NULL);
@@ -66,9 +67,11 @@ pub record WorkedDuplicates : Type 0 where
       least schema (create (column_of a type.Integer None (in_column None column_rule.NotNull any_time ∷ in_column (Some (codes "W_C1")) (column_rule.Unique Distinct) any_time ∷ []) ∷ [])) ≡ Some Duplicate
   -- CREATE TABLE w (a INT, b INT, UNIQUE (a, b));
   pub unique_of_two_columns :
-      least schema (create (defined a type.Integer None [] ∷ defined b type.Integer None [] ∷ constrained (table_rule.Unique Distinct (a ∷ b ∷ [])) ∷ [])) ≡ None
+      least schema (create (defined a type.Integer None [] ∷ defined b type.Integer None [] ∷ constrained (table_rule.Unique Distinct (a ∷ b ∷ [])) ∷ []))
+      ≡ None
   -- CREATE TABLE w (a INT UNIQUE, UNIQUE (a));
-  pub column_in_two_keys : least schema (create (defined a type.Integer None ((column_rule.Unique Distinct) ∷ []) ∷ constrained (table_rule.Unique Distinct (a ∷ [])) ∷ [])) ≡ None
+  pub column_in_two_keys : least schema
+      (create (defined a type.Integer None ((column_rule.Unique Distinct) ∷ []) ∷ constrained (table_rule.Unique Distinct (a ∷ [])) ∷ [])) ≡ None
   -- CREATE TABLE w (a INT, PRIMARY KEY (a, a));
   pub primary_key_column_twice : least schema (create (defined a type.Integer None [] ∷ constrained (table_rule.PrimaryKey (a ∷ a ∷ [])) ∷ [])) ≡ Some Duplicate
   -- CREATE TABLE w (a INT, b INT, PRIMARY KEY (a, b));
@@ -92,9 +95,11 @@ pub record WorkedDuplicates : Type 0 where
   -- ALTER TABLE d ADD UNIQUE (a);
   pub added_name_is_generated_in_use : least schema (statement.AlterTable d (constraint None (table_rule.Unique Distinct (a ∷ [])) any_time)) ≡ Some Duplicate
   -- ALTER TABLE d ADD CONSTRAINT d_c4 UNIQUE (a);
-  pub added_name_is_given_instead : least schema (statement.AlterTable d (constraint (Some (codes "D_C4")) (table_rule.Unique Distinct (a ∷ [])) any_time)) ≡ None
+  pub added_name_is_given_instead : least schema (statement.AlterTable d (constraint (Some (codes "D_C4")) (table_rule.Unique Distinct (a ∷ [])) any_time))
+      ≡ None
   -- ALTER TABLE q ADD CONSTRAINT q_c3 UNIQUE (a);
-  pub added_name_is_generated_for_its_place : least schema (statement.AlterTable q (constraint (Some (codes "Q_C3")) (table_rule.Unique Distinct (a ∷ [])) any_time)) ≡ None
+  pub added_name_is_generated_for_its_place : least schema
+      (statement.AlterTable q (constraint (Some (codes "Q_C3")) (table_rule.Unique Distinct (a ∷ [])) any_time)) ≡ None
   -- ALTER TABLE t ADD UNIQUE (a, a);
   pub added_unique_column_twice : least schema (statement.AlterTable t (constraint None (table_rule.Unique Distinct (a ∷ a ∷ [])) any_time)) ≡ Some Duplicate
   -- ALTER TABLE t ADD UNIQUE (a, b);
@@ -153,7 +158,8 @@ pub record WorkedDuplicates : Type 0 where
   pub insert_of_two_columns : least schema (insert_into t (Some (a ∷ b ∷ [])) (one ∷ text ∷ [])) ≡ None
   -- INSERT INTO t (a, a) SELECT a, a FROM t;
   pub insert_from_a_query_of_a_column_twice :
-      least schema (statement.Insert (insert.Rows t (Some (a ∷ a ∷ [])) (source.Select (list.Values (column a ∷ column a ∷ [])) (from t) None))) ≡ Some Duplicate
+      least schema (statement.Insert (insert.Rows t (Some (a ∷ a ∷ [])) (source.Select (list.Values (column a ∷ column a ∷ [])) (from t) None)))
+      ≡ Some Duplicate
   -- INSERT INTO t (b, a) SELECT b, a FROM t;
   pub insert_from_a_query_of_two_columns :
       least schema (statement.Insert (insert.Rows t (Some (b ∷ a ∷ [])) (source.Select (list.Values (column b ∷ column a ∷ [])) (from t) None))) ≡ None

@@ -27,9 +27,11 @@ use Rattle.iv_worked_resolution.specs.Words.sign.{Plus, Minus}
 use Rattle.iv_worked_resolution.specs.Words.cause.{Limit}
 use Rattle.iv_syntax.specs.Trees.{group, signed, product, sum, enclosed, negated, both, either, exists_where}
 use Rattle.iv_resolution.specs.Resolution.{least}
-use Rattle.iv_resolution.specs.Worked.{a, k, p, t, column, one, from, called, any_time, item, insert_into, select_of, delete_where, defined, constrained, named, create}
+use Rattle.iv_resolution.specs.Worked.{a, k, p, t, column, one, from, called, any_time, item, insert_into, select_of, delete_where, defined, constrained}
+use Rattle.iv_resolution.specs.Worked.{named, create}
 use Rattle.iv_worked_resolution.specs.Words.{n, r, schema, sets, update_of, delete_of, in_column, column_of, constraint, trigger_of}
-use Rattle.iv_worked_resolution.specs.Many.{numbered, columns, long_name, enclosed_by, grouped_by, with_tables, with_constraints, with_triggers, wide, first_digit, not_nulls, signals}
+use Rattle.iv_worked_resolution.specs.Many.{numbered, columns, long_name, enclosed_by, grouped_by, with_tables, with_constraints, with_triggers, wide}
+use Rattle.iv_worked_resolution.specs.Many.{first_digit, not_nulls, signals}
 
 pub record WorkedLimits : Type 0 where
   -- ---- tables, columns, constraints and keys
@@ -129,7 +131,8 @@ pub record WorkedLimits : Type 0 where
   pub name_of_a_constraint_of_a_column :
       least schema (create (column_of a type.Integer None (in_column (Some first_digit) (column_rule.Unique Distinct) any_time ∷ []) ∷ [])) ≡ Some Limit
   -- ALTER TABLE t ADD CONSTRAINT 1a UNIQUE (a);
-  pub name_of_an_added_constraint : least schema (statement.AlterTable t (constraint (Some first_digit) (table_rule.Unique Distinct (a ∷ [])) any_time)) ≡ Some Limit
+  pub name_of_an_added_constraint : least schema (statement.AlterTable t (constraint (Some first_digit) (table_rule.Unique Distinct (a ∷ [])) any_time))
+      ≡ Some Limit
   -- CREATE TRIGGER 1a AFTER INSERT ON t SIGNAL 'x';
   pub name_of_a_trigger : least schema (trigger_of first_digit time.After event.Insert t [] granularity.Statement None (signals 1)) ≡ Some Limit
   -- CREATE TRIGGER r AFTER INSERT ON t REFERENCING NEW TABLE AS 1a SIGNAL 'x';
@@ -144,14 +147,16 @@ pub record WorkedLimits : Type 0 where
   -- DELETE FROM t WHERE EXISTS (SELECT * FROM p AS 1a);
   pub name_of_a_range_in_exists : least schema (delete_where t (condition.Exists (called p first_digit))) ≡ Some Limit
   -- DELETE FROM t WHERE EXISTS (SELECT * FROM p AS 1a WHERE k = 1);
-  pub name_of_a_range_in_exists_where : least schema (delete_where t (exists_where (called p first_digit) (condition.Compare Equal (column k) one))) ≡ Some Limit
+  pub name_of_a_range_in_exists_where : least schema (delete_where t (exists_where (called p first_digit) (condition.Compare Equal (column k) one)))
+      ≡ Some Limit
   -- ---- numbers
   -- CREATE TABLE w (a INT DEFAULT 9223372036854775808);
   pub number_of_a_default : least schema (create (defined a type.Integer (Some (literal.Number None 9223372036854775808)) [] ∷ [])) ≡ Some Limit
   -- CREATE TABLE w (a INT DEFAULT 9223372036854775807);
   pub greatest_number_of_a_default : least schema (create (defined a type.Integer (Some (literal.Number None 9223372036854775807)) [] ∷ [])) ≡ None
   -- CREATE TABLE w (a INT DEFAULT -9223372036854775808);
-  pub negative_number_of_a_default : least schema (create (defined a type.Integer (Some (literal.Number (Some Minus) 9223372036854775808)) [] ∷ [])) ≡ Some Limit
+  pub negative_number_of_a_default : least schema (create (defined a type.Integer (Some (literal.Number (Some Minus) 9223372036854775808)) [] ∷ []))
+      ≡ Some Limit
   -- DELETE FROM t WHERE a = 9223372036854775807;
   pub greatest_number : least schema (delete_where t (condition.Compare Equal (column a) (expression.Number 9223372036854775807))) ≡ None
   -- DELETE FROM t WHERE 9223372036854775808 = a;
@@ -199,7 +204,8 @@ pub record WorkedLimits : Type 0 where
   pub number_in_a_list : least schema (select_of (expression.Number 9223372036854775808) (from t) None) ≡ Some Limit
   -- SELECT * FROM t WHERE a = 9223372036854775808;
   pub number_in_the_condition_of_a_select :
-      least schema (statement.Select (select.Rows list.Star (from t) (Some (condition.Compare Equal (column a) (expression.Number 9223372036854775808))))) ≡ Some Limit
+      least schema (statement.Select (select.Rows list.Star (from t) (Some (condition.Compare Equal (column a) (expression.Number 9223372036854775808)))))
+      ≡ Some Limit
   -- SELECT COUNT(*) FROM t WHERE a = 9223372036854775808;
   pub number_in_the_condition_of_a_count :
       least schema (statement.Select (select.Count (from t) (Some (condition.Compare Equal (column a) (expression.Number 9223372036854775808))))) ≡ Some Limit
@@ -262,9 +268,11 @@ pub record WorkedLimits : Type 0 where
   -- INSERT INTO p VALUES (1 * .. 1 in 62 pairs of parentheses ..);
   pub product_of_depth_64 : least schema (insert_into p None (product one (grouped_by 62 one) ∷ [])) ≡ None
   -- UPDATE t SET a = .. 1 in 64 pairs of parentheses ..;
-  pub set_of_depth_65 : least schema (statement.Update (record { table = t; assignments = record { column = a; value = given.Value (grouped_by 64 one) } ∷ []; filter = None })) ≡ Some Limit
+  pub set_of_depth_65 : least schema
+      (statement.Update (record { table = t; assignments = record { column = a; value = given.Value (grouped_by 64 one) } ∷ []; filter = None })) ≡ Some Limit
   -- UPDATE t SET a = .. 1 in 63 pairs of parentheses ..;
-  pub set_of_depth_64 : least schema (statement.Update (record { table = t; assignments = record { column = a; value = given.Value (grouped_by 63 one) } ∷ []; filter = None })) ≡ None
+  pub set_of_depth_64 : least schema
+      (statement.Update (record { table = t; assignments = record { column = a; value = given.Value (grouped_by 63 one) } ∷ []; filter = None })) ≡ None
   -- DELETE FROM t WHERE 1 = 1 AND .. 1 = 1 in 62 pairs of parentheses ..;
   pub and_of_depth_65 : least schema (delete_where t (both (condition.Compare Equal one one) (enclosed_by 62 (condition.Compare Equal one one)))) ≡ Some Limit
   -- DELETE FROM t WHERE 1 = 1 AND .. 1 = 1 in 61 pairs of parentheses ..;

@@ -39,13 +39,28 @@ pub record WorkedMeanings : Type 0 where
       bound tables (create (column_of a type.Integer None
       (in_column (Some x) (column_rule.References (record { table = p; columns = None; matching = Some matching.Full; on_delete = Some action.Cascade; on_update = Some action.SetNull })) (record { deferrable = None; initially = None }) ∷ []) ∷ []))
       ≡ plan.Schema (schema_plan.CreateTable (record { name = w; columns = record { name = a; kind = kind.Integer; default = value.Null } ∷ [] })
-      (record { name = x; table = 2; rule = rule.ForeignKey (record { columns = 0 ∷ []; referenced = 1; key = 0 ∷ []; matching = matching.Full; on_delete = action.Cascade; on_update = action.SetNull }); deferrable = false; initially = mode.Immediate } ∷ []))
+      (record {
+        name = x;
+        table = 2;
+        rule = rule.ForeignKey
+            (record { columns = 0 ∷ []; referenced = 1; key = 0 ∷ []; matching = matching.Full; on_delete = action.Cascade; on_update = action.SetNull });
+        deferrable = false;
+        initially = mode.Immediate;
+      } ∷ []))
   -- CREATE TABLE w (a INT CONSTRAINT x REFERENCES p);
   pub match_simple_and_no_action :
       bound tables (create (column_of a type.Integer None
-      (in_column (Some x) (column_rule.References (record { table = p; columns = None; matching = None; on_delete = None; on_update = None })) (record { deferrable = None; initially = None }) ∷ []) ∷ []))
+      (in_column (Some x) (column_rule.References (record { table = p; columns = None; matching = None; on_delete = None; on_update = None }))
+      (record { deferrable = None; initially = None }) ∷ []) ∷ []))
       ≡ plan.Schema (schema_plan.CreateTable (record { name = w; columns = record { name = a; kind = kind.Integer; default = value.Null } ∷ [] })
-      (record { name = x; table = 2; rule = rule.ForeignKey (record { columns = 0 ∷ []; referenced = 1; key = 0 ∷ []; matching = matching.Simple; on_delete = action.NoAction; on_update = action.NoAction }); deferrable = false; initially = mode.Immediate } ∷ []))
+      (record {
+        name = x;
+        table = 2;
+        rule = rule.ForeignKey
+            (record { columns = 0 ∷ []; referenced = 1; key = 0 ∷ []; matching = matching.Simple; on_delete = action.NoAction; on_update = action.NoAction });
+        deferrable = false;
+        initially = mode.Immediate;
+      } ∷ []))
   -- CREATE TABLE w (a INT DEFAULT 7);
   pub default_of_a_column :
       bound tables (create (defined a type.Integer (Some (literal.Number None 7)) [] ∷ []))
@@ -55,7 +70,13 @@ pub record WorkedMeanings : Type 0 where
       bound tables (create (column_of a type.Integer None
       (in_column (Some x) (column_rule.Check (condition.Compare Greater (column a) one)) (record { deferrable = Some true; initially = None }) ∷ []) ∷ []))
       ≡ plan.Schema (schema_plan.CreateTable (record { name = w; columns = record { name = a; kind = kind.Integer; default = value.Null } ∷ [] })
-      (record { name = x; table = 2; rule = rule.Check (cond.Compare Greater (expr.Column 0 0) (expr.Literal (value.Int (pos 1)))); deferrable = true; initially = mode.Immediate } ∷ []))
+      (record {
+        name = x;
+        table = 2;
+        rule = rule.Check (cond.Compare Greater (expr.Column 0 0) (expr.Literal (value.Int (pos 1))));
+        deferrable = true;
+        initially = mode.Immediate;
+      } ∷ []))
   -- INSERT INTO t (a) VALUES (DEFAULT); A has no default
   pub default_in_values :
       bound tables (statement.Insert (insert.Rows t (Some (a ∷ [])) (source.Values ((given.Default ∷ []) ∷ []))))

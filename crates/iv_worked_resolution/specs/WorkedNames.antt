@@ -36,8 +36,10 @@ use Rattle.iv_catalogue.specs.declared.cause.Cause.TheVariants.{Unknown, Duplica
 use Rattle.iv_catalogue.specs.declared.constraint.Rule.TheVariants as rule
 use Rattle.iv_catalogue.specs.Catalogues.{Schema}
 use Rattle.iv_worked_resolution.specs.Words.{signalling}
-use Rattle.iv_resolution.specs.Worked.{a, b, k, p, t, w, z, tables, column, of_range, one, from, called, insert_into, select_of, delete_where, any_time, defined, constrained, create, to_table, item}
-use Rattle.iv_resolution.specs.Items.{Fault, table_item, column_item, variable_item, trigger_item, constraint_item, generated_item, transition_item, unknown_fault, in_use_fault, twice_fault}
+use Rattle.iv_resolution.specs.Worked.{a, b, k, p, t, w, z, tables, column, of_range, one, from, called, insert_into, select_of, delete_where, any_time}
+use Rattle.iv_resolution.specs.Worked.{defined, constrained, create, to_table, item}
+use Rattle.iv_resolution.specs.Items.{Fault, table_item, column_item, variable_item, trigger_item, constraint_item, generated_item, transition_item}
+use Rattle.iv_resolution.specs.Items.{unknown_fault, in_use_fault, twice_fault}
 use Rattle.iv_resolution.specs.NameFaults.{name_fault}
 
 -- ---- words
@@ -122,7 +124,8 @@ pub record WorkedNames : Type 0 where
   -- DELETE FROM t WHERE a = w + z;
   pub left_operand_first : unknown (delete_where t (equal (column a) (sum Plus (column w) (column z)))) ≡ Some (unknown_fault (column_item None w))
   -- DELETE FROM t WHERE EXISTS (SELECT * FROM p WHERE k = a AND z = 1);
-  pub inside_an_exists : unknown (delete_where t (exists_where (from p) (both (equal (column k) (column a)) (equal (column z) one)))) ≡ Some (unknown_fault (column_item None z))
+  pub inside_an_exists : unknown (delete_where t (exists_where (from p) (both (equal (column k) (column a)) (equal (column z) one))))
+      ≡ Some (unknown_fault (column_item None z))
   -- UPDATE t SET a = 1, w = z;
   pub column_that_is_set :
       unknown (statement.Update (record { table = t; assignments = record { column = a; value = given.Value one } ∷ record { column = w; value = given.Value (column z) } ∷ []; filter = None }))
@@ -147,11 +150,13 @@ pub record WorkedNames : Type 0 where
   pub column_of_a_row_variable : unknown (trigger r [] t (new_row ∷ []) (action.Set z w one ∷ [])) ≡ Some (unknown_fault (column_item (Some z) w))
   -- CREATE TRIGGER r BEFORE UPDATE ON t REFERENCING NEW AS z FOR EACH ROW BEGIN ATOMIC SET z.a = 1; SET z.a = z.w; SET z.v = 1; END;
   pub second_statement_of_a_body :
-      unknown (trigger r [] t (new_row ∷ []) (action.Set z a one ∷ action.Set z a (of_range z w) ∷ action.Set z v one ∷ [])) ≡ Some (unknown_fault (column_item (Some z) w))
+      unknown (trigger r [] t (new_row ∷ []) (action.Set z a one ∷ action.Set z a (of_range z w) ∷ action.Set z v one ∷ []))
+      ≡ Some (unknown_fault (column_item (Some z) w))
   -- DROP TRIGGER r;
   pub dropped_trigger : unknown (statement.DropTrigger r) ≡ Some (unknown_fault (trigger_item r))
   -- SET CONSTRAINTS p_c1, w, z DEFERRED;
-  pub constraint_that_is_set : unknown (statement.SetConstraints (constraints.Named (codes "P_C1" ∷ w ∷ z ∷ [])) mode.Deferred) ≡ Some (unknown_fault (constraint_item w))
+  pub constraint_that_is_set : unknown (statement.SetConstraints (constraints.Named (codes "P_C1" ∷ w ∷ z ∷ [])) mode.Deferred)
+      ≡ Some (unknown_fault (constraint_item w))
   -- ---- Duplicate
   -- CREATE TABLE t (a INT, a INT);
   pub table_before_its_columns : duplicate (statement.CreateTable t (integer [] ∷ integer [] ∷ [])) ≡ Some (in_use_fault (table_item t))
@@ -161,16 +166,19 @@ pub record WorkedNames : Type 0 where
       ≡ Some (twice_fault (column_item None b))
   -- CREATE TABLE w (a INT CONSTRAINT p_c1 UNIQUE, a INT);
   pub constraint_in_use_before_a_column_again :
-      duplicate (create (integer (in_column (Some (codes "P_C1")) (column_rule.Unique Distinct) ∷ []) ∷ integer [] ∷ [])) ≡ Some (in_use_fault (constraint_item (codes "P_C1")))
+      duplicate (create (integer (in_column (Some (codes "P_C1")) (column_rule.Unique Distinct) ∷ []) ∷ integer [] ∷ []))
+      ≡ Some (in_use_fault (constraint_item (codes "P_C1")))
   -- CREATE TABLE w (a INT, a INT CONSTRAINT p_c1 UNIQUE);
   pub column_again_before_its_constraint :
-      duplicate (create (integer [] ∷ integer (in_column (Some (codes "P_C1")) (column_rule.Unique Distinct) ∷ []) ∷ [])) ≡ Some (twice_fault (column_item None a))
+      duplicate (create (integer [] ∷ integer (in_column (Some (codes "P_C1")) (column_rule.Unique Distinct) ∷ []) ∷ []))
+      ≡ Some (twice_fault (column_item None a))
   -- CREATE TABLE w (a INT, b INT, UNIQUE (b, b), a INT);
   pub key_before_a_column_again :
       duplicate (create (integer [] ∷ defined b type.Integer None [] ∷ unique (b ∷ b ∷ []) ∷ integer [] ∷ [])) ≡ Some (twice_fault (column_item None b))
   -- CREATE TABLE w (a INT, UNIQUE (a, a), b INT CONSTRAINT p_c1 UNIQUE);
   pub key_before_a_constraint_in_use :
-      duplicate (create (integer [] ∷ unique (a ∷ a ∷ []) ∷ defined_with b (in_column (Some (codes "P_C1")) (column_rule.Unique Distinct)) ∷ [])) ≡ Some (twice_fault (column_item None a))
+      duplicate (create (integer [] ∷ unique (a ∷ a ∷ []) ∷ defined_with b (in_column (Some (codes "P_C1")) (column_rule.Unique Distinct)) ∷ []))
+      ≡ Some (twice_fault (column_item None a))
   -- CREATE TABLE w (a INT, CONSTRAINT p_c1 UNIQUE (a, a));
   pub name_before_its_key :
       duplicate (create (integer [] ∷ element.Constraint (record { name = Some (codes "P_C1"); rule = table_rule.Unique Distinct (a ∷ a ∷ []); time = any_time }) ∷ [])) ≡ Some (in_use_fault (constraint_item (codes "P_C1")))
@@ -182,14 +190,17 @@ pub record WorkedNames : Type 0 where
   pub generated_in_use : duplicate (statement.CreateTable v (integer (in_column None column_rule.NotNull ∷ []) ∷ [])) ≡ Some (in_use_fault (generated_item v 1))
   -- CREATE TABLE w (a INT CONSTRAINT z NOT NULL CONSTRAINT z UNIQUE);
   pub constraint_twice :
-      duplicate (create (integer (in_column (Some z) column_rule.NotNull ∷ in_column (Some z) (column_rule.Unique Distinct) ∷ []) ∷ [])) ≡ Some (twice_fault (constraint_item z))
+      duplicate (create (integer (in_column (Some z) column_rule.NotNull ∷ in_column (Some z) (column_rule.Unique Distinct) ∷ []) ∷ []))
+      ≡ Some (twice_fault (constraint_item z))
   -- CREATE TABLE w (a INT CONSTRAINT w_c2 NOT NULL UNIQUE);
   pub generated_again :
-      duplicate (create (integer (in_column (Some (codes "W_C2")) column_rule.NotNull ∷ in_column None (column_rule.Unique Distinct) ∷ []) ∷ [])) ≡ Some (twice_fault (generated_item w 2))
+      duplicate (create (integer (in_column (Some (codes "W_C2")) column_rule.NotNull ∷ in_column None (column_rule.Unique Distinct) ∷ []) ∷ []))
+      ≡ Some (twice_fault (generated_item w 2))
   -- CREATE TABLE w (a INT, UNIQUE (a, a));
   pub column_of_a_key_twice : duplicate (create (integer [] ∷ unique (a ∷ a ∷ []) ∷ [])) ≡ Some (twice_fault (column_item None a))
   -- ALTER TABLE t ADD CONSTRAINT p_c1 UNIQUE (a, a);
-  pub added_constraint_in_use : duplicate (add t (Some (codes "P_C1")) (table_rule.Unique Distinct (a ∷ a ∷ []))) ≡ Some (in_use_fault (constraint_item (codes "P_C1")))
+  pub added_constraint_in_use : duplicate (add t (Some (codes "P_C1")) (table_rule.Unique Distinct (a ∷ a ∷ [])))
+      ≡ Some (in_use_fault (constraint_item (codes "P_C1")))
   -- ALTER TABLE p ADD UNIQUE (k);
   pub added_name_in_use : duplicate (add p None (table_rule.Unique Distinct (k ∷ []))) ≡ Some (in_use_fault (generated_item p 2))
   -- ALTER TABLE t ADD UNIQUE (a, b, b, a);
@@ -197,7 +208,8 @@ pub record WorkedNames : Type 0 where
   -- CREATE TRIGGER s BEFORE UPDATE OF a, a ON t FOR EACH ROW SIGNAL 'x';
   pub trigger_in_use : duplicate (trigger s (a ∷ a ∷ []) t [] (action.Signal (codes "x") ∷ [])) ≡ Some (in_use_fault (trigger_item s))
   -- CREATE TRIGGER r BEFORE UPDATE OF a, a ON t REFERENCING OLD AS z NEW AS z FOR EACH ROW SIGNAL 'x';
-  pub column_of_update_of_twice : duplicate (trigger r (a ∷ a ∷ []) t (item Old what.Row z ∷ new_row ∷ []) (action.Signal (codes "x") ∷ [])) ≡ Some (twice_fault (column_item None a))
+  pub column_of_update_of_twice : duplicate (trigger r (a ∷ a ∷ []) t (item Old what.Row z ∷ new_row ∷ []) (action.Signal (codes "x") ∷ []))
+      ≡ Some (twice_fault (column_item None a))
   -- CREATE TRIGGER r BEFORE UPDATE ON t REFERENCING OLD AS z NEW AS z FOR EACH ROW INSERT INTO t (a, a) VALUES (1);
   pub transition_twice : duplicate (trigger r [] t (item Old what.Row z ∷ new_row ∷ []) (inserted (a ∷ a ∷ []) ∷ [])) ≡ Some (twice_fault (transition_item z))
   -- CREATE TRIGGER r BEFORE UPDATE ON t FOR EACH ROW BEGIN ATOMIC SIGNAL 'x'; INSERT INTO t (b, b) VALUES (1); INSERT INTO t (a, a) VALUES (1); END;
@@ -226,18 +238,33 @@ pub record WorkedNames : Type 0 where
       unknown (statement.Update (record { table = t; assignments = record { column = w; value = given.Value one } ∷ []; filter = Some (equal (column z) one) }))
       ≡ Some (unknown_fault (column_item None w))
   -- SELECT w, z FROM t;
-  pub first_of_the_list : unknown (statement.Select (select.Rows (list.Values (column w ∷ column z ∷ [])) (from t) None)) ≡ Some (unknown_fault (column_item None w))
+  pub first_of_the_list : unknown (statement.Select (select.Rows (list.Values (column w ∷ column z ∷ [])) (from t) None))
+      ≡ Some (unknown_fault (column_item None w))
   -- CREATE TRIGGER r AFTER UPDATE ON t FOR EACH ROW WHEN (1 = w) DELETE FROM z;
   pub condition_before_the_body :
-      unknown (statement.CreateTrigger (record { name = r; time = time.After; event = event.Update; columns = []; table = t; referencing = []; granularity = granularity.Row; when = Some (equal one (column w)); body = action.Delete (record { table = z; filter = None }) ∷ [] }))
+      unknown (statement.CreateTrigger
+      (record {
+        name = r;
+        time = time.After;
+        event = event.Update;
+        columns = [];
+        table = t;
+        referencing = [];
+        granularity = granularity.Row;
+        when = Some
+            (equal one (column w));
+        body = action.Delete (record { table = z; filter = None }) ∷ [];
+      }))
       ≡ Some (unknown_fault (column_item None w))
   -- CREATE TRIGGER r BEFORE UPDATE OF a ON w FOR EACH ROW SIGNAL 'x';
   pub table_before_update_of : unknown (trigger r (a ∷ []) w [] (action.Signal (codes "x") ∷ [])) ≡ Some (unknown_fault (table_item w))
   -- CREATE TABLE w (a INT, FOREIGN KEY (z) REFERENCES v);
-  pub columns_before_the_reference : unknown (create (integer [] ∷ constrained (table_rule.ForeignKey (z ∷ []) (to_table v)) ∷ [])) ≡ Some (unknown_fault (column_item None z))
+  pub columns_before_the_reference : unknown (create (integer [] ∷ constrained (table_rule.ForeignKey (z ∷ []) (to_table v)) ∷ []))
+      ≡ Some (unknown_fault (column_item None z))
   -- CREATE TABLE w (a INT CONSTRAINT z NOT NULL CONSTRAINT z UNIQUE, UNIQUE (a, a));
   pub constraint_again_before_a_key :
-      duplicate (create (integer (in_column (Some z) column_rule.NotNull ∷ in_column (Some z) (column_rule.Unique Distinct) ∷ []) ∷ unique (a ∷ a ∷ []) ∷ [])) ≡ Some (twice_fault (constraint_item z))
+      duplicate (create (integer (in_column (Some z) column_rule.NotNull ∷ in_column (Some z) (column_rule.Unique Distinct) ∷ []) ∷ unique (a ∷ a ∷ []) ∷ []))
+      ≡ Some (twice_fault (constraint_item z))
   -- CREATE TABLE w (a INT, FOREIGN KEY (a, a) REFERENCES p (k, k));
   pub first_list_before_the_second :
       duplicate (create (integer [] ∷ constrained (table_rule.ForeignKey (a ∷ a ∷ []) (record { table = p; columns = Some (k ∷ k ∷ []); matching = None; on_delete = None; on_update = None })) ∷ []))

@@ -22,7 +22,8 @@ use Rattle.iv_worked_resolution.specs.Many.{numbered, columns}
 -- ALTER TABLE t ADD CONSTRAINT x UNIQUE NULLS NOT DISTINCT (a);
 abbrev pub added : Schema
 added = record schema {
-  constraints = schema.constraints ++ record { name = x; table = 0; rule = rule.Unique NotDistinct (0 ∷ []); deferrable = false; initially = mode.Immediate } ∷ [];
+  constraints = schema.constraints ++ record { name = x; table = 0; rule = rule.Unique NotDistinct (0 ∷ []); deferrable = false; initially = mode.Immediate }
+      ∷ [];
 }
 
 pub record WorkedNulls : Type 0 where
@@ -30,11 +31,13 @@ pub record WorkedNulls : Type 0 where
   pub in_a_column : least schema (create (defined a type.Integer None (column_rule.Unique NotDistinct ∷ []) ∷ [])) ≡ None
   -- CREATE TABLE w (a INT, b INT, UNIQUE NULLS NOT DISTINCT (a, b));
   pub of_two_columns :
-      least schema (create (defined a type.Integer None [] ∷ defined b type.Integer None [] ∷ constrained (table_rule.Unique NotDistinct (a ∷ b ∷ [])) ∷ [])) ≡ None
+      least schema (create (defined a type.Integer None [] ∷ defined b type.Integer None [] ∷ constrained (table_rule.Unique NotDistinct (a ∷ b ∷ [])) ∷ []))
+      ≡ None
   -- CREATE TABLE w (a INT, UNIQUE NULLS NOT DISTINCT (z));
   pub of_nothing : least schema (create (defined a type.Integer None [] ∷ constrained (table_rule.Unique NotDistinct (z ∷ [])) ∷ [])) ≡ Some Unknown
   -- CREATE TABLE w (a INT, UNIQUE NULLS NOT DISTINCT (a, a));
-  pub of_a_column_twice : least schema (create (defined a type.Integer None [] ∷ constrained (table_rule.Unique NotDistinct (a ∷ a ∷ [])) ∷ [])) ≡ Some Duplicate
+  pub of_a_column_twice : least schema (create (defined a type.Integer None [] ∷ constrained (table_rule.Unique NotDistinct (a ∷ a ∷ [])) ∷ []))
+      ≡ Some Duplicate
   -- CREATE TABLE w (a INT UNIQUE UNIQUE NULLS NOT DISTINCT);
   pub beside_a_unique : least schema (create (defined a type.Integer None (column_rule.Unique Distinct ∷ column_rule.Unique NotDistinct ∷ []) ∷ [])) ≡ None
   -- CREATE TABLE w (a INT PRIMARY KEY UNIQUE NULLS NOT DISTINCT);
@@ -64,7 +67,8 @@ pub record WorkedNulls : Type 0 where
   -- CREATE TABLE w (b INT REFERENCES t (a)); after the constraint is added
   pub added_referred_to : least added (create (defined b type.Integer None (column_rule.References (refers t (Some (a ∷ []))) ∷ []) ∷ [])) ≡ None
   -- CREATE TABLE w (b INT REFERENCES t (a)); before it is added
-  pub not_added_referred_to : least schema (create (defined b type.Integer None (column_rule.References (refers t (Some (a ∷ []))) ∷ []) ∷ [])) ≡ Some SchemaFault
+  pub not_added_referred_to : least schema (create (defined b type.Integer None (column_rule.References (refers t (Some (a ∷ []))) ∷ []) ∷ []))
+      ≡ Some SchemaFault
   -- CREATE TABLE w (b INT REFERENCES t); after the constraint is added
   pub added_is_no_primary_key : least added (create (defined b type.Integer None (column_rule.References (to_table t) ∷ []) ∷ [])) ≡ Some SchemaFault
   -- ---- plans

@@ -22,7 +22,8 @@ use Rattle.iv_worked_resolution.specs.Words.action
 use Rattle.iv_worked_resolution.specs.Words.cause.{Unknown, Duplicate, SchemaFault, WrongShape, Limit}
 use Rattle.iv_syntax.specs.Trees.{both, exists_where}
 use Rattle.iv_resolution.specs.Resolution.{least}
-use Rattle.iv_resolution.specs.Worked.{a, b, k, p, t, w, z, column, one, text, from, any_time, item, insert_into, select_of, delete_where, defined, constrained, create, to_table}
+use Rattle.iv_resolution.specs.Worked.{a, b, k, p, t, w, z, column, one, text, from, any_time, item, insert_into, select_of, delete_where, defined}
+use Rattle.iv_resolution.specs.Worked.{constrained, create, to_table}
 use Rattle.iv_worked_resolution.specs.Words.{n, o, r, s, schema, sets, update_of, checked, constraint, trigger_of}
 
 pub record WorkedOrder : Type 0 where
@@ -37,12 +38,15 @@ pub record WorkedOrder : Type 0 where
   pub check_of_nothing_with_a_clash :
       least schema (create (defined a type.Integer None [] ∷ constrained (table_rule.Check (both (condition.Compare Equal (column a) text) (condition.Compare Equal (column z) one))) ∷ [])) ≡ Some Unknown
   -- CREATE TABLE w (a VARCHAR(4097) REFERENCES n);
-  pub long_text_that_refers_to_nothing : least schema (create (defined a (type.Varchar 4097) None (column_rule.References (to_table n) ∷ []) ∷ [])) ≡ Some Unknown
+  pub long_text_that_refers_to_nothing : least schema (create (defined a (type.Varchar 4097) None (column_rule.References (to_table n) ∷ []) ∷ []))
+      ≡ Some Unknown
   -- CREATE TABLE t (CHECK (1 = 1));
-  pub table_in_use_without_columns : least schema (statement.CreateTable t (constrained (table_rule.Check (condition.Compare Equal one one)) ∷ [])) ≡ Some Duplicate
+  pub table_in_use_without_columns : least schema (statement.CreateTable t (constrained (table_rule.Check (condition.Compare Equal one one)) ∷ []))
+      ≡ Some Duplicate
   -- CREATE TABLE t (a INT, CHECK (a = 'x'));
   pub table_in_use_with_a_clash :
-      least schema (statement.CreateTable t (defined a type.Integer None [] ∷ constrained (table_rule.Check (condition.Compare Equal (column a) text)) ∷ [])) ≡ Some Duplicate
+      least schema (statement.CreateTable t (defined a type.Integer None [] ∷ constrained (table_rule.Check (condition.Compare Equal (column a) text)) ∷ []))
+      ≡ Some Duplicate
   -- CREATE TABLE t (a VARCHAR(4097));
   pub table_in_use_with_a_long_text : least schema (statement.CreateTable t (defined a (type.Varchar 4097) None [] ∷ [])) ≡ Some Duplicate
   -- CREATE TABLE w (a INT, CHECK (EXISTS (SELECT * FROM t WHERE a = 'x')));
@@ -54,13 +58,15 @@ pub record WorkedOrder : Type 0 where
   pub default_that_a_text_of_no_character_is : least schema (create (defined a (type.Varchar 0) (Some (literal.Text (codes ""))) [] ∷ [])) ≡ Some Limit
   -- CREATE TABLE w (a VARCHAR(4097), CHECK (a = 1));
   pub clash_with_a_long_text :
-      least schema (create (defined a (type.Varchar 4097) None [] ∷ constrained (table_rule.Check (condition.Compare Equal (column a) one)) ∷ [])) ≡ Some WrongShape
+      least schema (create (defined a (type.Varchar 4097) None [] ∷ constrained (table_rule.Check (condition.Compare Equal (column a) one)) ∷ []))
+      ≡ Some WrongShape
   -- CREATE TABLE t (a VARCHAR(4097) DEFAULT 1, CHECK (a = 1), CHECK (z = 1));
   pub all_five :
       least schema (statement.CreateTable t (defined a (type.Varchar 4097) (Some (literal.Number None 1)) [] ∷ constrained (table_rule.Check (condition.Compare Equal (column a) one)) ∷ constrained (table_rule.Check (condition.Compare Equal (column z) one)) ∷ [])) ≡ Some Unknown
   -- ---- ALTER TABLE
   -- ALTER TABLE t ADD CONSTRAINT p_c1 UNIQUE (z);
-  pub constraint_in_use_of_nothing : least schema (statement.AlterTable t (constraint (Some (codes "P_C1")) (table_rule.Unique Distinct (z ∷ [])) any_time)) ≡ Some Unknown
+  pub constraint_in_use_of_nothing : least schema (statement.AlterTable t (constraint (Some (codes "P_C1")) (table_rule.Unique Distinct (z ∷ [])) any_time))
+      ≡ Some Unknown
   -- ALTER TABLE w ADD CONSTRAINT p_c1 UNIQUE (a, a);
   pub constraint_in_use_of_no_table :
       least schema (statement.AlterTable w (constraint (Some (codes "P_C1")) (table_rule.Unique Distinct (a ∷ a ∷ [])) any_time)) ≡ Some Unknown
@@ -69,11 +75,13 @@ pub record WorkedOrder : Type 0 where
       least schema (statement.AlterTable t (constraint (Some (codes "P_C1")) (table_rule.Check (condition.Exists (from p))) any_time)) ≡ Some Duplicate
   -- ALTER TABLE t ADD CONSTRAINT p_c1 CHECK (a = 'x');
   pub constraint_in_use_with_a_clash :
-      least schema (statement.AlterTable t (constraint (Some (codes "P_C1")) (table_rule.Check (condition.Compare Equal (column a) text)) any_time)) ≡ Some Duplicate
+      least schema (statement.AlterTable t (constraint (Some (codes "P_C1")) (table_rule.Check (condition.Compare Equal (column a) text)) any_time))
+      ≡ Some Duplicate
   -- ALTER TABLE p ADD PRIMARY KEY (z);
   pub second_primary_key_of_nothing : least schema (statement.AlterTable p (constraint None (table_rule.PrimaryKey (z ∷ [])) any_time)) ≡ Some Unknown
   -- ALTER TABLE p ADD PRIMARY KEY (k, k);
-  pub second_primary_key_of_a_column_twice : least schema (statement.AlterTable p (constraint None (table_rule.PrimaryKey (k ∷ k ∷ [])) any_time)) ≡ Some Duplicate
+  pub second_primary_key_of_a_column_twice : least schema (statement.AlterTable p (constraint None (table_rule.PrimaryKey (k ∷ k ∷ [])) any_time))
+      ≡ Some Duplicate
   -- ALTER TABLE t ADD CHECK (a = 'x') NOT DEFERRABLE INITIALLY DEFERRED;
   pub deferred_clash_not_deferrable :
       least schema (statement.AlterTable t (constraint None (table_rule.Check (condition.Compare Equal (column a) text)) (checked (Some false) (Some mode.Deferred)))) ≡ Some SchemaFault
@@ -116,12 +124,14 @@ pub record WorkedOrder : Type 0 where
       least schema (statement.Update (update_of t (sets a (given.Value text) ∷ sets a (given.Value one) ∷ []) None)) ≡ Some Duplicate
   -- UPDATE t SET a = 9223372036854775808, a = 1;
   pub update_of_a_column_twice_beyond_integers :
-      least schema (statement.Update (update_of t (sets a (given.Value (expression.Number 9223372036854775808)) ∷ sets a (given.Value one) ∷ []) None)) ≡ Some Duplicate
+      least schema (statement.Update (update_of t (sets a (given.Value (expression.Number 9223372036854775808)) ∷ sets a (given.Value one) ∷ []) None))
+      ≡ Some Duplicate
   -- UPDATE t SET b = 9223372036854775808;
   pub update_of_a_text_beyond_integers :
       least schema (statement.Update (update_of t (sets b (given.Value (expression.Number 9223372036854775808)) ∷ []) None)) ≡ Some WrongShape
   -- DELETE FROM t WHERE a = 'x' AND z = 1;
-  pub clash_where_nothing : least schema (delete_where t (both (condition.Compare Equal (column a) text) (condition.Compare Equal (column z) one))) ≡ Some Unknown
+  pub clash_where_nothing : least schema (delete_where t (both (condition.Compare Equal (column a) text) (condition.Compare Equal (column z) one)))
+      ≡ Some Unknown
   -- DELETE FROM t WHERE b = 9223372036854775808;
   pub clash_beyond_integers : least schema (delete_where t (condition.Compare Equal (column b) (expression.Number 9223372036854775808))) ≡ Some WrongShape
   -- SELECT z FROM t WHERE a = 9223372036854775808;

@@ -24,7 +24,8 @@ use Rattle.iv_worked_resolution.specs.Words.cause.{SchemaFault}
 use Rattle.iv_syntax.specs.Trees.{enclosed, negated, both, either, exists_where}
 use Rattle.iv_resolution.specs.Resolution.{least}
 use Rattle.iv_resolution.specs.Worked.{a, b, k, p, t, w, z, column, of_range, one, text, from, any_time, item, defined, constrained, create, to_table}
-use Rattle.iv_worked_resolution.specs.Words.{d, n, o, q, r, x, y, schema, sets, update_of, delete_of, refers, checked, in_column, column_of, constraint, trigger_of}
+use Rattle.iv_worked_resolution.specs.Words.{d, n, o, q, r, x, y, schema, sets, update_of, delete_of, refers, checked, in_column, column_of, constraint}
+use Rattle.iv_worked_resolution.specs.Words.{trigger_of}
 
 pub record WorkedSchemaFaults : Type 0 where
   -- ---- CREATE TABLE: columns and defaults
@@ -66,7 +67,8 @@ pub record WorkedSchemaFaults : Type 0 where
   pub not_deferrable_and_immediate :
       least schema (create (column_of a type.Integer None (in_column None (column_rule.Unique Distinct) (checked (Some false) (Some mode.Immediate)) ∷ []) ∷ [])) ≡ None
   -- CREATE TABLE w (a INT UNIQUE NOT DEFERRABLE);
-  pub not_deferrable : least schema (create (column_of a type.Integer None (in_column None (column_rule.Unique Distinct) (checked (Some false) None) ∷ []) ∷ [])) ≡ None
+  pub not_deferrable : least schema
+      (create (column_of a type.Integer None (in_column None (column_rule.Unique Distinct) (checked (Some false) None) ∷ []) ∷ [])) ≡ None
   -- CREATE TABLE w (a INT UNIQUE DEFERRABLE INITIALLY DEFERRED);
   pub deferrable_and_deferred :
       least schema (create (column_of a type.Integer None (in_column None (column_rule.Unique Distinct) (checked (Some true) (Some mode.Deferred)) ∷ []) ∷ [])) ≡ None
@@ -125,9 +127,11 @@ pub record WorkedSchemaFaults : Type 0 where
   pub longer_text_for_a_text_key :
       least schema (create (defined a type.Integer None [] ∷ defined b (type.Varchar 3) None [] ∷ constrained (table_rule.ForeignKey (a ∷ b ∷ []) (refers q (Some (a ∷ b ∷ [])))) ∷ [])) ≡ Some SchemaFault
   -- CREATE TABLE w (a INT REFERENCES t (a));
-  pub columns_without_a_key : least schema (create (defined a type.Integer None (column_rule.References (refers t (Some (a ∷ []))) ∷ []) ∷ [])) ≡ Some SchemaFault
+  pub columns_without_a_key : least schema (create (defined a type.Integer None (column_rule.References (refers t (Some (a ∷ []))) ∷ []) ∷ []))
+      ≡ Some SchemaFault
   -- CREATE TABLE w (a INT REFERENCES q (a));
-  pub column_of_a_wider_key : least schema (create (defined a type.Integer None (column_rule.References (refers q (Some (a ∷ []))) ∷ []) ∷ [])) ≡ Some SchemaFault
+  pub column_of_a_wider_key : least schema (create (defined a type.Integer None (column_rule.References (refers q (Some (a ∷ []))) ∷ []) ∷ []))
+      ≡ Some SchemaFault
   -- CREATE TABLE w (a INT, b INT, FOREIGN KEY (a, b) REFERENCES q (z, k));
   pub columns_of_two_keys :
       least schema (create (defined a type.Integer None [] ∷ defined b type.Integer None [] ∷ constrained (table_rule.ForeignKey (a ∷ b ∷ []) (refers q (Some (z ∷ k ∷ [])))) ∷ [])) ≡ Some SchemaFault
@@ -141,7 +145,8 @@ pub record WorkedSchemaFaults : Type 0 where
       least schema (create (defined a type.Integer None (column_rule.References (refers d (Some (k ∷ []))) ∷ []) ∷ [])) ≡ None
   -- CREATE TABLE w (a INT REFERENCES w (k), k INT);
   pub own_columns_without_a_key :
-      least schema (create (defined a type.Integer None (column_rule.References (refers w (Some (k ∷ []))) ∷ []) ∷ defined k type.Integer None [] ∷ [])) ≡ Some SchemaFault
+      least schema (create (defined a type.Integer None (column_rule.References (refers w (Some (k ∷ []))) ∷ []) ∷ defined k type.Integer None [] ∷ []))
+      ≡ Some SchemaFault
   -- CREATE TABLE w (a INT REFERENCES w (k), k INT UNIQUE);
   pub own_columns_of_a_key :
       least schema (create (defined a type.Integer None (column_rule.References (refers w (Some (k ∷ []))) ∷ []) ∷ defined k type.Integer None ((column_rule.Unique Distinct) ∷ []) ∷ [])) ≡ None
@@ -186,12 +191,14 @@ pub record WorkedSchemaFaults : Type 0 where
   pub unique_added_beside_the_primary_key : least schema (statement.AlterTable p (constraint None (table_rule.Unique Distinct (k ∷ [])) any_time)) ≡ None
   -- ALTER TABLE t ADD UNIQUE (a) NOT DEFERRABLE INITIALLY DEFERRED;
   pub added_as_not_deferrable_and_deferred :
-      least schema (statement.AlterTable t (constraint None (table_rule.Unique Distinct (a ∷ [])) (checked (Some false) (Some mode.Deferred)))) ≡ Some SchemaFault
+      least schema (statement.AlterTable t (constraint None (table_rule.Unique Distinct (a ∷ [])) (checked (Some false) (Some mode.Deferred))))
+      ≡ Some SchemaFault
   -- ALTER TABLE t ADD UNIQUE (a) DEFERRABLE INITIALLY DEFERRED;
   pub added_as_deferrable_and_deferred :
       least schema (statement.AlterTable t (constraint None (table_rule.Unique Distinct (a ∷ [])) (checked (Some true) (Some mode.Deferred)))) ≡ None
   -- ALTER TABLE t ADD CHECK (EXISTS (SELECT * FROM p));
-  pub added_check_with_exists : least schema (statement.AlterTable t (constraint None (table_rule.Check (condition.Exists (from p))) any_time)) ≡ Some SchemaFault
+  pub added_check_with_exists : least schema (statement.AlterTable t (constraint None (table_rule.Check (condition.Exists (from p))) any_time))
+      ≡ Some SchemaFault
   -- ALTER TABLE t ADD CHECK (a = 1);
   pub added_check_without_exists :
       least schema (statement.AlterTable t (constraint None (table_rule.Check (condition.Compare Equal (column a) one)) any_time)) ≡ None
@@ -207,7 +214,8 @@ pub record WorkedSchemaFaults : Type 0 where
   pub added_reference_of_fewer_columns :
       least schema (statement.AlterTable t (constraint None (table_rule.ForeignKey (a ∷ []) (to_table q)) any_time)) ≡ Some SchemaFault
   -- ALTER TABLE t ADD FOREIGN KEY (a, b) REFERENCES q;
-  pub added_reference_of_as_many_columns : least schema (statement.AlterTable t (constraint None (table_rule.ForeignKey (a ∷ b ∷ []) (to_table q)) any_time)) ≡ None
+  pub added_reference_of_as_many_columns : least schema (statement.AlterTable t (constraint None (table_rule.ForeignKey (a ∷ b ∷ []) (to_table q)) any_time))
+      ≡ None
   -- ALTER TABLE t ADD FOREIGN KEY (a) REFERENCES q (a);
   pub added_reference_to_columns_without_a_key :
       least schema (statement.AlterTable t (constraint None (table_rule.ForeignKey (a ∷ []) (refers q (Some (a ∷ [])))) any_time)) ≡ Some SchemaFault
@@ -238,10 +246,12 @@ pub record WorkedSchemaFaults : Type 0 where
       least schema (trigger_of r time.After event.Update t (item New what.Table n ∷ item New what.Table x ∷ []) granularity.Statement None (action.Signal (codes "x") ∷ [])) ≡ Some SchemaFault
   -- CREATE TRIGGER r AFTER UPDATE ON t REFERENCING OLD AS o NEW AS n OLD TABLE AS x NEW TABLE AS y FOR EACH ROW SIGNAL 'x';
   pub each_item_once :
-      least schema (trigger_of r time.After event.Update t (item Old what.Row o ∷ item New what.Row n ∷ item Old what.Table x ∷ item New what.Table y ∷ []) granularity.Row None (action.Signal (codes "x") ∷ [])) ≡ None
+      least schema (trigger_of r time.After event.Update t (item Old what.Row o ∷ item New what.Row n ∷ item Old what.Table x ∷ item New what.Table y ∷ [])
+      granularity.Row None (action.Signal (codes "x") ∷ [])) ≡ None
   -- CREATE TRIGGER r AFTER INSERT ON t REFERENCING OLD TABLE AS o SIGNAL 'x';
   pub insert_has_no_old_rows :
-      least schema (trigger_of r time.After event.Insert t (item Old what.Table o ∷ []) granularity.Statement None (action.Signal (codes "x") ∷ [])) ≡ Some SchemaFault
+      least schema (trigger_of r time.After event.Insert t (item Old what.Table o ∷ []) granularity.Statement None (action.Signal (codes "x") ∷ []))
+      ≡ Some SchemaFault
   -- CREATE TRIGGER r AFTER INSERT ON t REFERENCING NEW TABLE AS n SIGNAL 'x';
   pub insert_has_new_rows :
       least schema (trigger_of r time.After event.Insert t (item New what.Table n ∷ []) granularity.Statement None (action.Signal (codes "x") ∷ [])) ≡ None
@@ -253,7 +263,8 @@ pub record WorkedSchemaFaults : Type 0 where
       least schema (trigger_of r time.After event.Delete t (item New what.Row n ∷ []) granularity.Row None (action.Signal (codes "x") ∷ [])) ≡ Some SchemaFault
   -- CREATE TRIGGER r AFTER DELETE ON t REFERENCING NEW TABLE AS n SIGNAL 'x';
   pub delete_has_no_new_rows :
-      least schema (trigger_of r time.After event.Delete t (item New what.Table n ∷ []) granularity.Statement None (action.Signal (codes "x") ∷ [])) ≡ Some SchemaFault
+      least schema (trigger_of r time.After event.Delete t (item New what.Table n ∷ []) granularity.Statement None (action.Signal (codes "x") ∷ []))
+      ≡ Some SchemaFault
   -- CREATE TRIGGER r AFTER DELETE ON t REFERENCING OLD AS o FOR EACH ROW SIGNAL 'x';
   pub delete_has_an_old_row :
       least schema (trigger_of r time.After event.Delete t (item Old what.Row o ∷ []) granularity.Row None (action.Signal (codes "x") ∷ [])) ≡ None
@@ -262,21 +273,26 @@ pub record WorkedSchemaFaults : Type 0 where
       least schema (trigger_of r time.After event.Delete t (item Old what.Table o ∷ []) granularity.Statement None (action.Signal (codes "x") ∷ [])) ≡ None
   -- CREATE TRIGGER r AFTER UPDATE ON t REFERENCING NEW AS n FOR EACH STATEMENT SIGNAL 'x';
   pub row_of_a_statement :
-      least schema (trigger_of r time.After event.Update t (item New what.Row n ∷ []) granularity.Statement None (action.Signal (codes "x") ∷ [])) ≡ Some SchemaFault
+      least schema (trigger_of r time.After event.Update t (item New what.Row n ∷ []) granularity.Statement None (action.Signal (codes "x") ∷ []))
+      ≡ Some SchemaFault
   -- CREATE TRIGGER r AFTER UPDATE ON t REFERENCING NEW AS n SIGNAL 'x';
   pub row_without_for_each :
-      least schema (trigger_of r time.After event.Update t (item New what.Row n ∷ []) granularity.Statement None (action.Signal (codes "x") ∷ [])) ≡ Some SchemaFault
+      least schema (trigger_of r time.After event.Update t (item New what.Row n ∷ []) granularity.Statement None (action.Signal (codes "x") ∷ []))
+      ≡ Some SchemaFault
   -- CREATE TRIGGER r AFTER UPDATE ON t REFERENCING NEW TABLE AS n FOR EACH ROW SIGNAL 'x';
   pub rows_of_each_row :
       least schema (trigger_of r time.After event.Update t (item New what.Table n ∷ []) granularity.Row None (action.Signal (codes "x") ∷ [])) ≡ None
   -- CREATE TRIGGER r BEFORE UPDATE ON t REFERENCING NEW TABLE AS n SIGNAL 'x';
   pub rows_before :
-      least schema (trigger_of r time.Before event.Update t (item New what.Table n ∷ []) granularity.Statement None (action.Signal (codes "x") ∷ [])) ≡ Some SchemaFault
+      least schema (trigger_of r time.Before event.Update t (item New what.Table n ∷ []) granularity.Statement None (action.Signal (codes "x") ∷ []))
+      ≡ Some SchemaFault
   -- CREATE TRIGGER r BEFORE UPDATE ON t REFERENCING NEW AS n FOR EACH ROW SIGNAL 'x';
-  pub row_before : least schema (trigger_of r time.Before event.Update t (item New what.Row n ∷ []) granularity.Row None (action.Signal (codes "x") ∷ [])) ≡ None
+  pub row_before : least schema (trigger_of r time.Before event.Update t (item New what.Row n ∷ []) granularity.Row None (action.Signal (codes "x") ∷ []))
+      ≡ None
   -- CREATE TRIGGER r AFTER DELETE ON t REFERENCING NEW AS n FOR EACH ROW WHEN (n.a = 1) SIGNAL 'x';
   pub row_that_is_not_there_has_its_columns :
-      least schema (trigger_of r time.After event.Delete t (item New what.Row n ∷ []) granularity.Row (Some (condition.Compare Equal (of_range n a) one)) (action.Signal (codes "x") ∷ [])) ≡ Some SchemaFault
+      least schema (trigger_of r time.After event.Delete t (item New what.Row n ∷ []) granularity.Row (Some (condition.Compare Equal (of_range n a) one))
+      (action.Signal (codes "x") ∷ [])) ≡ Some SchemaFault
   -- ---- CREATE TRIGGER: actions
   -- CREATE TRIGGER r BEFORE INSERT ON t INSERT INTO p VALUES (1);
   pub insert_before :
@@ -298,7 +314,8 @@ pub record WorkedSchemaFaults : Type 0 where
   -- CREATE TRIGGER r BEFORE INSERT ON t SIGNAL 'x';
   pub signal_before : least schema (trigger_of r time.Before event.Insert t [] granularity.Statement None (action.Signal (codes "x") ∷ [])) ≡ None
   -- CREATE TRIGGER r AFTER INSERT ON t REFERENCING NEW AS n FOR EACH ROW SET n.a = 1;
-  pub set_after : least schema (trigger_of r time.After event.Insert t (item New what.Row n ∷ []) granularity.Row None (action.Set n a one ∷ [])) ≡ Some SchemaFault
+  pub set_after : least schema (trigger_of r time.After event.Insert t (item New what.Row n ∷ []) granularity.Row None (action.Set n a one ∷ []))
+      ≡ Some SchemaFault
   -- CREATE TRIGGER r BEFORE INSERT ON t REFERENCING NEW AS n FOR EACH ROW SET n.a = 1;
   pub set_before : least schema (trigger_of r time.Before event.Insert t (item New what.Row n ∷ []) granularity.Row None (action.Set n a one ∷ [])) ≡ None
   -- CREATE TRIGGER r BEFORE INSERT ON t REFERENCING NEW AS n FOR EACH STATEMENT SET n.a = 1;
@@ -306,10 +323,12 @@ pub record WorkedSchemaFaults : Type 0 where
       least schema (trigger_of r time.Before event.Insert t (item New what.Row n ∷ []) granularity.Statement None (action.Set n a one ∷ [])) ≡ Some SchemaFault
   -- CREATE TRIGGER r BEFORE INSERT ON t BEGIN ATOMIC SIGNAL 'x'; DELETE FROM p; END;
   pub second_action_before :
-      least schema (trigger_of r time.Before event.Insert t [] granularity.Statement None (action.Signal (codes "x") ∷ action.Delete (delete_of p None) ∷ [])) ≡ Some SchemaFault
+      least schema (trigger_of r time.Before event.Insert t [] granularity.Statement None (action.Signal (codes "x") ∷ action.Delete (delete_of p None) ∷ []))
+      ≡ Some SchemaFault
   -- CREATE TRIGGER r AFTER INSERT ON t BEGIN ATOMIC SIGNAL 'x'; DELETE FROM p; END;
   pub second_action_after :
-      least schema (trigger_of r time.After event.Insert t [] granularity.Statement None (action.Signal (codes "x") ∷ action.Delete (delete_of p None) ∷ [])) ≡ None
+      least schema (trigger_of r time.After event.Insert t [] granularity.Statement None (action.Signal (codes "x") ∷ action.Delete (delete_of p None) ∷ []))
+      ≡ None
   -- CREATE TRIGGER r BEFORE UPDATE ON t REFERENCING OLD AS o NEW AS n FOR EACH ROW SET o.a = n.a;
   pub set_of_the_old_row :
       least schema (trigger_of r time.Before event.Update t (item Old what.Row o ∷ item New what.Row n ∷ []) granularity.Row None (action.Set o a (of_range n a) ∷ [])) ≡ Some SchemaFault

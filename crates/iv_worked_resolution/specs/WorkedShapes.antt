@@ -21,20 +21,23 @@ use Rattle.iv_worked_resolution.specs.Words.sign.{Plus, Minus}
 use Rattle.iv_worked_resolution.specs.Words.cause.{WrongShape}
 use Rattle.iv_syntax.specs.Trees.{group, signed, product, sum, enclosed, negated, both, either, exists_where}
 use Rattle.iv_resolution.specs.Resolution.{least}
-use Rattle.iv_resolution.specs.Worked.{a, b, k, p, t, column, of_range, one, text, from, any_time, item, insert_into, select_of, delete_where, defined, constrained, create}
+use Rattle.iv_resolution.specs.Worked.{a, b, k, p, t, column, of_range, one, text, from, any_time, item, insert_into, select_of, delete_where, defined}
+use Rattle.iv_resolution.specs.Worked.{constrained, create}
 use Rattle.iv_worked_resolution.specs.Words.{d, n, r, schema, sets, update_of, delete_of, constraint, trigger_of}
 
 pub record WorkedShapes : Type 0 where
   -- ---- CHECK
   -- CREATE TABLE w (a INT, CHECK (a <> 'x'));
   pub text_compared_in_a_check :
-      least schema (create (defined a type.Integer None [] ∷ constrained (table_rule.Check (condition.Compare NotEqual (column a) text)) ∷ [])) ≡ Some WrongShape
+      least schema (create (defined a type.Integer None [] ∷ constrained (table_rule.Check (condition.Compare NotEqual (column a) text)) ∷ []))
+      ≡ Some WrongShape
   -- CREATE TABLE w (a INT, CHECK (a <> 1));
   pub integer_compared_in_a_check :
       least schema (create (defined a type.Integer None [] ∷ constrained (table_rule.Check (condition.Compare NotEqual (column a) one)) ∷ [])) ≡ None
   -- CREATE TABLE w (b VARCHAR(2), CHECK (b + 1 = 1));
   pub sum_of_a_text_in_a_check :
-      least schema (create (defined b (type.Varchar 2) None [] ∷ constrained (table_rule.Check (condition.Compare Equal (sum Plus (column b) one) one)) ∷ [])) ≡ Some WrongShape
+      least schema (create (defined b (type.Varchar 2) None [] ∷ constrained (table_rule.Check (condition.Compare Equal (sum Plus (column b) one) one)) ∷ []))
+      ≡ Some WrongShape
   -- ALTER TABLE t ADD CHECK (b = 1);
   pub text_in_an_added_check :
       least schema (statement.AlterTable t (constraint None (table_rule.Check (condition.Compare Equal (column b) one)) any_time)) ≡ Some WrongShape
@@ -43,7 +46,8 @@ pub record WorkedShapes : Type 0 where
       least schema (statement.AlterTable t (constraint None (table_rule.Check (condition.Compare Equal (column b) text)) any_time)) ≡ None
   -- ALTER TABLE t ADD CHECK (-b = 1);
   pub sign_of_a_text_in_an_added_check :
-      least schema (statement.AlterTable t (constraint None (table_rule.Check (condition.Compare Equal (signed Minus (column b)) one)) any_time)) ≡ Some WrongShape
+      least schema (statement.AlterTable t (constraint None (table_rule.Check (condition.Compare Equal (signed Minus (column b)) one)) any_time))
+      ≡ Some WrongShape
   -- ---- INSERT with VALUES
   -- INSERT INTO p VALUES (1, 1);
   pub too_many_values : least schema (insert_into p None (one ∷ one ∷ [])) ≡ Some WrongShape
@@ -55,7 +59,8 @@ pub record WorkedShapes : Type 0 where
   pub fewer_values_than_listed : least schema (insert_into t (Some (a ∷ b ∷ [])) (one ∷ [])) ≡ Some WrongShape
   -- INSERT INTO p VALUES (1), (1, 1);
   pub second_tuple_of_two :
-      least schema (statement.Insert (insert.Rows p None (source.Values ((given.Value one ∷ []) ∷ (given.Value one ∷ given.Value one ∷ []) ∷ [])))) ≡ Some WrongShape
+      least schema (statement.Insert (insert.Rows p None (source.Values ((given.Value one ∷ []) ∷ (given.Value one ∷ given.Value one ∷ []) ∷ []))))
+      ≡ Some WrongShape
   -- INSERT INTO t VALUES ('x', 'x');
   pub text_into_an_integer : least schema (insert_into t None (text ∷ text ∷ [])) ≡ Some WrongShape
   -- INSERT INTO t VALUES (1, 1);
@@ -143,13 +148,16 @@ pub record WorkedShapes : Type 0 where
   -- UPDATE t SET b = b;
   pub text_set_to_a_text_column : least schema (statement.Update (update_of t (sets b (given.Value (column b)) ∷ []) None)) ≡ None
   -- UPDATE t SET b = +NULL;
-  pub text_set_to_a_sign_of_null : least schema (statement.Update (update_of t (sets b (given.Value (signed Plus expression.Null)) ∷ []) None)) ≡ Some WrongShape
+  pub text_set_to_a_sign_of_null : least schema (statement.Update (update_of t (sets b (given.Value (signed Plus expression.Null)) ∷ []) None))
+      ≡ Some WrongShape
   -- UPDATE t SET a = b + 1;
-  pub integer_set_to_a_sum_of_a_text : least schema (statement.Update (update_of t (sets a (given.Value (sum Plus (column b) one)) ∷ []) None)) ≡ Some WrongShape
+  pub integer_set_to_a_sum_of_a_text : least schema (statement.Update (update_of t (sets a (given.Value (sum Plus (column b) one)) ∷ []) None))
+      ≡ Some WrongShape
   -- UPDATE t SET a = a + 1;
   pub integer_set_to_a_sum : least schema (statement.Update (update_of t (sets a (given.Value (sum Plus (column a) one)) ∷ []) None)) ≡ None
   -- UPDATE t SET a = 1, b = 1;
-  pub second_of_two_assignments : least schema (statement.Update (update_of t (sets a (given.Value one) ∷ sets b (given.Value one) ∷ []) None)) ≡ Some WrongShape
+  pub second_of_two_assignments : least schema (statement.Update (update_of t (sets a (given.Value one) ∷ sets b (given.Value one) ∷ []) None))
+      ≡ Some WrongShape
   -- UPDATE t SET a = 1 WHERE b = 1;
   pub updated_where_a_text_is_an_integer :
       least schema (statement.Update (update_of t (sets a (given.Value one) ∷ []) (Some (condition.Compare Equal (column b) one)))) ≡ Some WrongShape
@@ -184,7 +192,8 @@ pub record WorkedShapes : Type 0 where
   -- DELETE FROM t WHERE a + 1 IS NOT NULL;
   pub sum_of_an_integer_is_not_null : least schema (delete_where t (condition.IsNotNull (sum Plus (column a) one))) ≡ None
   -- DELETE FROM t WHERE EXISTS (SELECT * FROM p WHERE k = b);
-  pub exists_where_an_integer_is_a_text : least schema (delete_where t (exists_where (from p) (condition.Compare Equal (column k) (column b)))) ≡ Some WrongShape
+  pub exists_where_an_integer_is_a_text : least schema (delete_where t (exists_where (from p) (condition.Compare Equal (column k) (column b))))
+      ≡ Some WrongShape
   -- DELETE FROM t WHERE EXISTS (SELECT * FROM p WHERE k = a);
   pub exists_where_an_integer_is_an_integer : least schema (delete_where t (exists_where (from p) (condition.Compare Equal (column k) (column a)))) ≡ None
   -- DELETE FROM t WHERE (a = 'x');
@@ -192,13 +201,17 @@ pub record WorkedShapes : Type 0 where
   -- DELETE FROM t WHERE NOT a = 'x';
   pub negated_clash : least schema (delete_where t (negated (condition.Compare Equal (column a) text))) ≡ Some WrongShape
   -- DELETE FROM t WHERE a = 'x' AND a = 1;
-  pub clash_before_and : least schema (delete_where t (both (condition.Compare Equal (column a) text) (condition.Compare Equal (column a) one))) ≡ Some WrongShape
+  pub clash_before_and : least schema (delete_where t (both (condition.Compare Equal (column a) text) (condition.Compare Equal (column a) one)))
+      ≡ Some WrongShape
   -- DELETE FROM t WHERE a = 1 AND a = 'x';
-  pub clash_after_and : least schema (delete_where t (both (condition.Compare Equal (column a) one) (condition.Compare Equal (column a) text))) ≡ Some WrongShape
+  pub clash_after_and : least schema (delete_where t (both (condition.Compare Equal (column a) one) (condition.Compare Equal (column a) text)))
+      ≡ Some WrongShape
   -- DELETE FROM t WHERE a = 'x' OR a = 1;
-  pub clash_before_or : least schema (delete_where t (either (condition.Compare Equal (column a) text) (condition.Compare Equal (column a) one))) ≡ Some WrongShape
+  pub clash_before_or : least schema (delete_where t (either (condition.Compare Equal (column a) text) (condition.Compare Equal (column a) one)))
+      ≡ Some WrongShape
   -- DELETE FROM t WHERE a = 1 OR a = 'x';
-  pub clash_after_or : least schema (delete_where t (either (condition.Compare Equal (column a) one) (condition.Compare Equal (column a) text))) ≡ Some WrongShape
+  pub clash_after_or : least schema (delete_where t (either (condition.Compare Equal (column a) one) (condition.Compare Equal (column a) text)))
+      ≡ Some WrongShape
   -- DELETE FROM t WHERE NOT (a = 1 AND b = 'x' OR a = NULL);
   pub no_clash :
       least schema (delete_where t (negated (enclosed (either (both (condition.Compare Equal (column a) one) (condition.Compare Equal (column b) text)) (condition.Compare Equal (column a) expression.Null))))) ≡ None
@@ -245,16 +258,19 @@ pub record WorkedShapes : Type 0 where
   -- SELECT * FROM t WHERE b = 'x';
   pub rows_where_a_text_is_a_text : least schema (statement.Select (select.Rows list.Star (from t) (Some (condition.Compare Equal (column b) text)))) ≡ None
   -- SELECT COUNT(*) FROM t WHERE b = 1;
-  pub count_where_a_text_is_an_integer : least schema (statement.Select (select.Count (from t) (Some (condition.Compare Equal (column b) one)))) ≡ Some WrongShape
+  pub count_where_a_text_is_an_integer : least schema (statement.Select (select.Count (from t) (Some (condition.Compare Equal (column b) one))))
+      ≡ Some WrongShape
   -- SELECT COUNT(*) FROM t WHERE b = 'x';
   pub count_where_a_text_is_a_text : least schema (statement.Select (select.Count (from t) (Some (condition.Compare Equal (column b) text)))) ≡ None
   -- ---- CREATE TRIGGER
   -- CREATE TRIGGER r AFTER INSERT ON t REFERENCING NEW AS n FOR EACH ROW WHEN (n.a = 'x') SIGNAL 'x';
   pub when_an_integer_is_a_text :
-      least schema (trigger_of r time.After event.Insert t (item New what.Row n ∷ []) granularity.Row (Some (condition.Compare Equal (of_range n a) text)) (action.Signal (codes "x") ∷ [])) ≡ Some WrongShape
+      least schema (trigger_of r time.After event.Insert t (item New what.Row n ∷ []) granularity.Row (Some (condition.Compare Equal (of_range n a) text))
+      (action.Signal (codes "x") ∷ [])) ≡ Some WrongShape
   -- CREATE TRIGGER r AFTER INSERT ON t REFERENCING NEW AS n FOR EACH ROW WHEN (n.b = 'x') SIGNAL 'x';
   pub when_a_text_is_a_text :
-      least schema (trigger_of r time.After event.Insert t (item New what.Row n ∷ []) granularity.Row (Some (condition.Compare Equal (of_range n b) text)) (action.Signal (codes "x") ∷ [])) ≡ None
+      least schema (trigger_of r time.After event.Insert t (item New what.Row n ∷ []) granularity.Row (Some (condition.Compare Equal (of_range n b) text))
+      (action.Signal (codes "x") ∷ [])) ≡ None
   -- CREATE TRIGGER r AFTER INSERT ON t REFERENCING NEW AS n FOR EACH ROW INSERT INTO p VALUES (n.b);
   pub triggered_insert_of_a_text :
       least schema (trigger_of r time.After event.Insert t (item New what.Row n ∷ []) granularity.Row None (action.Insert (insert.Rows p None (source.Values ((given.Value (of_range n b) ∷ []) ∷ []))) ∷ [])) ≡ Some WrongShape
@@ -287,7 +303,8 @@ pub record WorkedShapes : Type 0 where
       least schema (trigger_of r time.Before event.Insert t (item New what.Row n ∷ []) granularity.Row None (action.Set n a text ∷ [])) ≡ Some WrongShape
   -- CREATE TRIGGER r BEFORE INSERT ON t REFERENCING NEW AS n FOR EACH ROW SET n.b = n.a;
   pub new_text_set_to_an_integer :
-      least schema (trigger_of r time.Before event.Insert t (item New what.Row n ∷ []) granularity.Row None (action.Set n b (of_range n a) ∷ [])) ≡ Some WrongShape
+      least schema (trigger_of r time.Before event.Insert t (item New what.Row n ∷ []) granularity.Row None (action.Set n b (of_range n a) ∷ []))
+      ≡ Some WrongShape
   -- CREATE TRIGGER r BEFORE INSERT ON t REFERENCING NEW AS n FOR EACH ROW SET n.b = 'x';
   pub new_text_set_to_a_text :
       least schema (trigger_of r time.Before event.Insert t (item New what.Row n ∷ []) granularity.Row None (action.Set n b text ∷ [])) ≡ None

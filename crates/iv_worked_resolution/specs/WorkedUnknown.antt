@@ -25,7 +25,8 @@ use Rattle.iv_worked_resolution.specs.Words.sign.{Plus, Minus}
 use Rattle.iv_worked_resolution.specs.Words.cause.{Unknown, SchemaFault}
 use Rattle.iv_syntax.specs.Trees.{group, signed, product, sum, enclosed, negated, both, either, exists_where}
 use Rattle.iv_resolution.specs.Resolution.{least}
-use Rattle.iv_resolution.specs.Worked.{a, b, k, p, t, w, z, column, of_range, one, text, from, called, any_time, item, insert_into, select_of, delete_where, defined, constrained, create, to_table}
+use Rattle.iv_resolution.specs.Worked.{a, b, k, p, t, w, z, column, of_range, one, text, from, called, any_time, item, insert_into, select_of, delete_where}
+use Rattle.iv_resolution.specs.Worked.{defined, constrained, create, to_table}
 use Rattle.iv_worked_resolution.specs.Words.{n, o, r, s, schema, sets, update_of, delete_of, refers, constraint, trigger_of}
 
 pub record WorkedUnknown : Type 0 where
@@ -55,7 +56,8 @@ pub record WorkedUnknown : Type 0 where
   pub check_of_its_table :
       least schema (create (defined a type.Integer None [] ∷ constrained (table_rule.Check (condition.Compare Equal (of_range w a) one)) ∷ [])) ≡ None
   -- CREATE TABLE w (a INT, CHECK (EXISTS (SELECT * FROM n)));
-  pub check_over_nothing : least schema (create (defined a type.Integer None [] ∷ constrained (table_rule.Check (condition.Exists (from n))) ∷ [])) ≡ Some Unknown
+  pub check_over_nothing : least schema (create (defined a type.Integer None [] ∷ constrained (table_rule.Check (condition.Exists (from n))) ∷ []))
+      ≡ Some Unknown
   -- CREATE TABLE w (a INT, CHECK (EXISTS (SELECT * FROM t)));
   pub check_over_a_table :
       least schema (create (defined a type.Integer None [] ∷ constrained (table_rule.Check (condition.Exists (from t))) ∷ [])) ≡ Some SchemaFault
@@ -107,7 +109,8 @@ pub record WorkedUnknown : Type 0 where
   -- ALTER TABLE t ADD CHECK (EXISTS (SELECT * FROM w));
   pub added_check_over_nothing : least schema (statement.AlterTable t (constraint None (table_rule.Check (condition.Exists (from w))) any_time)) ≡ Some Unknown
   -- ALTER TABLE t ADD FOREIGN KEY (z) REFERENCES p;
-  pub added_foreign_key_of_nothing : least schema (statement.AlterTable t (constraint None (table_rule.ForeignKey (z ∷ []) (to_table p)) any_time)) ≡ Some Unknown
+  pub added_foreign_key_of_nothing : least schema (statement.AlterTable t (constraint None (table_rule.ForeignKey (z ∷ []) (to_table p)) any_time))
+      ≡ Some Unknown
   -- ALTER TABLE t ADD FOREIGN KEY (a) REFERENCES p;
   pub added_foreign_key : least schema (statement.AlterTable t (constraint None (table_rule.ForeignKey (a ∷ []) (to_table p)) any_time)) ≡ None
   -- ALTER TABLE t ADD FOREIGN KEY (a) REFERENCES w;
@@ -127,19 +130,24 @@ pub record WorkedUnknown : Type 0 where
   pub trigger_on_a_table : least schema (trigger_of r time.After event.Insert t [] granularity.Statement None (action.Signal (codes "x") ∷ [])) ≡ None
   -- CREATE TRIGGER r AFTER INSERT ON t REFERENCING NEW AS n FOR EACH ROW WHEN (n.z = 1) SIGNAL 'x';
   pub when_of_no_column :
-      least schema (trigger_of r time.After event.Insert t (item New what.Row n ∷ []) granularity.Row (Some (condition.Compare Equal (of_range n z) one)) (action.Signal (codes "x") ∷ [])) ≡ Some Unknown
+      least schema (trigger_of r time.After event.Insert t (item New what.Row n ∷ []) granularity.Row (Some (condition.Compare Equal (of_range n z) one))
+      (action.Signal (codes "x") ∷ [])) ≡ Some Unknown
   -- CREATE TRIGGER r AFTER INSERT ON t REFERENCING NEW AS n FOR EACH ROW WHEN (n.a = 1) SIGNAL 'x';
   pub when_of_a_column :
-      least schema (trigger_of r time.After event.Insert t (item New what.Row n ∷ []) granularity.Row (Some (condition.Compare Equal (of_range n a) one)) (action.Signal (codes "x") ∷ [])) ≡ None
+      least schema (trigger_of r time.After event.Insert t (item New what.Row n ∷ []) granularity.Row (Some (condition.Compare Equal (of_range n a) one))
+      (action.Signal (codes "x") ∷ [])) ≡ None
   -- CREATE TRIGGER r AFTER INSERT ON t REFERENCING NEW AS n FOR EACH ROW WHEN (o.a = 1) SIGNAL 'x';
   pub when_of_no_variable :
-      least schema (trigger_of r time.After event.Insert t (item New what.Row n ∷ []) granularity.Row (Some (condition.Compare Equal (of_range o a) one)) (action.Signal (codes "x") ∷ [])) ≡ Some Unknown
+      least schema (trigger_of r time.After event.Insert t (item New what.Row n ∷ []) granularity.Row (Some (condition.Compare Equal (of_range o a) one))
+      (action.Signal (codes "x") ∷ [])) ≡ Some Unknown
   -- CREATE TRIGGER r AFTER INSERT ON t REFERENCING NEW AS n FOR EACH ROW WHEN (a = 1) SIGNAL 'x';
   pub when_without_a_variable :
-      least schema (trigger_of r time.After event.Insert t (item New what.Row n ∷ []) granularity.Row (Some (condition.Compare Equal (column a) one)) (action.Signal (codes "x") ∷ [])) ≡ Some Unknown
+      least schema (trigger_of r time.After event.Insert t (item New what.Row n ∷ []) granularity.Row (Some (condition.Compare Equal (column a) one))
+      (action.Signal (codes "x") ∷ [])) ≡ Some Unknown
   -- CREATE TRIGGER r AFTER INSERT ON t WHEN (EXISTS (SELECT * FROM w)) SIGNAL 'x';
   pub when_over_nothing :
-      least schema (trigger_of r time.After event.Insert t [] granularity.Statement (Some (condition.Exists (from w))) (action.Signal (codes "x") ∷ [])) ≡ Some Unknown
+      least schema (trigger_of r time.After event.Insert t [] granularity.Statement (Some (condition.Exists (from w))) (action.Signal (codes "x") ∷ []))
+      ≡ Some Unknown
   -- CREATE TRIGGER r AFTER INSERT ON t REFERENCING NEW AS n FOR EACH ROW WHEN (EXISTS (SELECT * FROM p WHERE k = n.a)) SIGNAL 'x';
   pub when_over_a_table :
       least schema (trigger_of r time.After event.Insert t (item New what.Row n ∷ []) granularity.Row (Some (exists_where (from p) (condition.Compare Equal (column k) (of_range n a)))) (action.Signal (codes "x") ∷ [])) ≡ None
@@ -238,7 +246,8 @@ pub record WorkedUnknown : Type 0 where
       least schema (trigger_of r time.Before event.Insert t (item New what.Table n ∷ []) granularity.Row None (action.Set n a one ∷ [])) ≡ Some Unknown
   -- CREATE TRIGGER r AFTER INSERT ON t BEGIN ATOMIC SIGNAL 'x'; DELETE FROM w; END;
   pub second_of_a_body :
-      least schema (trigger_of r time.After event.Insert t [] granularity.Statement None (action.Signal (codes "x") ∷ action.Delete (delete_of w None) ∷ [])) ≡ Some Unknown
+      least schema (trigger_of r time.After event.Insert t [] granularity.Statement None (action.Signal (codes "x") ∷ action.Delete (delete_of w None) ∷ []))
+      ≡ Some Unknown
   -- DROP TRIGGER s;
   pub trigger_dropped : least schema (statement.DropTrigger s) ≡ None
   -- ---- INSERT
@@ -294,7 +303,8 @@ pub record WorkedUnknown : Type 0 where
   pub update_where_nothing :
       least schema (statement.Update (update_of t (sets a (given.Value one) ∷ []) (Some (condition.Compare Equal (column z) one)))) ≡ Some Unknown
   -- UPDATE t SET a = 1 WHERE a = 1;
-  pub update_where_a_column : least schema (statement.Update (update_of t (sets a (given.Value one) ∷ []) (Some (condition.Compare Equal (column a) one)))) ≡ None
+  pub update_where_a_column : least schema (statement.Update (update_of t (sets a (given.Value one) ∷ []) (Some (condition.Compare Equal (column a) one))))
+      ≡ None
   -- ---- DELETE, with each search condition
   -- DELETE FROM w;
   pub delete_from_nothing : least schema (statement.Delete (delete_of w None)) ≡ Some Unknown
@@ -339,16 +349,19 @@ pub record WorkedUnknown : Type 0 where
   -- DELETE FROM t WHERE NOT a = 1;
   pub negated_column : least schema (delete_where t (negated (condition.Compare Equal (column a) one))) ≡ None
   -- DELETE FROM t WHERE z = 1 AND a = 1;
-  pub nothing_and_a_column : least schema (delete_where t (both (condition.Compare Equal (column z) one) (condition.Compare Equal (column a) one))) ≡ Some Unknown
+  pub nothing_and_a_column : least schema (delete_where t (both (condition.Compare Equal (column z) one) (condition.Compare Equal (column a) one)))
+      ≡ Some Unknown
   -- DELETE FROM t WHERE a = 1 AND z = 1;
   pub column_and_nothing : least schema (delete_where t (both (condition.Compare Equal (column a) one) (condition.Compare Equal (column z) one))) ≡ Some Unknown
   -- DELETE FROM t WHERE a = 1 AND a = 2;
   pub column_and_a_column :
       least schema (delete_where t (both (condition.Compare Equal (column a) one) (condition.Compare Equal (column a) (expression.Number 2)))) ≡ None
   -- DELETE FROM t WHERE z = 1 OR a = 1;
-  pub nothing_or_a_column : least schema (delete_where t (either (condition.Compare Equal (column z) one) (condition.Compare Equal (column a) one))) ≡ Some Unknown
+  pub nothing_or_a_column : least schema (delete_where t (either (condition.Compare Equal (column z) one) (condition.Compare Equal (column a) one)))
+      ≡ Some Unknown
   -- DELETE FROM t WHERE a = 1 OR z = 1;
-  pub column_or_nothing : least schema (delete_where t (either (condition.Compare Equal (column a) one) (condition.Compare Equal (column z) one))) ≡ Some Unknown
+  pub column_or_nothing : least schema (delete_where t (either (condition.Compare Equal (column a) one) (condition.Compare Equal (column z) one)))
+      ≡ Some Unknown
   -- DELETE FROM t WHERE a = 1 OR a = 2;
   pub column_or_a_column :
       least schema (delete_where t (either (condition.Compare Equal (column a) one) (condition.Compare Equal (column a) (expression.Number 2)))) ≡ None

@@ -1,6 +1,6 @@
 use Rattle.std.proofs.Common.{◌≡◌, ◌∙◌, sym, ap, subst, flat_map, IfOk}
 use Rattle.iv_account.specs.Accounts.{actions_at as actions_between}
-use Rattle.iv_laws_actions.specs.RowByRow.{LedTo}
+use Rattle.iv_laws_kept.specs.FollowingWaves.{LedTo}
 use Rattle.iv_exec_actions.specs.AffectedForeignKey.{affected_from}
 use Rattle.iv_exec_actions.proofs.ActingKeys.{acting_on_all}
 use Rattle.iv_exec_actions.proofs.acting.row_actions.Goals as goal

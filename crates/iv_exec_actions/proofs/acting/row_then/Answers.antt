@@ -1,6 +1,6 @@
 use Rattle.std.proofs.Common.{◌≡◌, ◌∙◌, sym, subst, IfOk}
 use Rattle.iv_account.specs.Accounts.{if_some}
-use Rattle.iv_laws_actions.specs.RowByRow.{LedTo}
+use Rattle.iv_laws_kept.specs.FollowingWaves.{LedTo}
 use Rattle.iv_exec_actions.proofs.ActingKeys.{row_then_is}
 use Rattle.iv_exec_actions.proofs.acting.row_then.Goals as goal
 

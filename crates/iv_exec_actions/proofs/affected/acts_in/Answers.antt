@@ -1,5 +1,5 @@
 use Rattle.std.proofs.Common.{◌∙◌, sym, ap}
-use Rattle.iv_laws_actions.specs.RowByRow.{is_among}
+use Rattle.iv_laws_kept.specs.FollowingWaves.{is_among}
 use Rattle.iv_exec_actions.proofs.Tables.{none_acts}
 use Rattle.iv_exec_actions.proofs.affected.acts_in.Goals as goal
 

@@ -1,5 +1,5 @@
 use Rattle.std.proofs.Common.{◌≡◌, drop, find}
-use Rattle.iv_laws_actions.specs.RowByRow.{clashes}
+use Rattle.iv_laws_kept.specs.FollowingWaves.{clashes}
 use Rattle.iv_exec_actions.proofs.conflict.first_clash.Given as goal
 
 abbrev pub invariant-loop-effect : goal.invariant-loop-effect

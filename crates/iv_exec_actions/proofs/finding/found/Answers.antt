@@ -1,6 +1,6 @@
 use Rattle.std.proofs.Common.{map, ap, ◌∙◌}
 use Rattle.iv_expr.specs.declared.row.Change.{Change}
-use Rattle.iv_laws_actions.specs.RowByRow.{is_among}
+use Rattle.iv_laws_kept.specs.FollowingWaves.{is_among}
 use Rattle.iv_exec_actions.proofs.Numbers.{rising_numbers, none_of_both, no_row_is_zero}
 use Rattle.iv_exec_actions.proofs.finding.found.Goals as goal
 

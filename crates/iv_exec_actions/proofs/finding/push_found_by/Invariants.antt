@@ -1,5 +1,5 @@
 use Rattle.std.proofs.Common.{◌≤◌, ◌+◌, ◌≡◌, ◌++◌, drop, false, flat_map}
-use Rattle.iv_laws_actions.specs.RowByRow.{is_among}
+use Rattle.iv_laws_kept.specs.FollowingWaves.{is_among}
 use Rattle.iv_exec_actions.specs.Finding.{found_by}
 use Rattle.iv_exec_actions.proofs.finding.push_found_by.Given as goal
 

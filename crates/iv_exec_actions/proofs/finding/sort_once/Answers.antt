@@ -3,7 +3,7 @@ use Rattle.std.specs.Bool.{◌==◌}
 use Rattle.std.proofs.lemmas.List.Filters.{dedup_is}
 use Rattle.std.proofs.lemmas.List.Sorted.{list_any-IsPermutation}
 use Rattle.std.proofs.lemmas.Map.Keys.{IsStrictlyIncreasing-dedup}
-use Rattle.iv_laws_actions.specs.RowByRow.{is_among}
+use Rattle.iv_laws_kept.specs.FollowingWaves.{is_among}
 use Rattle.iv_exec_actions.proofs.Numbers.{among_dedup}
 use Rattle.iv_exec_actions.proofs.finding.sort_once.Goals as goal
 

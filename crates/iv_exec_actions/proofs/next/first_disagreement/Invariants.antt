@@ -1,5 +1,5 @@
 use Rattle.std.proofs.Common.{◌≡◌, ◌≤◌, drop, length}
-use Rattle.iv_laws_actions.specs.RowByRow.{least}
+use Rattle.iv_laws_kept.specs.FollowingWaves.{least}
 use Rattle.iv_exec_actions.specs.Following.{conflict_at}
 use Rattle.iv_exec_actions.proofs.next.first_disagreement.Given as goal
 

@@ -1,5 +1,5 @@
 use Rattle.std.proofs.Common.{◌∙◌, sym, ap, subst}
-use Rattle.iv_laws_actions.specs.RowByRow.{is_among, LedTo}
+use Rattle.iv_laws_kept.specs.FollowingWaves.{is_among, LedTo}
 use Rattle.iv_store.specs.Stores.{RisingNumbers}
 use Rattle.iv_exec_actions.specs.AffectedForeignKey.{affected_from}
 use Rattle.iv_exec_actions.specs.Following.{answer_among}

@@ -1,7 +1,7 @@
 use Rattle.std.proofs.Common.{◌∙◌, arith, sym, unwrap_or}
 use Rattle.iv_catalogue.specs.Names.{generated_name}
-use Rattle.iv_resolve_table_constraints.specs.Unread.{left_seen}
-use Rattle.iv_resolve_table_constraints.specs.Seen.{constraint_seen}
+use Rattle.iv_resolve_tables.specs.Unread.{left_seen}
+use Rattle.iv_resolve_tables.specs.Seen.{constraint_seen}
 use Rattle.iv_resolve_name_faults.proofs.InPlace.{one_differs}
 use Rattle.iv_resolve_name_faults.proofs.constraints_again.comes_before.Goals as goal
 

@@ -1,7 +1,7 @@
 use Rattle.std.proofs.Common.{◌≡◌, ◌≤◌, ◌-◌, take, unwrap_or}
 use Rattle.iv_catalogue.specs.Names.{generated_name, is_among}
 use Rattle.iv_resolution.specs.Constraints.{written_constraints}
-use Rattle.iv_resolve_table_constraints.specs.Unread.{left_seen}
+use Rattle.iv_resolve_tables.specs.Unread.{left_seen}
 use Rattle.iv_resolve_name_faults.specs.Places.{constraint_names}
 use Rattle.iv_resolve_name_faults.proofs.constraints_again.comes_before.Given as goal
 

@@ -1,7 +1,7 @@
 use Rattle.std.proofs.Common.{◌≡◌, ◌+◌, length}
 use Rattle.iv_resolution.specs.Constraints.{written_constraints}
 use Rattle.iv_resolution.specs.NameFaults.{duplicate_in_constraints}
-use Rattle.iv_resolve_table_constraints.specs.Unread.{left_seen}
+use Rattle.iv_resolve_tables.specs.Unread.{left_seen}
 use Rattle.iv_resolve_name_faults.proofs.constraints_again.duplicate_after.Given as goal
 
 abbrev pub invariant-loop-constraint : goal.invariant-loop-constraint

@@ -1,7 +1,7 @@
 use Rattle.std.proofs.Common.{◌∙◌, ap, arith, length, sym}
 use Rattle.iv_resolution.specs.Constraints.{written_constraints}
-use Rattle.iv_resolve_table_constraints.specs.Unread.{left_seen}
-use Rattle.iv_resolve_table_constraints.specs.Seen.{constraint_seen}
+use Rattle.iv_resolve_tables.specs.Unread.{left_seen}
+use Rattle.iv_resolve_tables.specs.Seen.{constraint_seen}
 use Rattle.iv_resolve_name_faults.proofs.InPlace.{constraint_passed_at, none_seen, rest_next}
 use Rattle.iv_resolve_name_faults.proofs.constraints_again.duplicate_in_place.Goals as goal
 

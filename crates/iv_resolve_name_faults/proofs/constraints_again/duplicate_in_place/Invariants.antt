@@ -1,7 +1,7 @@
 use Rattle.std.proofs.Common.{◌≡◌, ◌≤◌, ◌+◌, ◌-◌, [], drop, length, take}
 use Rattle.iv_resolution.specs.Constraints.{written_constraints}
 use Rattle.iv_resolution.specs.NameFaults.{duplicate_in_constraints}
-use Rattle.iv_resolve_table_constraints.specs.Unread.{left_seen}
+use Rattle.iv_resolve_tables.specs.Unread.{left_seen}
 use Rattle.iv_resolve_name_faults.specs.Places.{constraint_names}
 use Rattle.iv_resolve_name_faults.proofs.constraints_again.duplicate_in_place.Given as goal
 

@@ -1,7 +1,7 @@
 use Rattle.std.proofs.Common.{◌≡◌, length}
 use Rattle.iv_resolution.specs.Constraints.{written_constraints}
-use Rattle.iv_resolve_table_constraints.specs.Seen.{names_of_own, own_seen}
-use Rattle.iv_resolve_table_constraints.specs.Unread.{left_seen}
+use Rattle.iv_resolve_tables.specs.Seen.{names_of_own, own_seen}
+use Rattle.iv_resolve_tables.specs.Unread.{left_seen}
 use Rattle.iv_resolution.specs.Items.{first_of}
 use Rattle.iv_resolution.specs.NameFaults.{unknown_in_rule}
 use Rattle.iv_resolve_name_faults.proofs.tables.unknown_in_elements.Given as goal

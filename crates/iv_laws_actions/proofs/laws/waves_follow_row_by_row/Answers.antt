@@ -1,5 +1,0 @@
-use Rattle.iv_laws_actions.proofs.Followed.{waves_follow_row_by_row}
-use Rattle.iv_laws_actions.proofs.laws.waves_follow_row_by_row.Goals as goal
-
-pub returns : goal.returns
-returns c = waves_follow_row_by_row

@@ -1,0 +1,10 @@
+use Rattle.std.proofs.Common.{◌≡◌, drop}
+use Rattle.iv_resolution.specs.Changes.{values_clash}
+use Rattle.iv_resolve_scope.specs.Seen.{ranges_seen}
+use Rattle.iv_resolve_statements.specs.Targets.{targets_seen}
+use Rattle.iv_resolve_statements.proofs.targets.values_clash.Given as goal
+
+abbrev pub invariant-loop-at : goal.invariant-loop-at
+invariant-loop-at l =
+    values_clash (targets_seen l.fn.targets) (ranges_seen l.fn.ranges) l.fn.values
+    ≡ values_clash (drop l.at (targets_seen l.fn.targets)) (ranges_seen l.fn.ranges) (drop l.at l.fn.values)

@@ -1,2 +1,0 @@
-pub mod Altering
-pub mod ReferencePairs

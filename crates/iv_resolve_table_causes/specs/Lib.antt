@@ -1,2 +1,0 @@
-pub mod OwnKeys
-pub mod Pairs

@@ -1,4 +1,0 @@
-pub mod Elements
-pub mod KeysOfTable
-pub mod Counts
-pub mod SameSets

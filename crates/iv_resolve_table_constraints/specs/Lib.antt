@@ -1,4 +1,0 @@
-pub mod Seen
-pub mod Unread
-pub mod Keys
-pub mod KeySets

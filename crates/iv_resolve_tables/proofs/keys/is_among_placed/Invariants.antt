@@ -1,0 +1,10 @@
+use Rattle.std.proofs.Common.{◌≡◌, drop, map}
+use Rattle.iv_catalogue.specs.Names.{is_among}
+use Rattle.iv_resolution.specs.Constraints.{name_at}
+use Rattle.iv_resolution.specs.Scopes.{named_columns}
+use Rattle.iv_resolve_tables.proofs.keys.is_among_placed.Given as goal
+
+abbrev pub invariant-loop-place : goal.invariant-loop-place
+invariant-loop-place l =
+    is_among (map (name_at (named_columns l.fn.columns)) l.places) l.fn.name
+    ≡ is_among (map (name_at (named_columns l.fn.columns)) (drop l.place-index l.places)) l.fn.name
