@@ -107,6 +107,18 @@ typedef struct sqlkeep_script {
     uint64_t fault_at;
 } sqlkeep_script;
 
+/* Where the text that was read last has its fault: bytes of it, from 0. */
+typedef struct sqlkeep_place {
+    /* Where the statement begins that isn't one. */
+    uint64_t at;
+    /* Where the first word begins that can't stand where it does, whatever follows it; the text's end where more should follow. */
+    uint64_t word;
+    /* Where that word ends; where it begins, if no token begins there. */
+    uint64_t end;
+    /* 1 where the text ends within the statement, so that it may go on; else 0. */
+    uint64_t is_cut;
+} sqlkeep_place;
+
 /* What a statement answered. */
 enum sqlkeep_kind {
     SQLKEEP_DONE = 0,
@@ -384,6 +396,10 @@ uint32_t sqlkeep_transcript(sqlkeep *handle, size_t from, uint8_t *buffer, size_
    SQLKEEP_CLOSED, SQLKEEP_NOT_UTF8, SQLKEEP_NO_MEMORY. */
 uint32_t sqlkeep_read(sqlkeep *handle, const uint8_t *text, size_t length, sqlkeep_script *script);
 
+/* Tells the fault of the text that was read last. After sqlkeep_read_bound and sqlkeep_read_filled its places are bytes of the filled
+   text. SQLKEEP_CLOSED; SQLKEEP_NOTHING: that text has no fault. */
+uint32_t sqlkeep_fault(sqlkeep *handle, sqlkeep_place *place);
+
 /* ---- templates
 
    A template is a text in which a question mark stands where a literal may stand; one in a text or in a comment is no such
@@ -595,6 +611,9 @@ static inline uint32_t sqlkeep_tested_transcript(sqlkeep *handle, size_t from, u
 static inline uint32_t sqlkeep_tested_read(sqlkeep *handle, const uint8_t *text, size_t length, sqlkeep_script *script) {
     return handle == NULL ? (uint32_t)SQLKEEP_NO_HANDLE : sqlkeep_read(handle, text, length, script);
 }
+static inline uint32_t sqlkeep_tested_fault(sqlkeep *handle, sqlkeep_place *place) {
+    return handle == NULL ? (uint32_t)SQLKEEP_NO_HANDLE : sqlkeep_fault(handle, place);
+}
 static inline uint32_t sqlkeep_tested_execute(sqlkeep *handle, size_t at, sqlkeep_outcome *outcome) {
     return handle == NULL ? (uint32_t)SQLKEEP_NO_HANDLE : sqlkeep_execute(handle, at, outcome);
 }
@@ -758,6 +777,7 @@ static inline uint32_t sqlkeep_tested_constraint_mode(sqlkeep *handle, size_t at
 #define sqlkeep_run sqlkeep_tested_run
 #define sqlkeep_transcript sqlkeep_tested_transcript
 #define sqlkeep_read sqlkeep_tested_read
+#define sqlkeep_fault sqlkeep_tested_fault
 #define sqlkeep_execute sqlkeep_tested_execute
 #define sqlkeep_lines sqlkeep_tested_lines
 #define sqlkeep_statement_kind sqlkeep_tested_statement_kind

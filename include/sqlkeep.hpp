@@ -53,15 +53,28 @@ public:
 // A part of a text is no statement. Where the text has parameters, the place is one of the text with their values in it.
 class syntax_error : public error {
 public:
-    syntax_error(std::size_t byte, std::size_t line, std::size_t column)
-        : error("no statement at line " + std::to_string(line) + ", column " + std::to_string(column)), byte_(byte), line_(line), column_(column) {}
-    // The byte, from 0; the line and the column in characters, from 1.
-    std::size_t byte() const noexcept { return byte_; }
-    std::size_t line() const noexcept { return line_; }
-    std::size_t column() const noexcept { return column_; }
+    // A byte of the text, from 0; its line and its column in characters, from 1.
+    struct place {
+        std::size_t byte, line, column;
+    };
+
+    syntax_error(place statement, place word, bool is_cut)
+        : error("no statement at " + told(statement) + (is_cut ? ": the text ends within it" : ": wrong word at " + told(word))),
+          statement_(statement), word_(word), is_cut_(is_cut) {}
+    // Where the statement begins that isn't one.
+    std::size_t byte() const noexcept { return statement_.byte; }
+    std::size_t line() const noexcept { return statement_.line; }
+    std::size_t column() const noexcept { return statement_.column; }
+    // Where the first word of it is that can't stand where it does; the text's end where more should follow.
+    place word() const noexcept { return word_; }
+    // Whether the text ends within the statement.
+    bool is_cut() const noexcept { return is_cut_; }
 
 private:
-    std::size_t byte_, line_, column_;
+    static std::string told(place it) { return "line " + std::to_string(it.line) + ", column " + std::to_string(it.column); }
+
+    place statement_, word_;
+    bool is_cut_;
 };
 
 // Why a statement was refused, and by what.
@@ -160,7 +173,7 @@ inline void check(std::uint32_t status) {
     }
 }
 
-inline syntax_error fault_at(std::string_view text, std::size_t byte) {
+inline syntax_error::place place_of(std::string_view text, std::size_t byte) {
     const std::string_view before = text.substr(0, byte);
     const std::size_t start = before.rfind('\n') + 1;
     const auto begins = [](char c) { return (static_cast<unsigned char>(c) & 0xC0U) != 0x80U; };
@@ -393,8 +406,15 @@ private:
         return whole(text, script);
     }
 
-    static std::size_t whole(std::string_view text, const sqlkeep_script &script) {
-        if (script.has_fault) throw detail::fault_at(text, static_cast<std::size_t>(script.fault_at));
+    // The fault of the text that was read last.
+    syntax_error fault_in(std::string_view text) {
+        sqlkeep_place found;
+        detail::check(sqlkeep_fault(&handle_, &found));
+        return {detail::place_of(text, static_cast<std::size_t>(found.at)), detail::place_of(text, static_cast<std::size_t>(found.word)), found.is_cut != 0};
+    }
+
+    std::size_t whole(std::string_view text, const sqlkeep_script &script) {
+        if (script.has_fault) throw fault_in(text);
         return static_cast<std::size_t>(script.statements);
     }
 

@@ -169,10 +169,24 @@ export class EngineError extends Error {
 /** The engine stopped by a trap. The session is given up, and so is its database. */
 export class Trap extends EngineError {}
 
-/** A text with something that is no statement. */
-export class SyntaxFault extends Error {
-  /** The byte at which it begins; of a template, a byte of the text with the values in it. */
+/** Where a text has its fault: bytes of it, or of a template with the values in it. */
+export interface Fault {
+  /** Where the statement begins that isn't one. */
   at: number;
+  /** Where the first word begins that can't stand where it does; the text's end where more should follow. */
+  word: number;
+  /** Where that word ends; where it begins, if no token begins there. */
+  end: number;
+  /** Whether the text ends within the statement. */
+  isCut: boolean;
+}
+
+/** A text with something that is no statement. */
+export class SyntaxFault extends Error implements Fault {
+  at: number;
+  word: number;
+  end: number;
+  isCut: boolean;
 }
 
 /** A statement that was refused. */
@@ -198,6 +212,7 @@ export class Session {
   execute(text: string | Uint8Array, values?: Value[]): Outcome[];
   steps(text: string | Uint8Array, values?: Value[]): Generator<Outcome>;
   read(text: string | Uint8Array, values?: Value[]): { statements: number; faultAt: number | null };
+  readonly fault: Fault | null;
   attempt(at: number, number?: number): Attempt;
   query(text: string | Uint8Array, values?: Value[]): Value[][];
   readonly account: Entry[];

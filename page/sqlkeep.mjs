@@ -38,13 +38,12 @@ export class EngineError extends Error {
   }
 }
 
-/** A text with something that is no statement; `at` is the byte at which that begins. */
+/** A text with something that is no statement: it begins at byte `at`, and the first word that can't stand where it does at byte `word`. */
 export class SyntaxFault extends Error {
-  constructor(at, place) {
-    super(place ? `no statement: ${place}` : `no statement at byte ${at}`);
+  constructor(fault) {
+    super(`no statement at byte ${fault.at}: ${fault.isCut ? "the text ends within it" : `wrong word at byte ${fault.word}`}`);
     this.name = "SyntaxFault";
-    this.at = at;
-    this.place = place;
+    Object.assign(this, fault);
   }
 }
 
@@ -140,7 +139,7 @@ export class Session {
   *steps(text, values) {
     const { statements, faultAt } = this.read(text, values);
     if (faultAt !== null) {
-      throw new SyntaxFault(faultAt, null);
+      throw new SyntaxFault(this.fault);
     }
     for (let at = 0; at < statements; at++) {
       const outcome = this.attempt(at);
@@ -160,6 +159,23 @@ export class Session {
     this.#withText(text, (at, length) => this.#ask(call, at, length, this.#result));
     const [statements, hasFault, faultAt] = [0, 1, 2].map((place) => this.#number(place));
     return { statements, faultAt: hasFault ? faultAt : null };
+  }
+
+  /**
+   * The fault of the text that was read last, null where it has none, in bytes of the text: where its statement begins, and where the first
+   * word begins and ends that can't stand where it does. Of a text that ends within a statement it is the end, and `isCut` is true.
+   */
+  get fault() {
+    try {
+      this.#ask("sqlkeep_fault", this.#result);
+    } catch (error) {
+      if (error.status === NOTHING) {
+        return null;
+      }
+      throw error;
+    }
+    const [at, word, end, isCut] = [0, 1, 2, 3].map((place) => this.#number(place));
+    return { at, word, end, isCut: isCut === 1 };
   }
 
   /** Executes the statement at this place, from 0, of the text that was read last. A refusal is an outcome of kind "refused". */

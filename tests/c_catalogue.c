@@ -75,6 +75,7 @@ static int no_templates(sqlkeep *session) {
     static const sqlkeep_parameter TWO[] = {NUMBER(1), TEXT("\xff")};
     static const sqlkeep_parameter STRANGE = {7, 0, NULL, 0};
     sqlkeep_script script = {77, 77, 77};
+    sqlkeep_place place;
     sqlkeep_outcome outcome;
     WANT(filled(session, "SELECT a FROM n;", NULL, 0, &script) == SQLKEEP_OK && script.statements == 1);
     WANT(filled(session, "SELECT a FROM n WHERE a = ?;", NULL, 0, &script) == SQLKEEP_WRONG_COUNT && script.statements == 1);
@@ -92,8 +93,13 @@ static int no_templates(sqlkeep *session) {
     WANT(sqlkeep_read_bound(session, (const uint8_t *)"SELECT ? FROM n;", 16, &script) == SQLKEEP_WRONG_COUNT);
     WANT(sqlkeep_read_bound(session, (const uint8_t *)"SELECT ?, ? FROM n;", 19, &script) == SQLKEEP_OK && script.statements == 1);
     WANT(sqlkeep_read_bound(session, (const uint8_t *)"SELECT ?, ? FROM n;", 19, &script) == SQLKEEP_WRONG_COUNT);
-    /* Where a statement is faulty, the place is one of the filled text. */
+    /* Where a statement is faulty, the place is one of the filled text, in which a literal has a space on each side. */
     WANT(filled(session, "COMMIT; SELEC ? FROM n;", TWO, 1, &script) == SQLKEEP_OK && script.statements == 1 && script.has_fault == 1 && script.fault_at == 8);
+    WANT(sqlkeep_fault(session, &place) == SQLKEEP_OK && place.at == 8 && place.word == 8 && place.end == 13 && place.is_cut == 0);
+    WANT(filled(session, "SELECT ? FORM n;", TWO, 1, &script) == SQLKEEP_OK && script.has_fault == 1 && script.fault_at == 0);
+    WANT(sqlkeep_fault(session, &place) == SQLKEEP_OK && place.at == 0 && place.word == 11 && place.end == 15 && place.is_cut == 0);
+    WANT(filled(session, "SELECT ? FROM n", TWO, 1, &script) == SQLKEEP_OK && sqlkeep_fault(session, &place) == SQLKEEP_OK && place.word == 17 && place.is_cut == 1);
+    WANT(filled(session, "SELECT ? FROM n;", TWO, 1, &script) == SQLKEEP_OK && sqlkeep_fault(session, &place) == SQLKEEP_NOTHING && place.word == 17);
     return 0;
 }
 

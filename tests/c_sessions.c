@@ -264,7 +264,8 @@ static int names(void) {
     WANT(sqlkeep_open(&session, 16, 65536) == SQLKEEP_OK);
     WANT(sqlkeep_explain(&session, 1) == SQLKEEP_OK);
     WANT(run_text(&session, "COMMIT;\n COMIT;", &summary) == SQLKEEP_OK && summary.fault_at == 9);
-    WANT(has_transcript(&session, "1 ok\n2 fault 9\n  line 2, column 2: COMIT;\n"));
+    WANT(has_transcript(&session, "1 ok\n2 fault 9\n  line 2, column 2: COMIT; wanted INSERT or UPDATE or DELETE or SELECT or CREATE or ALTER or DROP or COMMIT or "
+                                  "ROLLBACK or START or SAVEPOINT or RELEASE or SET\n     COMIT;\n     ^\n"));
     WANT(read_text(&session, NAMES, &script) == SQLKEEP_OK && script.statements == 4);
     WANT(sqlkeep_execute(&session, 0, &outcome) == SQLKEEP_OK);
     WANT(sqlkeep_execute(&session, 1, &outcome) == SQLKEEP_OK && outcome.cause == 1);
@@ -280,6 +281,32 @@ static int names(void) {
     WANT(sqlkeep_execute(&session, 3, &outcome) == SQLKEEP_OK && outcome.cause == 0);
     WANT(sqlkeep_lines(&session, 9) == SQLKEEP_OK);
     WANT(has_transcript(&session, "9 ok\n"));
+    WANT(sqlkeep_close(&session) == SQLKEEP_OK);
+    return 0;
+}
+
+static bool has_fault(sqlkeep *session, const char *text, uint64_t at, uint64_t word, uint64_t end, uint64_t is_cut) {
+    sqlkeep_script script;
+    sqlkeep_place place;
+    return read_text(session, text, &script) == SQLKEEP_OK && script.has_fault == 1 && script.fault_at == at && sqlkeep_fault(session, &place) == SQLKEEP_OK
+        && place.at == at && place.word == word && place.end == end && place.is_cut == is_cut;
+}
+
+/* Where the wrong word of a text is. */
+static int faults(void) {
+    sqlkeep session = SQLKEEP_EMPTY;
+    sqlkeep_script script;
+    sqlkeep_place place = {7, 7, 7, 7};
+    WANT(sqlkeep_fault(&session, &place) == SQLKEEP_CLOSED && place.at == 7);
+    WANT(sqlkeep_fault(NULL, &place) == SQLKEEP_NO_HANDLE && place.word == 7);
+    WANT(sqlkeep_open(&session, 16, 65536) == SQLKEEP_OK);
+    WANT(sqlkeep_fault(&session, &place) == SQLKEEP_NOTHING && place.at == 7);
+    WANT(has_fault(&session, "COMMIT; SELECT a FORM t;", 8, 17, 21, 0));
+    WANT(has_fault(&session, "SELECT a FROM t", 0, 15, 15, 1));
+    WANT(has_fault(&session, "SELECT a FROM t \n -- the end\n", 0, 29, 29, 1));
+    WANT(has_fault(&session, "SELECT a FROM t WHERE b = 'x", 0, 26, 26, 0));
+    WANT(has_fault(&session, " )", 1, 1, 2, 0));
+    WANT(read_text(&session, "COMMIT;", &script) == SQLKEEP_OK && sqlkeep_fault(&session, &place) == SQLKEEP_NOTHING && place.is_cut == 7);
     WANT(sqlkeep_close(&session) == SQLKEEP_OK);
     return 0;
 }
@@ -316,6 +343,7 @@ int main(void) {
     failed = failed ? failed : statements();
     failed = failed ? failed : accounts();
     failed = failed ? failed : names();
+    failed = failed ? failed : faults();
     failed = failed ? failed : a_full_transaction();
     failed = failed ? failed : absent();
     return failed ? failed : empty();

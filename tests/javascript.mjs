@@ -65,7 +65,10 @@ const tests = {
   },
   a_fault() {
     const session = engine.open();
-    assert.throws(() => session.execute("COMMIT; SELEKT;"), (fault) => fault instanceof SyntaxFault && fault.at === 8);
+    assert.throws(() => session.execute("COMMIT; SELEKT;"), (fault) => fault instanceof SyntaxFault && fault.at === 8 && fault.word === 8 && fault.end === 14 && !fault.isCut);
+    assert.throws(() => session.execute("COMMIT; SELECT a FORM t;"), (fault) => fault.at === 8 && fault.word === 17 && fault.message === "no statement at byte 8: wrong word at byte 17");
+    assert.deepEqual([session.read("SELECT a FROM t").faultAt, session.fault], [0, { at: 0, word: 15, end: 15, isCut: true }]);
+    assert.deepEqual([session.read("COMMIT;").faultAt, session.fault], [null, null]);
   },
   limits_that_are_out_of_range() {
     assert.throws(() => engine.open({ depth: 65 }), (error) => error instanceof EngineError && error.status === 3);

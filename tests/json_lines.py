@@ -157,11 +157,13 @@ def outcome_lines(outcome):
 
 def fault_lines(fault, explain):
     yield '%(number)d fault %(byte)d' % fault
-    yield from ['  line %(line)d, column %(column)d' % fault['word']] if explain else []
+    wanted = '; wanted ' + ' or '.join(fault['wanted']) if fault['wanted'] else ''
+    told = fault.get('hint', fault['word'].get('text', 'the end of the text') + wanted)
+    yield from ['  line %(line)d, column %(column)d: ' % fault['word'] + told] if explain else []
 
 
 def words(objects, explain):
-    """The transcript of these objects, without the words of a line with a fault."""
+    """The transcript of these objects, without the line around a fault."""
     lines = []
     for found in objects:
         kind = found['kind']
@@ -206,7 +208,7 @@ def judge(program, script, given, explain):
         return []
     out, got, err = tests.run(program, script, ['--json', *given])
     objects, why = lines_of(out)
-    plain = re.sub(r'(?m)^(  line \d+, column \d+): .*$', r'\1', want.decode())
+    plain = re.sub(r'(?m)^(  line \d+, column \d+: .*\n)    .*\n    *\^\n', r'\1', want.decode())
     why += [] if why else tests.compare('words', plain.encode(), words(objects, explain).encode())
     return why + ([] if (got, err) == (status, b'') else ['status %d, standard error %r' % (got, err)])
 

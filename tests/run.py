@@ -135,7 +135,7 @@ def ends(script):
 
 def groups(transcript):
     """The outcomes, each with its rows and its account; the faults; and whether the transcript is made of these alone."""
-    shape = rb'(\d+ (?:ok|rows|refused)[^\n]*\n(?:(?:\||  )[^\n]*\n)*)|(\d+ fault \d+\n(?:  [^\n]*\n)?)|(end rolled back\n\Z)'
+    shape = rb'(\d+ (?:ok|rows|refused)[^\n]*\n(?:(?:\||  )[^\n]*\n)*)|(\d+ fault \d+\n(?:  [^\n]*\n)*)|(end rolled back\n\Z)'
     found = list(re.finditer(shape, transcript))
     outcomes, faults = ([f[part] for f in found if f[part]] for part in (1, 2))
     return outcomes, faults, b''.join(f[0] for f in found) == transcript

@@ -279,7 +279,7 @@ export class Controls {
   #showAnswers() {
     const items = this.#items();
     this.answers.show(items);
-    this.editor.mark(items.map(({ at, kind }) => ({ at, sign: signOf(kind), name: kind === "refused" || kind === "fault" ? kind : "ok" })), this.run.isWhole && this.run.fault ? this.run.fault.at : null);
+    this.editor.mark(items.map(({ at, kind }) => ({ at, sign: signOf(kind), name: kind === "refused" || kind === "fault" ? kind : "ok" })), this.run.isWhole && this.run.fault ? (this.run.fault.isCut ? this.run.fault.at : this.run.fault.word.at) : null);
   }
 
   /** Shows a statement that was executed. */

@@ -99,7 +99,7 @@ export class Editor {
     return this.statements.findLastIndex((statement) => statement.at <= this.area.selectionStart) + 1;
   }
 
-  /** Marks statements: a sign and a class for the line in which each begins; and the place at which no statement begins. */
+  /** Marks statements: a sign and a class for the line in which each begins; and the place of a fault. */
   mark(marks, faultAt) {
     this.#faultAt = faultAt;
     this.#marks = new Map(marks.filter(({ at }) => at !== undefined).map(({ at, sign, name }) => [this.#lineOf(at), { sign, name }]));

@@ -17,7 +17,10 @@ export function placeOfByte(text, byte) {
 }
 
 export class Replay {
-  /** @type {{at: number, line: number, column: number, words: string, byte: number} | null} the place at which no statement begins */
+  /**
+   * The place at which no statement begins, and that of the first word that can't stand where it does.
+   * @type {{at: number, line: number, column: number, words: string, byte: number, word: ReturnType<typeof placeOfByte>, isCut: boolean} | null}
+   */
   fault = null;
 
   /** @param {import("../sqlkeep.mjs").Engine} engine @param {string} script @param {{depth: number, changes: number}} limits */
@@ -38,8 +41,9 @@ export class Replay {
     this.session?.close();
     this.session = this.engine.open({ ...this.limits, explain: true });
     this.whole = script ?? this.script;
-    const { statements, faultAt } = this.session.read(this.whole);
-    this.fault ??= faultAt === null ? null : { ...placeOfByte(this.script, faultAt), byte: faultAt };
+    const { statements } = this.session.read(this.whole);
+    const { fault } = this.session;
+    this.fault ??= fault && { ...placeOfByte(this.script, fault.at), byte: fault.at, word: placeOfByte(this.script, fault.word), isCut: fault.isCut };
     this.count = statements;
     this.at = 0;
     this.last = null;

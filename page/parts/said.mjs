@@ -33,11 +33,20 @@ function workOf({ work, isOpen, answer }) {
 
 export const count = (number, word) => `${number.toLocaleString("en")} ${word}${number === 1 ? "" : "s"}`;
 
+// The first word that can't stand where it does.
+function wordOf({ word, isCut }) {
+  if (isCut) {
+    return "The script ends within that statement.";
+  }
+  return `The first word that can't stand where it does is at line ${word.line}, column ${word.column}${word.words ? `: ${word.words}` : "."}`;
+}
+
 /** A place of the script at which no statement begins, as elements. */
 export function faultOf(fault, number) {
   return [
     element("p", { class: "line-of-answer fault" }, `${number} fault ${fault.byte}`),
     element("p", { class: "why" }, `No statement begins at line ${fault.line}, column ${fault.column}${fault.words ? `: ${fault.words}` : "."}`),
-    element("p", { class: "why note" }, "The statements before it were executed, and nothing after it is. The mistake is in the statement that begins there; each statement ends with a semicolon."),
+    element("p", { class: "why" }, wordOf(fault)),
+    element("p", { class: "why note" }, "The statements before it were executed, and nothing after it is. The mistake is in that word or before it; each statement ends with a semicolon."),
   ];
 }

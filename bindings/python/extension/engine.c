@@ -290,6 +290,27 @@ static PyObject *engine_read(engine *self, PyObject *arguments) {
     return fault == NULL ? NULL : Py_BuildValue("KN", (unsigned long long)script.statements, fault);
 }
 
+/* word(bytes): where the first word of a text begins and ends that can't stand where it does, and whether the text ends there; or None. The
+   statements that were read before are gone. */
+static PyObject *engine_word(engine *self, PyObject *arguments) {
+    const char *text;
+    Py_ssize_t length;
+    sqlkeep_script script = {0, 0, 0};
+    sqlkeep_place place = {0, 0, 0, 0};
+    if (!PyArg_ParseTuple(arguments, "y#:word", &text, &length) || engine_ready(self) != 0) {
+        return NULL;
+    }
+    Py_CLEAR(self->held);
+    uint32_t status = sqlkeep_read(&self->handle, (const uint8_t *)text, (size_t)length, &script);
+    if (status != SQLKEEP_OK) {
+        return failed(status);
+    }
+    if (sqlkeep_fault(&self->handle, &place) != SQLKEEP_OK) {
+        return nothing();
+    }
+    return Py_BuildValue("KKN", (unsigned long long)place.word, (unsigned long long)place.end, PyBool_FromLong(place.is_cut != 0));
+}
+
 /* ---- transactions, and what the library tells */
 
 /* commit(): the answer of COMMIT. A refused one rolls back, so its account is asked for at once. */
@@ -430,6 +451,7 @@ static PyMethodDef methods[] = {
     {"execute", (PyCFunction)engine_execute, METH_VARARGS, NULL},
     {"execute_many", (PyCFunction)engine_execute_many, METH_VARARGS, NULL},
     {"read", (PyCFunction)engine_read, METH_VARARGS, NULL},
+    {"word", (PyCFunction)engine_word, METH_VARARGS, NULL},
     {"lines", (PyCFunction)engine_told_lines, METH_VARARGS, NULL},
     {"run", (PyCFunction)engine_run, METH_VARARGS, NULL},
     {"commit", (PyCFunction)engine_commit, METH_NOARGS, NULL},

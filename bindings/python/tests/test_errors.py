@@ -191,9 +191,17 @@ class Faults(unittest.TestCase):
     def test_with_parameters(self):
         connection = sqlkeep.connect()
         error = refusal(connection.execute, "SELECT * FROM t WHERE a = ? ANT b = ?", ("a long, long text", 5))
-        self.assertEqual((error.line, error.column), (1, 1))
+        self.assertEqual((error.line, error.column, error.word), (1, 29, "ANT"))
         error = refusal(connection.execute, "DELETE FROM t WHERE a = ?;\n DELET FROM t WHERE a = ?", ("a long, long text", 5))
         self.assertEqual((error.line, error.column), (2, 2))
+
+    def test_the_wrong_word(self):
+        connection = sqlkeep.connect()
+        for text, column, word in [("SELECT a b c FROM t", 10, "b"), ("SELECT a FORM t", 1, "FORM"), ("SELECT a FROM t WHERE", 22, ""), ("DELETE FROM t WHERE a = 'x' b", 29, "b")]:
+            with self.subTest(text):
+                error = refusal(connection.execute, text)
+                self.assertEqual((error.line, error.column, error.word), (1, column, word))
+        self.assertIsNone(refusal(connection.execute, "SELECT a FROM t").word)
 
     def test_in_a_script_nothing_is_executed(self):
         connection = sqlkeep.connect()

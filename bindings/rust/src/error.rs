@@ -10,8 +10,8 @@ pub type Result<T, E = Error> = std::result::Result<T, E>;
 pub enum Error {
     /// A statement was refused.
     Refused(Box<Refusal>),
-    /// From this place on the text is no statement.
-    Syntax(Place),
+    /// Something of the text is no statement.
+    Syntax(SyntaxError),
     /// The template has another number of question marks than there are values; there are so many values.
     ParameterCount(usize),
     /// At some place of the template there is neither a token nor a question mark.
@@ -49,6 +49,24 @@ pub struct Place {
     pub line: usize,
     /// The column in characters, from 1.
     pub column: usize,
+}
+
+/// Where a text has something that is no statement.
+#[derive(Clone, Copy, Debug, PartialEq, Eq)]
+pub struct SyntaxError {
+    /// Where that begins.
+    pub statement: Place,
+    /// The first word that can't stand where it does, whatever follows it; the text's end where more should follow.
+    pub word: Place,
+    /// Whether the text ends within the statement.
+    pub is_cut: bool,
+}
+
+impl fmt::Display for SyntaxError {
+    fn fmt(&self, f: &mut fmt::Formatter<'_>) -> fmt::Result {
+        write!(f, "no statement at line {}, column {}", self.statement.line, self.statement.column)?;
+        if self.is_cut { write!(f, ": the text ends within it") } else { write!(f, ": wrong word at line {}, column {}", self.word.line, self.word.column) }
+    }
 }
 
 impl Place {
@@ -108,7 +126,7 @@ impl fmt::Display for Error {
     fn fmt(&self, f: &mut fmt::Formatter<'_>) -> fmt::Result {
         match self {
             Error::Refused(refusal) => refusal.fmt(f),
-            Error::Syntax(place) => write!(f, "no statement at line {}, column {}", place.line, place.column),
+            Error::Syntax(fault) => fault.fmt(f),
             Error::ParameterCount(count) => write!(f, "there are {count} values, and the text has another number of question marks"),
             Error::NoTemplate => f.write_str("the text has a character that begins no token, or a text without its end"),
             Error::StatementCount(count) => write!(f, "the text has {count} statements, and one was wanted"),

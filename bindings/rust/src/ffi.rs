@@ -42,6 +42,15 @@ pub struct Script {
 
 #[repr(C)]
 #[derive(Default)]
+pub struct FaultPlace {
+    pub at: u64,
+    pub word: u64,
+    pub end: u64,
+    pub is_cut: u64,
+}
+
+#[repr(C)]
+#[derive(Default)]
 pub struct Outcome {
     pub kind: u32,
     pub cause: u32,
@@ -127,6 +136,7 @@ extern "C" {
     pub fn sqlkeep_explain(handle: *mut Handle, asked: u32) -> u32;
     pub fn sqlkeep_run(handle: *mut Handle, text: *const u8, length: usize, summary: *mut Summary) -> u32;
     pub fn sqlkeep_transcript(handle: *mut Handle, from: usize, buffer: *mut u8, size: usize, copied: *mut usize) -> u32;
+    pub fn sqlkeep_fault(handle: *mut Handle, place: *mut FaultPlace) -> u32;
     pub fn sqlkeep_read(handle: *mut Handle, text: *const u8, length: usize, script: *mut Script) -> u32;
     pub fn sqlkeep_unbind(handle: *mut Handle) -> u32;
     pub fn sqlkeep_bind_null(handle: *mut Handle) -> u32;

@@ -37,6 +37,6 @@ mod reasons;
 mod session;
 mod value;
 
-pub use error::{Cause, Error, Place, Refusal, Result};
+pub use error::{Cause, Error, Place, Refusal, Result, SyntaxError};
 pub use session::{Session, Transcript, Violation, Work};
 pub use value::{FromRow, FromValue, Parameters, ToValue, Value, ValueRef};

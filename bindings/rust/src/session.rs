@@ -1,6 +1,6 @@
 //! Sessions: a database in memory with its transaction.
 use crate::copying::{copied, named};
-use crate::error::{Cause, Error, Place, Refusal, Result};
+use crate::error::{Cause, Error, Place, Refusal, Result, SyntaxError};
 use crate::ffi;
 use crate::reasons::reasons;
 use crate::value::{FromRow, Parameters, Value, ValueRef};
@@ -172,7 +172,7 @@ impl Session {
             ffi::NO_TEMPLATE if count == 0 => self.read_plain(text),
             _ => {
                 checked(status)?;
-                whole(text, script)
+                self.whole(text, script)
             }
         }
     }
@@ -181,7 +181,21 @@ impl Session {
     fn read_plain(&mut self, text: &str) -> Result<u64> {
         let mut script = ffi::Script::default();
         checked(unsafe { ffi::sqlkeep_read(&mut self.handle, text.as_ptr(), text.len(), &mut script) })?;
-        whole(text, script)
+        self.whole(text, script)
+    }
+
+    // How many statements were read, where the text has nothing else.
+    fn whole(&mut self, text: &str, script: ffi::Script) -> Result<u64> {
+        if script.has_fault == 0 {
+            return Ok(script.statements);
+        }
+        let mut found = ffi::FaultPlace::default();
+        checked(unsafe { ffi::sqlkeep_fault(&mut self.handle, &mut found) })?;
+        Err(Error::Syntax(SyntaxError {
+            statement: Place::of(text, found.at as usize),
+            word: Place::of(text, found.word as usize),
+            is_cut: found.is_cut == 1,
+        }))
     }
 
     // Executes a statement that was read.
@@ -248,9 +262,9 @@ impl Session {
 
     fn execute_one(&mut self, statement: &str, parameters: &(impl Parameters + ?Sized)) -> Result<ffi::Outcome> {
         let count = match self.read(statement, parameters) {
-            Err(Error::Syntax(place)) if place.byte <= statement.len() => {
+            Err(Error::Syntax(fault)) if fault.statement.byte <= statement.len() => {
                 // The text may want its semicolon alone.
-                self.read(&format!("{statement}\n;"), parameters).map_err(|_| Error::Syntax(place))?
+                self.read(&format!("{statement}\n;"), parameters).map_err(|_| Error::Syntax(fault))?
             }
             other => other?,
         };
@@ -466,14 +480,6 @@ impl Session {
             fault: (summary.has_fault == 1).then_some(summary.fault_at),
         })
     }
-}
-
-// How many statements were read, where the text has nothing else.
-fn whole(text: &str, script: ffi::Script) -> Result<u64> {
-    if script.has_fault == 1 {
-        return Err(Error::Syntax(Place::of(text, script.fault_at as usize)));
-    }
-    Ok(script.statements)
 }
 
 impl Drop for Session {

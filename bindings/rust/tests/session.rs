@@ -1,5 +1,5 @@
 //! Statements, values, refusals and transactions through the crate.
-use sqlkeep::{Cause, Error, Place, Session, Value, Violation};
+use sqlkeep::{Cause, Error, Place, Session, SyntaxError, Value, Violation};
 
 fn books() -> Session {
     let mut session = Session::open().unwrap();
@@ -99,13 +99,20 @@ fn a_signal_and_its_trigger_are_told() {
 fn texts_that_are_no_statement() {
     let mut session = Session::open().unwrap();
     let place = Place { byte: 9, line: 2, column: 2 };
-    assert_eq!(session.execute_batch("COMMIT;\n COMIT;"), Err(Error::Syntax(place)));
+    let fault = SyntaxError { statement: place, word: place, is_cut: false };
+    assert_eq!(session.execute_batch("COMMIT;\n COMIT;"), Err(Error::Syntax(fault)));
+    let word = Place { byte: 18, line: 2, column: 11 };
+    let error = session.execute_batch("COMMIT;\n SELECT a FORM t;").unwrap_err();
+    assert_eq!(error, Error::Syntax(SyntaxError { word, ..fault }));
+    assert_eq!(error.to_string(), "no statement at line 2, column 2: wrong word at line 2, column 11");
+    let error = session.execute_batch("SELECT a FROM t").unwrap_err();
+    assert_eq!(error.to_string(), "no statement at line 1, column 1: the text ends within it");
     assert_eq!(session.execute("COMMIT; COMMIT;", ()), Err(Error::StatementCount(2)));
     assert_eq!(session.execute("", ()), Err(Error::StatementCount(0)));
     assert_eq!(session.execute("SELECT a FROM t WHERE a = ?", ()), Err(Error::ParameterCount(0)));
     assert_eq!(session.execute("SELECT a FROM t WHERE a = '?'", (1,)), Err(Error::ParameterCount(1)));
     assert_eq!(session.execute("SELECT # FROM t WHERE a = ?", (1,)), Err(Error::NoTemplate));
-    assert_eq!(session.execute("SELECT # FROM t", ()), Err(Error::Syntax(Place { byte: 0, line: 1, column: 1 })));
+    assert_eq!(session.execute("SELECT # FROM t", ()), Err(Error::Syntax(SyntaxError { statement: Place { byte: 0, line: 1, column: 1 }, word: Place { byte: 7, line: 1, column: 8 }, is_cut: false })));
     session.execute_batch("CREATE TABLE t (a INT); COMMIT;").unwrap();
     assert_eq!(session.execute("SELECT a FROM t", ()), Err(Error::Rows { wanted: false }));
     assert_eq!(session.query::<(i64,)>("DELETE FROM t", ()), Err(Error::Rows { wanted: true }));

@@ -14,6 +14,7 @@ pub record IsNew (limits : Bounds) (c : Connection) : Type 0 where
   pub lookups : c.session.lookups ≡ 0
   pub limits_are : c.limits ≡ limits
   pub statements : c.statements ≡ []
+  pub fault : c.fault ≡ None
   pub values : c.values ≡ []
   pub outcome : c.outcome ≡ Ok Done
   pub executed : c.executed ≡ None

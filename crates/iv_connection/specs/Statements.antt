@@ -1,14 +1,16 @@
 -- What statements that were read from a text answer to C.
-use Rattle.std.specs.Prelude.{◌≡◌, ℕ, List, length, Option, Some, None, Result, Ok, Err, option_map}
+use Rattle.std.specs.Prelude.{◌≡◌, ℕ, if◌then◌else◌, List, length, Option, Some, None, IfSome, Result, Ok, Err, option_map}
+use Rattle.iv_lex.specs.declared.token.Token.{Token}
 use Rattle.iv_catalogue.specs.declared.cause.Cause.{Cause}
 use Rattle.iv_catalogue.specs.declared.cause.Cause.TheVariants as cause
 use Rattle.iv_catalogue.specs.declared.cause.Refusal.{Refusal}
 use Rattle.iv_machine.specs.declared.answer.Answer.{Answer}
 use Rattle.iv_machine.specs.declared.answer.Answer.TheVariants.{Done, Changed, Rows}
 use Rattle.iv_print.specs.Causes.{cause_number}
-use Rattle.iv_parse.specs.Script.{IsScript}
+use Rattle.iv_parse.specs.Script.{IsFault, IsScript}
 use Rattle.iv_parse.specs.declared.parser.SyntaxFault.{SyntaxFault}
 use Rattle.iv_syntax.specs.declared.statement.Statement.{Statement}
+use Rattle.iv_connection.specs.declared.faults.ShownFault.{ShownFault}
 use Rattle.iv_connection.specs.declared.outcomes.ShownOutcome.{ShownOutcome}
 use Rattle.iv_connection.specs.declared.statements.ReadScript.{ReadScript}
 
@@ -17,12 +19,21 @@ abbrev pub place_shown : Option SyntaxFault → ℕ → ℕ → Type 0
 place_shown None has_fault fault_at = (has_fault ≡ 0) × (fault_at ≡ 0)
 place_shown (Some fault) has_fault fault_at = (has_fault ≡ 1) × (fault_at ≡ fault.at)
 
--- The statements are those of the text, and what C reads is how many they are and the place of the fault.
-pub record IsRead (text : List ℕ) (statements : List Statement) (shown : ReadScript) : Type 0 where
-  pub fault : Option SyntaxFault
+-- The statements are those of the text, with its fault, and what C reads is how many they are and where the fault begins.
+pub record IsRead (text : List ℕ) (statements : List Statement) (fault : Option SyntaxFault) (shown : ReadScript) : Type 0 where
   pub script : IsScript text statements (option_map (λ f. f.at) fault)
+  pub word : IfSome fault (λ f. IsFault text statements f)
   pub count : shown.statements ≡ length statements
   pub place : place_shown fault shown.has_fault shown.fault_at
+
+-- where the wrong word ends: where its token does, or where it begins where no token is there
+abbrev pub word_end : ℕ → Option Token → ℕ
+word_end word None = word
+word_end word (Some t) = t.end
+
+-- a fault in the numbers that C reads
+abbrev pub fault_shown : SyntaxFault → ShownFault
+fault_shown f = record { at = f.at; word = f.word; end = word_end f.word f.token; is_cut = if f.is_cut then 1 else 0 }
 
 -- the row that a cause speaks of, 0 where it speaks of none
 abbrev pub row_of : Cause → ℕ

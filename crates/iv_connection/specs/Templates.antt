@@ -1,7 +1,7 @@
 -- The statements that are read of a template, and why none are.
-use Rattle.std.specs.Prelude.{◌≡◌, ◌≢◌, ℕ, List, length, Option, option_map}
+use Rattle.std.specs.Prelude.{◌≡◌, ◌≢◌, ℕ, List, length, Option, IfSome, option_map}
 use Rattle.std.specs.Str.{IsUtf8}
-use Rattle.iv_parse.specs.Script.{IsScript}
+use Rattle.iv_parse.specs.Script.{IsFault, IsScript}
 use Rattle.iv_parse.specs.declared.parser.SyntaxFault.{SyntaxFault}
 use Rattle.iv_syntax.specs.declared.statement.Statement.{Statement}
 use Rattle.iv_template.specs.Holes.{HasHoles, StopsAt}
@@ -16,12 +16,13 @@ pub record IsScriptOfTemplate (template : List ℕ) (values : List Value) (state
   pub text : List ℕ
   pub fills : Fills template values text
   pub script : IsScript text statements (option_map (λ f. f.at) fault)
+  pub word : IfSome fault (λ f. IsFault text statements f)
 
--- What C reads of them is how many they are and the place of the fault in the filled text.
-pub record IsReadOfTemplate (template : List ℕ) (values : List Value) (statements : List Statement) (shown : ReadScript) : Type 0 where
+-- What C reads of them is how many they are and where the fault begins in the filled text.
+pub record IsReadOfTemplate (template : List ℕ) (values : List Value) (statements : List Statement) (fault : Option SyntaxFault) (shown : ReadScript) : Type 0 where
   pub text : List ℕ
   pub fills : Fills template values text
-  pub read : IsRead text statements shown
+  pub read : IsRead text statements fault shown
 
 -- Why a template isn't filled with these values: it has so many question marks, and there are not so many values; or it stops at a place
 -- where there is neither a token nor a question mark; or memory was refused.

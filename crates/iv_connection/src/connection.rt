@@ -1,6 +1,7 @@
 //! What is open behind a handle.
 use iv_catalogue::Fault;
 use iv_machine::Limits;
+use iv_parse::SyntaxFault;
 use iv_session::{Outcome, Session};
 use iv_store_index::IndexStore;
 use iv_syntax::Statement;
@@ -17,6 +18,8 @@ pub struct Connection {
     pub session: Database,
     /// The statements that were read last.
     pub statements: Items<Statement>,
+    /// The fault of the text that they were read from, in bytes of that text.
+    pub fault: Option<SyntaxFault>,
     /// The values for the question marks of the next template.
     pub values: Items<Value>,
     /// What the last statement or call answered.

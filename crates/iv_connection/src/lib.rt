@@ -7,6 +7,7 @@ mod bound_values;
 mod connection;
 mod constraints;
 mod copying;
+mod faults;
 mod kinds;
 mod outcomes;
 mod queries;
@@ -35,13 +36,14 @@ pub use constraints::{
     referenced_column, write_place,
 };
 pub use copying::{copied, copied_if_there};
+pub use faults::{ShownFault, fault_shown};
 pub use kinds::{DATA, QUERY, SCHEMA, TRANSACTION, kind_of};
 pub use outcomes::{CHANGED, DONE, REFUSED, ROWS, ShownOutcome, outcome_shown};
 pub use queries::{query_column, query_columns};
 pub use rows::{copy_rows_from, rows_of, value_at};
 pub use scripts::{run_kept, run_status};
 pub use sessions::new_connection;
-pub use statements::{ReadScript, execute_kept, executed, keep_lines, read_shown, read_text};
+pub use statements::{ReadScript, execute_kept, executed, keep_lines, parse_text, read_shown};
 pub use status::{
     CLOSED, LIMITS, NO_MEMORY, NO_TEMPLATE, NOT_UTF8, NOTHING, OK, OPEN, TOO_LONG, WRONG_COUNT,
 };

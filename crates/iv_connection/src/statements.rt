@@ -1,10 +1,10 @@
 //! Statements, one after the other in the session.
 ghost use Rattle.std.specs.Prelude.{◌≡◌, ◌≢◌, None, Some, false, is_some, true, IfErr, IfOk, IfSome, OnOk, option_copied, option_map, slice_get};
 ghost use Rattle.std.specs.Str.{IsUtf8};
-ghost use Rattle.iv_parse.specs.Script.{IsScript};
+ghost use Rattle.iv_parse.specs.Script.{IsFault, IsScript};
 ghost use Rattle.iv_connection.specs.OutcomeLines.{executed, lines_of};
 ghost use Rattle.iv_session.specs.Executed.{Executed};
-ghost use Rattle.iv_connection.specs.Statements.{IsRead, place_shown};
+ghost use Rattle.iv_connection.specs.Statements.{place_shown};
 ghost use Rattle.iv_connection.specs.Statuses.{MayWantMemory, found};
 
 use crate::connection::{Connection, Database};
@@ -14,7 +14,6 @@ use iv_print::{DeviceFault, Format, Std, Style};
 use iv_script::{Telling, write_lines};
 use iv_session::Outcome;
 use iv_syntax::Statement;
-use sqlite_items::Items;
 use std::alloc::Global;
 use std::str::from_utf8;
 
@@ -47,9 +46,10 @@ pub fn read_shown(count: usize, fault: Option<SyntaxFault>) -> ReadScript
     }
 }
 
-// The statements of a text, or the status of the call that wanted them.
-fn parsed(alloc: Global, text: &[u8]) -> Result<Parsed, u32>
+/// The statements of a text, or the status of the call that wanted them.
+pub fn parse_text(alloc: Global, text: &[u8]) -> Result<Parsed, u32>
     ensures script { IfOk result (λ p. IsScript text.now p.statements (option_map (λ f. f.at) p.fault)) }
+    ensures word { IfOk result (λ p. IfSome p.fault (λ f. IsFault text.now p.statements f)) }
     ensures utf8 { OnOk result (IsUtf8 text.now) }
     ensures not_utf8 { IfErr result (λ e. e ≡ NOT_UTF8 → ¬ (IsUtf8 text.now)) }
     ensures kinds { IfErr result (λ e. (e ≢ OK) × (e ≢ NOT_UTF8 → (e ≡ NO_MEMORY) × IsUtf8 text.now)) }
@@ -61,18 +61,6 @@ fn parsed(alloc: Global, text: &[u8]) -> Result<Parsed, u32>
         Ok(parsed) => Ok(parsed),
         Err(_) => Err(NO_MEMORY),
     }
-}
-
-/// The statements of a text with what C reads of them, or the status of the call that wanted them.
-pub fn read_text(alloc: Global, text: &[u8]) -> Result<(Items<Statement>, ReadScript), u32>
-    ensures script { IfOk result (λ r. IsRead text.now r.0 r.1) }
-    ensures utf8 { OnOk result (IsUtf8 text.now) }
-    ensures not_utf8 { IfErr result (λ e. e ≡ NOT_UTF8 → ¬ (IsUtf8 text.now)) }
-    ensures kinds { IfErr result (λ e. (e ≢ OK) × (e ≢ NOT_UTF8 → (e ≡ NO_MEMORY) × IsUtf8 text.now)) }
-{
-    let parsed = parsed(alloc, text)?;
-    let script = read_shown(parsed.statements.len(), parsed.fault);
-    Ok((parsed.into_statements(), script))
 }
 
 fn statement_at(statements: &[Statement], at: usize) -> Option<&Statement>

@@ -4,7 +4,7 @@ use Rattle.std.proofs.lemmas.Bool.{false≢true}
 use Rattle.std.specs.Io.KnownBytes.{Appends}
 use Rattle.std.proofs.KnownBytes.{Appends-trans}
 use Rattle.iv_syntax.specs.declared.statement.Statement.{Statement}
-use Rattle.iv_parse.specs.Script.{IsScript}
+use Rattle.iv_parse.specs.Script.{IsFault, IsScript}
 use Rattle.iv_machine.specs.Bounds.{Bounds}
 use Rattle.iv_machine.specs.Machine.{State, empty_state}
 use Rattle.iv_step.specs.Step.{step}
@@ -39,12 +39,13 @@ abbrev pub summary_of : Tally → Option SyntaxFault → Summary
 summary_of tally fault = record { accepted = tally.accepted; refused = tally.refused; memory_refused = tally.memory_refused; fault = fault; untold = tally.untold }
 
 pub ran_script : (sure_back : Bool) (bytes : List ℕ) (limits : Bounds) (style : Style) (sts : List Statement) (fault : Option SyntaxFault) (tally : Tally) (a b : SinkState)
-    → IsScript bytes sts (begin_of fault) → RanParsed sure_back style (empty_state limits) bytes sts fault tally a b
+    → IsScript bytes sts (begin_of fault) → IfSome fault (λ f. IsFault bytes sts f) → RanParsed sure_back style (empty_state limits) bytes sts fault tally a b
     → RanScript sure_back bytes limits style (summary_of tally fault) a b
-ran_script sure_back bytes limits style sts fault tally a b s r = record {
+ran_script sure_back bytes limits style sts fault tally a b s w r = record {
   statements = sts;
   memory = r.memory;
   is_script = s;
+  word = w;
   each = r.each;
   due = r.due;
   memory_refusals_are = r.memory_refusals_are;
@@ -70,6 +71,7 @@ pub ran_with_memory : (sure_back : Bool) (style : Style) (bytes : List ℕ) (lim
 ran_with_memory sure_back style bytes limits summary a b r z u = record {
   statements = r.statements;
   is_script = r.is_script;
+  word = r.word;
   appended = subst (λ (q : Ran). Appends a.contents b.contents (q.text ++ closing_lines style bytes (length r.statements) (fault_place summary) q.state))
       (run_with_memory style (empty_state limits) 0 r.statements r.memory (r.memory_refusals_are ∙ z) (r.untold_are ∙ u)) r.appended;
 }

@@ -2,7 +2,9 @@
 use Rattle.std.proofs.Common.{refl}
 use Rattle.std.specs.Fmt.{digits}
 use Rattle.iv_catalogue.specs.Names.{generated_name}
-use Rattle.iv_script.specs.WorkedLines.{WorkedPlaces, WorkedNames}
+use Rattle.iv_lex.specs.Told.{kind_text}
+use Rattle.iv_script.specs.Hints.{no_token_hint, type_hint, statement_hint, join_hint, clause_hint, call_hint, other_hint}
+use Rattle.iv_script.specs.WorkedLines.{WorkedFaults, WorkedPlaces, WorkedNames}
 
 pub places : WorkedPlaces
 unfolding digits
@@ -21,7 +23,7 @@ places = record {
   at_the_end = refl;
   beyond_the_end = refl;
   no_fault = refl;
-  not_asked = refl;
+  not_asked = λ f. refl;
 }
 
 pub names : WorkedNames
@@ -36,4 +38,26 @@ names = record {
   made_name_in_use = refl;
   item_of_referencing = refl;
   no_name = refl;
+}
+
+pub faults : WorkedFaults
+unfolding kind_text no_token_hint type_hint statement_hint join_hint clause_hint call_hint other_hint
+faults = record {
+  of_the_line_alone = refl;
+  up_to_the_end_of_the_line = refl;
+  the_last_forty = refl;
+  the_first_forty = refl;
+  one_wanted = refl;
+  three_wanted = refl;
+  none_wanted = refl;
+  join_before = refl;
+  like = refl;
+  begin_first = refl;
+  begin_later = refl;
+  no_hint = refl;
+  type_date = refl;
+  not_equal = refl;
+  open_text = refl;
+  too_large = refl;
+  no_character = refl;
 }

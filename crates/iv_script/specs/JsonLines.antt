@@ -1,15 +1,22 @@
 -- A script's transcript in JSON: an object for each statement, one for the script's fault, and one for a transaction that is open at the end.
 -- Each stands on a line of its own.
-use Rattle.std.specs.Prelude.{ℕ, ◌+◌, Bool, true, false, List, [], ◌++◌, codes, decimal, Option, Some, None, Result}
+use Rattle.std.specs.Prelude.{ℕ, ◌+◌, Bool, true, false, List, [], ◌∷◌, ◌++◌, codes, decimal, Option, Some, None, Result}
+use Rattle.std.specs.List.{flat_map}
+use Rattle.iv_lex.specs.declared.kind.TokenKind.{TokenKind}
+use Rattle.iv_lex.specs.declared.token.Token.{Token}
+use Rattle.iv_lex.specs.Told.{kind_text}
+use Rattle.iv_parse_terms.specs.WantedKinds.{wanted_kinds}
 use Rattle.iv_syntax.specs.declared.statement.Statement.{Statement}
 use Rattle.iv_parse.specs.declared.parser.SyntaxFault.{SyntaxFault}
 use Rattle.iv_catalogue.specs.Catalogues.{Schema}
 use Rattle.iv_catalogue.specs.declared.cause.Refusal.{Refusal}
 use Rattle.iv_machine.specs.declared.answer.Answer.{Answer}
 use Rattle.iv_account.specs.declared.entry.Entry.{Entry}
-use Rattle.iv_print.specs.Json.{key, kind_member, member, outcome_members}
+use Rattle.iv_print.specs.Json.{json_text, key, kind_member, member, outcome_members}
 use Rattle.iv_print.specs.JsonAccounts.{json_account}
 use Rattle.iv_script.specs.JsonNames.{about_member}
+use Rattle.iv_script.specs.FaultLines.{wrong_word}
+use Rattle.iv_script.specs.Hints.{fault_hint}
 use Rattle.iv_script.specs.Places.{place_at}
 use Rattle.iv_script.specs.declared.place.Place.{Place}
 
@@ -35,17 +42,45 @@ place_members p = member (codes "line") ++ (decimal p.line ++ (member (codes "co
 abbrev pub byte_members : List ℕ → ℕ → List ℕ
 byte_members text at = decimal at ++ place_members (place_at text at)
 
--- where the first word begins that can't stand where it does
-abbrev pub word_member : List ℕ → ℕ → List ℕ
-word_member text word = member (codes "word") ++ (codes "{" ++ (key (codes "byte") ++ (byte_members text word ++ codes "}")))
+-- the characters of the wrong word, where a token begins there
+abbrev pub text_member : List ℕ → Option Token → List ℕ
+text_member text None = []
+text_member text (Some t) = member (codes "text") ++ json_text (wrong_word text (Some t))
 
--- The line of a fault after so many statements: where its statement begins, and where the word is.
+-- the first word that can't stand where it does
+abbrev pub word_member : List ℕ → SyntaxFault → List ℕ
+word_member text f =
+    member (codes "word") ++ (codes "{" ++ (key (codes "byte") ++ (byte_members text f.word ++ (text_member text f.token ++ codes "}"))))
+
+abbrev pub further_text : TokenKind → List ℕ
+further_text k = codes "," ++ json_text (kind_text k)
+
+abbrev pub json_kinds : List TokenKind → List ℕ
+json_kinds [] = []
+json_kinds (k ∷ ks) = json_text (kind_text k) ++ flat_map further_text ks
+
+-- what might have stood there
+abbrev pub wanted_member : List TokenKind → List ℕ
+wanted_member ks = member (codes "wanted") ++ (codes "[" ++ (json_kinds ks ++ codes "]"))
+
+-- what else is known of the word, where something is
+abbrev pub hint_member : List ℕ → List ℕ
+hint_member [] = []
+hint_member (byte ∷ bytes) = member (codes "hint") ++ json_text (byte ∷ bytes)
+
+-- what is known of the word
+abbrev pub known_members : List ℕ → SyntaxFault → List ℕ
+known_members text f = wanted_member (wanted_kinds f.wanted) ++ hint_member (fault_hint text f)
+
+-- The line of a fault after so many statements: where its statement begins, where the word is, and what is known of it.
 abbrev pub json_fault_line : List ℕ → ℕ → Option SyntaxFault → List ℕ
 json_fault_line text n None = []
 json_fault_line text n (Some f) =
     number_key (n + 1)
     ++ (kind_member (codes "fault")
-    ++ (member (codes "byte") ++ (byte_members text f.at ++ (word_member text f.word ++ codes "}\n"))))
+    ++ (member (codes "byte")
+    ++ (byte_members text f.at
+    ++ (word_member text f ++ (known_members text f ++ codes "}\n")))))
 
 -- the line of a transaction that is open at the end
 abbrev pub json_end_line : Bool → List ℕ

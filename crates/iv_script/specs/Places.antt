@@ -1,5 +1,5 @@
 -- Places in the text of a script, as they are told to whoever reads it.
-use Rattle.std.specs.Prelude.{ℕ, zero, suc, ◌+◌, ◌==◌, ◌&&◌, Bool, true, false, not, if◌then◌else◌, List, [], ◌∷◌, ◌++◌, codes, decimal, drop, take, Option, Some, None, nat_le, nat_lt}
+use Rattle.std.specs.Prelude.{ℕ, zero, suc, ◌+◌, ◌==◌, ◌&&◌, Bool, not, if◌then◌else◌, List, [], ◌∷◌, drop, take, Option, Some, None, nat_le, nat_lt}
 use Rattle.iv_script.specs.declared.place.TheConstants.{MOST_WORDS}
 use Rattle.iv_script.specs.declared.place.Place.{Place}
 
@@ -44,18 +44,3 @@ words_of room (byte ∷ bytes) = elim (room_after room byte) [ Some less ↦ byt
 -- The words at a byte of a text: what is left of the line, or its first characters.
 abbrev pub words_at : List ℕ → ℕ → List ℕ
 words_at text at = words_of MOST_WORDS (drop at text)
-
--- ---- the line of a fault's place
-
-abbrev pub words_text : List ℕ → List ℕ
-words_text [] = []
-words_text (byte ∷ bytes) = codes ": " ++ byte ∷ bytes
-
-abbrev pub place_text : Place → List ℕ → List ℕ
-place_text p words =
-    codes "  line " ++ (decimal p.line ++ (codes ", column " ++ (decimal p.column ++ (words_text words ++ codes "\n"))))
-
--- The line that tells where the fault of a text is, where that is asked for.
-abbrev pub place_line : Bool → List ℕ → Option ℕ → List ℕ
-place_line true text (Some at) = place_text (place_at text at) (words_at text at)
-place_line _ text _ = []

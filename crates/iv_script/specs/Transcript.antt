@@ -1,8 +1,8 @@
 -- The transcript of a script: what its bytes are answered with.
-use Rattle.std.specs.Prelude.{◌≡◌, ℕ, ◌+◌, Bool, true, false, if◌then◌else◌, List, [], ◌∷◌, ◌++◌, codes, decimal, Option, Some, None, Result, Ok, Err, length, is_some, option_map}
+use Rattle.std.specs.Prelude.{◌≡◌, ℕ, ◌+◌, Bool, true, false, if◌then◌else◌, List, [], ◌∷◌, ◌++◌, codes, decimal, Option, Some, None, IfSome, Result, Ok, Err, length, is_some, option_map}
 use Rattle.std.specs.Io.KnownBytes.{Appends}
 use Rattle.iv_syntax.specs.declared.statement.Statement.{Statement}
-use Rattle.iv_parse.specs.Script.{IsScript}
+use Rattle.iv_parse.specs.Script.{IsFault, IsScript}
 use Rattle.iv_catalogue.specs.Catalogues.{Schema}
 use Rattle.iv_parse.specs.declared.parser.SyntaxFault.{SyntaxFault}
 use Rattle.iv_catalogue.specs.declared.cause.Cause.TheVariants.{OutOfMemory}
@@ -24,7 +24,7 @@ use Rattle.iv_print.specs.declared.format.Style.{Style}
 use Rattle.iv_script.specs.declared.summary.Summary.{Summary}
 use Rattle.iv_script.specs.JsonLines.{json_closing, json_line}
 use Rattle.iv_script.specs.Names.{name_line}
-use Rattle.iv_script.specs.Places.{place_line}
+use Rattle.iv_script.specs.FaultLines.{place_lines}
 
 -- The lines that statements were answered with, the state after them, and how many were accepted
 -- and refused.
@@ -140,14 +140,9 @@ end_line false = []
 abbrev pub begin_of : Option SyntaxFault → Option ℕ
 begin_of fault = option_map (λ f. f.at) fault
 
--- where the first word begins that can't stand where it does
-abbrev pub word_of : Option SyntaxFault → Option ℕ
-word_of fault = option_map (λ f. f.word) fault
-
--- The lines after those of the statements. Where accounts are asked for, the place of the first word that can't stand where it does is
--- told too.
+-- The lines after those of the statements. Where accounts are asked for, they tell more of the first word that can't stand where it does.
 abbrev pub closing_text : Bool → List ℕ → ℕ → Option SyntaxFault → Bool → List ℕ
-closing_text asked text n fault is_open = fault_line n (begin_of fault) ++ (place_line asked text (word_of fault) ++ end_line is_open)
+closing_text asked text n fault is_open = fault_line n (begin_of fault) ++ (place_lines asked text fault ++ end_line is_open)
 
 -- so in this format
 abbrev pub closing_in : Format → Bool → List ℕ → ℕ → Option SyntaxFault → Bool → List ℕ
@@ -190,6 +185,7 @@ pub record RanScript (sure_back : Bool) (bytes : List ℕ) (limits : Bounds) (st
   pub statements : List Statement
   pub memory : List Memory
   pub is_script : IsScript bytes statements (begin_of summary.fault)
+  pub word : IfSome summary.fault (λ f. IsFault bytes statements f)
   pub each : length memory ≡ length statements
   pub due : AreDue sure_back style.explain (empty_state limits) statements memory
   pub memory_refusals_are : memory_refusals memory ≡ summary.memory_refused
@@ -204,4 +200,5 @@ pub record RanWithMemory (bytes : List ℕ) (limits : Bounds) (style : Style) (f
     (before after : SinkState) : Type 0 where
   pub statements : List Statement
   pub is_script : IsScript bytes statements (begin_of fault)
+  pub word : IfSome fault (λ f. IsFault bytes statements f)
   pub appended : Appends before.contents after.contents (transcript style bytes limits statements fault [])

@@ -3,8 +3,8 @@ ghost use Rattle.std.specs.Prelude.{◌≡◌, ◌+◌, ◌++◌, ◌<◌, ◌^�
 ghost use Rattle.iv_print.specs.Writing.{Writes};
 ghost use Rattle.iv_script.specs.Transcript.{closing_in, closing_text, end_line, fault_line};
 
+use crate::fault_line::write_fault_place;
 use crate::json_line::write_json_closing;
-use crate::place::write_fault_place;
 use iv_parse::SyntaxFault;
 use iv_print::{DeviceFault, Format, Sink, Style, write_all, write_number};
 

@@ -1,19 +1,23 @@
 //! The lines of a transcript in JSON.
 ghost use Rattle.std.specs.Prelude.{◌≡◌, ◌+◌, ◌++◌, ◌<◌, ◌^◌};
+ghost use Rattle.std.specs.List.{flat_map};
 ghost use Rattle.std.specs.Option.{option_copied};
 ghost use Rattle.iv_print.specs.Writing.{Writes};
-ghost use Rattle.iv_script.specs.JsonLines.{account_member, byte_members, json_closing, json_end_line, json_fault_line, json_line, number_key, place_members, word_member};
+ghost use Rattle.iv_script.specs.JsonLines.{account_member, byte_members, json_closing, json_end_line, json_fault_line, json_kinds, json_line, further_text, hint_member, known_members, number_key, place_members, text_member, wanted_member, word_member};
 ghost use Rattle.iv_script.specs.Places.{place_at};
 
+use crate::fault_line::wrong_word;
+use crate::hint::fault_hint;
 use crate::json_name::write_about;
 use crate::place::{Place, place_at};
 use crate::telling::Telling;
 use iv_account::Entry;
 use iv_catalogue::Catalogue;
+use iv_lex::{Token, TokenKind, kind_text};
 use iv_parse::SyntaxFault;
 use iv_print::{
-    DeviceFault, Sink, write_all, write_json_account, write_key, write_member, write_number,
-    write_number_member, write_outcome_members, write_text_member,
+    DeviceFault, Sink, write_all, write_json_account, write_json_text, write_key, write_member,
+    write_number, write_number_member, write_outcome_members, write_text_member,
 };
 use iv_step::Outcome;
 use iv_syntax::Statement;
@@ -85,16 +89,90 @@ fn write_byte<W: Sink>(writer: &mut W, text: &str, at: usize) -> Result<(), Devi
     write_place(writer, place_at(text, at))
 }
 
-// Where the first word begins that can't stand where it does.
+// The characters of the wrong word, where a token begins there.
+fn write_text<W: Sink>(writer: &mut W, text: &str, token: Option<Token>) -> Result<(), DeviceFault>
+    ensures { Writes (W.state writer.old) (W.state writer.new) result (text_member text.now token) }
+{
+    if token.is_none() {
+        return write_all(writer, b"");
+    }
+    write_text_member(writer, b"text", wrong_word(text, token))
+}
+
+// The first word that can't stand where it does.
 #[tactic(auto, using(iv_print::proofs::WriteLemmas::writes_then))]
-fn write_word<W: Sink>(writer: &mut W, text: &str, word: usize) -> Result<(), DeviceFault>
-    ensures { Writes (W.state writer.old) (W.state writer.new) result (word_member text.now word) }
+fn write_word<W: Sink>(writer: &mut W, text: &str, fault: &SyntaxFault) -> Result<(), DeviceFault>
+    ensures { Writes (W.state writer.old) (W.state writer.new) result (word_member text.now fault.now) }
 {
     write_member(writer, b"word")?;
     write_all(writer, b"{")?;
     write_key(writer, b"byte")?;
-    write_byte(writer, text, word)?;
+    write_byte(writer, text, fault.word)?;
+    write_text(writer, text, fault.token)?;
     write_all(writer, b"}")
+}
+
+#[tactic(auto, using(iv_print::proofs::WriteLemmas::writes_then))]
+fn write_further_kind<W: Sink>(writer: &mut W, kind: TokenKind) -> Result<(), DeviceFault>
+    ensures { Writes (W.state writer.old) (W.state writer.new) result (further_text kind) }
+{
+    write_all(writer, b",")?;
+    write_json_text(writer, kind_text(kind).as_bytes())
+}
+
+// Further kinds, each after a comma.
+fn write_more_kinds<W: Sink>(writer: &mut W, kinds: &[TokenKind]) -> Result<(), DeviceFault>
+    ensures { Writes (W.state writer.old) (W.state writer.new) result (flat_map further_text kinds.now) }
+{
+    let mut rest = kinds;
+    while let Some((kind, others)) = rest.split_first() {
+        write_further_kind(writer, *kind)?;
+        rest = others;
+    }
+    Ok(())
+}
+
+#[tactic(auto, using(iv_print::proofs::WriteLemmas::writes_then))]
+fn write_kinds<W: Sink>(writer: &mut W, kinds: &[TokenKind]) -> Result<(), DeviceFault>
+    ensures { Writes (W.state writer.old) (W.state writer.new) result (json_kinds kinds.now) }
+{
+    match kinds {
+        [] => write_all(writer, b""),
+        [kind, more @ ..] => {
+            write_json_text(writer, kind_text(*kind).as_bytes())?;
+            write_more_kinds(writer, more)
+        }
+    }
+}
+
+// What might have stood there.
+#[tactic(auto, using(iv_print::proofs::WriteLemmas::writes_then))]
+fn write_wanted<W: Sink>(writer: &mut W, kinds: &[TokenKind]) -> Result<(), DeviceFault>
+    ensures { Writes (W.state writer.old) (W.state writer.new) result (wanted_member kinds.now) }
+{
+    write_member(writer, b"wanted")?;
+    write_all(writer, b"[")?;
+    write_kinds(writer, kinds)?;
+    write_all(writer, b"]")
+}
+
+// What else is known of the word.
+fn write_hint<W: Sink>(writer: &mut W, hint: &[u8]) -> Result<(), DeviceFault>
+    ensures { Writes (W.state writer.old) (W.state writer.new) result (hint_member hint.now) }
+{
+    if hint.is_empty() {
+        return write_all(writer, b"");
+    }
+    write_text_member(writer, b"hint", hint)
+}
+
+// What is known of the word.
+#[tactic(auto, using(iv_print::proofs::WriteLemmas::writes_then))]
+fn write_known<W: Sink>(writer: &mut W, text: &str, fault: &SyntaxFault) -> Result<(), DeviceFault>
+    ensures { Writes (W.state writer.old) (W.state writer.new) result (known_members text.now fault.now) }
+{
+    write_wanted(writer, fault.wanted.as_slice())?;
+    write_hint(writer, fault_hint(text, fault).as_bytes())
 }
 
 // The object of a fault after so many statements.
@@ -116,7 +194,8 @@ fn write_fault<W: Sink>(
     write_text_member(writer, b"kind", b"fault")?;
     write_member(writer, b"byte")?;
     write_byte(writer, text, fault.at)?;
-    write_word(writer, text, fault.word)?;
+    write_word(writer, text, &fault)?;
+    write_known(writer, text, &fault)?;
     write_all(writer, b"}\n")
 }
 

@@ -1,7 +1,10 @@
 //! Scripts: read from a device, run in a new session, and answered as a transcript.
 #![tactic(auto)]
 
+mod caret;
 mod closing;
+mod fault_line;
+mod hint;
 mod json_line;
 mod json_name;
 mod lines;
@@ -13,6 +16,8 @@ mod statements;
 mod summary;
 mod telling;
 
+pub use caret::MOST_AROUND;
+pub use hint::{CALLS, CLAUSES, JOINS, NO_TOKENS, NO_TYPES, STATEMENTS, WORDS, fault_hint};
 pub use iv_parse::SyntaxFault;
 pub use iv_print::{DeviceFault, Format, Sink, Source, Std, Style};
 pub use lines::write_lines;

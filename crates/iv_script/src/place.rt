@@ -1,10 +1,6 @@
 //! Places in the text of a script.
-ghost use Rattle.std.specs.Prelude.{◌≡◌, ◌+◌, ◌≤◌, ◌<◌, ◌^◌, length, option_map, take};
-ghost use Rattle.iv_print.specs.Writing.{Writes};
-ghost use Rattle.iv_script.specs.Places.{after_byte, ends_words, is_continuation, place_at, place_line, place_text, room_after, words_at, words_of, words_text};
-
-use iv_parse::SyntaxFault;
-use iv_print::{DeviceFault, Sink, write_all, write_number};
+ghost use Rattle.std.specs.Prelude.{◌≡◌, ◌+◌, ◌≤◌, ◌<◌, ◌^◌, length, take};
+ghost use Rattle.iv_script.specs.Places.{after_byte, ends_words, is_continuation, place_at, room_after, words_at, words_of};
 
 /// The most characters that are told of a line.
 pub const MOST_WORDS: u32 = 60;
@@ -17,7 +13,7 @@ pub struct Place {
 }
 
 // Whether a byte goes on a character of UTF-8.
-fn is_continuation(byte: u8) -> bool
+pub(crate) fn is_continuation(byte: u8) -> bool
     ensures { result ≡ is_continuation byte }
 {
     byte >= 128 && byte < 192
@@ -78,12 +74,12 @@ fn room_after(room: u32, byte: u8) -> Option<u32>
     }
 }
 
-// How many bytes the words at the front of a text have.
-fn count_words(text: &[u8]) -> usize
+// How many bytes the words at the front of a text have, of at most so many characters.
+fn count_words(text: &[u8], most: u32) -> usize
     ensures within { result ≤ length text.now }
-    ensures words { take result text.now ≡ words_of MOST_WORDS text.now }
+    ensures words { take result text.now ≡ words_of most text.now }
 {
-    let mut room = MOST_WORDS;
+    let mut room = most;
     let mut count = 0usize;
     let mut rest = text;
     while let Some((byte, others)) = rest.split_first() {
@@ -97,55 +93,17 @@ fn count_words(text: &[u8]) -> usize
     count
 }
 
+// The words at the front of a text, of at most so many characters.
+pub(crate) fn words_of(text: &[u8], most: u32) -> &[u8]
+    ensures { result.now ≡ words_of most text.now }
+{
+    &text[..count_words(text, most)]
+}
+
 /// The words at a byte of a text: what is left of the line, or its first characters, up to `MOST_WORDS`.
 pub fn words_at<'a>(text: &'a str, at: usize) -> &'a [u8]
     ensures { result.now ≡ words_at text.entry.now at }
 {
     let bytes = text.as_bytes();
-    let rest = &bytes[at.min(bytes.len())..];
-    &rest[..count_words(rest)]
-}
-
-fn write_words<W: Sink>(writer: &mut W, words: &[u8]) -> Result<(), DeviceFault>
-    ensures { Writes (W.state writer.old) (W.state writer.new) result (words_text words.now) }
-{
-    if words.is_empty() {
-        return write_all(writer, b"");
-    }
-    write_all(writer, b": ")?;
-    write_all(writer, words)
-}
-
-#[tactic(auto, using(iv_print::proofs::WriteLemmas::writes_then))]
-fn write_place<W: Sink>(writer: &mut W, place: Place, words: &[u8]) -> Result<(), DeviceFault>
-    ensures { Writes (W.state writer.old) (W.state writer.new) result (place_text place words.now) }
-{
-    write_all(writer, b"  line ")?;
-    write_number(writer, place.line)?;
-    write_all(writer, b", column ")?;
-    write_number(writer, place.column)?;
-    write_words(writer, words)?;
-    write_all(writer, b"\n")
-}
-
-/// Writes the line that tells the first word of a text that can't stand where it does, where that is asked for.
-pub fn write_fault_place<W: Sink>(
-    writer: &mut W,
-    explain: bool,
-    text: &str,
-    fault: Option<SyntaxFault>,
-) -> Result<(), DeviceFault>
-    ensures { Writes (W.state writer.old) (W.state writer.new) result
-        (place_line explain text.now (option_map (λ f. f.word) fault)) }
-{
-    match fault {
-        Some(fault) if explain => {
-            write_place(
-                writer,
-                place_at(text, fault.word),
-                words_at(text, fault.word),
-            )
-        }
-        _ => write_all(writer, b""),
-    }
+    words_of(&bytes[at.min(bytes.len())..], MOST_WORDS)
 }

@@ -8,6 +8,8 @@ mod calls;
 #[cfg(test)]
 mod devices;
 #[cfg(test)]
+mod faults;
+#[cfg(test)]
 mod load;
 #[cfg(test)]
 mod sessions;

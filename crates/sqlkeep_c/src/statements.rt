@@ -5,14 +5,14 @@ ghost use Rattle.sqlkeep_c.specs.Calls.{Called};
 ghost use Rattle.iv_connection.specs.Kinds.{kind_of};
 ghost use Rattle.iv_connection.specs.OutcomeLines.{executed, lines_of};
 ghost use Rattle.iv_session.specs.Executed.{Executed};
-ghost use Rattle.iv_connection.specs.Statements.{IsRead, outcome_shown};
+ghost use Rattle.iv_connection.specs.Statements.{IsRead, fault_shown, outcome_shown};
 ghost use Rattle.iv_connection.specs.Statuses.{found};
 ghost use Rattle.sqlkeep_c.specs.Statuses.{IsStatus, IsStatusOfText, status_by};
 
 use crate::handle::{Handle, put, take};
 use iv_connection::{
-    CLOSED, NOTHING, OK, ReadScript, ShownOutcome, execute_kept, keep_lines, kind_of,
-    outcome_shown, read_text,
+    CLOSED, NOTHING, OK, ReadScript, ShownFault, ShownOutcome, execute_kept, fault_shown,
+    keep_lines, kind_of, outcome_shown, parse_text, read_shown,
 };
 use iv_parse::script;
 use iv_print::Format;
@@ -27,9 +27,9 @@ pub extern "C" fn sqlkeep_read(
     script: &mut ReadScript,
 ) -> u32
     ensures script { Called handle.old.kept.behind handle.new.kept.behind (λ old new.
-        result ≡ OK → IsRead text.now new.statements script.new) }
-    ensures rest { Called handle.old.kept.behind handle.new.kept.behind (λ old new.
-        result ≡ OK → new ≡ record old { statements = new.statements; executed = None }) }
+        result ≡ OK → IsRead text.now new.statements new.fault script.new) }
+    ensures rest { Called handle.old.kept.behind handle.new.kept.behind (λ old new. result ≡ OK
+        → new ≡ record old { statements = new.statements; fault = new.fault; executed = None }) }
     ensures others { result ≢ OK → (handle.new.kept.behind ≡ handle.old.kept.behind)
         × (script.new ≡ script.old) }
     ensures status { IsStatusOfText handle.old.kept.behind text.now result }
@@ -37,10 +37,11 @@ pub extern "C" fn sqlkeep_read(
     let Some(mut connection) = take(handle, alloc) else {
         return CLOSED;
     };
-    match read_text(alloc, text) {
-        Ok((statements, read)) => {
-            *script = read;
-            connection.statements = statements;
+    match parse_text(alloc, text) {
+        Ok(parsed) => {
+            *script = read_shown(parsed.statements.len(), parsed.fault);
+            connection.fault = parsed.fault;
+            connection.statements = parsed.into_statements();
             connection.executed = None;
             put(handle, connection);
             OK
@@ -50,6 +51,30 @@ pub extern "C" fn sqlkeep_read(
             status
         }
     }
+}
+
+/// Tells where the fault is of the text that was read last: where its statement begins, the first word of it that can't stand where it
+/// does, and whether the text ends there.
+#[unsafe(no_mangle)]
+pub extern "C" fn sqlkeep_fault(alloc: Global, handle: &mut Handle, fault: &mut ShownFault) -> u32
+    ensures fault { IfSome handle.old.kept.behind (λ old. IfSome old.fault (λ f.
+        fault.new ≡ fault_shown f)) }
+    ensures kept { handle.new.kept.behind ≡ handle.old.kept.behind }
+    ensures others { result ≢ OK → fault.new ≡ fault.old }
+    ensures status { result ≡ status_by (λ old. found old.fault) handle.old.kept.behind }
+{
+    let Some(connection) = take(handle, alloc) else {
+        return CLOSED;
+    };
+    let status = match &connection.fault {
+        Some(found) => {
+            *fault = fault_shown(found);
+            OK
+        }
+        None => NOTHING,
+    };
+    put(handle, connection);
+    status
 }
 
 /// Executes a statement of those that were read, and keeps its outcome and, where one is asked for, its account.

@@ -20,11 +20,16 @@ pub extern "C" fn sqlkeep_read_bound(
     script: &mut ReadScript,
 ) -> u32
     ensures script { Called handle.old.kept.behind handle.new.kept.behind (λ old new.
-        result ≡ OK → IsReadOfTemplate template.now old.values new.statements script.new) }
+        result ≡ OK → IsReadOfTemplate template.now old.values new.statements new.fault script.new) }
     ensures values { Called handle.old.kept.behind handle.new.kept.behind (λ old new.
         result ≡ OK → new.values ≡ []) }
     ensures rest { Called handle.old.kept.behind handle.new.kept.behind (λ old new. result ≡ OK
-        → new ≡ record old { statements = new.statements; executed = None; values = new.values }) }
+        → new ≡ record old {
+          statements = new.statements;
+          fault = new.fault;
+          executed = None;
+          values = new.values;
+        }) }
     ensures others { result ≢ OK → (handle.new.kept.behind ≡ handle.old.kept.behind)
         × (script.new ≡ script.old) }
     ensures status { IsStatusOfTemplate handle.old.kept.behind template.now result }
@@ -35,6 +40,7 @@ pub extern "C" fn sqlkeep_read_bound(
     match parse_template(alloc, template, connection.values.as_slice()) {
         Ok(parsed) => {
             *script = read_shown(parsed.statements.len(), parsed.fault);
+            connection.fault = parsed.fault;
             connection.statements = parsed.into_statements();
             connection.executed = None;
             connection.values = Items::new(alloc);

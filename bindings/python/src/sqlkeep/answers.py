@@ -23,11 +23,11 @@ def encoded(text: str) -> bytes:
         raise ProgrammingError("the text has a surrogate, which UTF-8 can't hold") from None
 
 
-def error_of(answer: tuple[Any, ...], text: str, given: int, statement: int | None = None) -> ProgrammingError:
+def error_of(answer: tuple[Any, ...], text: str, given: int, engine: Engine, statement: int | None = None) -> ProgrammingError:
     """The error of a text that wasn't executed. `given` is the number of parameters."""
     kind = answer[0]
     if kind == FAULT:
-        return fault_in(text, answer[1], statement)
+        return fault_in(text, answer[1], engine, statement)
     error = ProgrammingError(count_fault(text, given) if kind == COUNT else "there are several statements; execute takes one, and executescript many")
     error.statement = statement
     return error
@@ -40,10 +40,24 @@ def count_fault(text: str, given: int) -> str:
     return f"the statement has {holes} placeholder{'' if holes == 1 else 's'}, and {given} value{' is' if given == 1 else 's are'} given"
 
 
-def fault_place(text: str, whole: int) -> tuple[int, int, str, str]:
+def wrong_word(text: str, engine: Engine) -> tuple[int, int] | None:
+    """Where the first word of a text begins and ends that can't stand where it does, in characters; the end of the text where it ends
+    within a statement. A question mark is read as a number."""
+    from .text import tokens  # pylint: disable=import-outside-toplevel
+
+    characters = list(text)
+    for token in tokens(text):
+        if token.word == "?":
+            characters[token.start] = "0"
+    data = encoded("".join(characters))
+    found = engine.word(data)
+    return None if found is None else (len(data[: found[0]].decode()), len(data[: found[1]].decode()))
+
+
+def fault_place(text: str, whole: int, engine: Engine) -> tuple[int, int, str, str]:
     """Where something of a text is left, behind so many whole statements, that is no statement: at the place where no word begins, or
-    at the word that a hint is about, or where the statement begins. The line, the column, the words there, and what is probably the
-    matter, which may be empty."""
+    at the word that a hint is about, or at the first word that can't stand where it does. The line, the column, the words there, and
+    what is probably the matter, which may be empty."""
     from .hints import hint_of  # pylint: disable=import-outside-toplevel
     from .text import lexical_fault, place_of, statements, tokens  # pylint: disable=import-outside-toplevel
 
@@ -56,13 +70,19 @@ def fault_place(text: str, whole: int) -> tuple[int, int, str, str]:
     if rest[-1].kind == "fault":
         return (*place_of(text, rest[-1].start), lexical_fault(rest[-1]))
     hint = hint_of(rest)
-    return (*place_of(text, rest[0].start if hint is None else hint.token.start), "" if hint is None else hint.reason)
+    if hint is not None:
+        return (*place_of(text, hint.token.start), hint.reason)
+    word = wrong_word(text, engine)
+    return (*place_of(text, rest[0].start if word is None else word[0]), "")
 
 
-def fault_in(text: str, whole: int, statement: int | None = None) -> ProgrammingError:
+def fault_in(text: str, whole: int, engine: Engine, statement: int | None = None) -> ProgrammingError:
     """The error of such a text."""
-    line, column, words, reason = fault_place(text, whole)
-    return faulted((f": {words}" if words else "") + (f" ({reason})" if reason else ""), line, column, statement)
+    line, column, words, reason = fault_place(text, whole, engine)
+    word = wrong_word(text, engine)
+    error = faulted((f": {words}" if words else "") + (f" ({reason})" if reason else ""), line, column, statement)
+    error.word = None if word is None else text[word[0] : word[1]]
+    return error
 
 
 def columns_of(text: str, names: list[str], engine: Engine) -> list[tuple[str, str | None]]:

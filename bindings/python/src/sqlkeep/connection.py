@@ -196,7 +196,7 @@ class Connection:
                 error.statement = before + self._engine.progress() + 1
             raise
         if answer is not None:
-            raise error_of(answer, text, len(values[done]), before + done + 1)
+            raise error_of(answer, text, len(values[done]), self._engine, before + done + 1)
         return changed
 
     def _answer_in_mode(self, text: str, values: tuple[Value, ...], plan: int) -> tuple[Any, ...]:

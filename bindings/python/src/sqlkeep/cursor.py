@@ -90,7 +90,7 @@ class Cursor:
         elif kind == ROWS:
             self.rowcount, self._rows, self._text, self._names, self._columns = len(answer[1]), iter(answer[1]), text, answer[2], None
         elif kind not in (DONE, EMPTY):
-            raise error_of(answer, text, len(values))
+            raise error_of(answer, text, len(values), self._engine)
         return self
 
     def executemany(self, operation: str, parameters: Iterable[Sequence[Value]]) -> Cursor:

@@ -35,6 +35,8 @@ class Error(Exception):
     #: The line and the column of a fault of the text, from 1.
     line: int | None = None
     column: int | None = None
+    #: The first word of the text that can't stand where it does; empty where the text ends there, or no word begins.
+    word: str | None = None
     _row = 0
     _lines = b""
     # The session that is to tell the lines; None where they were told.

@@ -6,7 +6,7 @@ from typing import TYPE_CHECKING, Any, NamedTuple, Sequence
 
 from ._engine import Engine
 from .account import Account
-from .answers import CHANGED, DONE, EMPTY, ROWS, columns_of, encoded, error_of, fault_in
+from .answers import CHANGED, DONE, EMPTY, ROWS, columns_of, encoded, error_of, fault_in, fault_place
 from .catalogue import Catalogue, catalogue_of
 from .errors import DatabaseError
 from .plans import COMMIT, plan_of
@@ -175,8 +175,12 @@ class Session:
             whole, text = count, text + "\n;"
             count, fault = self._engine.read(encoded(text))
             if fault is not None:
-                raise fault_in(text[:-2], whole, whole + 1)
+                raise fault_in(text[:-2], whole, self._engine, whole + 1)
         return [text[start:end] for start, end in statements(text)[:count]]
+
+    def fault_place(self, text: str, whole: int) -> tuple[int, int, str, str]:
+        """The line, the column, the words and what is probably the matter where a text is no statement behind so many whole ones."""
+        return fault_place(text, whole, self._engine)
 
     def commit(self) -> Outcome:
         """COMMIT. Where it is refused, the transaction is rolled back."""
@@ -216,7 +220,7 @@ def outcome_of(session: Session, answer: tuple[Any, ...], text: str, given: int)
     """The outcome of a statement that the engine has answered."""
     kind, engine = answer[0], session._engine
     if kind not in (DONE, CHANGED, ROWS, EMPTY):
-        raise error_of(answer, text, given)
+        raise error_of(answer, text, given, engine)
     lines = engine.lines(1).decode() if session.explain and kind != EMPTY else ""
     if kind == ROWS:
         return Outcome(rows=answer[1], columns=[name for name, _ in columns_of(text, answer[2], engine)], lines=lines)

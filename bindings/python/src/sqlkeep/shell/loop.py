@@ -6,7 +6,6 @@ import os
 import time
 from typing import Any, Iterator, TextIO
 
-from ..answers import fault_place
 from ..errors import DatabaseError, Error
 from ..session import Outcome, Session
 from ..text import is_whole, statements, tokens
@@ -263,7 +262,7 @@ class Shell:
     def show_fault(self, text: str, start: int, name: str | None) -> None:
         """Says where a text is no statement, with its line and a caret."""
         whole = sum(end <= start for _, end in statements(text))
-        line, column, _, reason = fault_place(text, whole)
+        line, column, _, reason = self.session.fault_place(text, whole)
         where = f"{name}, line" if name is not None else "line"
         self.complain(f"No statement at {where} {line}, column {column}{': ' + reason if reason else ''}", caret(text, line, column))
 

@@ -1,5 +1,4 @@
 use Rattle.std.proofs.Common.{◌≡◌, ◌+◌, ◌++◌, length, take, drop}
-use Rattle.iv_script.specs.declared.place.TheConstants.{MOST_WORDS}
 use Rattle.iv_script.specs.Places.{words_of}
 use Rattle.iv_script.proofs.place.count_words.Given as goal
 
@@ -7,7 +6,7 @@ abbrev pub invariant-loop-byte : goal.invariant-loop-byte
 invariant-loop-byte l = record {
   counted : l.count + length l.rest ≡ length l.text;
   rest_is : drop l.count l.text ≡ l.rest;
-  words : take l.count l.text ++ words_of l.room l.rest ≡ words_of MOST_WORDS l.text;
+  words : take l.count l.text ++ words_of l.room l.rest ≡ words_of l.most l.text;
 }
 
 abbrev pub decreases-loop-byte : goal.decreases-loop-byte

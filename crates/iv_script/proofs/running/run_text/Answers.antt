@@ -18,7 +18,7 @@ returns-in-Ok-clause-with_memory g c = λ none told.
     let of_script : RanParsed g.S.Executor.sure_store style (empty_state c.args.limits) c.args.text.now c.in_ok-parsed.parsed.statements place tally before after
     = subst (λ l. RanParsed g.S.Executor.sure_store style (empty_state c.args.limits) c.args.text.now l place tally before after) c.as_slice.ensures from_empty in
     ran_with_memory g.S.Executor.sure_store style c.args.text.now c.args.limits (summary_of tally fault) before after
-    (ran_script g.S.Executor.sure_store c.args.text.now c.args.limits style c.in_ok-parsed.parsed.statements fault tally before after c.in_ok-parsed.ensures.script of_script) none told
+    (ran_script g.S.Executor.sure_store c.args.text.now c.args.limits style c.in_ok-parsed.parsed.statements fault tally before after c.in_ok-parsed.ensures.script c.in_ok-parsed.ensures.word of_script) none told
 
 pub returns-in-Ok-clause-told : goal.returns-in-Ok-clause-told
 returns-in-Ok-clause-told g c = λ plain.
@@ -33,4 +33,4 @@ returns-in-Ok-clause-told g c = λ plain.
     let of_script : RanParsed g.S.Executor.sure_store style (empty_state c.args.limits) c.args.text.now c.in_ok-parsed.parsed.statements place tally before after
     = subst (λ l. RanParsed g.S.Executor.sure_store style (empty_state c.args.limits) c.args.text.now l place tally before after) c.as_slice.ensures from_empty in
     unasked_told g.S.Executor.sure_store c.args.text.now c.args.limits style (summary_of tally fault) before after plain
-    (ran_script g.S.Executor.sure_store c.args.text.now c.args.limits style c.in_ok-parsed.parsed.statements fault tally before after c.in_ok-parsed.ensures.script of_script)
+    (ran_script g.S.Executor.sure_store c.args.text.now c.args.limits style c.in_ok-parsed.parsed.statements fault tally before after c.in_ok-parsed.ensures.script c.in_ok-parsed.ensures.word of_script)
