@@ -216,7 +216,9 @@ SPEED = '''# Speed beside SQLite
 
 Where SQLite takes another way for the same work:
 
-%s'''
+%s
+[Where the time goes](profiles.md), and what was tried.
+'''
 
 
 def wanted(words):
