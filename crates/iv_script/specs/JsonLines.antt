@@ -72,15 +72,17 @@ hint_member (byte ∷ bytes) = member (codes "hint") ++ json_text (byte ∷ byte
 abbrev pub known_members : List ℕ → SyntaxFault → List ℕ
 known_members text f = wanted_member (wanted_kinds f.wanted) ++ hint_member (fault_hint text f)
 
+-- the front of a fault's line after so many statements: where its statement begins
+abbrev pub fault_front : List ℕ → ℕ → SyntaxFault → List ℕ
+fault_front text n f = number_key (n + 1) ++ (kind_member (codes "fault") ++ (member (codes "byte") ++ byte_members text f.at))
+
+abbrev pub fault_members : List ℕ → ℕ → SyntaxFault → List ℕ
+fault_members text n f = fault_front text n f ++ (word_member text f ++ (known_members text f ++ codes "}\n"))
+
 -- The line of a fault after so many statements: where its statement begins, where the word is, and what is known of it.
 abbrev pub json_fault_line : List ℕ → ℕ → Option SyntaxFault → List ℕ
 json_fault_line text n None = []
-json_fault_line text n (Some f) =
-    number_key (n + 1)
-    ++ (kind_member (codes "fault")
-    ++ (member (codes "byte")
-    ++ (byte_members text f.at
-    ++ (word_member text f ++ (known_members text f ++ codes "}\n")))))
+json_fault_line text n (Some f) = fault_members text n f
 
 -- the line of a transaction that is open at the end
 abbrev pub json_end_line : Bool → List ℕ

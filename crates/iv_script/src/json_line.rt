@@ -3,7 +3,7 @@ ghost use Rattle.std.specs.Prelude.{◌≡◌, ◌+◌, ◌++◌, ◌<◌, ◌^�
 ghost use Rattle.std.specs.List.{flat_map};
 ghost use Rattle.std.specs.Option.{option_copied};
 ghost use Rattle.iv_print.specs.Writing.{Writes};
-ghost use Rattle.iv_script.specs.JsonLines.{account_member, byte_members, json_closing, json_end_line, json_fault_line, json_kinds, json_line, further_text, hint_member, known_members, number_key, place_members, text_member, wanted_member, word_member};
+ghost use Rattle.iv_script.specs.JsonLines.{account_member, byte_members, fault_front, fault_members, json_closing, json_end_line, json_fault_line, json_kinds, json_line, further_text, hint_member, known_members, number_key, place_members, text_member, wanted_member, word_member};
 ghost use Rattle.iv_script.specs.Places.{place_at};
 
 use crate::fault_line::wrong_word;
@@ -175,8 +175,40 @@ fn write_known<W: Sink>(writer: &mut W, text: &str, fault: &SyntaxFault) -> Resu
     write_hint(writer, fault_hint(text, fault).as_bytes())
 }
 
-// The object of a fault after so many statements.
+// The front of a fault's object after so many statements.
 #[tactic(auto, using(iv_print::proofs::WriteLemmas::writes_then))]
+fn write_fault_front<W: Sink>(
+    writer: &mut W,
+    text: &str,
+    count: u64,
+    fault: &SyntaxFault,
+) -> Result<(), DeviceFault>
+    requires { count < 2 ^ 63 }
+    ensures { Writes (W.state writer.old) (W.state writer.new) result (fault_front text.now count fault.now) }
+{
+    write_number_key(writer, count + 1)?;
+    write_text_member(writer, b"kind", b"fault")?;
+    write_member(writer, b"byte")?;
+    write_byte(writer, text, fault.at)
+}
+
+#[tactic(auto, using(iv_print::proofs::WriteLemmas::writes_then))]
+fn write_fault_members<W: Sink>(
+    writer: &mut W,
+    text: &str,
+    count: u64,
+    fault: &SyntaxFault,
+) -> Result<(), DeviceFault>
+    requires { count < 2 ^ 63 }
+    ensures { Writes (W.state writer.old) (W.state writer.new) result (fault_members text.now count fault.now) }
+{
+    write_fault_front(writer, text, count, fault)?;
+    write_word(writer, text, fault)?;
+    write_known(writer, text, fault)?;
+    write_all(writer, b"}\n")
+}
+
+// The object of a fault after so many statements.
 fn write_fault<W: Sink>(
     writer: &mut W,
     text: &str,
@@ -187,16 +219,10 @@ fn write_fault<W: Sink>(
     ensures { Writes (W.state writer.old) (W.state writer.new) result
         (json_fault_line text.now count fault) }
 {
-    let Some(fault) = fault else {
-        return write_all(writer, b"");
-    };
-    write_number_key(writer, count + 1)?;
-    write_text_member(writer, b"kind", b"fault")?;
-    write_member(writer, b"byte")?;
-    write_byte(writer, text, fault.at)?;
-    write_word(writer, text, &fault)?;
-    write_known(writer, text, &fault)?;
-    write_all(writer, b"}\n")
+    match fault {
+        Some(fault) => write_fault_members(writer, text, count, &fault),
+        None => write_all(writer, b""),
+    }
 }
 
 // The object of a transaction that is open at the end.
