@@ -46,7 +46,12 @@ fn again_by_set<'t, T: Named>(alloc: Global, items: &'t [T]) -> Result<Option<&'
 fn is_named<T: Named>(items: &[T], name: &str) -> bool
     ensures { result ≡ is_among (map T.named items.now) name.now }
 {
-    items.iter().any(|item| name == item.name())
+    for item in items {
+        if name == item.name() {
+            return true;
+        }
+    }
+    false
 }
 
 fn again_in_place<'t, T: Named>(items: &'t [T]) -> Option<&'t str>
