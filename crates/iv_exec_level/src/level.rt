@@ -66,7 +66,7 @@ fn run_statement<K: ChangeableRows>(
         BodyStatement::Data(statement) => {
             account.began(place)?;
             nested(
-                store, context, trigger.id, statement, frame, deeper, budget, account,
+                store, &*context, trigger.id, statement, &*frame, deeper, budget, account,
             )?;
             account.ended()?;
             Ok(())
@@ -104,9 +104,9 @@ fn nested<K: ChangeableRows>(
     }
     run_level(
         store,
-        context,
+        &*context,
         statement,
-        frame,
+        &*frame,
         deeper - 1,
         budget,
         account,
@@ -144,7 +144,7 @@ fn run_body<K: ChangeableRows>(
     while at < body.len() {
         let statement = statement_at(&*context, &*frame, body, at);
         run_statement(
-            store, context, trigger, frame, place, statement, deeper, budget, account,
+            store, &*context, trigger, &*frame, place, statement, deeper, budget, account,
         )?;
         at += 1;
         place += 1;
@@ -177,10 +177,10 @@ fn run_where_true<K: ChangeableRows>(
         (firing_of trigger.now frame.now)
         (progress (K.view store.old).base budget.old)) }
 {
-    match takes_effect(store, trigger, frame) {
+    match takes_effect(&*store, trigger, &*frame) {
         Ok(true) => {
-            account.ran(trigger, frame)?;
-            run_body(store, context, trigger, frame, deeper, budget, account)
+            account.ran(trigger, &*frame)?;
+            run_body(store, &*context, trigger, &*frame, deeper, budget, account)
         }
         Ok(false) => Ok(()),
         Err(cause) => Err(Refusal::of(cause)),
@@ -222,7 +222,7 @@ fn fire<K: ChangeableRows>(
         (firing_of trigger.now frame.now)
         (progress (K.view store.old).base budget.old)) }
 {
-    match run_where_true(store, context, trigger, frame, deeper, budget, account) {
+    match run_where_true(store, &*context, trigger, &*frame, deeper, budget, account) {
         Ok(()) => Ok(()),
         Err(refusal) => Err(Refusal {
             cause: refusal.cause,
@@ -259,7 +259,7 @@ fn fire_rows<K: ChangeableRows>(
     let mut at = 0usize;
     while at < transitions.len() {
         let frame = row_frame(&*context, trigger, transitions, at);
-        fire(store, context, trigger, &frame, deeper, budget, account)?;
+        fire(store, &*context, trigger, &frame, deeper, budget, account)?;
         at += 1;
     }
     Ok(())
@@ -291,7 +291,7 @@ fn fire_once<K: ChangeableRows>(
         (progress (K.view store.old).base budget.old)) }
 {
     let frame = statement_frame(&*context, trigger, transitions);
-    fire(store, context, trigger, &frame, deeper, budget, account)
+    fire(store, &*context, trigger, &frame, deeper, budget, account)
 }
 
 // A trigger, as often as it fires.
@@ -324,12 +324,12 @@ fn fire_trigger<K: ChangeableRows>(
     match firings(statement, trigger, columns, &*transitions) {
         Fires::Never => Ok(()),
         Fires::Once(changes) => {
-            are_transitions(context, trigger, transitions, changes);
-            fire_once(store, context, trigger, changes, deeper, budget, account)
+            are_transitions(&*context, trigger, &*transitions, changes);
+            fire_once(store, &*context, trigger, changes, deeper, budget, account)
         }
         Fires::EachRow(changes) => {
-            are_transitions(context, trigger, transitions, changes);
-            fire_rows(store, context, trigger, changes, deeper, budget, account)
+            are_transitions(&*context, trigger, &*transitions, changes);
+            fire_rows(store, &*context, trigger, changes, deeper, budget, account)
         }
     }
 }
@@ -367,11 +367,11 @@ fn fire_all<K: ChangeableRows>(
         let trigger = trigger_at(&*context, triggers, at);
         fire_trigger(
             store,
-            context,
+            &*context,
             statement,
             trigger,
             columns,
-            transitions,
+            &*transitions,
             deeper,
             budget,
             account,
@@ -408,12 +408,12 @@ fn finish<K: ChangeableRows>(
         context.now statement.now columns net
         (progress (K.view store.old).base budget.old)) }
 {
-    check(store, context, account)?;
+    check(&*store, &*context, account)?;
     match told {
         None => Ok(()),
         Some(changes) => fire_all(
             store,
-            context,
+            &*context,
             statement,
             context.catalogue().triggers(),
             &changes.columns,
@@ -450,8 +450,8 @@ fn run_waves<K: ChangeableRows>(
         (wave_with (set_columns statement.now) changes.items)) }
 {
     let size = changes.len() as u64;
-    let told = settle_waves(store, context, statement, budget, changes, account)?;
-    finish(store, context, statement, &told, deeper, budget, account)?;
+    let told = settle_waves(store, &*context, statement, budget, changes, account)?;
+    finish(store, &*context, statement, &told, deeper, budget, account)?;
     Ok(size)
 }
 
@@ -480,8 +480,10 @@ fn run_level<K: ChangeableRows>(
         return Err(Refusal::of(Cause::TooManyChanges));
     }
     *budget -= 1;
-    let changes = allowed(store, context, statement, frame, account)?;
-    run_waves(store, context, statement, changes, deeper, budget, account)
+    let changes = allowed(&*store, &*context, statement, &*frame, account)?;
+    run_waves(
+        store, &*context, statement, changes, deeper, budget, account,
+    )
 }
 
 /// Runs INSERT, UPDATE or DELETE of a script, with all that follows from it, and answers how many rows it changed
