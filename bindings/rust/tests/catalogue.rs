@@ -43,7 +43,7 @@ fn modes_are_those_of_now() {
     assert_eq!(modes(&mut session), [false, true]);
     session.execute_batch("START TRANSACTION; SET CONSTRAINTS one DEFERRED; SET CONSTRAINTS two IMMEDIATE;").unwrap();
     assert_eq!(modes(&mut session), [true, false]);
-    session.rollback().unwrap();
+    session.rollback();
     assert_eq!(modes(&mut session), [false, true]);
 }
 
