@@ -162,7 +162,7 @@ class Faults(unittest.TestCase):
         connection.execute("CREATE TABLE t (a INT)")
         for text, line, column, wanted in [
             ("SELEKT * FROM t", 1, 1, "SELEKT * FROM t (did you mean SELECT?)"),
-            ("\n\n  SELECT a b c FROM t", 3, 3, "SELECT a b c FROM t"),
+            ("\n\n  SELECT a b c FROM t", 3, 12, "b c FROM t"),
             ("SELECT * FROM t WHERE a = \"x\"", 1, 27, "\"x\" (a text is written between single quotes)"),
             ("SELECT * FROM t\nWHERE a = 'x", 2, 11, "'x (a text doesn't end)"),
             ("SELECT a / 2 FROM t", 1, 10, "/ 2 FROM t (no word begins so)"),

@@ -61,18 +61,19 @@ class Answer:
 
 @dataclass(frozen=True)
 class Fault:
-    """Where a script has no whole statement: the statement's number, the byte, and with accounts the line, the column and the
-    words there."""
+    """Where a script has no whole statement: the statement's number, the byte, and with accounts the line and the column of the wrong
+    word, what is said of it, and the lines that show it: its own and that of the caret."""
 
     number: int
     place: int
     line: Optional[int] = None
     column: Optional[int] = None
     words: Optional[str] = None
+    shown: str = ""
 
     def __str__(self) -> str:
         told = "" if self.line is None else f"  line {self.line}, column {self.column}{'' if self.words is None else ': ' + self.words}\n"
-        return f"{self.number} fault {self.place}\n{told}"
+        return f"{self.number} fault {self.place}\n{told}{self.shown}"
 
 
 @dataclass(frozen=True)
@@ -94,7 +95,7 @@ ACCEPTED = re.compile(r"(\d+) ok(?: (\d+))?\n")
 ROWS = re.compile(r"(\d+) rows (\d+)\n")
 ROW = re.compile(rf"\| ({VALUE}(?:, {VALUE})*)\n")
 REFUSED = re.compile(r"(\d+) refused (\d+) (\w+)(?: (?!row \d|in \w)(\w+))?(?: row (\d+))?(?: ('(?:[^']|'')*'))?(?: in (\w+))?\n")
-FAULT = re.compile(r"(\d+) fault (\d+)\n(?:  line (\d+), column (\d+)(?:: ([^\n]*))?\n)?")
+FAULT = re.compile(r"(\d+) fault (\d+)\n(?:  line (\d+), column (\d+)(?:: ([^\n]*))?\n((?:    [^\n]*\n     *\^\n)?))?")
 END = re.compile(r"end rolled back\n")
 # The causes whose first name is that of a trigger, and not of a constraint.
 OF_TRIGGERS = (15, 16)
@@ -142,7 +143,7 @@ def fault_at(reader: Reader) -> Optional[Fault]:
     if found is None:
         return None
     line, column = (None if part is None else int(part) for part in (found[3], found[4]))
-    return Fault(int(found[1]), int(found[2]), line, column, found[5])
+    return Fault(int(found[1]), int(found[2]), line, column, found[5], found[6] or "")
 
 
 def parse_transcript(text: str) -> Transcript:
