@@ -12,7 +12,7 @@
    Every function answers a status, one of enum sqlkeep_status. If it isn't SQLKEEP_OK, nothing was changed and no
    result was written. If it is, the function did what its comment says, and left all else as it was. The comment of a
    function names each status that it may answer besides SQLKEEP_OK, and says when. SQLKEEP_CLOSED always means that the
-   handle is empty, and SQLKEEP_NO_MEMORY that memory was refused; a function whose comment doesn't name this one takes no
+   handle or the result is empty, and SQLKEEP_NO_MEMORY that memory was refused; a function whose comment doesn't name this one takes no
    memory, or can do without it, as its comment says. A statement that the database refuses is no failed call: the call
    answers SQLKEEP_OK, and the outcome says why the statement was refused.
 
@@ -24,12 +24,13 @@
      call. (All bytes are a valid value of the other types of this header.) `text` and `name` lead to `length` bytes that can be read, `buffer` to `size` bytes that can be written. A length or
      a size is less than 2 to the power of 63.
    - A handle is SQLKEEP_EMPTY, or what the functions of this library left in it. It may be moved to another place in
-     memory, but it isn't copied and used twice, and its members are neither read nor written.
+     memory, but it isn't copied and used twice, and its members are neither read nor written. The same holds of a result,
+     which is SQLKEEP_NO_RESULT at first.
    - The handle, the results and the buffer of one call don't overlap. The library reads and writes them during the
      call alone, and keeps no pointer to them: all that a caller passes stays the caller's own.
-   - All memory that the library takes belongs to an open handle. sqlkeep_close frees it; a handle that is dropped
-     without that leaks it.
-   - All calls for one handle are made on the thread that opened it. Different threads may use different handles at the same
+   - All memory that the library takes belongs to an open handle or to a result with rows. sqlkeep_close and
+     sqlkeep_result_free free it, in any order; what is dropped without that leaks it.
+   - All calls for one handle, and for the results that were taken out of it, are made on the thread that opened it. Different threads may use different handles at the same
      time, and no call for one handle changes another.
    - No function is called from a signal handler, nor in a child that was forked from a process with threads.
    - The library takes memory by malloc and realloc, and frees it by free. These three belong together, and the memory
@@ -107,7 +108,14 @@ typedef struct sqlkeep_script {
     uint64_t fault_at;
 } sqlkeep_script;
 
-/* Where the text that was read last has its fault: bytes of it, from 0. */
+/* Where a statement is in its text: bytes of it, from 0. */
+typedef struct sqlkeep_span {
+    /* The first byte of its first word, and the byte behind its semicolon. */
+    uint64_t begin;
+    uint64_t end;
+} sqlkeep_span;
+
+/* Where the text that was read last has its fault: bytes of it, from 0; of the template, if it was one. */
 typedef struct sqlkeep_place {
     /* Where the statement begins that isn't one. */
     uint64_t at;
@@ -194,6 +202,21 @@ typedef struct sqlkeep_cell {
     /* How many bytes the text has; 0 where it is none. */
     uint64_t length;
 } sqlkeep_cell;
+
+/* The rows of a query, apart from the session that gave them. */
+typedef struct sqlkeep_result {
+    bool is_open;
+    void *inside;
+} sqlkeep_result;
+
+/* A result without rows. */
+#define SQLKEEP_NO_RESULT {false, NULL}
+
+/* How many rows and columns a result has. */
+typedef struct sqlkeep_result_sizes {
+    uint64_t rows;
+    uint64_t columns;
+} sqlkeep_result_sizes;
 
 /* How many rows were copied, and how many bytes their texts have. */
 typedef struct sqlkeep_taken {
@@ -349,6 +372,18 @@ typedef struct sqlkeep_item {
 /* The side of a change: the row before it, and after it. */
 enum sqlkeep_side { SQLKEEP_OLD = 0, SQLKEEP_NEW = 1 };
 
+/* What a violation is about. */
+typedef struct sqlkeep_violation_shown {
+    /* The place of the constraint and of its table in the catalogue, and how many columns the constraint is of. */
+    uint32_t constraint;
+    uint32_t table;
+    uint64_t columns;
+    /* The number of the row that violates it. */
+    uint64_t row;
+    /* The number of the other row with the same key; 0 if the violation is about none. */
+    uint64_t other;
+} sqlkeep_violation_shown;
+
 /* What the last statement or call did. */
 typedef struct sqlkeep_done {
     /* How many row changes it made, those of triggers and actions too, and how many it undid. */
@@ -396,9 +431,15 @@ uint32_t sqlkeep_transcript(sqlkeep *handle, size_t from, uint8_t *buffer, size_
    SQLKEEP_CLOSED, SQLKEEP_NOT_UTF8, SQLKEEP_NO_MEMORY. */
 uint32_t sqlkeep_read(sqlkeep *handle, const uint8_t *text, size_t length, sqlkeep_script *script);
 
-/* Tells the fault of the text that was read last. After sqlkeep_read_bound and sqlkeep_read_filled its places are bytes of the filled
-   text. SQLKEEP_CLOSED; SQLKEEP_NOTHING: that text has no fault. */
+/* Tells the fault of the text that was read last. After sqlkeep_read_bound and sqlkeep_read_filled its places are bytes of the
+   template: a word of a value that was filled in is the question mark.
+   SQLKEEP_CLOSED; SQLKEEP_NOTHING: that text has no fault. */
 uint32_t sqlkeep_fault(sqlkeep *handle, sqlkeep_place *place);
+
+/* Tells where a statement of those that were read is in the text, or in the template, that they were read from. The first call after
+   a text was read looks for the places of all its statements, and keeps them.
+   SQLKEEP_CLOSED, SQLKEEP_NO_MEMORY; SQLKEEP_NOTHING: there are fewer statements. */
+uint32_t sqlkeep_statement_place(sqlkeep *handle, size_t at, sqlkeep_span *place);
 
 /* ---- templates
 
@@ -416,7 +457,7 @@ uint32_t sqlkeep_bind_integer(sqlkeep *handle, int64_t integer);
 uint32_t sqlkeep_bind_text(sqlkeep *handle, const uint8_t *text, size_t length);
 
 /* Reads the statements of a template with the values that are bound, keeps them as sqlkeep_read does, and forgets the values.
-   `script->fault_at` is a byte of the filled text.
+   `script->fault_at` is a byte of the template.
    SQLKEEP_CLOSED, SQLKEEP_NOT_UTF8, SQLKEEP_NO_MEMORY; SQLKEEP_WRONG_COUNT: the template has another number of question marks
    than values are bound; SQLKEEP_NO_TEMPLATE: at some place of it there is neither a token nor a question mark. */
 uint32_t sqlkeep_read_bound(sqlkeep *handle, const uint8_t *text, size_t length, sqlkeep_script *script);
@@ -459,6 +500,30 @@ uint32_t sqlkeep_value_text(sqlkeep *handle, size_t row, size_t column, size_t f
    What of them isn't written stays as it was. If no row is copied though there is one, a buffer is too small for it.
    SQLKEEP_CLOSED. */
 uint32_t sqlkeep_rows(sqlkeep *handle, size_t from, sqlkeep_cell *cells, size_t count, uint8_t *texts, size_t size, sqlkeep_taken *taken);
+
+/* ---- rows that stay
+
+   sqlkeep_result_take takes the rows of the last outcome out of the session. They stay until the result is freed: no further
+   statement changes them, nor does sqlkeep_close. A result is freed once; then it may take rows again. */
+
+/* Takes the rows of the last outcome, without a copy, and with the names of the columns if no other text was read since the query was
+   executed. The outcome then has no rows.
+   SQLKEEP_CLOSED: the handle is empty. SQLKEEP_OPEN: the result has rows already. SQLKEEP_NOTHING: the last outcome is none of a
+   query. SQLKEEP_NO_MEMORY. */
+uint32_t sqlkeep_result_take(sqlkeep *handle, sqlkeep_result *result);
+
+/* Frees the rows, and leaves the result empty. SQLKEEP_CLOSED: the result was empty. */
+uint32_t sqlkeep_result_free(sqlkeep_result *result);
+
+/* How many rows there are, and how many columns the query has; 0 columns if their names weren't there. SQLKEEP_CLOSED. */
+uint32_t sqlkeep_result_size(sqlkeep_result *result, sqlkeep_result_sizes *sizes);
+
+/* Copies bytes of a column's name to the buffer, as sqlkeep_query_column does. SQLKEEP_CLOSED; SQLKEEP_NOTHING: there is no such
+   column. */
+uint32_t sqlkeep_result_column(sqlkeep_result *result, size_t column, size_t from, uint8_t *buffer, size_t size, size_t *copied);
+
+/* Copies rows from this one on, as sqlkeep_rows does. SQLKEEP_CLOSED. */
+uint32_t sqlkeep_result_rows(sqlkeep_result *result, size_t from, sqlkeep_cell *cells, size_t count, uint8_t *texts, size_t size, sqlkeep_taken *taken);
 
 /* ---- a row by its number
 
@@ -539,6 +604,13 @@ uint32_t sqlkeep_trigger(sqlkeep *handle, size_t from, uint8_t *buffer, size_t s
 /* The text of the SIGNAL. */
 uint32_t sqlkeep_signal(sqlkeep *handle, size_t from, uint8_t *buffer, size_t size, size_t *copied);
 
+/* Copies bytes of a message on the last outcome, from byte `from` on, as sqlkeep_transcript does: one line of words without its end, as
+   "refused: Violation, constraint BOOK_KEY, row 7, trigger LOG_IT" or "refused: Unknown: table BOKO isn't there". It names what the
+   cause speaks of: the constraint, the row, the trigger, the text of the SIGNAL as it is, and the name that isn't there, is there
+   already or comes twice. Of an accepted statement it is "done", "rows changed: 2" or "rows: 2". It is to be called before the next
+   statement is executed; the name at fault is told up to the next sqlkeep_read. SQLKEEP_CLOSED, SQLKEEP_NO_MEMORY. */
+uint32_t sqlkeep_message(sqlkeep *handle, size_t from, uint8_t *buffer, size_t size, size_t *copied);
+
 /* ---- the account of the last statement
 
    These read it entry by entry, from 0, where one was asked for by sqlkeep_explain; otherwise there is no entry. Places of tables and
@@ -588,10 +660,21 @@ uint32_t sqlkeep_pending(sqlkeep *handle, size_t *count);
    before the next statement. SQLKEEP_CLOSED; SQLKEEP_NOTHING: there is no violation at this place. */
 uint32_t sqlkeep_violation(sqlkeep *handle, size_t at, uint64_t *row, uint8_t *buffer, size_t size, size_t *copied);
 
+/* What a violation that was found is about. For a key it looks for the other row among the violations that were found. It is to be
+   called before the next statement. SQLKEEP_CLOSED; SQLKEEP_NOTHING: there is no violation at this place. */
+uint32_t sqlkeep_violation_about(sqlkeep *handle, size_t at, sqlkeep_violation_shown *violation);
+
+/* The value that the row of a violation has in a column of the constraint, by the column's place there: of a foreign key the key that
+   isn't there, of UNIQUE and PRIMARY KEY the key that two rows have. And the bytes of a text from byte `from` on, copied as
+   sqlkeep_transcript does. They are to be called before the next statement.
+   SQLKEEP_CLOSED; SQLKEEP_NOTHING: there is no such violation, or its constraint has no such column. */
+uint32_t sqlkeep_violation_value(sqlkeep *handle, size_t at, size_t place, sqlkeep_cell *value);
+uint32_t sqlkeep_violation_text(sqlkeep *handle, size_t at, size_t place, size_t from, uint8_t *buffer, size_t size, size_t *copied);
+
 /* ---- a handle that is null
 
-   From here on each name above is a function of this header, which answers SQLKEEP_NO_HANDLE where the pointer to the handle
-   is null, and otherwise calls the function of the library. */
+   From here on each name above is a function of this header, which answers SQLKEEP_NO_HANDLE where the pointer to the handle, or to
+   the result, is null, and otherwise calls the function of the library. */
 
 static inline uint32_t sqlkeep_tested_open(sqlkeep *handle, uint8_t depth, uint32_t changes) {
     return handle == NULL ? (uint32_t)SQLKEEP_NO_HANDLE : sqlkeep_open(handle, depth, changes);
@@ -770,6 +853,36 @@ static inline uint32_t sqlkeep_tested_row_text(sqlkeep *handle, uint64_t number,
 static inline uint32_t sqlkeep_tested_constraint_mode(sqlkeep *handle, size_t at, uint32_t *mode) {
     return handle == NULL ? (uint32_t)SQLKEEP_NO_HANDLE : sqlkeep_constraint_mode(handle, at, mode);
 }
+static inline uint32_t sqlkeep_tested_statement_place(sqlkeep *handle, size_t at, sqlkeep_span *place) {
+    return handle == NULL ? (uint32_t)SQLKEEP_NO_HANDLE : sqlkeep_statement_place(handle, at, place);
+}
+static inline uint32_t sqlkeep_tested_message(sqlkeep *handle, size_t from, uint8_t *buffer, size_t size, size_t *copied) {
+    return handle == NULL ? (uint32_t)SQLKEEP_NO_HANDLE : sqlkeep_message(handle, from, buffer, size, copied);
+}
+static inline uint32_t sqlkeep_tested_result_take(sqlkeep *handle, sqlkeep_result *result) {
+    return handle == NULL || result == NULL ? (uint32_t)SQLKEEP_NO_HANDLE : sqlkeep_result_take(handle, result);
+}
+static inline uint32_t sqlkeep_tested_result_free(sqlkeep_result *result) {
+    return result == NULL ? (uint32_t)SQLKEEP_NO_HANDLE : sqlkeep_result_free(result);
+}
+static inline uint32_t sqlkeep_tested_result_size(sqlkeep_result *result, sqlkeep_result_sizes *sizes) {
+    return result == NULL ? (uint32_t)SQLKEEP_NO_HANDLE : sqlkeep_result_size(result, sizes);
+}
+static inline uint32_t sqlkeep_tested_result_column(sqlkeep_result *result, size_t column, size_t from, uint8_t *buffer, size_t size, size_t *copied) {
+    return result == NULL ? (uint32_t)SQLKEEP_NO_HANDLE : sqlkeep_result_column(result, column, from, buffer, size, copied);
+}
+static inline uint32_t sqlkeep_tested_result_rows(sqlkeep_result *result, size_t from, sqlkeep_cell *cells, size_t count, uint8_t *texts, size_t size, sqlkeep_taken *taken) {
+    return result == NULL ? (uint32_t)SQLKEEP_NO_HANDLE : sqlkeep_result_rows(result, from, cells, count, texts, size, taken);
+}
+static inline uint32_t sqlkeep_tested_violation_about(sqlkeep *handle, size_t at, sqlkeep_violation_shown *violation) {
+    return handle == NULL ? (uint32_t)SQLKEEP_NO_HANDLE : sqlkeep_violation_about(handle, at, violation);
+}
+static inline uint32_t sqlkeep_tested_violation_value(sqlkeep *handle, size_t at, size_t place, sqlkeep_cell *value) {
+    return handle == NULL ? (uint32_t)SQLKEEP_NO_HANDLE : sqlkeep_violation_value(handle, at, place, value);
+}
+static inline uint32_t sqlkeep_tested_violation_text(sqlkeep *handle, size_t at, size_t place, size_t from, uint8_t *buffer, size_t size, size_t *copied) {
+    return handle == NULL ? (uint32_t)SQLKEEP_NO_HANDLE : sqlkeep_violation_text(handle, at, place, from, buffer, size, copied);
+}
 
 #define sqlkeep_open sqlkeep_tested_open
 #define sqlkeep_close sqlkeep_tested_close
@@ -830,6 +943,48 @@ static inline uint32_t sqlkeep_tested_constraint_mode(sqlkeep *handle, size_t at
 #define sqlkeep_row_value sqlkeep_tested_row_value
 #define sqlkeep_row_text sqlkeep_tested_row_text
 #define sqlkeep_constraint_mode sqlkeep_tested_constraint_mode
+#define sqlkeep_statement_place sqlkeep_tested_statement_place
+#define sqlkeep_message sqlkeep_tested_message
+#define sqlkeep_result_take sqlkeep_tested_result_take
+#define sqlkeep_result_free sqlkeep_tested_result_free
+#define sqlkeep_result_size sqlkeep_tested_result_size
+#define sqlkeep_result_column sqlkeep_tested_result_column
+#define sqlkeep_result_rows sqlkeep_tested_result_rows
+#define sqlkeep_violation_about sqlkeep_tested_violation_about
+#define sqlkeep_violation_value sqlkeep_tested_violation_value
+#define sqlkeep_violation_text sqlkeep_tested_violation_text
+
+/* ---- a status in words
+
+   What a status says, as a text that ends with a zero byte and stays; of a number that is no status "unknown status". */
+static inline const char *sqlkeep_status_text(uint32_t status) {
+    switch (status) {
+    case SQLKEEP_OK:
+        return "done";
+    case SQLKEEP_CLOSED:
+        return "the handle or the result is empty";
+    case SQLKEEP_OPEN:
+        return "the handle is open already, or the result has rows";
+    case SQLKEEP_LIMITS:
+        return "a limit isn't in its range";
+    case SQLKEEP_NOT_UTF8:
+        return "the text isn't UTF-8";
+    case SQLKEEP_TOO_LONG:
+        return "the script is longer than 1,048,576 bytes";
+    case SQLKEEP_NO_MEMORY:
+        return "out of memory";
+    case SQLKEEP_NOTHING:
+        return "there is nothing at this place";
+    case SQLKEEP_NO_HANDLE:
+        return "the pointer to the handle is null";
+    case SQLKEEP_WRONG_COUNT:
+        return "the template has another number of question marks than there are values";
+    case SQLKEEP_NO_TEMPLATE:
+        return "the template has a place with neither a token nor a question mark";
+    default:
+        return "unknown status";
+    }
+}
 
 /* ---- a template with its values
 

@@ -50,7 +50,7 @@ public:
     no_memory() : error("memory was refused") {}
 };
 
-// A part of a text is no statement. Where the text has parameters, the place is one of the text with their values in it.
+// A part of a text is no statement. Places are those of the text with its question marks.
 class syntax_error : public error {
 public:
     // A byte of the text, from 0; its line and its column in characters, from 1.
@@ -241,6 +241,15 @@ struct work {
 struct violation {
     std::string constraint;
     std::uint64_t row = 0;
+    // The values of the row in the columns of the constraint; none of a CHECK.
+    std::vector<value> key;
+    // The other row with this key, of a key that two rows have.
+    std::optional<std::uint64_t> other;
+};
+
+// Where a statement is in its text: bytes of it, from 0.
+struct span {
+    std::size_t begin = 0, end = 0;
 };
 
 // A database in memory with its transaction.
@@ -325,8 +334,30 @@ public:
             std::size_t length = 0;
             detail::check(sqlkeep_violation(&handle_, at, &found[at].row, name.data(), name.size(), &length));
             found[at].constraint.assign(name.begin(), name.begin() + static_cast<std::ptrdiff_t>(length));
+            complete(found[at], at);
         }
         return found;
+    }
+
+    // Where the statements of the text that was read last are in it.
+    std::vector<span> places() {
+        std::vector<span> found;
+        sqlkeep_span place;
+        std::uint32_t status;
+        while ((status = sqlkeep_statement_place(&handle_, found.size(), &place)) == SQLKEEP_OK) {
+            found.push_back({static_cast<std::size_t>(place.begin), static_cast<std::size_t>(place.end)});
+        }
+        if (status != SQLKEEP_NOTHING) detail::check(status);
+        return found;
+    }
+
+    // The last outcome in words, on one line; it is to be called before the next statement.
+    std::string message() {
+        return detail::copied([&](auto... where) {
+            const std::uint32_t status = sqlkeep_message(&handle_, where...);
+            detail::check(status);
+            return status;
+        }).value_or("");
     }
 
     // From now on the account of each statement is kept for account(), or isn't.
@@ -357,6 +388,20 @@ public:
     ::sqlkeep *handle() noexcept { return &handle_; }
 
 private:
+    // What the violation at this place is about.
+    void complete(violation &it, std::size_t at) {
+        sqlkeep_violation_shown about;
+        detail::check(sqlkeep_violation_about(&handle_, at, &about));
+        if (about.other != 0) it.other = about.other;
+        for (std::size_t place = 0; place < about.columns; place++) {
+            sqlkeep_cell cell;
+            detail::check(sqlkeep_violation_value(&handle_, at, place, &cell));
+            if (cell.kind == SQLKEEP_INTEGER) it.key.emplace_back(cell.integer);
+            else if (cell.kind == SQLKEEP_NULL) it.key.emplace_back();
+            else it.key.emplace_back(detail::copied([&](auto... where) { return sqlkeep_violation_text(&handle_, at, place, where...); }).value_or(""));
+        }
+    }
+
     // Accounts are asked for, or aren't, as long as this lives.
     class asking {
     public:

@@ -50,6 +50,10 @@ export type Attempt = Outcome | ({ kind: "refused" } & Refused);
 export interface Violation {
   row: number;
   constraint: string;
+  /** The values of the row in the columns of the constraint; empty for a CHECK. */
+  key: Value[];
+  /** The other row with this key, if the constraint is a key that two rows have. */
+  other: number | null;
 }
 
 export interface Work {
@@ -169,7 +173,15 @@ export class EngineError extends Error {
 /** The engine stopped by a trap. The session is given up, and so is its database. */
 export class Trap extends EngineError {}
 
-/** Where a text has its fault: bytes of it, or of a template with the values in it. */
+/** Where a statement is in its text: bytes of it. */
+export interface Span {
+  /** The first byte of its first word. */
+  begin: number;
+  /** The byte behind its semicolon. */
+  end: number;
+}
+
+/** Where a text or a template has its fault: bytes of it. */
 export interface Fault {
   /** Where the statement begins that isn't one. */
   at: number;
@@ -213,6 +225,8 @@ export class Session {
   steps(text: string | Uint8Array, values?: Value[]): Generator<Outcome>;
   read(text: string | Uint8Array, values?: Value[]): { statements: number; faultAt: number | null };
   readonly fault: Fault | null;
+  place(at: number): Span | null;
+  readonly message: string;
   attempt(at: number, number?: number): Attempt;
   query(text: string | Uint8Array, values?: Value[]): Value[][];
   readonly account: Entry[];

@@ -162,7 +162,7 @@ export class Session {
   }
 
   /**
-   * The fault of the text that was read last, null where it has none, in bytes of the text: where its statement begins, and where the first
+   * The fault of the text that was read last, null where it has none, in bytes of the text or of the template: where its statement begins, and where the first
    * word begins and ends that can't stand where it does. Of a text that ends within a statement it is the end, and `isCut` is true.
    */
   get fault() {
@@ -176,6 +176,24 @@ export class Session {
     }
     const [at, word, end, isCut] = [0, 1, 2, 3].map((place) => this.#number(place));
     return { at, word, end, isCut: isCut === 1 };
+  }
+
+  /** Where the statement at this place, from 0, is in the text that was read last, in bytes; null if there are fewer statements. */
+  place(at) {
+    try {
+      this.#ask("sqlkeep_statement_place", BigInt(at), this.#result);
+    } catch (error) {
+      if (error.status === NOTHING) {
+        return null;
+      }
+      throw error;
+    }
+    return { begin: this.#number(0), end: this.#number(1) };
+  }
+
+  /** The last outcome in words, on one line. It is asked for before the next statement is executed. */
+  get message() {
+    return this.#pieces("sqlkeep_message");
   }
 
   /** Executes the statement at this place, from 0, of the text that was read last. A refusal is an outcome of kind "refused". */
@@ -251,11 +269,17 @@ export class Session {
   pending() {
     this.#ask("sqlkeep_pending", this.#result);
     const count = this.#number(0);
-    return Array.from({ length: count }, (_, at) => {
-      this.#ask("sqlkeep_violation", BigInt(at), this.#result, this.#buffer, BigInt(BUFFER_BYTES), this.#result + 8n);
-      const length = this.#number(1);
-      return { row: this.#number(0), constraint: new TextDecoder().decode(this.#bytes(this.#buffer, length)) };
-    });
+    return Array.from({ length: count }, (_, at) => this.#violation(BigInt(at)));
+  }
+
+  // A violation that was found: the row has these values in the columns of the constraint, and the other row has them too.
+  #violation(at) {
+    this.#ask("sqlkeep_violation", at, this.#result, this.#buffer, BigInt(BUFFER_BYTES), this.#result + 8n);
+    const constraint = new TextDecoder().decode(this.#bytes(this.#buffer, this.#number(1)));
+    this.#ask("sqlkeep_violation_about", at, this.#result);
+    const [columns, row, other] = [1, 2, 3].map((place) => this.#number(place));
+    const key = Array.from({ length: columns }, (_, place) => this.#value("sqlkeep_violation_value", "sqlkeep_violation_text", at, BigInt(place)));
+    return { row, constraint, key, other: other || null };
   }
 
   /** How many row changes the last statement made and undid, and how many keys it looked up for constraints. */

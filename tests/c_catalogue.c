@@ -93,13 +93,13 @@ static int no_templates(sqlkeep *session) {
     WANT(sqlkeep_read_bound(session, (const uint8_t *)"SELECT ? FROM n;", 16, &script) == SQLKEEP_WRONG_COUNT);
     WANT(sqlkeep_read_bound(session, (const uint8_t *)"SELECT ?, ? FROM n;", 19, &script) == SQLKEEP_OK && script.statements == 1);
     WANT(sqlkeep_read_bound(session, (const uint8_t *)"SELECT ?, ? FROM n;", 19, &script) == SQLKEEP_WRONG_COUNT);
-    /* Where a statement is faulty, the place is one of the filled text, in which a literal has a space on each side. */
+    /* Where a statement is faulty, the place is one of the template, however long the values are. */
     WANT(filled(session, "COMMIT; SELEC ? FROM n;", TWO, 1, &script) == SQLKEEP_OK && script.statements == 1 && script.has_fault == 1 && script.fault_at == 8);
     WANT(sqlkeep_fault(session, &place) == SQLKEEP_OK && place.at == 8 && place.word == 8 && place.end == 13 && place.is_cut == 0);
     WANT(filled(session, "SELECT ? FORM n;", TWO, 1, &script) == SQLKEEP_OK && script.has_fault == 1 && script.fault_at == 0);
-    WANT(sqlkeep_fault(session, &place) == SQLKEEP_OK && place.at == 0 && place.word == 11 && place.end == 15 && place.is_cut == 0);
-    WANT(filled(session, "SELECT ? FROM n", TWO, 1, &script) == SQLKEEP_OK && sqlkeep_fault(session, &place) == SQLKEEP_OK && place.word == 17 && place.is_cut == 1);
-    WANT(filled(session, "SELECT ? FROM n;", TWO, 1, &script) == SQLKEEP_OK && sqlkeep_fault(session, &place) == SQLKEEP_NOTHING && place.word == 17);
+    WANT(sqlkeep_fault(session, &place) == SQLKEEP_OK && place.at == 0 && place.word == 9 && place.end == 13 && place.is_cut == 0);
+    WANT(filled(session, "SELECT ? FROM n", TWO, 1, &script) == SQLKEEP_OK && sqlkeep_fault(session, &place) == SQLKEEP_OK && place.word == 15 && place.is_cut == 1);
+    WANT(filled(session, "SELECT ? FROM n;", TWO, 1, &script) == SQLKEEP_OK && sqlkeep_fault(session, &place) == SQLKEEP_NOTHING && place.word == 15);
     return 0;
 }
 

@@ -187,6 +187,14 @@ def by_c(room, program):
         yield from scripts('C under valgrind, statement by statement', checked, 20, ['--statements'])
 
 
+def places(room):
+    """Whether each statement of each script is where the library says."""
+    program, why = room.c_program(os.path.join(HERE, 'c_places.c'), 'c_places')
+    yield 'places of statements: the program is built', why
+    for name, text, *_ in [] if why else known():
+        yield 'places of statements: ' + name, told([program], input=text)
+
+
 def tried(room):
     """All tests: a name, and why it failed."""
     yield from headers(room)
@@ -200,8 +208,9 @@ def tried(room):
             if what == 'C':
                 yield from by_c(room, program)
     yield from firsts(room)
+    yield from places(room)
     for what, name in (('sessions side by side', 'c_sessions'), ('templates and the catalogue', 'c_catalogue'), ('accounts entry by entry', 'c_accounts'),
-                       ('rows many at a time', 'c_rows')):
+                       ('rows many at a time', 'c_rows'), ('places, messages, results and violations', 'c_results')):
         program, why = room.c_program(os.path.join(HERE, name + '.c'), name)
         yield what, why or told([program])
         if shutil.which('valgrind'):

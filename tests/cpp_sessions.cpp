@@ -64,9 +64,11 @@ static void refusals() {
     WANT(refused.what() == std::string("Violation: SOME: BOOK row 2 ('Emma', 'Austen', 0) makes its condition false"));
     refused = thrown<keep::refused>([&] { session.execute("INSERT INTO boook VALUES (1)"); });
     WANT(refused.what() == std::string("Unknown: table BOOOK isn't there"));
+    WANT(session.message() == "refused: Unknown: table BOOOK isn't there" && session.places().size() == 1 && session.places()[0].end == 30);
     session.execute("INSERT INTO book VALUES (?, ?, 1), (?, ?, 2)", "Dracula", "Stoker", "Frankenstein", "Shelley");
     const std::vector<keep::violation> pending = session.pending();
     WANT(pending.size() == 2 && pending[1].constraint == "WRITTEN_BY" && pending[1].row == 3);
+    WANT(pending[1].key.size() == 1 && pending[1].key[0] == keep::value("Shelley") && !pending[1].other);
     refused = thrown<keep::refused>([&] { session.commit(); });
     WANT(refused.why().cause == SQLKEEP_CAUSE_COMMIT_REFUSED && refused.why().reasons.size() == 2 && !session.in_transaction());
     session.execute("INSERT INTO book VALUES ('Dracula', 'Stoker', 1)");

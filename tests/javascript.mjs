@@ -29,11 +29,32 @@ const tests = {
     const session = engine.open();
     session.execute(SCHEMA);
     session.execute("INSERT INTO book VALUES ('Dracula', 'Stoker');");
-    assert.deepEqual(session.pending(), [{ row: 1, constraint: "WRITTEN_BY" }]);
+    assert.deepEqual(session.pending(), [{ row: 1, constraint: "WRITTEN_BY", key: ["Stoker"], other: null }]);
     assert.equal(session.inTransaction, true);
     assert.throws(() => session.commit(), (refusal) => refusal instanceof Refusal && refusal.cause === 19 && refusal.constraint === "WRITTEN_BY" && refusal.row === 1);
     assert.equal(session.inTransaction, false);
     assert.deepEqual(session.query("SELECT title FROM book;"), []);
+  },
+  two_rows_of_one_key() {
+    const session = engine.open();
+    session.execute("CREATE TABLE t (a INT, b VARCHAR(9), CONSTRAINT one UNIQUE (a, b) DEFERRABLE INITIALLY DEFERRED);");
+    session.execute("INSERT INTO t VALUES (1, 'x'), (2, 'x'), (1, 'x');");
+    const key = [1, "x"];
+    assert.deepEqual(session.pending(), [{ row: 1, constraint: "ONE", key, other: 3 }, { row: 3, constraint: "ONE", key, other: 1 }]);
+  },
+  places_of_statements() {
+    const session = engine.open();
+    assert.equal(session.read(" COMMIT; -- one;\n SELECT ';' FROM t;", undefined).statements, 2);
+    assert.deepEqual([session.place(0), session.place(1), session.place(2)], [{ begin: 1, end: 8 }, { begin: 18, end: 36 }, null]);
+    session.read("SELECT ? FROM t; COMMIT; SELECT FROM", ["a long text;"]);
+    assert.deepEqual([session.place(0), session.place(1)], [{ begin: 0, end: 16 }, { begin: 17, end: 24 }]);
+    assert.deepEqual(session.fault, { at: 25, word: 32, end: 36, isCut: false });
+  },
+  messages() {
+    const session = engine.open();
+    assert.equal(session.message, "done");
+    assert.throws(() => session.execute("SELECT a FROM t;"));
+    assert.equal(session.message, "refused: Unknown: table T isn't there");
   },
   a_refusal_leaves_the_statements_before() {
     const session = engine.open();

@@ -7,9 +7,10 @@
 #include <stdlib.h>
 #include <string.h>
 
-/* A session that ended on another thread than its own. */
+/* A session or a result that ended on another thread than its own. */
 typedef struct left {
     sqlkeep handle;
+    sqlkeep_result result;
     unsigned long thread;
     struct left *next;
 } left;
@@ -40,13 +41,14 @@ void bytes_free(bytes *of) {
     memset(of, 0, sizeof *of);
 }
 
-/* Closes the sessions that other threads left to this one. */
+/* Closes the sessions and frees the results that other threads left to this one. */
 static void close_left(unsigned long thread) {
     left **at = &all_left;
     while (*at != NULL) {
         left *each = *at;
         if (each->thread == thread) {
             *at = each->next;
+            sqlkeep_result_free(&each->result);
             sqlkeep_close(&each->handle);
             free(each);
         } else {
@@ -55,19 +57,27 @@ static void close_left(unsigned long thread) {
     }
 }
 
+void leave(const sqlkeep *handle, const sqlkeep_result *result, unsigned long thread) {
+    left *kept = malloc(sizeof *kept);
+    if (kept != NULL) {
+        kept->handle = *handle;
+        kept->result = *result;
+        kept->thread = thread;
+        kept->next = all_left;
+        all_left = kept;
+    }
+}
+
 /* Ends a session on whichever thread this is. */
 static void end_session(engine *self) {
+    const sqlkeep_result none = SQLKEEP_NO_RESULT;
     if (!self->handle.is_open) {
         return;
     }
-    left *kept = self->thread == PyThread_get_thread_ident() ? NULL : malloc(sizeof *kept);
-    if (kept != NULL) {
-        kept->handle = self->handle;
-        kept->thread = self->thread;
-        kept->next = all_left;
-        all_left = kept;
-    } else if (self->thread == PyThread_get_thread_ident()) {
+    if (self->thread == PyThread_get_thread_ident()) {
         sqlkeep_close(&self->handle);
+    } else {
+        leave(&self->handle, &none, self->thread);
     }
     memset(&self->handle, 0, sizeof self->handle);
 }
@@ -510,7 +520,7 @@ static struct PyModuleDef definition = {
 PyMODINIT_FUNC PyInit__engine(void) {
     PyObject *module = PyModule_Create(&definition);
     PyObject *type = module == NULL ? NULL : PyType_FromSpec(&spec);
-    if (type == NULL || PyModule_AddObject(module, "Engine", type) != 0) {
+    if (type == NULL || rows_begin() != 0 || PyModule_AddObject(module, "Engine", type) != 0) {
         Py_XDECREF(type);
         Py_XDECREF(module);
         return NULL;

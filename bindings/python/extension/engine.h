@@ -49,8 +49,19 @@ PyObject *engine_lines(engine *self, uint64_t number);
 /* Tells the error of the last refusal, if it is still there. */
 void engine_tell(engine *self);
 
-/* The answer to an outcome: (kind, count) or (kind, rows, names). NULL with the error of a refusal, or another exception. */
+/* The answer to an outcome: (kind, count) or (kind, rows, names), where the rows are a list or an iterator with a length. NULL with the error of a refusal, or another exception. */
 PyObject *engine_answer(engine *self, size_t place, const sqlkeep_outcome *outcome, bool is_told);
+
+/* Keeps what is open on another thread, until its own next opens a session. What isn't open is left out. */
+void leave(const sqlkeep *handle, const sqlkeep_result *result, unsigned long thread);
+
+/* ---- rows that are copied as they are asked for */
+
+/* Makes the type of such rows. 0, or -1 with an exception. */
+int rows_begin(void);
+
+/* The rows of the last outcome as an iterator with a length, which takes them out of the session. NULL with an exception. */
+PyObject *rows_taken(engine *self);
 
 /* Methods of statements. */
 PyObject *engine_execute(engine *self, PyObject *arguments);

@@ -45,6 +45,21 @@ int bind_values(sqlkeep *handle, PyObject *values);
 /* A list of `count` tuples: the rows of the last outcome. NULL with an exception where memory is refused. */
 PyObject *rows_of(sqlkeep *handle, size_t count);
 
+/* Buffers for rows: cells, and the bytes of texts. */
+struct room {
+    sqlkeep_cell *cells;
+    uint8_t *texts;
+    size_t count;
+    size_t size;
+};
+
+/* Makes buffers with room for one row at least, but for its texts. 0, or -1 with an exception. */
+int room_make(struct room *room, size_t columns);
+void room_free(struct room *room);
+
+/* A list of tuples: the rows of a result from this one on, one at least, and as many as there is room for. NULL with an exception. */
+PyObject *some_rows(sqlkeep_result *result, size_t from, size_t columns, struct room *room);
+
 /* The value of a cell, where `read` copies the bytes of a text. */
 typedef uint32_t read_text(sqlkeep *handle, size_t row, size_t column, size_t from, uint8_t *buffer, size_t size, size_t *copied);
 PyObject *value_of(sqlkeep *handle, const sqlkeep_cell *cell, size_t row, size_t column, read_text *read);

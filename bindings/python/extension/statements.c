@@ -13,6 +13,9 @@
 #define TOLD_BY_ACCOUNT \
     ((1UL << SQLKEEP_CAUSE_RESTRICT) | (1UL << SQLKEEP_CAUSE_VIOLATION) | (1UL << SQLKEEP_CAUSE_ACTION_CONFLICT) | (1UL << SQLKEEP_CAUSE_SIGNAL))
 
+/* How many rows of a query are copied at once. */
+enum { MOST_COPIED = 1000 };
+
 /* How many statements are read at once for `executemany`, and how long their text may get. */
 enum { MOST_AT_ONCE = 64, LONGEST_AT_ONCE = 65536 };
 
@@ -110,8 +113,10 @@ static PyObject *refusal(engine *self, size_t place, const sqlkeep_outcome *outc
     return NULL;
 }
 
-static PyObject *query(engine *self, const sqlkeep_outcome *outcome) {
-    PyObject *rows = rows_of(&self->handle, (size_t)outcome->count);
+/* The rows of a query: few are copied at once, and many as they are asked for, unless the lines of the outcome are wanted too. */
+static PyObject *query(engine *self, const sqlkeep_outcome *outcome, bool is_told) {
+    bool is_copied = outcome->count <= MOST_COPIED || is_told || self->explains;
+    PyObject *rows = is_copied ? rows_of(&self->handle, (size_t)outcome->count) : rows_taken(self);
     PyObject *names = rows == NULL ? NULL : query_columns(&self->handle);
     if (names == NULL) {
         Py_XDECREF(rows);
@@ -125,7 +130,7 @@ PyObject *engine_answer(engine *self, size_t place, const sqlkeep_outcome *outco
     case SQLKEEP_REFUSED:
         return refusal(self, place, outcome, is_told);
     case SQLKEEP_ROWS:
-        return query(self, outcome);
+        return query(self, outcome, is_told);
     default:
         return Py_BuildValue("IK", outcome->kind, (unsigned long long)outcome->count);
     }

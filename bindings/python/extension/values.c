@@ -1,6 +1,8 @@
 /* Values: those that are bound to a template, and those of rows. */
 #include "shared.h"
 
+#include <string.h>
+
 static int bind_text(sqlkeep *handle, PyObject *value, size_t number) {
     char *text;
     Py_ssize_t length;
@@ -96,14 +98,6 @@ PyObject *value_of(sqlkeep *handle, const sqlkeep_cell *cell, size_t row, size_t
     return PyUnicode_DecodeUTF8(to, (Py_ssize_t)copied, "strict");
 }
 
-/* Buffers for rows: cells, and the bytes of texts. */
-struct room {
-    sqlkeep_cell *cells;
-    uint8_t *texts;
-    size_t count;
-    size_t size;
-};
-
 /* Twice as many bytes for texts; what is in the buffer goes. */
 static int enlarge(struct room *room) {
     PyMem_Free(room->texts);
@@ -169,20 +163,50 @@ static int copy_rows(sqlkeep *handle, PyObject *list, size_t count, size_t colum
     return 0;
 }
 
-/* So with buffers of its own; there is room for one row at least, but for its texts. */
-static int copy_all(sqlkeep *handle, PyObject *list, size_t count, size_t columns) {
-    struct room room = {NULL, NULL, columns > 2048 ? columns : 2048, 32768};
-    int failed = -1;
-    room.cells = PyMem_Malloc(room.count * sizeof *room.cells);
-    room.texts = PyMem_Malloc(room.size);
-    if (room.cells == NULL || room.texts == NULL) {
+int room_make(struct room *room, size_t columns) {
+    room->count = columns > 2048 ? columns : 2048;
+    room->size = 32768;
+    room->cells = PyMem_Malloc(room->count * sizeof *room->cells);
+    room->texts = PyMem_Malloc(room->size);
+    if (room->cells == NULL || room->texts == NULL) {
+        room_free(room);
         PyErr_NoMemory();
-    } else {
+        return -1;
+    }
+    return 0;
+}
+
+void room_free(struct room *room) {
+    PyMem_Free(room->cells);
+    PyMem_Free(room->texts);
+    memset(room, 0, sizeof *room);
+}
+
+/* So with buffers of its own. */
+static int copy_all(sqlkeep *handle, PyObject *list, size_t count, size_t columns) {
+    struct room room = {NULL, NULL, 0, 0};
+    int failed = room_make(&room, columns);
+    if (failed == 0) {
         failed = copy_rows(handle, list, count, columns, &room);
     }
-    PyMem_Free(room.cells);
-    PyMem_Free(room.texts);
+    room_free(&room);
     return failed;
+}
+
+PyObject *some_rows(sqlkeep_result *result, size_t from, size_t columns, struct room *room) {
+    sqlkeep_taken taken = {0, 0};
+    while (taken.rows == 0) {
+        sqlkeep_result_rows(result, from, room->cells, room->count, room->texts, room->size, &taken);
+        if (taken.rows == 0 && enlarge(room) != 0) {
+            return NULL;
+        }
+    }
+    PyObject *list = PyList_New((Py_ssize_t)taken.rows);
+    if (list != NULL && put_rows(list, 0, (size_t)taken.rows, columns, room) != 0) {
+        Py_DECREF(list);
+        return NULL;
+    }
+    return list;
 }
 
 PyObject *rows_of(sqlkeep *handle, size_t count) {

@@ -5,6 +5,7 @@ pub const OK: u32 = 0;
 pub const LIMITS: u32 = 3;
 pub const TOO_LONG: u32 = 5;
 pub const NO_MEMORY: u32 = 6;
+pub const NOTHING: u32 = 7;
 pub const WRONG_COUNT: u32 = 9;
 pub const NO_TEMPLATE: u32 = 10;
 
@@ -47,6 +48,23 @@ pub struct FaultPlace {
     pub word: u64,
     pub end: u64,
     pub is_cut: u64,
+}
+
+#[repr(C)]
+#[derive(Default)]
+pub struct Span {
+    pub begin: u64,
+    pub end: u64,
+}
+
+#[repr(C)]
+#[derive(Default)]
+pub struct ViolationShown {
+    pub constraint: u32,
+    pub table: u32,
+    pub columns: u64,
+    pub row: u64,
+    pub other: u64,
 }
 
 #[repr(C)]
@@ -157,6 +175,11 @@ extern "C" {
     pub fn sqlkeep_in_transaction(handle: *mut Handle, is_open: *mut bool) -> u32;
     pub fn sqlkeep_work(handle: *mut Handle, work: *mut Done) -> u32;
     pub fn sqlkeep_pending(handle: *mut Handle, count: *mut usize) -> u32;
+    pub fn sqlkeep_statement_place(handle: *mut Handle, at: usize, place: *mut Span) -> u32;
+    pub fn sqlkeep_message(handle: *mut Handle, from: usize, buffer: *mut u8, size: usize, copied: *mut usize) -> u32;
+    pub fn sqlkeep_violation_about(handle: *mut Handle, at: usize, violation: *mut ViolationShown) -> u32;
+    pub fn sqlkeep_violation_value(handle: *mut Handle, at: usize, place: usize, value: *mut Cell) -> u32;
+    pub fn sqlkeep_violation_text(handle: *mut Handle, at: usize, place: usize, from: usize, buffer: *mut u8, size: usize, copied: *mut usize) -> u32;
     pub fn sqlkeep_violation(handle: *mut Handle, at: usize, row: *mut u64, buffer: *mut u8, size: usize, copied: *mut usize) -> u32;
     pub fn sqlkeep_catalogue(handle: *mut Handle, sizes: *mut Sizes) -> u32;
     pub fn sqlkeep_table(handle: *mut Handle, table: usize, columns: *mut usize) -> u32;

@@ -5,6 +5,7 @@ use crate::ffi;
 use crate::reasons::reasons;
 use crate::value::{FromRow, Parameters, Value, ValueRef};
 use std::marker::PhantomData;
+use std::ops::Range;
 use std::ptr::null_mut;
 
 /// A database in memory with its transaction. It stays on the thread that opened it, and is gone when it is dropped.
@@ -53,6 +54,10 @@ pub struct Violation {
     pub constraint: String,
     /// The number of the row.
     pub row: u64,
+    /// The values of the row in the columns of the constraint; none of a CHECK.
+    pub key: Vec<Value>,
+    /// The number of the other row with this key, of a key that two rows have.
+    pub other: Option<u64>,
 }
 
 /// A script that was run as the program runs it.
@@ -92,6 +97,15 @@ fn value(cell: &ffi::Cell, left: &mut &[u8]) -> Value {
             *left = rest;
             Value::Text(String::from_utf8_lossy(text).into_owned())
         }
+        _ => Value::Null,
+    }
+}
+
+// The value of a cell, where a call copies the bytes of a text.
+fn value_by(cell: &ffi::Cell, read: impl FnMut(usize, *mut u8, usize, *mut usize) -> u32) -> Value {
+    match cell.kind {
+        ffi::INTEGER => Value::Integer(cell.integer),
+        ffi::TEXT => Value::Text(copied(read).unwrap_or_default()),
         _ => Value::Null,
     }
 }
@@ -438,7 +452,54 @@ impl Session {
         // A name has at most 128 bytes.
         let (mut name, mut row, mut length) = ([0; 128], 0, 0);
         let status = unsafe { ffi::sqlkeep_violation(&mut self.handle, at, &mut row, name.as_mut_ptr(), name.len(), &mut length) };
-        (status == ffi::OK).then(|| Violation { constraint: String::from_utf8_lossy(&name[..length]).into_owned(), row })
+        if status != ffi::OK {
+            return None;
+        }
+        let mut about = ffi::ViolationShown::default();
+        unsafe { ffi::sqlkeep_violation_about(&mut self.handle, at, &mut about) };
+        Some(Violation {
+            constraint: String::from_utf8_lossy(&name[..length]).into_owned(),
+            row,
+            key: (0..about.columns as usize).map(|place| self.value_of_violation(at, place)).collect(),
+            other: (about.other != 0).then_some(about.other),
+        })
+    }
+
+    fn value_of_violation(&mut self, at: usize, place: usize) -> Value {
+        let mut cell = ffi::Cell::default();
+        unsafe { ffi::sqlkeep_violation_value(&mut self.handle, at, place, &mut cell) };
+        value_by(&cell, |from, buffer, size, count| unsafe { ffi::sqlkeep_violation_text(&mut self.handle, at, place, from, buffer, size, count) })
+    }
+
+    /// Where the statements of the text that was read last are in it: ranges of its bytes, each from the first word of a statement up to
+    /// its semicolon.
+    ///
+    /// # Errors
+    /// [`Error::NoMemory`].
+    pub fn statement_places(&mut self) -> Result<Vec<Range<usize>>> {
+        let mut found = Vec::new();
+        loop {
+            let mut span = ffi::Span::default();
+            match unsafe { ffi::sqlkeep_statement_place(&mut self.handle, found.len(), &mut span) } {
+                ffi::NOTHING => return Ok(found),
+                status => checked(status)?,
+            }
+            found.push(span.begin as usize..span.end as usize);
+        }
+    }
+
+    /// The last outcome in words, on one line. It is to be called before the next statement.
+    ///
+    /// # Errors
+    /// [`Error::NoMemory`].
+    pub fn message(&mut self) -> Result<String> {
+        let mut answered = ffi::OK;
+        let text = copied(|from, buffer, size, count| {
+            answered = unsafe { ffi::sqlkeep_message(&mut self.handle, from, buffer, size, count) };
+            answered
+        });
+        checked(answered)?;
+        Ok(text.unwrap_or_default())
     }
 
     /// The row of this number as it is now: the name of its table, and its values. Refusals, violations and accounts tell rows by their
@@ -456,11 +517,7 @@ impl Session {
     fn value_of_row(&mut self, number: u64, column: usize) -> Value {
         let mut cell = ffi::Cell::default();
         unsafe { ffi::sqlkeep_row_value(&mut self.handle, number, column, &mut cell) };
-        match cell.kind {
-            1 => Value::Integer(cell.integer),
-            2 => Value::Text(copied(|from, buffer, size, count| unsafe { ffi::sqlkeep_row_text(&mut self.handle, number, column, from, buffer, size, count) }).unwrap_or_default()),
-            _ => Value::Null,
-        }
+        value_by(&cell, |from, buffer, size, count| unsafe { ffi::sqlkeep_row_text(&mut self.handle, number, column, from, buffer, size, count) })
     }
 
     /// Runs a whole script in a new database of its own, as the program does, and gives what the program writes. The limits, and whether

@@ -57,6 +57,15 @@ fn rows_become_what_is_asked_for() {
 }
 
 #[test]
+fn places_and_keys() {
+    let mut session = Session::open().unwrap();
+    session.execute_batch(" CREATE TABLE t (a INT CONSTRAINT one UNIQUE DEFERRABLE INITIALLY DEFERRED); INSERT INTO t VALUES (7), (7);").unwrap();
+    assert_eq!(session.statement_places(), Ok(vec![1..76, 77..107]));
+    let wanted = |row, other| Violation { constraint: "ONE".into(), row, key: vec![Value::Integer(7)], other: Some(other) };
+    assert_eq!(session.pending(), Ok(vec![wanted(1, 2), wanted(2, 1)]));
+}
+
+#[test]
 fn a_refusal_says_what_it_is_about() {
     let mut session = books();
     let refusal = refused(session.execute("INSERT INTO book VALUES ('Emma', 'Austen', 0)", ()).unwrap_err());
@@ -64,9 +73,10 @@ fn a_refusal_says_what_it_is_about() {
     assert_eq!(refusal.reasons, ["SOME: BOOK row 2 ('Emma', 'Austen', 0) makes its condition false"]);
     let refusal = refused(session.execute("INSERT INTO boook VALUES (1)", ()).unwrap_err());
     assert_eq!((refusal.cause, &refusal.reasons[..]), (Cause::Unknown, &["table BOOOK isn't there".to_string()][..]));
+    assert_eq!(session.message().as_deref(), Ok("refused: Unknown: table BOOOK isn't there"));
     session.execute("INSERT INTO book VALUES ('Dracula', 'Stoker', 1), ('Frankenstein', 'Shelley', 2)", ()).unwrap();
-    let wanted = |row| Violation { constraint: "WRITTEN_BY".into(), row };
-    assert_eq!(session.pending(), Ok(vec![wanted(2), wanted(3)]));
+    let wanted = |row, author: &str| Violation { constraint: "WRITTEN_BY".into(), row, key: vec![Value::Text(author.into())], other: None };
+    assert_eq!(session.pending(), Ok(vec![wanted(2, "Stoker"), wanted(3, "Shelley")]));
     let refusal = refused(session.commit().unwrap_err());
     assert_eq!((refusal.cause, refusal.row, refusal.reasons.len()), (Cause::CommitRefused, Some(2), 2));
     assert_eq!(refusal.reasons[1], "WRITTEN_BY: BOOK row 3 ('Frankenstein', 'Shelley', 2) refers to AUTHOR ('Shelley'), which isn't there");

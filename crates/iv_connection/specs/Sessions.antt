@@ -15,6 +15,7 @@ pub record IsNew (limits : Bounds) (c : Connection) : Type 0 where
   pub limits_are : c.limits ≡ limits
   pub statements : c.statements ≡ []
   pub fault : c.fault ≡ None
+  pub text : c.text ≡ record { text = []; holes = 0 }
   pub values : c.values ≡ []
   pub outcome : c.outcome ≡ Ok Done
   pub executed : c.executed ≡ None

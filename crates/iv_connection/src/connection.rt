@@ -1,4 +1,5 @@
 //! What is open behind a handle.
+use crate::places::SourceText;
 use iv_catalogue::Fault;
 use iv_machine::Limits;
 use iv_parse::SyntaxFault;
@@ -20,6 +21,8 @@ pub struct Connection {
     pub statements: Items<Statement>,
     /// The fault of the text that they were read from, in bytes of that text.
     pub fault: Option<SyntaxFault>,
+    /// That text, or the template.
+    pub text: SourceText,
     /// The values for the question marks of the next template.
     pub values: Items<Value>,
     /// What the last statement or call answered.

@@ -77,7 +77,7 @@ fn rule_number(rule: &Rule) -> u32
 }
 
 // How many columns a constraint is of.
-fn column_count(rule: &Rule) -> u64
+pub(crate) fn column_count(rule: &Rule) -> u64
     ensures { result ≡ length (columns_of rule.now) }
 {
     match rule {

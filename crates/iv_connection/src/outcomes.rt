@@ -31,7 +31,7 @@ pub struct ShownOutcome {
     pub row: u64,
 }
 
-fn row_of(cause: &Cause) -> u64
+pub(crate) fn row_of(cause: &Cause) -> u64
     ensures { result ≡ row_of cause.now }
 {
     match cause {

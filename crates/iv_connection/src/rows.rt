@@ -28,6 +28,13 @@ pub fn value_at(outcome: &Outcome, row: usize, column: usize) -> Option<&Value>
     }
 }
 
+/// Copies rows from this one on, as many as have room.
+pub fn copy_rows_of(rows: &[Row], from: usize, cells: &mut [Cell], texts: &mut [u8]) -> TakenRows
+    ensures { AreCopied (drop from rows.now) cells.old cells.new texts.old texts.new result }
+{
+    copy_rows(&rows[from.min(rows.len())..], cells, texts)
+}
+
 /// Copies rows of a query's outcome from this one on, as many as have room.
 pub fn copy_rows_from(
     outcome: &Outcome,
@@ -37,6 +44,5 @@ pub fn copy_rows_from(
 ) -> TakenRows
     ensures { AreCopied (drop from (rows_of outcome.now)) cells.old cells.new texts.old texts.new result }
 {
-    let rows = rows_of(outcome);
-    copy_rows(&rows[from.min(rows.len())..], cells, texts)
+    copy_rows_of(rows_of(outcome), from, cells, texts)
 }

@@ -3,6 +3,7 @@ ghost use Rattle.std.specs.Prelude.{None, IfOk};
 ghost use Rattle.iv_connection.specs.Sessions.{IsNew};
 
 use crate::connection::{Connection, Database};
+use crate::places::SourceText;
 use iv_machine::Limits;
 use iv_session::Answer;
 use sqlite_items::Items;
@@ -18,6 +19,7 @@ pub fn new_connection(alloc: Global, limits: Limits) -> Result<Box<Connection>, 
         session,
         statements: Items::new(alloc),
         fault: None,
+        text: SourceText::new(String::new(alloc), 0),
         values: Items::new(alloc),
         outcome: Ok(Answer::Done),
         executed: None,

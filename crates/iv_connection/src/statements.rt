@@ -8,13 +8,15 @@ ghost use Rattle.iv_connection.specs.Statements.{place_shown};
 ghost use Rattle.iv_connection.specs.Statuses.{MayWantMemory, found};
 
 use crate::connection::{Connection, Database};
+use crate::places::SourceText;
 use crate::status::{NO_MEMORY, NOT_UTF8, OK};
-use iv_parse::{Parsed, SyntaxFault, script};
+use iv_parse::{SyntaxFault, script};
 use iv_print::{DeviceFault, Format, Std, Style};
 use iv_script::{Telling, write_lines};
 use iv_session::Outcome;
 use iv_syntax::Statement;
-use std::alloc::Global;
+use sqlite_items::Items;
+use std::alloc::{AllocError, Global};
 use std::str::from_utf8;
 
 /// How many statements were read from a text, and where it has its fault.
@@ -46,21 +48,78 @@ pub fn read_shown(count: usize, fault: Option<SyntaxFault>) -> ReadScript
     }
 }
 
+/// Statements with the text that they were read from, or the template, and its fault.
+#[derive(Drop)]
+pub struct ParsedText {
+    pub statements: Items<Statement>,
+    pub fault: Option<SyntaxFault>,
+    pub text: SourceText,
+}
+
+/// A copy of this text.
+pub(crate) fn source_text(
+    alloc: Global,
+    characters: &str,
+    holes: usize,
+) -> Result<SourceText, AllocError>
+    ensures { IfOk result (λ t. t ≡ record { text = characters.now; holes = holes }) }
+{
+    let mut text = String::new(alloc);
+    text.push_str(characters)?;
+    Ok(SourceText::new(text, holes))
+}
+
+fn parsed(alloc: Global, characters: &str) -> Result<ParsedText, AllocError>
+    ensures script { IfOk result (λ p. IsScript characters.now p.statements (option_map (λ f. f.at) p.fault)) }
+    ensures word { IfOk result (λ p. IfSome p.fault (λ f. IsFault characters.now p.statements f)) }
+    ensures text { IfOk result (λ p. p.text ≡ record { text = characters.now; holes = 0 }) }
+{
+    let text = source_text(alloc, characters, 0)?;
+    let parsed = script(alloc, characters)?;
+    let fault = parsed.fault;
+    Ok(ParsedText {
+        statements: parsed.into_statements(),
+        fault,
+        text,
+    })
+}
+
 /// The statements of a text, or the status of the call that wanted them.
-pub fn parse_text(alloc: Global, text: &[u8]) -> Result<Parsed, u32>
+pub fn parse_text(alloc: Global, text: &[u8]) -> Result<ParsedText, u32>
     ensures script { IfOk result (λ p. IsScript text.now p.statements (option_map (λ f. f.at) p.fault)) }
     ensures word { IfOk result (λ p. IfSome p.fault (λ f. IsFault text.now p.statements f)) }
+    ensures text { IfOk result (λ p. p.text ≡ record { text = text.now; holes = 0 }) }
     ensures utf8 { OnOk result (IsUtf8 text.now) }
     ensures not_utf8 { IfErr result (λ e. e ≡ NOT_UTF8 → ¬ (IsUtf8 text.now)) }
     ensures kinds { IfErr result (λ e. (e ≢ OK) × (e ≢ NOT_UTF8 → (e ≡ NO_MEMORY) × IsUtf8 text.now)) }
 {
-    let Ok(text) = from_utf8(text) else {
+    let Ok(characters) = from_utf8(text) else {
         return Err(NOT_UTF8);
     };
-    match script(alloc, text) {
+    match parsed(alloc, characters) {
         Ok(parsed) => Ok(parsed),
         Err(_) => Err(NO_MEMORY),
     }
+}
+
+/// Keeps these statements, in place of those that were read before.
+pub fn keep_parsed(connection: &mut Connection, parsed: ParsedText)
+    ensures { connection.new ≡ record connection.old {
+      statements = parsed.statements;
+      fault = parsed.fault;
+      text = parsed.text;
+      executed = None;
+    } }
+{
+    let ParsedText {
+        statements,
+        fault,
+        text,
+    } = parsed;
+    connection.statements = statements;
+    connection.fault = fault;
+    connection.text = text;
+    connection.executed = None;
 }
 
 fn statement_at(statements: &[Statement], at: usize) -> Option<&Statement>

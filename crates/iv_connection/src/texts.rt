@@ -32,7 +32,8 @@ pub fn trigger_named(catalogue: &Catalogue, id: Option<TriggerId>) -> &[u8]
     }
 }
 
-fn signal_of<'a>(catalogue: &'a Catalogue, cause: &Cause) -> &'a [u8]
+// The text of the SIGNAL that a cause speaks of, empty where it speaks of none.
+pub(crate) fn signal_of<'a>(catalogue: &'a Catalogue, cause: &Cause) -> &'a [u8]
     ensures { result.now ≡ signal_of catalogue.now cause.now }
 {
     match cause {

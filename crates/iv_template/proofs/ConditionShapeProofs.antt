@@ -1,5 +1,5 @@
 -- A filled search condition is that of the template with the values' expressions at its holes.
-use Rattle.std.proofs.Common.{◌≡◌, ℕ, ◌+◌, List, [], ◌∷◌, ◌++◌, length, take, drop, refl, sym, ◌∙◌, ap, arith, append-nil, length-drop}
+use Rattle.std.proofs.Common.{◌≡◌, List, [], ◌∷◌, ◌++◌, length, take, drop, refl, sym, ◌∙◌, ap, arith, append-nil, length-drop}
 use Rattle.std.specs.Prelude.{map}
 use Rattle.iv_value.specs.declared.value.Value.{Value}
 use Rattle.iv_lex.specs.declared.kind.TokenKind.TheVariants as kind
@@ -7,7 +7,7 @@ use Rattle.iv_lex.specs.Words.{Word, plain}
 use Rattle.iv_parse_terms.specs.Expressions.{expression, spelling}
 use Rattle.iv_parse_terms.specs.Conditions.{ConditionFormed, ConditionRule, Spelled, comparison_kind, condition, conjunction, exists_spelling, negation, test}
 use Rattle.iv_template.specs.Templates.{Part, word, filled, holes}
-use Rattle.iv_template.specs.Shapes.{Shape, parts_of, with_values}
+use Rattle.iv_template.specs.Shapes.{parts_of, with_values}
 use Rattle.iv_template.specs.ConditionShapes.{ConditionShape, compared, null, not_null, exists, exists_with, grouped, not, and, or, ConditionFormedWithHoles, ValuesStandInConditions, condition_parts, condition_with}
 use Rattle.iv_template.proofs.ByHoles.{filled_after, filled_append, holes_after, holes_append}
 use Rattle.iv_template.proofs.ShapeProofs.{both_filled, formed, in_group, own_filled, spelled, take_length}

@@ -1,18 +1,17 @@
 -- A filled data statement is that of the template with the values' expressions at its holes.
-use Rattle.std.proofs.Common.{◌≡◌, ℕ, ◌+◌, Option, Some, None, List, [], ◌∷◌, ◌++◌, length, take, drop, refl, sym, ◌∙◌, ap, subst, arith, append-nil, length-drop}
-use Rattle.std.specs.Prelude.{map}
+use Rattle.std.proofs.Common.{◌≡◌, Option, Some, None, List, [], ◌∷◌, ◌++◌, length, take, drop, refl, sym, ◌∙◌, ap, subst, arith, append-nil, length-drop}
 use Rattle.std.proofs.lemmas.List.{take-append-drop}
 use Rattle.iv_value.specs.declared.value.Value.{Value}
 use Rattle.iv_lex.specs.declared.kind.TokenKind.TheVariants as kind
 use Rattle.iv_lex.specs.Words.{Word, name, plain}
 use Rattle.iv_parse_terms.specs.Conditions.{RangeSpelled}
 use Rattle.iv_parse_data.specs.Types.{RangeName}
-use Rattle.iv_parse_data.specs.Series.{InParentheses, Maybe, More, Series}
+use Rattle.iv_parse_data.specs.Series.{Maybe, More, Series}
 use Rattle.iv_parse_data.specs.Data.{IsAssignment, IsQuery, IsSelectList, IsShallow, IsShallowFrom, IsSource, IsTuple, IsValue, IsWhere}
 use Rattle.iv_template.specs.Templates.{Part, word, filled, holes}
 use Rattle.iv_template.specs.Shapes.{Shape, parts_of, with_values}
 use Rattle.iv_template.specs.ConditionShapes.{ConditionShape, condition_parts}
-use Rattle.iv_template.specs.DataShapes.{more_parts, series_parts, each_with, EachFormed, SeriesFormed, ShapeFormed, ValueShape, expressed, defaulted, value_parts, value_with, ValueFormed, tuple_parts, tuple_with, TupleFormed, where_parts, where_with, WhereFormed, ListShape, star, listed, list_parts, list_with, ListFormed, QueryShape, from_parts, query_parts, QueryFormed, SourceShape, tuples, query, source_parts, source_with, SourceFormed, InsertShape, AssignmentShape, assignment_parts, assignment_with, AssignmentFormed, set_parts, count, rows, ValuesStandInInserts, ValuesStandInUpdates, ValuesStandInDeletes, ValuesStandInSelects}
+use Rattle.iv_template.specs.DataShapes.{more_parts, series_parts, each_with, EachFormed, SeriesFormed, ShapeFormed, ValueShape, expressed, defaulted, value_parts, value_with, ValueFormed, tuple_parts, tuple_with, TupleFormed, where_parts, where_with, WhereFormed, ListShape, star, listed, list_parts, list_with, ListFormed, QueryShape, from_parts, query_parts, QueryFormed, SourceShape, tuples, query, source_parts, source_with, SourceFormed, AssignmentShape, assignment_parts, assignment_with, AssignmentFormed, set_parts, count, rows, ValuesStandInInserts, ValuesStandInUpdates, ValuesStandInDeletes, ValuesStandInSelects}
 use Rattle.iv_template.proofs.ByHoles.{filled_after, filled_append, holes_after, holes_append}
 use Rattle.iv_template.proofs.ShapeProofs.{in_group, take_length, values_stand_at_holes}
 use Rattle.iv_template.proofs.ConditionShapeProofs.{values_stand_in_conditions}

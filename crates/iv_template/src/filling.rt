@@ -1,7 +1,8 @@
 //! Templates filled with values.
-ghost use Rattle.std.specs.Prelude.{IfOk, IfErr, string_bytes};
+ghost use Rattle.std.specs.Prelude.{◌≡◌, IfOk, IfErr, string_bytes};
 ghost use Rattle.iv_template.specs.Templates.{Fills};
 ghost use Rattle.iv_template.specs.Holes.{IsRefused};
+ghost use Rattle.iv_template.specs.Places.{filled_text};
 
 use crate::counting::count_holes;
 use crate::fault::FillFault;
@@ -14,6 +15,7 @@ use std::alloc::Global;
 /// question mark in a text or a comment is none of them. It takes time in proportion to the template and the values.
 pub fn filled(alloc: Global, template: &str, values: &[Value]) -> Result<String, FillFault>
     ensures filled { IfOk result (λ text. Fills template.now values.now (string_bytes text)) }
+    ensures bytes { IfOk result (λ text. string_bytes text ≡ filled_text template.now values.now) }
     ensures refused { IfErr result (IsRefused template.now values.now) }
 {
     let mut text = String::new(alloc);

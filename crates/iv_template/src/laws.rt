@@ -3,6 +3,7 @@ ghost use Rattle.iv_template.specs.Grammar.{LiteralsArePrimaries};
 ghost use Rattle.iv_template.specs.Laws.{KeepsTheTemplates, NoneThatStops, OneReading, is_name, is_semicolon};
 ghost use Rattle.iv_template.specs.ConditionShapes.{ValuesStandInConditions};
 ghost use Rattle.iv_template.specs.DataShapes.{ValuesStandInDeletes, ValuesStandInInserts, ValuesStandInSelects, ValuesStandInUpdates};
+ghost use Rattle.iv_template.specs.Places.{OwnBytesStay};
 ghost use Rattle.iv_template.specs.Shapes.{ValuesStandAtHoles};
 
 /// A template has one list of parts.
@@ -45,4 +46,10 @@ pub fn values_stand_in_statements()
     ensures updates { ValuesStandInUpdates }
     ensures deletes { ValuesStandInDeletes }
     ensures selects { ValuesStandInSelects }
+{}
+
+/// A byte of the template that stands in the filled text has there the place of which `template_place` tells the one in the
+/// template.
+pub fn own_bytes_stay()
+    ensures { OwnBytesStay }
 {}

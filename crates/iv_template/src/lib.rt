@@ -6,9 +6,11 @@ mod fault;
 mod filling;
 mod holes;
 pub mod laws;
+mod places;
 #[cfg(test)]
 mod tests;
 mod writing;
 
 pub use fault::FillFault;
 pub use filling::filled;
+pub use places::{blanked, template_place};

@@ -1,6 +1,7 @@
 //! What a template becomes.
 use crate::fault::FillFault;
 use crate::filling::filled;
+use crate::places::{blanked, template_place};
 use iv_value::{Value, text};
 use std::alloc::Global;
 use std::panic::Expect;
@@ -87,4 +88,59 @@ fn texts(rt: HostRuntime) {
         text(alloc, "?\u{e9}''").expect(&rt, "memory"),
     ];
     all_become(&rt, alloc, &values, &TEXTS);
+}
+
+// The place in a template of a place in the text that it becomes.
+fn stands_at(
+    rt: &impl Abort,
+    alloc: Global,
+    values: &[Value],
+    (template, from, to, place, wanted): (&str, usize, usize, usize, usize),
+) {
+    let some = values.get(from..to).expect(rt, "places");
+    let found = template_place(alloc, template, some, place).expect(rt, "memory");
+    assert_eq!(rt; found, wanted, "{template} {place}");
+}
+
+const PLACES: [(&str, usize, usize, usize, usize); 12] = [
+    ("x y", 0, 0, 3, 3),
+    ("a?", 0, 1, 0, 0),
+    ("a?", 0, 1, 1, 1),
+    ("a?", 0, 1, 3, 1),
+    ("a?", 0, 1, 4, 2),
+    ("-?,?", 0, 2, 4, 2),
+    ("-?,?", 0, 2, 5, 3),
+    ("-?,?", 0, 2, 12, 3),
+    ("-?,?", 0, 2, 13, 4),
+    ("'?' ? b", 2, 3, 1, 1),
+    ("'?' ? b", 2, 3, 9, 4),
+    ("'?' ? b", 2, 3, 11, 6),
+];
+
+#[test]
+fn places(rt: HostRuntime) {
+    let values = [Value::Int(5), Value::Int(-5), Value::Null];
+    for case in &PLACES {
+        stands_at(&rt, rt.alloc(), &values, *case);
+    }
+}
+
+fn is_blanked(rt: &impl Abort, alloc: Global, (template, holes, wanted): (&str, usize, &str)) {
+    let found = blanked(alloc, template, holes).expect(rt, "memory");
+    assert!(rt; found.as_str() == wanted, "{template}");
+}
+
+const BLANKED: [(&str, usize, &str); 5] = [
+    ("a ?", 0, "a ?"),
+    ("a ?", 1, "a  "),
+    ("? '?' -- ?\n?;", 2, "  '?' -- ?\n ;"),
+    ("?, ?, ?", 2, " ,  , ?"),
+    ("none", 3, "none"),
+];
+
+#[test]
+fn holes_are_blanked(rt: HostRuntime) {
+    for case in &BLANKED {
+        is_blanked(&rt, rt.alloc(), *case);
+    }
 }

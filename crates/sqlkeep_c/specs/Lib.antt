@@ -1,3 +1,5 @@
 pub mod Behind
+pub mod BehindResult
 pub mod Calls
+pub mod ResultStatuses
 pub mod Statuses

@@ -21,6 +21,11 @@ abbrev pub IsStatus : Option Behind → ℕ → Type 0
 IsStatus None result = result ≡ CLOSED
 IsStatus (Some opened) result = MayWantMemory result
 
+-- of a call that finds something or doesn't, unless memory is refused
+abbrev pub IsStatusOfFinding : (Behind → ℕ) → Option Behind → ℕ → Type 0
+IsStatusOfFinding f None result = result ≡ CLOSED
+IsStatusOfFinding f (Some opened) result = result ≢ NO_MEMORY → result ≡ f opened
+
 -- of opening a session with these limits
 abbrev pub IsStatusOfOpening : Option Behind → ℕ → ℕ → ℕ → Type 0
 IsStatusOfOpening (Some opened) depth changes result = result ≡ OPEN

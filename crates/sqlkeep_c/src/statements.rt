@@ -5,16 +5,17 @@ ghost use Rattle.sqlkeep_c.specs.Calls.{Called};
 ghost use Rattle.iv_connection.specs.Kinds.{kind_of};
 ghost use Rattle.iv_connection.specs.OutcomeLines.{executed, lines_of};
 ghost use Rattle.iv_session.specs.Executed.{Executed};
+ghost use Rattle.iv_connection.specs.Places.{place_at};
 ghost use Rattle.iv_connection.specs.Statements.{IsRead, fault_shown, outcome_shown};
 ghost use Rattle.iv_connection.specs.Statuses.{found};
-ghost use Rattle.sqlkeep_c.specs.Statuses.{IsStatus, IsStatusOfText, status_by};
+ghost use Rattle.sqlkeep_c.specs.Statuses.{IsStatus, IsStatusOfFinding, IsStatusOfText, status_by};
 
 use crate::handle::{Handle, put, take};
 use iv_connection::{
-    CLOSED, NOTHING, OK, ReadScript, ShownFault, ShownOutcome, execute_kept, fault_shown,
-    keep_lines, kind_of, outcome_shown, parse_text, read_shown,
+    CLOSED, NO_MEMORY, NOTHING, OK, ReadScript, ShownFault, ShownOutcome, StatementPlace,
+    execute_kept, fault_shown, keep_lines, keep_parsed, kind_of, outcome_shown, parse_text,
+    read_shown, statement_place,
 };
-use iv_parse::script;
 use iv_print::Format;
 use std::alloc::Global;
 
@@ -28,8 +29,10 @@ pub extern "C" fn sqlkeep_read(
 ) -> u32
     ensures script { Called handle.old.kept.behind handle.new.kept.behind (λ old new.
         result ≡ OK → IsRead text.now new.statements new.fault script.new) }
+    ensures text { Called handle.old.kept.behind handle.new.kept.behind (λ old new.
+        result ≡ OK → new.text ≡ record { text = text.now; holes = 0 }) }
     ensures rest { Called handle.old.kept.behind handle.new.kept.behind (λ old new. result ≡ OK
-        → new ≡ record old { statements = new.statements; fault = new.fault; executed = None }) }
+        → new ≡ record old { statements = new.statements; fault = new.fault; text = new.text; executed = None }) }
     ensures others { result ≢ OK → (handle.new.kept.behind ≡ handle.old.kept.behind)
         × (script.new ≡ script.old) }
     ensures status { IsStatusOfText handle.old.kept.behind text.now result }
@@ -40,9 +43,7 @@ pub extern "C" fn sqlkeep_read(
     match parse_text(alloc, text) {
         Ok(parsed) => {
             *script = read_shown(parsed.statements.len(), parsed.fault);
-            connection.fault = parsed.fault;
-            connection.statements = parsed.into_statements();
-            connection.executed = None;
+            keep_parsed(&mut connection, parsed);
             put(handle, connection);
             OK
         }
@@ -137,6 +138,35 @@ pub extern "C" fn sqlkeep_statement_kind(
     };
     put(handle, connection);
     status
+}
+
+/// Where a statement of those that were read begins and ends: bytes of the text or the template that they were read from.
+#[unsafe(no_mangle)]
+pub extern "C" fn sqlkeep_statement_place(
+    alloc: Global,
+    handle: &mut Handle,
+    at: usize,
+    place: &mut StatementPlace,
+) -> u32
+    ensures place { IfSome handle.old.kept.behind (λ old. result ≡ OK
+        → Some place.new ≡ place_at old.statements old.text at) }
+    ensures kept { handle.new.kept.behind ≡ handle.old.kept.behind }
+    ensures others { result ≢ OK → place.new ≡ place.old }
+    ensures status { IsStatusOfFinding (λ old. found (place_at old.statements old.text at)) handle.old.kept.behind result }
+{
+    let Some(mut connection) = take(handle, alloc) else {
+        return CLOSED;
+    };
+    let there = statement_place(alloc, &mut connection, at);
+    put(handle, connection);
+    match there {
+        Ok(Some(it)) => {
+            *place = it;
+            OK
+        }
+        Ok(None) => NOTHING,
+        Err(_) => NO_MEMORY,
+    }
 }
 
 /// Writes the lines of the last outcome, and those of its account and the name that a refusal is about where accounts are asked

@@ -1,12 +1,11 @@
 //! The statements of a template, with the values that are bound in place of its question marks.
-ghost use Rattle.std.specs.Prelude.{◌≡◌, ◌≢◌, None, []};
+ghost use Rattle.std.specs.Prelude.{◌≡◌, ◌≢◌, None, [], length};
 ghost use Rattle.sqlkeep_c.specs.Calls.{Called};
 ghost use Rattle.iv_connection.specs.Templates.{IsReadOfTemplate};
 ghost use Rattle.sqlkeep_c.specs.Statuses.{IsStatusOfTemplate};
 
 use crate::handle::{Handle, put, take};
-use iv_connection::{CLOSED, OK, ReadScript, parse_template, read_shown};
-use iv_parse::script;
+use iv_connection::{CLOSED, OK, ReadScript, keep_parsed, parse_template, read_shown};
 use sqlite_items::Items;
 use std::alloc::Global;
 
@@ -21,12 +20,15 @@ pub extern "C" fn sqlkeep_read_bound(
 ) -> u32
     ensures script { Called handle.old.kept.behind handle.new.kept.behind (λ old new.
         result ≡ OK → IsReadOfTemplate template.now old.values new.statements new.fault script.new) }
+    ensures text { Called handle.old.kept.behind handle.new.kept.behind (λ old new.
+        result ≡ OK → new.text ≡ record { text = template.now; holes = length old.values }) }
     ensures values { Called handle.old.kept.behind handle.new.kept.behind (λ old new.
         result ≡ OK → new.values ≡ []) }
     ensures rest { Called handle.old.kept.behind handle.new.kept.behind (λ old new. result ≡ OK
         → new ≡ record old {
           statements = new.statements;
           fault = new.fault;
+          text = new.text;
           executed = None;
           values = new.values;
         }) }
@@ -40,9 +42,7 @@ pub extern "C" fn sqlkeep_read_bound(
     match parse_template(alloc, template, connection.values.as_slice()) {
         Ok(parsed) => {
             *script = read_shown(parsed.statements.len(), parsed.fault);
-            connection.fault = parsed.fault;
-            connection.statements = parsed.into_statements();
-            connection.executed = None;
+            keep_parsed(&mut connection, parsed);
             connection.values = Items::new(alloc);
             put(handle, connection);
             OK

@@ -223,7 +223,7 @@ def outcome_of(session: Session, answer: tuple[Any, ...], text: str, given: int)
         raise error_of(answer, text, given, engine)
     lines = engine.lines(1).decode() if session.explain and kind != EMPTY else ""
     if kind == ROWS:
-        return Outcome(rows=answer[1], columns=[name for name, _ in columns_of(text, answer[2], engine)], lines=lines)
+        return Outcome(rows=list(answer[1]), columns=[name for name, _ in columns_of(text, answer[2], engine)], lines=lines)
     return Outcome(count=answer[1] if kind == CHANGED else None, lines=lines)
 
 

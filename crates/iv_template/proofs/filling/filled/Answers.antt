@@ -1,8 +1,11 @@
-use Rattle.std.proofs.Common.{◌≡◌, ◌<◌, ◌+◌, ◌-◌, [], ◌∷◌, List, length, string_bytes, sym, subst, arith, nat_eq, true, false, refl}
+use Rattle.std.proofs.Common.{◌≡◌, ◌<◌, ◌+◌, ◌-◌, ◌∙◌, ◌++◌, ap, append_assoc, [], ◌∷◌, List, length, string_bytes, sym, subst, arith, nat_eq, true, false, refl}
 use Rattle.std.specs.Prelude.{ℕ, IsUtf8}
 use Rattle.std.proofs.lemmas.Str.{IsUtf8-had}
 use Rattle.iv_template.specs.Templates.{Fills}
 use Rattle.iv_template.specs.Holes.{IsRefused, StopsBy}
+use Rattle.iv_template.specs.Literals.{literal_text}
+use Rattle.iv_template.specs.Places.{filled_text}
+use Rattle.iv_template.proofs.PlaceProofs.{filled_more}
 use Rattle.std.proofs.lemmas.Bool.Decides.{nat_tests}
 use Rattle.iv_value.specs.declared.value.Value.{Value}
 use Rattle.iv_template.proofs.ByHoles.{Reached, reached_start, reached_more, reached_end, walked_more, too_few, too_many, stopped_from, stopped_behind, refused_at, after_hole, hole_found, no_hole_found, told_on}
@@ -26,6 +29,7 @@ loop-text-init c = record {
   utf8 = c.utf8.template;
   reached = subst (λ z. Reached c.args.template.now c.args.values.now z c.args.template.now c.args.values.now) (sym c.new-text.ensures.bytes)
       (reached_start c.args.template.now c.args.values.now c.utf8.template);
+  bytes = ap (λ z. z ++ filled_text c.args.template.now c.args.values.now) c.new-text.ensures.bytes;
 }
 
 pub returns-in_err-front-clause-refused : goal.returns-in_err-front-clause-refused
@@ -66,6 +70,15 @@ loop-text-preserved c =
           (reached_more c.args.template.now c.args.values.now (string_bytes c.loop-text.text) c.loop-text.rest.now c.in-Some.front.now c.in-Some.after.now c.in-Some-split_first.value.now c.in-Some-split_first.others.now
           (subst (λ z. Reached c.args.template.now c.args.values.now (string_bytes c.loop-text.text) c.loop-text.rest.now z) c.in-Some-split_first.ensures.cases.0 c.loop-text.invariant.reached)
           h c.in_ok-push_filled.ensures.small);
+      bytes =
+          let front = c.in-Some.front.now in
+          let v = c.in-Some-split_first.value.now in
+          let vs = c.in-Some-split_first.others.now in
+          ap (λ z. z ++ filled_text c.in-Some.after.now vs) c.in_ok-push_filled.ensures.written
+          ∙ append_assoc (string_bytes c.loop-text.text) (front ++ 32 ∷ (literal_text v ++ 32 ∷ [])) (filled_text c.in-Some.after.now vs)
+          ∙ ap (λ z. string_bytes c.loop-text.text ++ z) (sym (filled_more c.loop-text.rest.now front c.in-Some.after.now v vs h))
+          ∙ ap (λ z. string_bytes c.loop-text.text ++ filled_text c.loop-text.rest.now z) (sym c.in-Some-split_first.ensures.cases.0)
+          ∙ c.loop-text.invariant.bytes;
     }
 
 pub returns-then-not-is_empty-clause-refused : goal.returns-then-not-is_empty-clause-refused
@@ -83,3 +96,10 @@ returns-clause-filled c =
     (subst (λ z. Reached c.args.template.now c.args.values.now (string_bytes c.loop-text.text) c.loop-text.rest.now z) n c.loop-text.invariant.reached)
     (no_hole_found c.in_ok-front.field-0 _ _ c.in_ok-front.ensures.hole c.in_default.is)
     (subst IsUtf8 e (IsUtf8-had (string_bytes c.push_str.new.self) c.push_str.new.self.ok)))
+
+pub returns-clause-bytes : goal.returns-clause-bytes
+returns-clause-bytes c =
+    let n : c.loop-text.left.now ≡ [] = none_left c.loop-text.left.now (no_length (length c.loop-text.left.now) c.if-not-is_empty.ensures) in
+    c.in_ok-push_str.ensures.bytes
+    ∙ ap (λ z. string_bytes c.loop-text.text ++ filled_text c.loop-text.rest.now z) (sym n)
+    ∙ c.loop-text.invariant.bytes

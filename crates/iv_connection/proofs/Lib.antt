@@ -1,0 +1,3 @@
+pub mod PlaceProofs
+pub mod ResultProofs
+pub mod MessageProofs

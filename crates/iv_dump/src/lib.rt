@@ -1,0 +1,11 @@
+//! A database as scripts that make it again.
+#![tactic(auto)]
+
+mod batches;
+mod dumping;
+pub mod laws;
+mod refusal;
+mod scripts;
+
+pub use dumping::dump;
+pub use refusal::DumpRefusal;

@@ -1,0 +1,15 @@
+pub mod TextKinds
+pub mod Steps
+pub mod Sources
+pub mod Pairs
+pub mod Targeted
+pub mod ShapesTold
+pub mod ShapesSo
+pub mod Numbered
+pub mod ReferencePairs
+pub mod Primaries
+pub mod Added
+pub mod SchemaTold
+pub mod LimitsTold
+pub mod RulesSo
+pub mod Computed

@@ -1,0 +1,9 @@
+pub mod Shapes
+pub mod SchemaFaults
+pub mod Limits
+pub mod Reasons
+pub mod Seen
+pub mod Laws
+pub mod WorkedShapes
+pub mod WorkedRules
+pub mod WorkedLimits

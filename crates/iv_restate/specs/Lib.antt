@@ -1,0 +1,9 @@
+pub mod Types
+pub mod Parentheses
+pub mod Trees
+pub mod Seen
+pub mod Constraints
+pub mod Statements
+pub mod Triggers
+pub mod Laws
+pub mod TableLaws

@@ -1,0 +1,4 @@
+//! Tests of the reasons of refusals.
+#![tactic(auto)]
+
+mod reasons;

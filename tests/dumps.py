@@ -1,0 +1,137 @@
+#!/usr/bin/env python3
+"""Dumps the database that each script leaves, runs the dump in a new session, and dumps again.
+
+  tests/dumps.py --dump PATH --program PATH [--only WORD]
+
+PATH of --dump is `iv_tests_dump`, that of --program is `sqlkeep`. The dump has to be accepted throughout, the second dump has to be the
+first, which compares tables, constraints and triggers with their names, modes and order, and the rows of each table are compared: those
+after the script with those after its dump. The last line is `N passed, N failed`; the status is 1 if something failed."""
+import argparse
+import os
+import re
+import subprocess
+import sys
+
+sys.dont_write_bytecode = True
+sys.path.insert(0, os.path.dirname(os.path.abspath(__file__)))
+import run
+
+# A script of the program may have no more bytes; what is asked after it needs some.
+LONGEST = 1_048_576 - 10_000
+
+
+def large(count, step):
+    """A script with so many rows in a table, whose foreign key refers from each row to the one before it, or to the one after it."""
+    table = (
+        "CREATE TABLE node (id INT PRIMARY KEY, next INT, word VARCHAR(40) NOT NULL,"
+        " FOREIGN KEY (next) REFERENCES node INITIALLY DEFERRED, UNIQUE (next));"
+    )
+    rows = [f"({n}, {n + step if 0 <= n + step < count else 'NULL'}, '')" for n in range(count)]
+    parts = [f"INSERT INTO node VALUES {', '.join(rows[at:at + 5000])};" for at in range(0, count, 5000)]
+    return "\n".join([table, *parts, "COMMIT;"]).encode()
+
+
+RING = b"""
+CREATE TABLE a (x INT PRIMARY KEY);
+CREATE TABLE b (y INT PRIMARY KEY REFERENCES a INITIALLY DEFERRED);
+ALTER TABLE a ADD CONSTRAINT ring FOREIGN KEY (x) REFERENCES b INITIALLY DEFERRED;
+INSERT INTO a VALUES (1), (2);
+INSERT INTO b VALUES (2), (1);
+COMMIT;
+ALTER TABLE b ADD CHECK (y > 0 AND NOT (y = 7 OR y IS NULL));
+CREATE TABLE c (z INT DEFAULT -9223372036854775807, t VARCHAR(9) DEFAULT 'it''s');
+INSERT INTO c VALUES (-9223372036854775807 - 1, ''''), (DEFAULT, DEFAULT), (-1, NULL);
+COMMIT;
+"""
+
+
+def made():
+    """Scripts that are made here: name and bytes."""
+    yield "many rows, each refers to the one before", large(12_000, -1)
+    yield "many rows, each refers to the one after", large(12_000, 1)
+    yield "few rows, each refers to the one after", large(100, 1)
+    yield "a ring, and the least integer", RING
+
+
+def is_text(script):
+    """Whether the script runs: one that isn't UTF-8 leaves no database."""
+    try:
+        script.decode("utf-8")
+        return True
+    except UnicodeDecodeError:
+        return False
+
+
+def stored():
+    """The scripts of tests/scripts and examples: name and bytes."""
+    for directory in ("scripts", "../examples"):
+        for name in sorted({file.split(".")[0] for file in run.files(directory) if ".sql" in file}):
+            script = run.stored(directory, name + ".sql")
+            if is_text(script):
+                yield name, script
+
+
+def started(program, script):
+    return subprocess.run([program], input=script, capture_output=True, timeout=300, check=False)
+
+
+def without_numbers(line):
+    return re.sub(r"^\d+ ", "", line)
+
+
+def rows_after(program, script, tables):
+    """The lines of a SELECT of each table after a script, or None if the script has a fault."""
+    asked = "".join(f"\nSELECT * FROM {table};" for table in tables)
+    lines = started(program, script + b"\nROLLBACK;" + asked.encode()).stdout.decode("utf-8", "replace").splitlines()
+    if any(re.match(r"\d+ fault ", line) for line in lines):
+        return None
+    found, answers = [], 0
+    for line in reversed(lines):
+        if answers == len(tables):
+            break
+        found.append(without_numbers(line))
+        answers += not line.startswith("| ")
+    return found[::-1]
+
+
+def compared(program, script, dump):
+    """What the program finds wrong with a dump: a statement that is refused, or other rows."""
+    if len(dump) > LONGEST or len(script) > LONGEST:
+        return []
+    done = started(program, dump)
+    if done.returncode != 0:
+        return [line for line in done.stdout.decode("utf-8", "replace").splitlines() if " refused " in line or " fault " in line][:3] or ["no transcript"]
+    tables = re.findall(r"^CREATE TABLE (\w+) \($", dump.decode(), re.M)
+    before, after = rows_after(program, script, tables), rows_after(program, dump, tables)
+    return ["the rows differ"] if before is not None and before != after else []
+
+
+def judge(dump, program, script):
+    """Why the dump of a script isn't as it should be."""
+    done = started(dump, script)
+    if done.returncode != 0:
+        return [f"status {done.returncode}: {(done.stdout + done.stderr).decode('utf-8', 'replace')[-300:]}"]
+    again = started(dump, done.stdout)
+    return ["the dump of the dump differs"] if again.stdout != done.stdout else compared(program, script, done.stdout)
+
+
+def main():
+    parser = argparse.ArgumentParser(description=__doc__, formatter_class=argparse.RawDescriptionHelpFormatter)
+    parser.add_argument("--dump", required=True)
+    parser.add_argument("--program", required=True)
+    parser.add_argument("--only", default="")
+    words = parser.parse_args()
+    passed = failed = 0
+    for name, script in [*stored(), *made()]:
+        if words.only not in name:
+            continue
+        why = judge(os.path.abspath(words.dump), os.path.abspath(words.program), script)
+        passed, failed = passed + (not why), failed + bool(why)
+        for line in why:
+            print(f"FAILED {name}: {line}")
+    print(f"{passed} passed, {failed} failed")
+    return int(failed > 0)
+
+
+if __name__ == "__main__":
+    sys.exit(main())
