@@ -7,8 +7,6 @@ mod filling;
 mod holes;
 pub mod laws;
 mod places;
-#[cfg(test)]
-mod tests;
 mod writing;
 
 pub use fault::FillFault;

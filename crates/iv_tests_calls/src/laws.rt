@@ -29,8 +29,35 @@ fn laws_of_names_are_called(rt: HostRuntime) {
 }
 
 #[test]
+fn laws_of_reasons_are_called(rt: HostRuntime) {
+    iv_resolve_reasons::shapes_are_told();
+    iv_resolve_reasons::shapes_are_so();
+    iv_resolve_reasons::schema_faults_are_told();
+    iv_resolve_reasons::rules_are_so();
+    iv_resolve_reasons::limit_faults_are_told();
+    iv_resolve_reasons::worked_shapes();
+    iv_resolve_reasons::worked_rules();
+    iv_resolve_reasons::worked_limits();
+}
+
+#[test]
 fn laws_of_texts_are_called(rt: HostRuntime) {
     iv_laws_writable::statements_are_writable();
+    iv_write::laws::what_is_read_can_be_written();
+    iv_restate::laws::what_is_written_is_itself();
+    iv_dump::laws::checks_can_be_written();
+}
+
+#[test]
+fn laws_of_templates_are_called(rt: HostRuntime) {
+    iv_template::laws::a_template_has_one_reading();
+    iv_template::laws::a_text_that_stops_is_no_template();
+    iv_template::laws::values_add_no_name_and_no_semicolon();
+    iv_template::laws::literals_are_primaries();
+    iv_template::laws::values_stand_at_holes();
+    iv_template::laws::values_stand_in_conditions();
+    iv_template::laws::values_stand_in_statements();
+    iv_template::laws::own_bytes_stay();
 }
 
 #[test]

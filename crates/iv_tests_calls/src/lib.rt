@@ -14,6 +14,8 @@ mod demand;
 #[cfg(test)]
 mod expressions;
 #[cfg(test)]
+mod filling;
+#[cfg(test)]
 mod laws;
 #[cfg(test)]
 mod levels;
@@ -25,6 +27,8 @@ mod numbers;
 mod parts;
 #[cfg(test)]
 mod random;
+#[cfg(test)]
+mod reasons;
 #[cfg(test)]
 mod schema;
 #[cfg(test)]
@@ -41,3 +45,5 @@ mod tested;
 mod tokens;
 #[cfg(test)]
 mod waves;
+#[cfg(test)]
+mod written;

@@ -14,8 +14,6 @@ mod referencing;
 mod script;
 mod statement;
 mod table;
-#[cfg(test)]
-mod tests;
 mod texts;
 mod trigger;
 mod writer;

@@ -1,7 +1,5 @@
 //! What a template becomes.
-use crate::fault::FillFault;
-use crate::filling::filled;
-use crate::places::{blanked, template_place};
+use iv_template::{FillFault, blanked, filled, template_place};
 use iv_value::{Value, text};
 use std::alloc::Global;
 use std::panic::Expect;

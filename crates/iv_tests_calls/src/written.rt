@@ -1,8 +1,7 @@
 //! What scripts become that are read and written.
-use crate::script::{write_script, write_statement};
-use crate::texts::{write_condition, write_expression};
 use iv_parse::script;
 use iv_syntax::{Select, SelectList, Statement};
+use iv_write::{write_condition, write_expression, write_script, write_statement};
 use std::alloc::Global;
 use std::panic::Expect;
 use std::process::Abort;

@@ -1,4 +1,0 @@
-//! Tests of the reasons of refusals.
-#![tactic(auto)]
-
-mod reasons;
