@@ -1,14 +1,16 @@
 #!/usr/bin/env python3
 """Runs `rt ci` from nothing, and prints the minutes that each crate took in it, as a table for docs/proving and tools/minutes.txt.
 
-  tools/gate.py [COMMAND WORD..]
+  tools/gate.py [--table FILE] [COMMAND WORD..]
 
 Another command may be named in place of `rt ci`, or `rt ci --anew` where the kit keeps what earlier runs proved. Twice a second it looks
 at the command's processes that name a crate, and adds their processor time by crate and by what they did: the proof with the library or
 program that it makes, the same of its tests, and its must-fail edits. It also takes how long each crate's proof took by the clock, where a
 proof may have had several processors, and prints the longest path: a chain of crates of which each depends on the one before it. Other work
-on the machine lengthens all of these, so let nothing else run. The output of the command goes to standard error. The status is the command's.
+on the machine lengthens all of these, so let nothing else run. The table goes to standard output and the output of the command to standard
+error; with --table the table goes to the file and the output of the command to standard output. The status is the command's.
 """
+import contextlib
 import os
 import subprocess
 import sys
@@ -102,19 +104,29 @@ def whole_gate():
     return ["rt", "ci", "--anew"] if "--anew" in says else ["rt", "ci"]
 
 
+def told(seen, clock, began):
+    """The lines of the table, of the longest path, and of the whole."""
+    yield from table(seen)
+    path = longest_path(clock)
+    yield "Longest path by the clock: " + ", ".join(f"{crate} {took:.1f}" for crate, took in path) + f"; {sum(took for _, took in path):.1f} minutes"
+    used = os.times()
+    yield f"{(used.children_user + used.children_system) / 60:.1f} processor minutes and {(time.monotonic() - began) / 60:.1f} minutes by the clock"
+
+
 def main():
-    words = sys.argv[1:] or whole_gate()
+    words, file = sys.argv[1:], None
+    if words[:1] == ["--table"] and len(words) > 1:
+        file, words = words[1], words[2:]
+    words = words or whole_gate()
     began = time.monotonic()
     seen, clock = {}, {}
-    with subprocess.Popen(words, stdin=subprocess.DEVNULL, stdout=sys.stderr, start_new_session=True) as command:
+    with subprocess.Popen(words, stdin=subprocess.DEVNULL, stdout=sys.stdout if file else sys.stderr, start_new_session=True) as command:
         while command.poll() is None:
             look(command.pid, seen, clock)
             time.sleep(0.5)
-    print("\n".join(table(seen)))
-    path = longest_path(clock)
-    print("Longest path by the clock: " + ", ".join(f"{crate} {took:.1f}" for crate, took in path) + f"; {sum(took for _, took in path):.1f} minutes")
-    used = os.times()
-    print(f"{(used.children_user + used.children_system) / 60:.1f} processor minutes and {(time.monotonic() - began) / 60:.1f} minutes by the clock")
+    with open(file, "w", encoding="utf-8") if file else contextlib.nullcontext(sys.stdout) as to:
+        for line in told(seen, clock, began):
+            print(line, file=to)
     return command.returncode
 
 
