@@ -6,7 +6,7 @@ _sqlkeep() {
         --changes) mapfile -t COMPREPLY < <(compgen -W '1 1000 65536' -- "$word"); return ;;
     esac
     if [[ $word == -* ]]; then
-        mapfile -t COMPREPLY < <(compgen -W '--depth --changes --explain --json --help --version' -- "$word")
+        mapfile -t COMPREPLY < <(compgen -W '--depth --changes --explain --json --dump --format --help --version' -- "$word")
         return
     fi
     compopt -o filenames

@@ -9,8 +9,8 @@
            sqlkeep_close(&session);
        }
 
-   Every function answers a status, one of enum sqlkeep_status. If it isn't SQLKEEP_OK, nothing was changed and no
-   result was written. If it is, the function did what its comment says, and left all else as it was. The comment of a
+   Every function answers a status, one of enum sqlkeep_status. If it isn't SQLKEEP_OK, nothing was changed, except as sqlkeep_dump
+   says, and no result was written. If it is, the function did what its comment says, and left all else as it was. The comment of a
    function names each status that it may answer besides SQLKEEP_OK, and says when. SQLKEEP_CLOSED always means that the
    handle or the result is empty, and SQLKEEP_NO_MEMORY that memory was refused; a function whose comment doesn't name this one takes no
    memory, or can do without it, as its comment says. A statement that the database refuses is no failed call: the call
@@ -73,7 +73,9 @@ enum sqlkeep_status {
     /* The template has another number of question marks than there are values. */
     SQLKEEP_WRONG_COUNT = 9,
     /* At some place of the template there is neither a token nor a question mark. */
-    SQLKEEP_NO_TEMPLATE = 10
+    SQLKEEP_NO_TEMPLATE = 10,
+    /* A transaction is open. */
+    SQLKEEP_IN_TRANSACTION = 11
 };
 
 /* A handle of a session. */
@@ -577,6 +579,11 @@ uint32_t sqlkeep_constraint_name(sqlkeep *handle, size_t at, size_t from, uint8_
 uint32_t sqlkeep_constraint_column(sqlkeep *handle, size_t at, size_t place, uint32_t *column);
 uint32_t sqlkeep_referenced_column(sqlkeep *handle, size_t at, size_t place, uint32_t *column);
 
+/* The condition of a CHECK as SQL text, with the names of columns folded to upper case and with no parentheses that the grammar doesn't
+   need. Read as a CHECK of its table, the text means just this constraint.
+   SQLKEEP_CLOSED, SQLKEEP_NO_MEMORY; SQLKEEP_NOTHING: there is no constraint at this place, or it is none of CHECK. */
+uint32_t sqlkeep_constraint_condition(sqlkeep *handle, size_t at, size_t from, uint8_t *buffer, size_t size, size_t *copied);
+
 /* The mode of a constraint now: one of enum sqlkeep_mode. SET CONSTRAINTS sets it; at the end of the transaction it is the initial
    one again. */
 uint32_t sqlkeep_constraint_mode(sqlkeep *handle, size_t at, uint32_t *mode);
@@ -585,6 +592,23 @@ uint32_t sqlkeep_constraint_mode(sqlkeep *handle, size_t at, uint32_t *mode);
 uint32_t sqlkeep_trigger_at(sqlkeep *handle, size_t at, sqlkeep_trigger_definition *trigger);
 uint32_t sqlkeep_trigger_name(sqlkeep *handle, size_t at, size_t from, uint8_t *buffer, size_t size, size_t *copied);
 uint32_t sqlkeep_trigger_column(sqlkeep *handle, size_t at, size_t place, uint32_t *column);
+
+/* ---- a dump
+
+   A dump is the whole database as scripts that make it again, to be run one after another in a new session: each table with its
+   constraints and then its rows, in creation order, then the triggers. Rows get new numbers. */
+
+/* Writes a dump and keeps it in the handle for sqlkeep_dump_script, in place of the last one. The number of its scripts, at least 1,
+   is written to `scripts`; each has at most 1,048,576 bytes, so that sqlkeep_run can run it. The database stays, and so do the last outcome and
+   the statements that were read; the account of the last statement is gone, and sqlkeep_work tells of the dump. It takes time and memory in
+   proportion to the database.
+   SQLKEEP_CLOSED; SQLKEEP_IN_TRANSACTION: a transaction is open, and nothing changes. SQLKEEP_TOO_LONG: a row would need a
+   longer script; SQLKEEP_NO_MEMORY. With these two the last dump stays, but that account is gone. */
+uint32_t sqlkeep_dump(sqlkeep *handle, size_t *scripts);
+
+/* Copies bytes of a script of the last dump, from 0, to the buffer, from byte `from` on, as sqlkeep_transcript does.
+   SQLKEEP_CLOSED; SQLKEEP_NOTHING: there is no such script. */
+uint32_t sqlkeep_dump_script(sqlkeep *handle, size_t at, size_t from, uint8_t *buffer, size_t size, size_t *copied);
 
 /* ---- why the last statement was refused
 
@@ -853,6 +877,15 @@ static inline uint32_t sqlkeep_tested_row_text(sqlkeep *handle, uint64_t number,
 static inline uint32_t sqlkeep_tested_constraint_mode(sqlkeep *handle, size_t at, uint32_t *mode) {
     return handle == NULL ? (uint32_t)SQLKEEP_NO_HANDLE : sqlkeep_constraint_mode(handle, at, mode);
 }
+static inline uint32_t sqlkeep_tested_constraint_condition(sqlkeep *handle, size_t at, size_t from, uint8_t *buffer, size_t size, size_t *copied) {
+    return handle == NULL ? (uint32_t)SQLKEEP_NO_HANDLE : sqlkeep_constraint_condition(handle, at, from, buffer, size, copied);
+}
+static inline uint32_t sqlkeep_tested_dump(sqlkeep *handle, size_t *scripts) {
+    return handle == NULL ? (uint32_t)SQLKEEP_NO_HANDLE : sqlkeep_dump(handle, scripts);
+}
+static inline uint32_t sqlkeep_tested_dump_script(sqlkeep *handle, size_t at, size_t from, uint8_t *buffer, size_t size, size_t *copied) {
+    return handle == NULL ? (uint32_t)SQLKEEP_NO_HANDLE : sqlkeep_dump_script(handle, at, from, buffer, size, copied);
+}
 static inline uint32_t sqlkeep_tested_statement_place(sqlkeep *handle, size_t at, sqlkeep_span *place) {
     return handle == NULL ? (uint32_t)SQLKEEP_NO_HANDLE : sqlkeep_statement_place(handle, at, place);
 }
@@ -943,6 +976,9 @@ static inline uint32_t sqlkeep_tested_violation_text(sqlkeep *handle, size_t at,
 #define sqlkeep_row_value sqlkeep_tested_row_value
 #define sqlkeep_row_text sqlkeep_tested_row_text
 #define sqlkeep_constraint_mode sqlkeep_tested_constraint_mode
+#define sqlkeep_constraint_condition sqlkeep_tested_constraint_condition
+#define sqlkeep_dump sqlkeep_tested_dump
+#define sqlkeep_dump_script sqlkeep_tested_dump_script
 #define sqlkeep_statement_place sqlkeep_tested_statement_place
 #define sqlkeep_message sqlkeep_tested_message
 #define sqlkeep_result_take sqlkeep_tested_result_take

@@ -169,6 +169,7 @@ inline void check(std::uint32_t status) {
     case SQLKEEP_NO_MEMORY: throw no_memory();
     case SQLKEEP_WRONG_COUNT: throw usage_error("the text has another number of question marks than there are values");
     case SQLKEEP_NO_TEMPLATE: throw usage_error("the text has a character that begins no token, or a text without its end");
+    case SQLKEEP_IN_TRANSACTION: throw usage_error("a transaction is open");
     default: throw usage_error("the session was moved from");
     }
 }
@@ -358,6 +359,27 @@ public:
             detail::check(status);
             return status;
         }).value_or("");
+    }
+
+    // The condition of a CHECK as SQL text, by the place of the constraint in the catalogue; none of another constraint.
+    std::optional<std::string> condition(std::size_t constraint) {
+        return detail::copied([&](auto... where) {
+            const std::uint32_t status = sqlkeep_constraint_condition(&handle_, constraint, where...);
+            if (status != SQLKEEP_NOTHING) detail::check(status);
+            return status;
+        });
+    }
+
+    // The database as scripts that make it again, to be executed one after another in a new session; each ends with a COMMIT or outside a
+    // transaction. usage_error: a transaction is open. The account of the last statement is gone.
+    std::vector<std::string> dump() {
+        std::size_t count = 0;
+        detail::check(sqlkeep_dump(&handle_, &count));
+        std::vector<std::string> scripts;
+        for (std::size_t at = 0; at < count; at++) {
+            scripts.push_back(detail::copied([&](auto... where) { return sqlkeep_dump_script(&handle_, at, where...); }).value_or(""));
+        }
+        return scripts;
     }
 
     // From now on the account of each statement is kept for account(), or isn't.

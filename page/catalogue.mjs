@@ -5,7 +5,7 @@
  * @typedef {{name: string, columns: Column[]}} Table
  * @typedef {{name: string, table: string, kind: "NOT NULL" | "CHECK" | "UNIQUE" | "PRIMARY KEY" | "FOREIGN KEY", columns: string[],
  *     isDeferrable: boolean, isInitiallyDeferred: boolean, nullsNotDistinct: boolean, referenced: string | null, referencedColumns: string[],
- *     isMatchFull: boolean, onDelete: string | null, onUpdate: string | null}} Constraint
+ *     isMatchFull: boolean, onDelete: string | null, onUpdate: string | null, condition: string | null}} Constraint
  * @typedef {{name: string, table: string, time: "BEFORE" | "AFTER", event: "INSERT" | "UPDATE" | "DELETE", forEach: "ROW" | "STATEMENT",
  *     columns: string[], statements: number}} Trigger
  * @typedef {{tables: Table[], constraints: Constraint[], triggers: Trigger[]}} Catalogue
@@ -14,7 +14,7 @@
 const KINDS = ["NOT NULL", "CHECK", "UNIQUE", "PRIMARY KEY", "FOREIGN KEY"];
 const ACTIONS = ["NO ACTION", "RESTRICT", "CASCADE", "SET NULL", "SET DEFAULT"];
 const TIMES = ["BEFORE", "AFTER"], EVENTS = ["INSERT", "UPDATE", "DELETE"], GRANULARITIES = ["ROW", "STATEMENT"];
-const INTEGER_COLUMN = 1, FOREIGN_KEY = 4;
+const INTEGER_COLUMN = 1, CHECK = 1, FOREIGN_KEY = 4;
 
 const listed = (count, make) => Array.from({ length: count }, (_, at) => make(at));
 
@@ -66,6 +66,7 @@ function constraintAt(port, at, tables) {
     referenced: isForeign ? tables[referenced].name : null,
     referencedColumns: isForeign ? namesBy(port, "sqlkeep_referenced_column", at, count, tables[referenced]) : [],
     isMatchFull: full === 1, onDelete: isForeign ? ACTIONS[onDelete] : null, onUpdate: isForeign ? ACTIONS[onUpdate] : null,
+    condition: kind === CHECK ? port.text("sqlkeep_constraint_condition", BigInt(at)) : null,
   };
 }
 

@@ -145,6 +145,8 @@ export interface Constraint {
   isMatchFull: boolean;
   onDelete: ReferentialAction | null;
   onUpdate: ReferentialAction | null;
+  /** The condition of a CHECK as SQL text. */
+  condition: string | null;
 }
 
 export interface Trigger {
@@ -231,6 +233,7 @@ export class Session {
   query(text: string | Uint8Array, values?: Value[]): Value[][];
   readonly account: Entry[];
   catalogue(): Catalogue;
+  dump(): string[];
   commit(): void;
   rollback(): void;
   rollbackTo(name: string): void;

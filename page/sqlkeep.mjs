@@ -13,7 +13,7 @@
 import { entriesOf, linesOf } from "./account.mjs";
 import { readCatalogue } from "./catalogue.mjs";
 
-const OK = 0, CLOSED = 1, LIMITS = 3, NOT_UTF8 = 4, TOO_LONG = 5, NO_MEMORY = 6, NOTHING = 7, WRONG_COUNT = 9, NO_TEMPLATE = 10;
+const OK = 0, CLOSED = 1, LIMITS = 3, NOT_UTF8 = 4, TOO_LONG = 5, NO_MEMORY = 6, NOTHING = 7, WRONG_COUNT = 9, NO_TEMPLATE = 10, IN_TRANSACTION = 11;
 const CHANGED = 1, ROWS = 2, REFUSED = 3;
 const NULL = 0, INTEGER = 1;
 const HANDLE_BYTES = 16, RESULT_BYTES = 64, BUFFER_BYTES = 1 << 16;
@@ -27,6 +27,7 @@ const WORDS = new Map([
   [NOTHING, "there is nothing at this place"],
   [WRONG_COUNT, "the template has another number of question marks than there are values"],
   [NO_TEMPLATE, "the template has something that is neither a token nor a question mark"],
+  [IN_TRANSACTION, "a transaction is open"],
 ]);
 
 /** A call that could not be made; `status` is that of the library for C. */
@@ -241,6 +242,15 @@ export class Session {
       text: (name, ...words) => this.#pieces(name, ...words),
       value: (cell, text, ...words) => this.#value(cell, text, ...words),
     });
+  }
+
+  /**
+   * The database as scripts that make it again, to be executed one after another in a new session. It throws an EngineError where a
+   * transaction is open. The account of the last statement is gone.
+   */
+  dump() {
+    this.#ask("sqlkeep_dump", this.#result);
+    return Array.from({ length: this.#number(0) }, (_, at) => this.#pieces("sqlkeep_dump_script", BigInt(at)));
   }
 
   /** COMMIT. */

@@ -252,6 +252,13 @@ def a_refusal_says_what_it_means(page):
 
 
 @test
+def a_refusal_says_its_reason(page):
+    page.run_script("CREATE TABLE t (a INT); INSERT INTO t VALUES ('<b>');")
+    means = "The number of values isn't that of the columns, or an integer meets a text. The statement changed nothing."
+    equal(page.texts("#said .why")[0], f"'<b>' is a text, and column A of T is an INTEGER. {means}")
+
+
+@test
 def texts_of_rows_are_never_elements(page):
     page.run_script("CREATE TABLE t (a VARCHAR(90)); INSERT INTO t VALUES ('<img src=x onerror=\"window.hit = 1\"><b>'); SELECT a FROM t; -- <b>")
     equal(page.cells("#said"), [["'<img src=x onerror=\"window.hit = 1\"><b>'"]])

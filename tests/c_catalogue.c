@@ -146,6 +146,9 @@ static uint32_t table_name(sqlkeep *s, size_t at, size_t from, uint8_t *buffer, 
 static uint32_t constraint_name(sqlkeep *s, size_t at, size_t from, uint8_t *buffer, size_t size, size_t *copied) {
     return sqlkeep_constraint_name(s, at, from, buffer, size, copied);
 }
+static uint32_t constraint_condition(sqlkeep *s, size_t at, size_t from, uint8_t *buffer, size_t size, size_t *copied) {
+    return sqlkeep_constraint_condition(s, at, from, buffer, size, copied);
+}
 static uint32_t trigger_name(sqlkeep *s, size_t at, size_t from, uint8_t *buffer, size_t size, size_t *copied) {
     return sqlkeep_trigger_name(s, at, from, buffer, size, copied);
 }
@@ -226,6 +229,25 @@ static int triggers(sqlkeep *session) {
     return 0;
 }
 
+/* The conditions of CHECKs as texts, and of nothing else. */
+static int conditions(void) {
+    sqlkeep session = SQLKEEP_EMPTY;
+    uint8_t bytes[100] = {77};
+    size_t count = 77;
+    WANT(sqlkeep_open(&session, 16, 65536) == SQLKEEP_OK);
+    WANT(sqlkeep_constraint_condition(&session, 0, 0, bytes, sizeof bytes, &count) == SQLKEEP_NOTHING && count == 77 && bytes[0] == 77);
+    WANT(done(&session, "CREATE TABLE t (a INT NOT NULL CHECK (a > 0), b VARCHAR(9), CHECK ((a) <> 7 AND (NOT ((b = 'it''s') OR b IS NULL))), UNIQUE (a));", NULL, 0));
+    WANT(is_named(&session, constraint_condition, 1, "A > 0") && is_named(&session, constraint_condition, 2, "A <> 7 AND NOT (B = 'it''s' OR B IS NULL)"));
+    WANT(sqlkeep_constraint_condition(&session, 1, 2, bytes, 2, &count) == SQLKEEP_OK && has_text(bytes, count, "> "));
+    WANT(sqlkeep_constraint_condition(&session, 1, 9, bytes, 2, &count) == SQLKEEP_OK && count == 0);
+    for (size_t at = 0; at < 5; at++) {
+        count = 77;
+        WANT(at == 1 || at == 2 || (sqlkeep_constraint_condition(&session, at, 0, bytes, sizeof bytes, &count) == SQLKEEP_NOTHING && count == 77));
+    }
+    WANT(sqlkeep_close(&session) == SQLKEEP_OK);
+    return 0;
+}
+
 static int catalogue(void) {
     sqlkeep session = SQLKEEP_EMPTY;
     sqlkeep_sizes sizes = {77, 77, 77};
@@ -266,6 +288,8 @@ static int closed(void) {
         WANT(sqlkeep_column_name(it, 0, 0, 0, bytes, 1, &count) == want && sqlkeep_default(it, 0, 0, &cell) == want);
         WANT(sqlkeep_default_text(it, 0, 0, 0, bytes, 1, &count) == want && sqlkeep_constraint_at(it, 0, &constraint) == want);
         WANT(sqlkeep_constraint_name(it, 0, 0, bytes, 1, &count) == want && sqlkeep_constraint_column(it, 0, 0, &column) == want);
+        WANT(sqlkeep_constraint_condition(it, 0, 0, bytes, 1, &count) == want && sqlkeep_dump(it, &count) == want);
+        WANT(sqlkeep_dump_script(it, 0, 0, bytes, 1, &count) == want);
         WANT(sqlkeep_referenced_column(it, 0, 0, &column) == want && sqlkeep_trigger_at(it, 0, &trigger) == want);
         WANT(sqlkeep_trigger_name(it, 0, 0, bytes, 1, &count) == want && sqlkeep_trigger_column(it, 0, 0, &column) == want);
     }
@@ -280,6 +304,7 @@ int main(void) {
     failed = failed ? failed : no_templates(&session);
     failed = failed ? failed : columns(&session);
     WANT(sqlkeep_close(&session) == SQLKEEP_OK);
+    failed = failed ? failed : conditions();
     failed = failed ? failed : catalogue();
     return failed ? failed : closed();
 }

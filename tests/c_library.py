@@ -195,6 +195,19 @@ def places(room):
         yield 'places of statements: ' + name, told([program], input=text)
 
 
+def dumps(room):
+    """Whether the dump after each script makes its database again."""
+    program, why = room.c_program(os.path.join(HERE, 'c_dump.c'), 'c_dump')
+    yield 'dumps: the program is built', why
+    if why:
+        return
+    with ThreadPoolExecutor(os.cpu_count() or 1) as pool:
+        yield from pool.map(lambda script: ('dumps: ' + script[0], told([program], input=script[1])), known())
+    if shutil.which('valgrind'):
+        for name, text, *_ in known(25):
+            yield 'dumps under valgrind: ' + name, told(['valgrind', '-q', '--leak-check=full', '--error-exitcode=99', program], input=text)
+
+
 def tried(room):
     """All tests: a name, and why it failed."""
     yield from headers(room)
@@ -209,6 +222,7 @@ def tried(room):
                 yield from by_c(room, program)
     yield from firsts(room)
     yield from places(room)
+    yield from dumps(room)
     for what, name in (('sessions side by side', 'c_sessions'), ('templates and the catalogue', 'c_catalogue'), ('accounts entry by entry', 'c_accounts'),
                        ('rows many at a time', 'c_rows'), ('places, messages, results and violations', 'c_results')):
         program, why = room.c_program(os.path.join(HERE, name + '.c'), name)

@@ -82,6 +82,18 @@ static void refusals() {
     WANT(refused.what() == std::string("Signal: authors stay") && refused.why().trigger == "KEPT");
 }
 
+static void dumps() {
+    keep::session session = books();
+    session.execute("INSERT INTO book VALUES ('Emma', 'Austen', 7)");
+    thrown<keep::usage_error>([&] { session.dump(); });
+    session.commit();
+    WANT(session.condition(2) == "PAGES > 0" && !session.condition(0) && !session.condition(9));
+    const std::vector<std::string> scripts = session.dump();
+    keep::session copy;
+    for (const std::string &script : scripts) copy.execute_batch(script);
+    WANT(copy.dump() == scripts && copy.query("SELECT pages FROM book")[0].get<int>(0) == 7);
+}
+
 static void usage() {
     keep::session session;
     auto fault = thrown<keep::syntax_error>([&] { session.execute_batch("COMMIT;\n '\xc3\xa9' COMIT;"); });
@@ -128,6 +140,7 @@ static void transactions() {
 int main() {
     values();
     refusals();
+    dumps();
     usage();
     transactions();
     return 0;

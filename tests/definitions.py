@@ -32,11 +32,12 @@ BELOW = ['iv_value', 'iv_numbers', 'iv_expr', 'iv_syntax', 'iv_catalogue', 'iv_k
 NOTICES = {
     'iv_machine': 'iv_worked_machine', 'iv_account': 'iv_worked_machine', 'iv_key': 'iv_worked_machine',
     'iv_resolution': 'iv_worked_resolution', 'iv_syntax': 'iv_worked_resolution',
-    'iv_step': 'iv_step', 'iv_print': 'iv_print', 'iv_script': 'iv_script',
+    'iv_step': 'iv_step', 'iv_print': 'iv_print', 'iv_script': 'iv_script', 'iv_explain': 'iv_explain',
 }
-# Of these the definitions alone are copied. Three have their worked scripts beside the definitions: in one file, with one of theorems.
-DEFINED = ['iv_machine', 'iv_account', 'iv_resolution', 'iv_step', 'iv_print', 'iv_script']
-OWN = {'iv_step': ('Worked', 'WorkedScripts'), 'iv_print': ('WorkedAccounts', 'Worked'), 'iv_script': ('WorkedLines', 'Worked')}
+# Of these the definitions alone are copied. Four have their worked scripts beside the definitions: in one file, with one of theorems.
+DEFINED = ['iv_machine', 'iv_account', 'iv_resolution', 'iv_step', 'iv_print', 'iv_script', 'iv_explain']
+OWN = {'iv_step': ('Worked', 'WorkedScripts'), 'iv_print': ('WorkedAccounts', 'Worked'), 'iv_script': ('WorkedLines', 'Worked'),
+       'iv_explain': ('WorkedNames', 'ComputedNames')}
 WORKED = ['iv_worked_machine', 'iv_worked_resolution']
 CHANGES = os.path.join(HERE, 'definitions.edits')
 DIGEST = os.path.join(HERE, 'definitions.digest')

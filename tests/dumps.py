@@ -1,12 +1,15 @@
 #!/usr/bin/env python3
 """Dumps the database that each script leaves, runs the dump in a new session, and dumps again.
 
-  tests/dumps.py --dump PATH --program PATH [--only WORD]
+  tests/dumps.py --program PATH [--only WORD]
 
-PATH of --dump is `iv_tests_dump`, that of --program is `sqlkeep`. The dump has to be accepted throughout, the second dump has to be the
-first, which compares tables, constraints and triggers with their names, modes and order, and the rows of each table are compared: those
-after the script with those after its dump. The last line is `N passed, N failed`; the status is 1 if something failed."""
+The dump has to be accepted throughout, the second dump has to be the first, which compares tables, constraints and triggers with their
+names, modes and order, and the rows of each table are compared: those after the script with those after its dump. Status and standard
+error have to agree with the transcript of the script. A script with a fault has no dump; what comes before its fault is dumped in its
+place. A dump that is longer than a script is not run. Then each script is laid out by --format: what is written has to have the same
+transcript, and to be laid out as itself. The last line is `N passed, N failed`; the status is 1 if something failed."""
 import argparse
+import itertools
 import os
 import re
 import subprocess
@@ -71,8 +74,8 @@ def stored():
                 yield name, script
 
 
-def started(program, script):
-    return subprocess.run([program], input=script, capture_output=True, timeout=300, check=False)
+def started(program, script, *words):
+    return subprocess.run([program, *words], input=script, capture_output=True, timeout=300, check=False)
 
 
 def without_numbers(line):
@@ -96,7 +99,7 @@ def rows_after(program, script, tables):
 
 def compared(program, script, dump):
     """What the program finds wrong with a dump: a statement that is refused, or other rows."""
-    if len(dump) > LONGEST or len(script) > LONGEST:
+    if len(script) > LONGEST:
         return []
     done = started(program, dump)
     if done.returncode != 0:
@@ -106,29 +109,65 @@ def compared(program, script, dump):
     return ["the rows differ"] if before is not None and before != after else []
 
 
-def judge(dump, program, script):
+def told(transcript):
+    """What standard error is told of the dump of a script with this transcript, which has no fault, and the status."""
+    refused = len(re.findall(rb"^\d+ refused ", transcript, re.M))
+    lines = [b"sqlkeep: refused statements: %d\n" % refused] if refused else []
+    lines += [b"sqlkeep: the open transaction was rolled back\n"] if transcript.endswith(b"end rolled back\n") else []
+    return b"".join(lines), int(refused > 0)
+
+
+def dumped(program, script):
     """Why the dump of a script isn't as it should be."""
-    done = started(dump, script)
-    if done.returncode != 0:
-        return [f"status {done.returncode}: {(done.stdout + done.stderr).decode('utf-8', 'replace')[-300:]}"]
-    again = started(dump, done.stdout)
-    return ["the dump of the dump differs"] if again.stdout != done.stdout else compared(program, script, done.stdout)
+    transcript, done = started(program, script), started(program, script, "--dump")
+    if transcript.returncode == 2 or done.returncode == 2:
+        return [] if (done.stdout, done.stderr) == (b"", transcript.stderr) or b"longer than" in done.stderr else [f"standard error: {done.stderr!r}"]
+    fault = re.search(rb"^(\d+) fault (\d+)$", transcript.stdout, re.M)
+    if fault:
+        line = b"sqlkeep: statement %s can't be read: line " % fault[1]
+        why = [] if done.stdout == b"" and done.returncode == 1 and done.stderr.startswith(line) else [f"a fault: {done.stderr[-300:]!r}"]
+        return why + dumped(program, script[:int(fault[2])])
+    if (done.stderr, done.returncode) != told(transcript.stdout):
+        return [f"status {done.returncode}, standard error {done.stderr[-300:]!r}"]
+    if len(done.stdout) > LONGEST:
+        return []
+    again = started(program, done.stdout, "--dump")
+    why = ["the dump of the dump differs"] if (again.stdout, again.stderr, again.returncode) != (done.stdout, b"", 0) else []
+    return why or compared(program, script, done.stdout)
+
+
+def laid_out(program, script):
+    """Why the layout of a script isn't as it should be."""
+    transcript, done = started(program, script), started(program, script, "--format")
+    if transcript.returncode == 2:
+        return [] if (done.stdout, done.stderr) == (b"", transcript.stderr) else [f"standard error: {done.stderr!r}"]
+    fault = re.search(rb"^(\d+) fault (\d+)$", transcript.stdout, re.M)
+    if fault:
+        line = b"sqlkeep: statement %s can't be read: line " % fault[1]
+        why = [] if done.stdout == b"" and done.returncode == 1 and done.stderr.startswith(line) else [f"a fault: {done.stderr[-300:]!r}"]
+        return why + laid_out(program, script[:int(fault[2])])
+    if (done.stderr, done.returncode) != (b"", 0):
+        return [f"status {done.returncode}, standard error {done.stderr[-300:]!r}"]
+    if len(done.stdout) > LONGEST:
+        return []
+    why = [] if started(program, done.stdout).stdout == transcript.stdout else ["the transcript of the layout differs"]
+    return why + ([] if started(program, done.stdout, "--format").stdout == done.stdout else ["the layout of the layout differs"])
 
 
 def main():
     parser = argparse.ArgumentParser(description=__doc__, formatter_class=argparse.RawDescriptionHelpFormatter)
-    parser.add_argument("--dump", required=True)
     parser.add_argument("--program", required=True)
     parser.add_argument("--only", default="")
     words = parser.parse_args()
+    program = os.path.abspath(words.program)
     passed = failed = 0
-    for name, script in [*stored(), *made()]:
+    for (name, script), (what, judge) in itertools.product([*stored(), *made()], (("dump", dumped), ("layout", laid_out))):
         if words.only not in name:
             continue
-        why = judge(os.path.abspath(words.dump), os.path.abspath(words.program), script)
+        why = judge(program, script)
         passed, failed = passed + (not why), failed + bool(why)
         for line in why:
-            print(f"FAILED {name}: {line}")
+            print(f"FAILED {what} of {name}: {line}")
     print(f"{passed} passed, {failed} failed")
     return int(failed > 0)
 

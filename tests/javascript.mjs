@@ -197,9 +197,20 @@ const tests = {
     assert.deepEqual(constraints.map(({ name, table, kind, columns }) => [name, table, kind, columns]),
       [["P_C1", "P", "PRIMARY KEY", ["L", "K"]], ["C_C1", "C", "NOT NULL", ["Y"]], ["F", "C", "FOREIGN KEY", ["X", "Y"]], ["C_C3", "C", "UNIQUE", ["Y"]], ["C_C4", "C", "CHECK", []]]);
     assert.deepEqual(constraints[2], { name: "F", table: "C", kind: "FOREIGN KEY", columns: ["X", "Y"], isDeferrable: true, isInitiallyDeferred: true, nullsNotDistinct: false, referenced: "P",
-      referencedColumns: ["K", "L"], isMatchFull: true, onDelete: "SET NULL", onUpdate: "CASCADE" });
+      referencedColumns: ["K", "L"], isMatchFull: true, onDelete: "SET NULL", onUpdate: "CASCADE", condition: null });
     assert.deepEqual([constraints[3].nullsNotDistinct, constraints[3].isDeferrable, constraints[3].isInitiallyDeferred, constraints[3].referenced, constraints[3].onDelete], [true, true, false, null, null]);
+    assert.deepEqual(constraints.map(({ condition }) => condition), [null, null, null, null, "X > 0"]);
     assert.deepEqual(triggers, [{ name: "R", table: "C", time: "AFTER", event: "UPDATE", forEach: "ROW", columns: ["Y"], statements: 2 }]);
+  },
+  a_dump() {
+    const [session, copy] = [engine.open(), engine.open()];
+    session.execute("CREATE TABLE t (a INT PRIMARY KEY, b VARCHAR(9) CHECK (b <> 'é')); INSERT INTO t VALUES (1, 'it''s'), (2, NULL);");
+    assert.throws(() => session.dump(), { name: "EngineError", message: "a transaction is open", status: 11 });
+    session.commit();
+    const scripts = session.dump();
+    scripts.forEach((script) => copy.execute(script));
+    assert.deepEqual([copy.dump(), copy.catalogue()], [scripts, session.catalogue()]);
+    assert.deepEqual(copy.query("SELECT * FROM t;"), [[1, "it's"], [2, null]]);
   },
   a_trap() {
     // A function that traps in place of one of the module's: none of its own does.

@@ -153,6 +153,7 @@ def outcome_lines(outcome):
         yield '%d ok' % outcome['number'] + (' %d' % outcome['count'] if kind == 'changed' else '')
     yield from ('  ' + line for line in account_lines(outcome.get('account', [])))
     yield from [about_text(outcome['about'])] if 'about' in outcome else []
+    yield from ['  ' + outcome['reason']] if 'reason' in outcome else []
 
 
 def fault_lines(fault, explain):
@@ -204,7 +205,7 @@ def judge(program, script, given, explain):
     """Why the objects of a script aren't its transcript; nothing where it has none."""
     given = ['--explain'] * explain + [word for word in given if word != '--explain']
     want, status, _ = tests.run(program, script, given)
-    if status == 2 or {'--help', '--version'} & set(given):
+    if status == 2 or {'--help', '--version', '--dump', '--format'} & set(given):
         return []
     out, got, err = tests.run(program, script, ['--json', *given])
     objects, why = lines_of(out)

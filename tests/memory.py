@@ -23,8 +23,9 @@ EXCEPTIONS = [
     ('iv_dump/src/dumping.rt', 'rows_of', 'NoMemory', 'a SELECT of all rows is refused only where memory was'),
     ('iv_state/src/schema.rt', 'adding_refusal', 'AllocError', 'the store was refused memory, which is a fault of its own'),
     ('iv_program/src/program.rt', 'words', 'NoMemory', 'std tells by a kind of its error that memory for the words was refused'),
-    ('iv_program/src/program.rt', 'refuse_words', 'NoMemory', 'memory was refused for the options, which iv_options says by an error of its own'),
-    ('iv_options/src/reading.rt', 'words_error', 'NoMemory', 'clap tells by a kind of its error that memory was refused'),
+    ('iv_program/src/program.rt', 'refuse_words', 'NoMemory', 'memory was refused for the options, which is an error of its own'),
+    ('iv_program/src/reading.rt', 'words_error', 'NoMemory', 'clap tells by a kind of its error that memory was refused'),
+    ('iv_program/src/dumping.rt', 'stop_of', 'NoMemory', 'the dump was refused memory, which is a refusal of its own'),
     ('iv_print/src/device.rt', 'read', 'DeviceFault', 'the reader under the device failed'),
     ('iv_print/src/device.rt', 'write', 'DeviceFault', 'the writer under the device failed, or took none of some bytes'),
 ]

@@ -137,7 +137,8 @@ def named(is_all):
 
 # Words with which no script is run: such a run ends with the line, or is as without refusal.
 WORDS = [
-    ('the help text', ['--help']), ('a depth that is none', ['--depth', '0']), ('an unknown word', ['--unknown']), ('a file that is not there', ['absent.sql'])]
+    ('the help text', ['--help']), ('a depth that is none', ['--depth', '0']), ('an unknown word', ['--unknown']), ('a file that is not there', ['absent.sql']),
+    ('a layout', ['--format', 'options_format.sql']), ('the layout of a fault', ['--format', 'options_format_fault.sql'])]
 
 
 def plan(is_all, is_plain):

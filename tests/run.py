@@ -92,7 +92,7 @@ def scripts(program):
 def options(program):
     """The text of --help, which names every option, and the line of --version, and nothing else."""
     out, status, err = run(program, b'SELECT * FROM t;', ['--help'])
-    words = (b'--depth', b'--changes', b'--explain', b'--json', b'--version', b'FILE', b'Limits:', b'Examples:')
+    words = (b'--depth', b'--changes', b'--explain', b'--json', b'--dump', b'--format', b'--version', b'FILE', b'Limits:', b'Examples:')
     good = status == 0 and err == b'' and out.endswith(b'\n') and all(word in out for word in words)
     yield 'options: --help', [] if good else ['status %d, got %r, standard error %r' % (status, out[:200], err[:200])]
     for word in ('--version', '-V'):

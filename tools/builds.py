@@ -1,6 +1,6 @@
 """What a build is called: its version, whether it is proved, and the sources and the kit that it was made of.
 
-A program can't know these, so the build writes them into it. The constant SIGNED of crates/iv_options/src/version.rt is a line with room
+A program can't know these, so the build writes them into it. The constant SIGNED of crates/iv_program/src/version.rt is a line with room
 behind it; here it is found in the program and replaced by a line of the same length. Nothing else of the program changes.
 """
 import hashlib
@@ -70,7 +70,7 @@ def line(proved, crate, its_commit=None):
 
 def place_for_line():
     """The text that a build replaces: the constant of the sources."""
-    text = Path(repository.folder("iv_options"), "src", "version.rt").read_text("utf-8")
+    text = Path(repository.folder("iv_program"), "src", "version.rt").read_text("utf-8")
     return re.search(r'"([^"]*)"', text)[1].encode()
 
 

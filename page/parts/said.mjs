@@ -4,17 +4,18 @@ import { meaningOf } from "./causes.mjs";
 import { element } from "./elements.mjs";
 import { grid } from "./grid.mjs";
 
-const NOTES = /^ {2}(table|column|row variable|trigger|constraint|REFERENCING name) .*(isn't there|is there already|comes twice)$/;
+// The causes of which the last line says the name at fault or the reason.
+const TOLD = new Set([1, 2, 3, 7, 8, 9, 21]);
 
 /** What a statement answered, as elements. */
 export function saidOf(detail, text) {
   const { answer, line, lines } = detail;
-  const name = lines.find((each) => NOTES.test(each));
+  const reason = answer.kind === "refused" && TOLD.has(answer.cause) ? lines.findLast((each) => each.startsWith("  "))?.trim() : null;
   const why = answer.kind === "refused" ? meaningOf(answer) : null;
   return [
     element("pre", { class: "statement-text" }, text),
     element("p", { class: `line-of-answer ${answer.kind}` }, line),
-    why ? element("p", { class: "why" }, name ? `${name.trim()[0].toUpperCase()}${name.trim().slice(1)}. ${why}` : why) : null,
+    why ? element("p", { class: "why" }, reason ? `${reason[0].toUpperCase()}${reason.slice(1)}. ${why}` : why) : null,
     answer.kind === "rows" ? rowsOf(detail) : null,
     workOf(detail),
   ].filter(Boolean);

@@ -12,6 +12,23 @@ static PyObject *name_of(sqlkeep *handle, size_t at, read_name *read) {
     return status == SQLKEEP_OK ? PyUnicode_DecodeUTF8(name, (Py_ssize_t)copied, "strict") : failed(status);
 }
 
+/* A whole text, part by part. */
+static PyObject *whole_text(sqlkeep *handle, size_t at, read_name *read) {
+    bytes whole = {NULL, 0, 0};
+    uint8_t piece[4096];
+    size_t copied = sizeof piece;
+    while (copied == sizeof piece) {
+        uint32_t status = read(handle, at, whole.length, piece, sizeof piece, &copied);
+        if (status != SQLKEEP_OK || bytes_push(&whole, piece, copied) != 0) {
+            bytes_free(&whole);
+            return status != SQLKEEP_OK ? failed(status) : NULL;
+        }
+    }
+    PyObject *text = PyUnicode_DecodeUTF8((const char *)whole.at, (Py_ssize_t)whole.length, "strict");
+    bytes_free(&whole);
+    return text;
+}
+
 /* A list of `count` items, each made by `item`. */
 typedef PyObject *make_item(sqlkeep *handle, size_t outer, size_t at);
 
@@ -76,8 +93,17 @@ static PyObject *referenced_column(sqlkeep *handle, size_t constraint, size_t at
     return status == SQLKEEP_OK ? PyLong_FromUnsignedLong(column) : failed(status);
 }
 
+/* The condition of a CHECK, and None of another constraint. */
+static PyObject *condition_of(sqlkeep *handle, size_t at, uint32_t kind) {
+    if (kind == SQLKEEP_CHECK) {
+        return whole_text(handle, at, sqlkeep_constraint_condition);
+    }
+    Py_INCREF(Py_None);
+    return Py_None;
+}
+
 /* (name, kind, table, columns, deferrable, initially deferred, nulls not distinct, referenced, its columns, match full, on delete,
-   on update, deferred now) */
+   on update, deferred now, condition) */
 static PyObject *constraint_at(sqlkeep *handle, size_t unused, size_t at) {
     sqlkeep_constraint_definition found = {0};
     uint32_t mode = SQLKEEP_IMMEDIATE;
@@ -91,13 +117,15 @@ static PyObject *constraint_at(sqlkeep *handle, size_t unused, size_t at) {
     PyObject *columns = name == NULL ? NULL : list_of(handle, at, (size_t)found.columns, constraint_column);
     size_t count = found.kind == SQLKEEP_FOREIGN_KEY ? (size_t)found.columns : 0;
     PyObject *referenced = columns == NULL ? NULL : list_of(handle, at, count, referenced_column);
-    if (referenced == NULL) {
+    PyObject *condition = referenced == NULL ? NULL : condition_of(handle, at, found.kind);
+    if (condition == NULL) {
         Py_XDECREF(name);
         Py_XDECREF(columns);
+        Py_XDECREF(referenced);
         return NULL;
     }
-    return Py_BuildValue("NIINIIIINIIII", name, found.kind, found.table, columns, found.deferrable, found.initially_deferred, found.nulls_not_distinct,
-                         found.referenced, referenced, found.match_full, found.on_delete, found.on_update, mode);
+    return Py_BuildValue("NIINIIIINIIIIN", name, found.kind, found.table, columns, found.deferrable, found.initially_deferred, found.nulls_not_distinct,
+                         found.referenced, referenced, found.match_full, found.on_delete, found.on_update, mode, condition);
 }
 
 static PyObject *trigger_column(sqlkeep *handle, size_t trigger, size_t at) {
@@ -178,4 +206,15 @@ PyObject *stored_row(sqlkeep *handle, size_t number) {
         return NULL;
     }
     return Py_BuildValue("NN", name, values);
+}
+
+static PyObject *dump_script(sqlkeep *handle, size_t unused, size_t at) {
+    (void)unused;
+    return whole_text(handle, at, sqlkeep_dump_script);
+}
+
+PyObject *dump_of(sqlkeep *handle) {
+    size_t scripts = 0;
+    uint32_t status = sqlkeep_dump(handle, &scripts);
+    return status == SQLKEEP_OK ? list_of(handle, 0, scripts, dump_script) : failed(status);
 }

@@ -99,6 +99,9 @@ PyObject *failed(uint32_t status) {
     case SQLKEEP_NO_MEMORY:
         PyErr_SetString(errors.operational, "OutOfMemory: memory was refused");
         break;
+    case SQLKEEP_IN_TRANSACTION:
+        PyErr_SetString(errors.programming, "a transaction is open: commit it or roll it back");
+        break;
     case SQLKEEP_NOTHING:
         PyErr_SetString(PyExc_IndexError, "there is nothing at this place");
         break;
@@ -424,6 +427,12 @@ static PyObject *engine_catalogue(engine *self, PyObject *unused) {
     return engine_begin(self) != 0 ? NULL : engine_end(self, catalogue_of(&self->handle));
 }
 
+/* dump(): the scripts that make the database again. */
+static PyObject *engine_dump(engine *self, PyObject *unused) {
+    (void)unused;
+    return engine_begin(self) != 0 ? NULL : engine_end(self, dump_of(&self->handle));
+}
+
 /* row(number): the row of this number as (table, values), or None. */
 static PyObject *engine_row(engine *self, PyObject *arguments) {
     unsigned long long number;
@@ -471,6 +480,7 @@ static PyMethodDef methods[] = {
     {"work", (PyCFunction)engine_work, METH_NOARGS, NULL},
     {"pending", (PyCFunction)engine_pending, METH_NOARGS, NULL},
     {"catalogue", (PyCFunction)engine_catalogue, METH_NOARGS, NULL},
+    {"dump", (PyCFunction)engine_dump, METH_NOARGS, NULL},
     {"row", (PyCFunction)engine_row, METH_VARARGS, NULL},
     {"progress", (PyCFunction)engine_progress, METH_NOARGS, NULL},
     {"explain", (PyCFunction)engine_explain, METH_VARARGS, NULL},

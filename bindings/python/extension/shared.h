@@ -69,6 +69,9 @@ PyObject *value_of(sqlkeep *handle, const sqlkeep_cell *cell, size_t row, size_t
 /* (tables, constraints, triggers), each a list of tuples; docs in _engine.pyi. NULL with an exception. */
 PyObject *catalogue_of(sqlkeep *handle);
 
+/* The scripts of a dump, a list of strings. NULL with an exception. */
+PyObject *dump_of(sqlkeep *handle);
+
 /* The row of this number as (table, list of values), or None where there is none. */
 PyObject *stored_row(sqlkeep *handle, size_t number);
 

@@ -91,6 +91,20 @@ class ByHand(unittest.TestCase):
                 account = sqlkeep.parse_account(f"  {line}\n")
                 self.assertEqual((account.name, str(account)), (wanted, f"  {line}\n"))
 
+    def test_reasons(self):
+        for line in (
+            "tuple 2 has 1 value for 3 columns of BOOK", "the query gives 2 values for 1 column of P", "'it''s\n' is a text, and column ID of BOOK is an INTEGER",
+            "1 is an integer, and N.B is a VARCHAR(2)", "column K of P is an INTEGER, and column B of T is a VARCHAR(2)", "B is compared with A + 'x', and only one of them is a text",
+            "(B) is a text, and arithmetic takes integers", "table T has no column", "column B is a VARCHAR(2), and its DEFAULT is 'abc'",
+            "constraint K is the second PRIMARY KEY of its table", "constraint K: column A is an INTEGER, and column C of P is a VARCHAR(3)",
+            "constraint K refers to T (A, B), which is no key that is NOT DEFERRABLE", "REFERENCING names the old row twice", "REFERENCING name Z is for old rows, and INSERT has none",
+            "statement 2 is SET, and the trigger is AFTER", "statement 2 sets Z.B, which is of the old row", "there would be 65 tables, and 64 is the most",
+            "trigger R would have 33 statements, and 32 is the most", "column B is a VARCHAR(0), and 1 is the least", "savepoint S isn't there",
+        ):
+            with self.subTest(line):
+                account = sqlkeep.parse_account(f"  {line}\n")
+                self.assertEqual((account.reason, str(account)), (sqlkeep.Reason(line), f"  {line}\n"))
+
     def test_texts_that_look_like_lines(self):
         """A value may hold line feeds, quotes, parentheses and whole lines of an account."""
         for text in ("\n  insert T row 2 (1)\n", "it's", "', (1", "a)\n", "\n1 ok\n", "\nend rolled back", "), which isn't there\n", "''"):

@@ -15,15 +15,15 @@ CAUSES = [
     ("CREATE TABLE t (a INT);", "SELECT b.c FROM t AS b", sqlkeep.ProgrammingError, 1, "Unknown", "Unknown: column B.C isn't there"),
     ("CREATE TABLE t (a INT);", "CREATE TABLE t (b INT)", sqlkeep.ProgrammingError, 2, "Duplicate", "Duplicate: table T is there already"),
     ("", "CREATE TABLE t (a INT, b INT, a INT)", sqlkeep.ProgrammingError, 2, "Duplicate", "Duplicate: column A comes twice"),
-    ("", "CREATE TABLE t (a INT REFERENCES t)", sqlkeep.ProgrammingError, 3, "SchemaFault", "SchemaFault: no database can have such a definition"),
+    ("", "CREATE TABLE t (a INT REFERENCES t)", sqlkeep.ProgrammingError, 3, "SchemaFault", "SchemaFault: constraint T_C1 refers to T, which has no PRIMARY KEY"),
     ("CREATE TABLE t (a INT); INSERT INTO t VALUES (1);", "CREATE TABLE u (a INT)", sqlkeep.ProgrammingError, 4, "InTransaction",
      "InTransaction: tables, constraints and triggers are made and dropped outside a transaction; COMMIT or ROLLBACK first"),
     ("", "RELEASE SAVEPOINT s", sqlkeep.ProgrammingError, 5, "NoTransaction", "NoTransaction: no transaction is open; START TRANSACTION first"),
     ("START TRANSACTION;", "START TRANSACTION", sqlkeep.ProgrammingError, 6, "ActiveTransaction", "ActiveTransaction: a transaction is open already"),
-    ("START TRANSACTION;", "RELEASE SAVEPOINT s", sqlkeep.ProgrammingError, 7, "UnknownSavepoint", "UnknownSavepoint: there is no savepoint of that name"),
-    ("CREATE TABLE t (a INT CONSTRAINT c NOT NULL);", "SET CONSTRAINTS c DEFERRED", sqlkeep.ProgrammingError, 8, "NotDeferrable", "NotDeferrable of C: the constraint isn't deferrable"),
+    ("START TRANSACTION;", "RELEASE SAVEPOINT s", sqlkeep.ProgrammingError, 7, "UnknownSavepoint", "UnknownSavepoint: savepoint S isn't there"),
+    ("CREATE TABLE t (a INT CONSTRAINT c NOT NULL);", "SET CONSTRAINTS c DEFERRED", sqlkeep.ProgrammingError, 8, "NotDeferrable", "NotDeferrable of C: constraint C is NOT DEFERRABLE"),
     ("CREATE TABLE t (a INT);", "INSERT INTO t VALUES (1, 2)", sqlkeep.ProgrammingError, 9, "WrongShape",
-     "WrongShape: the number of values isn't that of the columns, or an integer meets a text"),
+     "WrongShape: tuple 1 has 2 values for 1 column of T"),
     ("CREATE TABLE t (a INT);", "INSERT INTO t VALUES (9223372036854775807 + 1)", sqlkeep.DataError, 10, "NumberOutOfRange", "NumberOutOfRange: a result has more than 64 bits"),
     ("CREATE TABLE t (a VARCHAR(3));", "INSERT INTO t VALUES ('four')", sqlkeep.DataError, 11, "TextTooLong", "TextTooLong: a text has more characters than its column holds"),
     ("CREATE TABLE p (k INT PRIMARY KEY); CREATE TABLE c (x INT CONSTRAINT f REFERENCES p ON DELETE RESTRICT); INSERT INTO p VALUES (1); INSERT INTO c VALUES (1);",
@@ -46,7 +46,7 @@ CAUSES = [
      "CommitRefused of POSITIVE: T row 1 (0) makes its condition false; the transaction is rolled back"),
     ("CREATE TABLE t (a INT); INSERT INTO t VALUES (0); COMMIT;", "ALTER TABLE t ADD CHECK (a > 0)", sqlkeep.IntegrityError, 20, "AddRefused",
      "AddRefused: row 1: a row violates the constraint that ALTER TABLE adds"),
-    ("", "CREATE TABLE t (a VARCHAR(4097))", sqlkeep.OperationalError, 21, "Limit", "Limit: there are more tables, columns, constraints or other things than there may be"),
+    ("", "CREATE TABLE t (a VARCHAR(4097))", sqlkeep.OperationalError, 21, "Limit", "Limit: column A is a VARCHAR(4097), and 4096 is the most"),
 ]
 
 BOOKS = """

@@ -78,6 +78,7 @@ class Memory(unittest.TestCase):
             "refused commit": lambda: (connection.execute("INSERT INTO c VALUES (999)"), connection.pending(), str(refused(connection.commit))),
             "script": lambda: connection.session.run("CREATE TABLE t (a INT); INSERT INTO t VALUES (1); SELECT * FROM t;"),
             "catalogue": lambda: connection.session.catalogue,
+            "dump": lambda: list(connection.iterdump()),
             "account": lambda: (
                 setattr(connection.session, "explain", True), connection.session.execute("DELETE FROM p").account, setattr(connection.session, "explain", False), connection.rollback(),
             ),

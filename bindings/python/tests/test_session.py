@@ -154,7 +154,7 @@ class Outcomes(unittest.TestCase):
         with sqlkeep.Session() as session:
             pass
         session.close()
-        for call in (session.commit, session.rollback, session.pending, session.work, lambda: session.execute("COMMIT"), lambda: session.run(""), lambda: session.catalogue):
+        for call in (session.commit, session.rollback, session.pending, session.work, session.dump, lambda: session.execute("COMMIT"), lambda: session.run(""), lambda: session.catalogue):
             with self.assertRaisesRegex(sqlkeep.ProgrammingError, "^the connection is closed$"):
                 call()
 
@@ -172,6 +172,51 @@ class StoredRows(unittest.TestCase):
             self.assertIsNone(session.row(number), number)
         session.execute("ROLLBACK").check()
         self.assertIsNone(session.row(2))
+
+
+class Dumps(unittest.TestCase):
+    def filled(self):
+        connection = sqlkeep.connect()
+        connection.executescript("""
+            CREATE TABLE shelf (number INT PRIMARY KEY);
+            CREATE TABLE book (title VARCHAR(20) CHECK (title <> ';'), number INT, FOREIGN KEY (number) REFERENCES shelf);
+            INSERT INTO shelf VALUES (1), (2);
+            INSERT INTO book VALUES ('it''s; one', 2), ('é', NULL);
+            COMMIT;
+            CREATE TRIGGER gone AFTER DELETE ON shelf BEGIN ATOMIC DELETE FROM book WHERE number IS NULL; SIGNAL 'no'; END;""")
+        return connection
+
+    def test_a_dump_makes_the_database_again(self):
+        first, second = self.filled().session, sqlkeep.Session()
+        scripts = first.dump()
+        for script in scripts:
+            for outcome in second.script(script):
+                outcome.check()
+        self.assertEqual((second.dump(), second.catalogue), (scripts, first.catalogue))
+        for table in first.catalogue.tables:
+            self.assertEqual(second.execute(f"SELECT * FROM {table}").rows, first.execute(f"SELECT * FROM {table}").rows)
+
+    def test_statement_by_statement(self):
+        first, second = self.filled(), sqlkeep.connect()
+        found = list(first.iterdump())
+        self.assertTrue(all(each.endswith(";") and not each[0].isspace() for each in found))
+        self.assertTrue(found[-1].startswith("CREATE TRIGGER GONE AFTER DELETE ON SHELF"))
+        for each in found:
+            second.execute(each)
+        second.commit()
+        self.assertEqual(list(second.iterdump()), found)
+
+    def test_an_empty_database(self):
+        self.assertEqual((sqlkeep.Session().dump(), list(sqlkeep.connect().iterdump())), ([""], []))
+
+    def test_inside_a_transaction(self):
+        connection = self.filled()
+        connection.execute("DELETE FROM book")
+        for call in (connection.iterdump, connection.session.dump):
+            with self.assertRaisesRegex(sqlkeep.ProgrammingError, "^a transaction is open: commit it or roll it back$"):
+                call()
+        connection.rollback()
+        self.assertEqual(sqlkeep.connect().executescript("".join(connection.iterdump())).connection.execute("SELECT number FROM book").fetchall(), [(2,), (None,)])
 
 
 class OfTheCatalogue(unittest.TestCase):
@@ -198,7 +243,7 @@ class OfTheCatalogue(unittest.TestCase):
             Constraint("SHELF_C1", "NOT NULL", "SHELF", ("ROOM",)),
             Constraint("SHELF_C2", "PRIMARY KEY", "SHELF", ("NUMBER", "ROOM")),
             Constraint("ONE_TITLE", "UNIQUE", "BOOK", ("TITLE",), nulls_not_distinct=True),
-            Constraint("BOOK_C2", "CHECK", "BOOK", deferrable=True, initially_deferred=True, deferred=True),
+            Constraint("BOOK_C2", "CHECK", "BOOK", deferrable=True, initially_deferred=True, deferred=True, condition="NUMBER < 9"),
             Constraint("STANDS", "FOREIGN KEY", "BOOK", ("NUMBER", "ROOM"), deferrable=True, referenced="SHELF", referenced_columns=("NUMBER", "ROOM"), match_full=True,
                        on_delete="CASCADE", on_update="SET NULL"),
         ])

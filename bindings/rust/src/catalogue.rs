@@ -93,6 +93,8 @@ pub struct Constraint {
     pub table: String,
     /// The names of the columns that it is of; none for a CHECK.
     pub columns: Vec<String>,
+    /// The condition of a CHECK as SQL text, with names in upper case; none of another constraint, or if memory was refused for it.
+    pub condition: Option<String>,
     /// What it refers to, where it is a foreign key.
     pub references: Option<Reference>,
     /// Whether SET CONSTRAINTS may set its mode.
@@ -242,6 +244,7 @@ impl Session {
             kind: kind(&it),
             table: catalogue.tables[it.table as usize].name.clone(),
             columns: columns.iter().map(|&column| catalogue.column_name(it.table, column)).collect(),
+            condition: copied(|from, buffer, size, count| unsafe { ffi::sqlkeep_constraint_condition(self.handle(), at, from, buffer, size, count) }),
             references: (it.kind == 4).then(|| Reference {
                 table: catalogue.tables[it.referenced as usize].name.clone(),
                 columns: referenced.iter().map(|&column| catalogue.column_name(it.referenced, column)).collect(),

@@ -36,6 +36,8 @@ pub enum Error {
     Limits,
     /// The script is longer than 1,048,576 bytes.
     TooLong,
+    /// A transaction is open, so that the database isn't dumped.
+    InTransaction,
     /// Memory was refused.
     NoMemory,
 }
@@ -135,6 +137,7 @@ impl fmt::Display for Error {
             Error::Type { column, wanted } => write!(f, "the value in column {column} is no {wanted}"),
             Error::RowCount(count) => write!(f, "one row was wanted, and the query gives {count}"),
             Error::Limits => f.write_str("the limits of a session are a depth of 1 to 64, and 1 to 65536 changes"),
+            Error::InTransaction => f.write_str("a transaction is open"),
             Error::TooLong => f.write_str("the script is longer than 1048576 bytes"),
             Error::NoMemory => f.write_str("memory was refused"),
         }

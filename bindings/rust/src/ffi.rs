@@ -8,6 +8,7 @@ pub const NO_MEMORY: u32 = 6;
 pub const NOTHING: u32 = 7;
 pub const WRONG_COUNT: u32 = 9;
 pub const NO_TEMPLATE: u32 = 10;
+pub const IN_TRANSACTION: u32 = 11;
 
 pub const CHANGED: u32 = 1;
 pub const ROWS: u32 = 2;
@@ -193,6 +194,9 @@ extern "C" {
     pub fn sqlkeep_constraint_column(handle: *mut Handle, at: usize, place: usize, column: *mut u32) -> u32;
     pub fn sqlkeep_referenced_column(handle: *mut Handle, at: usize, place: usize, column: *mut u32) -> u32;
     pub fn sqlkeep_constraint_mode(handle: *mut Handle, at: usize, mode: *mut u32) -> u32;
+    pub fn sqlkeep_constraint_condition(handle: *mut Handle, at: usize, from: usize, buffer: *mut u8, size: usize, copied: *mut usize) -> u32;
+    pub fn sqlkeep_dump(handle: *mut Handle, scripts: *mut usize) -> u32;
+    pub fn sqlkeep_dump_script(handle: *mut Handle, at: usize, from: usize, buffer: *mut u8, size: usize, copied: *mut usize) -> u32;
     pub fn sqlkeep_row(handle: *mut Handle, number: u64, row: *mut StoredRow) -> u32;
     pub fn sqlkeep_row_value(handle: *mut Handle, number: u64, column: usize, value: *mut Cell) -> u32;
     pub fn sqlkeep_row_text(handle: *mut Handle, number: u64, column: usize, from: usize, buffer: *mut u8, size: usize, copied: *mut usize) -> u32;

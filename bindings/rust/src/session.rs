@@ -78,6 +78,7 @@ fn failed(status: u32) -> Error {
     match status {
         ffi::LIMITS => Error::Limits,
         ffi::TOO_LONG => Error::TooLong,
+        ffi::IN_TRANSACTION => Error::InTransaction,
         ffi::NO_MEMORY => Error::NoMemory,
         ffi::NO_TEMPLATE => Error::NoTemplate,
         other => unreachable!("status {other} of a session that is open"),
@@ -391,6 +392,32 @@ impl Session {
         let mut outcome = ffi::Outcome::default();
         checked(unsafe { ffi::sqlkeep_rollback_to(&mut self.handle, name.as_ptr(), name.len(), &mut outcome) })?;
         if outcome.kind == ffi::REFUSED { Err(self.refused(&outcome, 0)) } else { Ok(()) }
+    }
+
+    /// The database as scripts that make it again, to be executed one after another in a new session by [`Session::execute_batch`]: each
+    /// table with its constraints and its rows, in creation order, then the triggers. Rows get new numbers. The account of the last
+    /// statement is gone.
+    ///
+    /// ```
+    /// # fn main() -> sqlkeep::Result<()> {
+    /// let mut session = sqlkeep::Session::open()?;
+    /// session.execute_batch("CREATE TABLE t (a INT CHECK (a > 0)); INSERT INTO t VALUES (1), (2); COMMIT;")?;
+    /// let mut copy = sqlkeep::Session::open()?;
+    /// for script in session.dump()? {
+    ///     copy.execute_batch(&script)?;
+    /// }
+    /// assert_eq!(copy.query::<(i64,)>("SELECT a FROM t;", ())?, [(1,), (2,)]);
+    /// # Ok(())
+    /// # }
+    /// ```
+    ///
+    /// # Errors
+    /// [`Error::InTransaction`], [`Error::TooLong`] where a row would need a longer script, [`Error::NoMemory`].
+    pub fn dump(&mut self) -> Result<Vec<String>> {
+        let mut count = 0;
+        checked(unsafe { ffi::sqlkeep_dump(&mut self.handle, &mut count) })?;
+        let mut script = |at| copied(|from, buffer, size, count| unsafe { ffi::sqlkeep_dump_script(&mut self.handle, at, from, buffer, size, count) });
+        Ok((0..count).map(|at| script(at).unwrap_or_default()).collect())
     }
 
     /// Runs `body` in a transaction: commits if it answers `Ok`, and else rolls back.

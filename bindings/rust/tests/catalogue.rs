@@ -22,6 +22,8 @@ fn everything_has_its_parts() {
     assert_eq!((number.longest, &number.default), (None, &Value::Integer(5)));
     let kinds: Vec<Kind> = catalogue.constraints.iter().map(|constraint| constraint.kind).collect();
     assert_eq!(kinds, [Kind::PrimaryKey, Kind::UniqueNullsNotDistinct, Kind::NotNull, Kind::Check, Kind::ForeignKey]);
+    let conditions: Vec<Option<&str>> = catalogue.constraints.iter().map(|constraint| constraint.condition.as_deref()).collect();
+    assert_eq!(conditions, [None, None, None, Some("PART > 0"), None]);
     let key = catalogue.constraints_of("BOOK").last().unwrap();
     assert_eq!((&key.name[..], &key.columns[..], key.deferrable, key.initially_deferred), ("BY_WHOM", &["TITLE".to_string(), "AUTHOR".to_string()][..], true, true));
     let reference = key.references.as_ref().unwrap();

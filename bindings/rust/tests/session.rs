@@ -168,3 +168,18 @@ fn scripts_are_run_as_by_the_program() {
     assert_eq!(session.run(&" ".repeat(1_048_577)), Err(Error::TooLong));
     assert_eq!(Session::with_limits(65, 1).err(), Some(Error::Limits));
 }
+
+#[test]
+fn a_dump_makes_the_database_again() {
+    let mut session = Session::open().unwrap();
+    session.execute_batch("CREATE TABLE t (a INT PRIMARY KEY, b VARCHAR(9) CHECK (b <> 'no')); INSERT INTO t VALUES (2, 'it''s'), (1, NULL);").unwrap();
+    assert_eq!(session.dump(), Err(Error::InTransaction));
+    session.commit().unwrap();
+    let scripts = session.dump().unwrap();
+    let mut copy = Session::open().unwrap();
+    for script in &scripts {
+        copy.execute_batch(script).unwrap();
+    }
+    assert_eq!((copy.dump().unwrap(), copy.catalogue()), (scripts, session.catalogue()));
+    assert_eq!(copy.query::<(i64, Option<String>)>("SELECT * FROM t", ()).unwrap(), [(2, Some("it's".into())), (1, None)]);
+}

@@ -1,3 +1,6 @@
-pub mod PlaceProofs
-pub mod ResultProofs
+pub mod CellsComputed
+pub mod ConditionProofs
 pub mod MessageProofs
+pub mod PlaceProofs
+pub mod Placing
+pub mod ResultProofs

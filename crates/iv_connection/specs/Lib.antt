@@ -1,6 +1,9 @@
 pub mod Accounts
 pub mod Catalogue
+pub mod Cells
+pub mod Conditions
 pub mod Copying
+pub mod Dumps
 pub mod Kinds
 pub mod Messages
 pub mod OutcomeLines
@@ -18,3 +21,4 @@ pub mod TemplateFaults
 pub mod Templates
 pub mod Texts
 pub mod Transactions
+pub mod WorkedCells

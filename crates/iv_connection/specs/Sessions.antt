@@ -1,4 +1,4 @@
--- A session that was just c.
+-- A session that was just opened.
 use Rattle.std.specs.Prelude.{◌≡◌, false, [], None, Ok}
 use Rattle.iv_account.specs.Telling.{no_account}
 use Rattle.iv_machine.specs.Bounds.{Bounds}
@@ -7,7 +7,7 @@ use Rattle.iv_machine.specs.Machine.{empty_state, no_work}
 use Rattle.iv_connection.specs.declared.connection.Connection.{Connection}
 
 -- The state is that of no table, with these limits. Nothing was done yet: no statement was read or executed, no value was bound, nothing was looked up or looked
--- for, and nothing was written. No account is asked for.
+-- for, and nothing was written or dumped. No account is asked for.
 pub record IsNew (limits : Bounds) (c : Connection) : Type 0 where
   pub state : c.session.state ≡ empty_state limits
   pub work : c.session.work ≡ no_work
@@ -21,4 +21,5 @@ pub record IsNew (limits : Bounds) (c : Connection) : Type 0 where
   pub executed : c.executed ≡ None
   pub pending : c.pending.items ≡ []
   pub transcript : c.transcript.items ≡ []
+  pub dump : c.dump.items ≡ []
   pub account : c.session.account ≡ no_account false

@@ -2,9 +2,10 @@
 ghost use Rattle.std.specs.Prelude.{◌≡◌, ◌≢◌, length, slice_get, IfSome, option_and_then, option_copied, option_map, is_some};
 ghost use Rattle.iv_connection.specs.Accounts.{change_shown, change_side, entry_shown, entry_trigger, flag, item_at, item_shown, item_value, item_values, row_action_shown, seen_value, seen_values, side_of, stored_shown, trigger_at_entry};
 ghost use Rattle.iv_connection.specs.Copying.{Copies};
-ghost use Rattle.iv_cells.specs.Cells.{text_of, cell_of};
+ghost use Rattle.iv_connection.specs.Cells.{text_of, cell_of};
 ghost use Rattle.iv_connection.specs.Statuses.{found};
 
+use crate::cell::{Cell, cell_of, text_of};
 use crate::connection::Connection;
 use crate::constraints::action_number;
 use crate::copying::copied;
@@ -12,7 +13,6 @@ use crate::status::{NOTHING, OK};
 use crate::texts::trigger_named;
 use iv_account::{Entry, RowAction, TriggerView};
 use iv_catalogue::Catalogue;
-use iv_cells::{Cell, cell_of, text_of};
 use iv_expr::{Change, Row, StoredRow};
 use iv_value::Value;
 

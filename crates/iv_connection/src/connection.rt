@@ -33,4 +33,6 @@ pub struct Connection {
     pub pending: Vec<Fault>,
     /// The transcript of the last script that was run, or the lines of an outcome.
     pub transcript: Vec<u8>,
+    /// The scripts of the last dump.
+    pub dump: Vec<String>,
 }

@@ -1,9 +1,10 @@
 //! The rows that a query gave.
 ghost use Rattle.std.specs.Prelude.{◌≡◌, drop, option_copied};
-ghost use Rattle.iv_cells.specs.Cells.{AreCopied};
+ghost use Rattle.iv_connection.specs.Cells.{AreCopied};
 ghost use Rattle.iv_connection.specs.Rows.{rows_of, value_at};
 
-use iv_cells::{Cell, TakenRows, copy_rows};
+use crate::cell::Cell;
+use crate::row_buffers::{TakenRows, copy_rows};
 use iv_expr::Row;
 use iv_session::{Answer, Outcome};
 use iv_value::Value;

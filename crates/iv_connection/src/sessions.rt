@@ -25,6 +25,7 @@ pub fn new_connection(alloc: Global, limits: Limits) -> Result<Box<Connection>, 
         executed: None,
         pending: Vec::new(alloc),
         transcript: Vec::new(alloc),
+        dump: Vec::new(alloc),
     };
     Ok(Box::new(alloc, connection)?)
 }

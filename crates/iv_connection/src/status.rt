@@ -31,3 +31,6 @@ pub const WRONG_COUNT: u32 = 9;
 
 /// The template has a place at which there is neither a token nor a question mark.
 pub const NO_TEMPLATE: u32 = 10;
+
+/// A transaction is open.
+pub const IN_TRANSACTION: u32 = 11;

@@ -12,11 +12,11 @@ use iv_catalogue::{Catalogue, Constraint, MOST_COLUMNS, Rule, Table, copy_constr
 use iv_expr::{Row, TableId};
 use iv_machine::Answer;
 use iv_restate::{add_constraint, create_table, create_trigger, insert_rows, stem_of};
-use iv_step::Executor;
+use iv_step::{Executor, Outcome};
 use iv_syntax::{Name, RangeName, Select, SelectList, Statement};
 use iv_write::write_statement;
 use sqlite_items::Items;
-use std::alloc::Global;
+use std::alloc::{AllocError, Global};
 
 // Adds the text of a statement.
 fn push_statement(
@@ -240,34 +240,48 @@ fn push_database(
     push_triggers(alloc, scripts, catalogue)
 }
 
+// SELECT of all rows of a table.
+fn rows_query(table: &Table) -> Result<Select, AllocError> {
+    let range = RangeName {
+        table: table.name.clone()?,
+        alias: None,
+    };
+    Ok(Select::Rows(SelectList::Star, range, None))
+}
+
+// What a query answers.
+fn answer_of<X: Executor>(database: &mut X, query: Select) -> Outcome
+    ensures { X.state database.new ≡ X.state database.old }
+{
+    let statement = Statement::Select(query);
+    let outcome = database.execute(&statement);
+    drop(statement);
+    outcome
+}
+
 // The rows of a table.
 fn rows_of<X: Executor>(
     alloc: Global,
     database: &mut X,
     id: TableId,
-) -> Result<Items<Row>, DumpRefusal> {
+) -> Result<Items<Row>, DumpRefusal>
+    ensures { X.state database.new ≡ X.state database.old }
+{
     let Some(table) = database.catalogue().table(id) else {
         return Ok(Items::new(alloc));
     };
-    let range = RangeName {
-        table: table.name.clone()?,
-        alias: None,
-    };
-    let query = Statement::Select(Select::Rows(SelectList::Star, range, None));
-    let outcome = database.execute(&query);
-    drop(query);
-    match outcome {
+    let query = rows_query(table)?;
+    match answer_of(database, query) {
         Ok(Answer::Rows(rows)) => Ok(rows),
         Ok(_) => Ok(Items::new(alloc)),
         Err(_) => Err(DumpRefusal::NoMemory),
     }
 }
 
-// The rows of each table, in a transaction of their own.
-fn rows_of_all<X: Executor>(
-    alloc: Global,
-    database: &mut X,
-) -> Result<Vec<Items<Row>>, DumpRefusal> {
+// The rows of each table.
+fn rows_of_all<X: Executor>(alloc: Global, database: &mut X) -> Result<Vec<Items<Row>>, DumpRefusal>
+    ensures { X.state database.new ≡ X.state database.old }
+{
     let mut lists = Vec::new(alloc);
     let count = database.catalogue().tables().len();
     for place in 0..count {
@@ -278,20 +292,19 @@ fn rows_of_all<X: Executor>(
 
 /// The database as scripts of at most 1,048,576 bytes, to be run one after another in a new session: each table with
 /// its constraints and then its rows, in creation order; constraints that refer to later tables after these; triggers
-/// last, so that they don't fire. The rows are read by SELECT in a transaction that is rolled back, so the account of
-/// the last statement is gone. It takes time in proportion to the database.
+/// last, so that they don't fire. The rows are read by SELECT, so the account of the last statement is gone; all else
+/// stays. It takes time and memory in proportion to the database.
 pub fn dump<X: Executor>(alloc: Global, database: &mut X) -> Result<Vec<String>, DumpRefusal>
     ensures short { IfOk result (λ scripts. AreShort (map string_bytes scripts.items)) }
     ensures outside { IfOk result (λ _. is_some (X.state database.old).start ≡ false) }
+    ensures kept { X.state database.new ≡ X.state database.old }
     ensures in_transaction { is_some (X.state database.old).start ≡ true
         → (result ≡ Err InTransaction) × (database.new ≡ database.old) }
 {
     if database.in_transaction() {
         return Err(DumpRefusal::InTransaction);
     }
-    let lists = rows_of_all(alloc, database);
-    drop(database.execute(&Statement::Rollback));
-    let lists = lists?;
+    let lists = rows_of_all(alloc, database)?;
     let mut scripts = Scripts::new(alloc);
     let pushed = push_database(alloc, &mut scripts, database.catalogue(), lists.as_slice());
     drop(lists);

@@ -1,1 +1,11 @@
+pub mod CommandLine
+pub mod Ranges
+pub mod Refusals
 pub mod Statuses
+pub mod Tasks
+pub mod Reads
+pub mod Notes
+pub mod Stopping
+pub mod Formats
+pub mod Executing
+pub mod Dumps

@@ -1,10 +1,15 @@
 //! From the words of the command line to the status of the process.
 ghost use Rattle.std.specs.Prelude.{◌≤◌};
 
+use crate::dumping::run_dump;
+use crate::formatting::run_format;
+use crate::given::{Options, WordsError};
+use crate::reading::options;
 use crate::running::{run_script, status};
-use iv_options::{Options, WordsError, options};
-use iv_print::{Format, Style, write_all};
-use iv_script::{RunFault, Sink, Std};
+use crate::task::{CLASH, Task, task_of};
+use iv_machine::Limits;
+use iv_print::write_all;
+use iv_script::{RunFault, Sink, Source, Std};
 use iv_step::Executor;
 use std::alloc::Global;
 use std::convert::AsStr;
@@ -38,13 +43,67 @@ fn refuse_words<W: Sink, E: Sink>(error: WordsError, writer: &mut W, faults: &mu
     }
 }
 
-// What the transcript is written as.
-fn style_of(json: bool, explain: bool) -> Style {
-    let format = if json { Format::Json } else { Format::Words };
-    Style { format, explain }
+// Does with the script that the reader gives what is asked for.
+fn run_task<X: Executor + Drop, R: Source, W: Sink, E: Sink>(
+    alloc: Global,
+    limits: Limits,
+    task: Task,
+    reader: &mut R,
+    writer: &mut W,
+    faults: &mut E,
+) -> u8
+    ensures { result ≤ 2 }
+{
+    match task {
+        Task::Transcript(style) => {
+            run_script::<X, R, W, E>(alloc, limits, style, reader, writer, faults)
+        }
+        Task::Dump => run_dump::<X, R, W, E>(alloc, limits, reader, writer, faults),
+        Task::Format => run_format(alloc, reader, writer, faults),
+    }
 }
 
-// Runs the script of the file, or of standard input where there is none.
+// The same with the script of the file, or of standard input if there is none.
+fn run_file<X: Executor + Drop, H: Files + Input, W: Sink, E: Sink>(
+    alloc: Global,
+    rt: &H,
+    limits: Limits,
+    file: Option<&str>,
+    task: Task,
+    writer: &mut W,
+    faults: &mut E,
+) -> u8
+    ensures { result ≤ 2 }
+{
+    let Some(file) = file else {
+        let mut reader = Std::new(rt.reader());
+        return run_task::<X, Std<H::Reader>, W, E>(
+            alloc,
+            limits,
+            task,
+            &mut reader,
+            writer,
+            faults,
+        );
+    };
+    match File::open(rt, file) {
+        Ok(file) => {
+            let mut reader = Std::new(file);
+            run_task::<X, Std<H::File>, W, E>(alloc, limits, task, &mut reader, writer, faults)
+        }
+        Err(_) => status(faults, Err(RunFault::Read)),
+    }
+}
+
+// Tells that options don't go together.
+fn refuse_clash<E: Sink>(faults: &mut E) -> u8
+    ensures { result ≤ 2 }
+{
+    let _ = write_all(faults, CLASH.as_bytes());
+    2
+}
+
+// Does what the options ask for, if they go together.
 fn run_options<X: Executor + Drop, H: Files + Input, W: Sink, E: Sink>(
     alloc: Global,
     rt: &H,
@@ -55,29 +114,16 @@ fn run_options<X: Executor + Drop, H: Files + Input, W: Sink, E: Sink>(
     ensures { result ≤ 2 }
 {
     let limits = options.limits;
-    let style = style_of(options.json, options.explain);
-    let Some(file) = options.file else {
-        let mut reader = Std::new(rt.reader());
-        return run_script::<X, Std<H::Reader>, W, E>(
-            alloc,
-            limits,
-            style,
-            &mut reader,
-            writer,
-            faults,
-        );
+    let file = options.file;
+    let task = task_of(options.dump, options.format, options.explain, options.json);
+    let Some(task) = task else {
+        return refuse_clash(faults);
     };
-    match File::open(rt, file) {
-        Ok(file) => {
-            let mut reader = Std::new(file);
-            run_script::<X, Std<H::File>, W, E>(alloc, limits, style, &mut reader, writer, faults)
-        }
-        Err(_) => status(faults, Err(RunFault::Read)),
-    }
+    run_file::<X, H, W, E>(alloc, rt, limits, file, task, writer, faults)
 }
 
-// All but ending the process: reads the words, of which the first is the program's name, opens the file, and runs the
-// script. The answer is the status of the process.
+// All but ending the process: reads the words, of which the first is the program's name, opens the file, and does with
+// the script what they ask for. The answer is the status of the process.
 fn go<X: Executor + Drop, H: Files + Input, S: AsStr, W: Sink, E: Sink>(
     alloc: Global,
     rt: &H,
@@ -103,7 +149,7 @@ fn words<H: Env + AllocGlobal>(rt: &H) -> Result<Vec<String>, RunFault> {
 }
 
 /// The whole program but for its end, in a database of this kind. `rt` gives the words of the command line, memory,
-/// the file that the words name, and standard input where they name none. The transcript goes to `writer`, and why a
+/// the file that the words name, and standard input where they name none. What is asked for goes to `writer`, and why a
 /// run didn't end goes to `faults`. The answer is the status of the process.
 pub fn run_program<X: Executor + Drop, H: Env + Files + Input + AllocGlobal, W: Sink, E: Sink>(
     rt: &H,

@@ -1,4 +1,3 @@
-pub mod GeneratedNames
 pub mod Reading
 pub mod Runs
 pub mod Scripts

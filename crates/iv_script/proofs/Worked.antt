@@ -1,10 +1,9 @@
 -- The worked lines are computed.
 use Rattle.std.proofs.Common.{refl}
 use Rattle.std.specs.Fmt.{digits}
-use Rattle.iv_catalogue.specs.Names.{generated_name}
 use Rattle.iv_lex.specs.Told.{kind_text}
 use Rattle.iv_script.specs.Hints.{no_token_hint, type_hint, statement_hint, join_hint, clause_hint, call_hint, other_hint}
-use Rattle.iv_script.specs.WorkedLines.{WorkedFaults, WorkedPlaces, WorkedNames}
+use Rattle.iv_script.specs.WorkedLines.{WorkedFaults, WorkedPlaces}
 
 pub places : WorkedPlaces
 unfolding digits
@@ -24,20 +23,6 @@ places = record {
   beyond_the_end = refl;
   no_fault = refl;
   not_asked = λ f. refl;
-}
-
-pub names : WorkedNames
-unfolding digits generated_name
-names = record {
-  no_table = refl;
-  no_column = refl;
-  no_column_of_a_range = refl;
-  no_row_variable = refl;
-  trigger_in_use = refl;
-  constraint_twice = refl;
-  made_name_in_use = refl;
-  item_of_referencing = refl;
-  no_name = refl;
 }
 
 pub faults : WorkedFaults

@@ -1,9 +1,7 @@
 pub mod Lengths
-pub mod Names
 pub mod Places
 pub mod Hints
 pub mod FaultLines
-pub mod JsonNames
 pub mod JsonLines
 pub mod Transcript
 pub mod Running

@@ -23,7 +23,7 @@ use Rattle.iv_print.specs.declared.format.Format.TheVariants.{Words, Json}
 use Rattle.iv_print.specs.declared.format.Style.{Style}
 use Rattle.iv_script.specs.declared.summary.Summary.{Summary}
 use Rattle.iv_script.specs.JsonLines.{json_closing, json_line}
-use Rattle.iv_script.specs.Names.{name_line}
+use Rattle.iv_explain.specs.Explanations.{explained_line}
 use Rattle.iv_script.specs.FaultLines.{place_lines}
 
 -- The lines that statements were answered with, the state after them, and how many were accepted
@@ -85,18 +85,18 @@ abbrev pub told_with : Bool → Memory → State → Statement → List Entry
 told_with true granted s st = statement_told s st
 told_with _ _ s st = []
 
--- the line of the name that a refusal is about, where the statement is known
+-- The line of the name or the reason of a refusal, where accounts are asked for and the statement is known.
 abbrev pub name_line_of : Bool → Schema → Option Statement → Result Answer Refusal → List ℕ
-name_line_of asked s (Some st) r = name_line asked s st r
-name_line_of asked s None r = []
+name_line_of true s (Some st) (Err r) = explained_line s st r.cause
+name_line_of _ s st _ = []
 
 -- in this format, with accounts or without
 abbrev pub lines_in : Format → Bool → ℕ → Option Statement → Schema → Result Answer Refusal → List Entry → List ℕ
 lines_in Words asked n st s r told = line n r s ++ (account_text s r told ++ name_line_of asked s st r)
 lines_in Json asked n st s r told = json_line asked n st s r told
 
--- The lines of the outcome of the n-th statement, those of its account, with the catalogue as it is directly after it, and the name that
--- a refusal is about, where accounts are asked for.
+-- The lines of the outcome of the n-th statement, those of its account, with the catalogue as it is directly after it, and the name or the
+-- reason of a refusal, where accounts are asked for.
 abbrev pub outcome_lines : Style → ℕ → Option Statement → Schema → Result Answer Refusal → List Entry → List ℕ
 outcome_lines style n st s r told = lines_in style.format style.explain n st s r told
 

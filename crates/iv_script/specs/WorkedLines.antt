@@ -1,4 +1,4 @@
--- Worked lines that tell a name or a place, written by hand.
+-- Worked lines that tell a place, written by hand.
 use Rattle.std.specs.Prelude.{◌≡◌, ℕ, true, false, List, [], ◌∷◌, ◌++◌, codes, Option, Some, None, replicate}
 use Rattle.iv_script.specs.declared.place.Place.{Place}
 use Rattle.iv_lex.specs.declared.kind.TokenKind.TheVariants as kind
@@ -6,8 +6,6 @@ use Rattle.iv_parse.specs.declared.parser.SyntaxFault.{SyntaxFault}
 use Rattle.iv_script.specs.FaultLines.{back, front, place_lines, place_text, wanted_text}
 use Rattle.iv_script.specs.Hints.{left_out_hint, lexical_hint, type_hint}
 use Rattle.iv_script.specs.Places.{place_at, words_at}
-use Rattle.iv_resolution.specs.Items.{table_item, column_item, variable_item, trigger_item, constraint_item, generated_item, transition_item, unknown_fault, in_use_fault, twice_fault}
-use Rattle.iv_script.specs.Names.{fault_line}
 
 abbrev pub place : ℕ → ℕ → Place
 place line column = record { line = line; column = column }
@@ -52,14 +50,3 @@ pub record WorkedFaults : Type 0 where
   pub open_text : lexical_hint (codes "'x") ≡ codes "a text without its closing quote"
   pub too_large : lexical_hint (codes "9223372036854775808") ≡ codes "a number above 9223372036854775807"
   pub no_character : lexical_hint (codes "#") ≡ codes "no word begins with this character"
-
-pub record WorkedNames : Type 0 where
-  pub no_table : fault_line (Some (unknown_fault (table_item (codes "T")))) ≡ codes "  table T isn't there\n"
-  pub no_column : fault_line (Some (unknown_fault (column_item None (codes "A")))) ≡ codes "  column A isn't there\n"
-  pub no_column_of_a_range : fault_line (Some (unknown_fault (column_item (Some (codes "X")) (codes "A")))) ≡ codes "  column X.A isn't there\n"
-  pub no_row_variable : fault_line (Some (unknown_fault (variable_item (codes "N")))) ≡ codes "  row variable N isn't there\n"
-  pub trigger_in_use : fault_line (Some (in_use_fault (trigger_item (codes "R")))) ≡ codes "  trigger R is there already\n"
-  pub constraint_twice : fault_line (Some (twice_fault (constraint_item (codes "C")))) ≡ codes "  constraint C comes twice\n"
-  pub made_name_in_use : fault_line (Some (in_use_fault (generated_item (codes "T") 12))) ≡ codes "  constraint T_C12 is there already\n"
-  pub item_of_referencing : fault_line (Some (twice_fault (transition_item (codes "N")))) ≡ codes "  REFERENCING name N comes twice\n"
-  pub no_name : fault_line None ≡ []

@@ -1,18 +1,18 @@
 //! The lines of a transcript in JSON.
-ghost use Rattle.std.specs.Prelude.{◌≡◌, ◌+◌, ◌++◌, ◌<◌, ◌^◌};
+ghost use Rattle.std.specs.Prelude.{◌≡◌, ◌+◌, ◌++◌, ◌<◌, ◌^◌, Some};
 ghost use Rattle.std.specs.List.{flat_map};
 ghost use Rattle.std.specs.Option.{option_copied};
 ghost use Rattle.iv_print.specs.Writing.{Writes};
-ghost use Rattle.iv_script.specs.JsonLines.{account_member, byte_members, fault_front, fault_members, json_closing, json_end_line, json_fault_line, json_kinds, json_line, further_text, hint_member, known_members, number_key, place_members, text_member, wanted_member, word_member};
+ghost use Rattle.iv_script.specs.JsonLines.{about_member, account_member, byte_members, fault_front, fault_members, json_closing, json_end_line, json_fault_line, json_kinds, json_line, further_text, hint_member, known_members, number_key, place_members, text_member, wanted_member, word_member};
 ghost use Rattle.iv_script.specs.Places.{place_at};
 
 use crate::fault_line::wrong_word;
 use crate::hint::fault_hint;
-use crate::json_name::write_about;
 use crate::place::{Place, place_at};
 use crate::telling::Telling;
 use iv_account::Entry;
 use iv_catalogue::Catalogue;
+use iv_explain::write_explained_member;
 use iv_lex::{Token, TokenKind, kind_text};
 use iv_parse::SyntaxFault;
 use iv_print::{
@@ -47,6 +47,46 @@ fn write_account_member<W: Sink>(
         write_json_account(writer, catalogue, outcome, account)
     } else {
         write_all(writer, b"")
+    }
+}
+
+// The member that tells more of the refusal of this statement, where accounts are asked for.
+fn write_explained<W: Sink>(
+    writer: &mut W,
+    telling: Telling,
+    catalogue: &Catalogue,
+    statement: &Statement,
+    outcome: &Outcome,
+) -> Result<(), DeviceFault>
+    ensures { Writes (W.state writer.old) (W.state writer.new) result
+        (about_member telling.style.explain catalogue.now (Some statement.now) outcome.now) }
+{
+    match outcome {
+        Err(refusal) if telling.style.explain => write_explained_member(
+            writer,
+            telling.alloc,
+            catalogue,
+            statement,
+            &refusal.cause,
+        ),
+        _ => write_all(writer, b""),
+    }
+}
+
+// The name or the reason of a refusal, where the statement is known.
+fn write_about<W: Sink>(
+    writer: &mut W,
+    telling: Telling,
+    catalogue: &Catalogue,
+    statement: Option<&Statement>,
+    outcome: &Outcome,
+) -> Result<(), DeviceFault>
+    ensures { Writes (W.state writer.old) (W.state writer.new) result
+        (about_member telling.style.explain catalogue.now (option_copied statement.entry) outcome.now) }
+{
+    match statement {
+        Some(statement) => write_explained(writer, telling, catalogue, statement, outcome),
+        None => write_all(writer, b""),
     }
 }
 

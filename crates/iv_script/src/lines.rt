@@ -1,5 +1,5 @@
 //! The lines of a statement.
-ghost use Rattle.std.specs.Prelude.{◌≡◌, ◌++◌};
+ghost use Rattle.std.specs.Prelude.{◌++◌, Some};
 ghost use Rattle.std.specs.Option.{option_copied};
 ghost use Rattle.iv_print.specs.AccountLines.{account_text};
 ghost use Rattle.iv_print.specs.Lines.{line};
@@ -7,15 +7,38 @@ ghost use Rattle.iv_print.specs.Writing.{Writes};
 ghost use Rattle.iv_script.specs.Transcript.{name_line_of, outcome_lines};
 
 use crate::json_line::write_json_line;
-use crate::name_line::write_name;
 use crate::telling::Telling;
 use iv_account::Entry;
 use iv_catalogue::Catalogue;
+use iv_explain::write_explained_line;
 use iv_print::{DeviceFault, Format, Sink, write_account, write_all, write_outcome};
 use iv_step::Outcome;
 use iv_syntax::Statement;
 
-// Writes the name that the refusal of a statement is about, where the statement is known.
+// Tells more of the refusal of this statement, where accounts are asked for.
+fn write_explained<W: Sink>(
+    writer: &mut W,
+    telling: Telling,
+    catalogue: &Catalogue,
+    statement: &Statement,
+    outcome: &Outcome,
+) -> Result<(), DeviceFault>
+    ensures { Writes (W.state writer.old) (W.state writer.new) result
+        (name_line_of telling.style.explain catalogue.now (Some statement.now) outcome.now) }
+{
+    match outcome {
+        Err(refusal) if telling.style.explain => write_explained_line(
+            writer,
+            telling.alloc,
+            catalogue,
+            statement,
+            &refusal.cause,
+        ),
+        _ => write_all(writer, b""),
+    }
+}
+
+// The name or the reason of a refusal, where the statement is known.
 fn write_name_of<W: Sink>(
     writer: &mut W,
     telling: Telling,
@@ -27,7 +50,7 @@ fn write_name_of<W: Sink>(
         (name_line_of telling.style.explain catalogue.now (option_copied statement.entry) outcome.now) }
 {
     match statement {
-        Some(statement) => write_name(writer, telling, catalogue, statement, outcome),
+        Some(statement) => write_explained(writer, telling, catalogue, statement, outcome),
         None => write_all(writer, b""),
     }
 }
@@ -53,7 +76,7 @@ fn write_words<W: Sink>(
     write_name_of(writer, telling, catalogue, statement, outcome)
 }
 
-/// Writes the lines of a statement's outcome, those of its account, and the name that a refusal is about, where
+/// Writes the lines of a statement's outcome, those of its account, and the name or the reason of a refusal, where
 /// accounts are asked for and the statement is known.
 pub fn write_lines<W: Sink>(
     writer: &mut W,

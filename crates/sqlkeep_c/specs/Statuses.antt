@@ -3,6 +3,7 @@ use Rattle.std.specs.Prelude.{◌≡◌, ◌≢◌, ◌<◌, ◌≤◌, ℕ, Lis
 use Rattle.std.specs.Str.{IsUtf8}
 use Rattle.iv_script.specs.Lengths.{Fits}
 use Rattle.sqlkeep_c.specs.Behind.{Behind}
+use Rattle.iv_connection.specs.Dumps.{IsDumpStatus}
 use Rattle.iv_connection.specs.Statuses.{MayWantMemory, are_limits}
 use Rattle.iv_connection.specs.Templates.{WhyNotRead}
 use Rattle.iv_connection.specs.declared.status.TheConstants.{OK, CLOSED, OPEN, LIMITS, NOT_UTF8, TOO_LONG, NO_MEMORY}
@@ -50,6 +51,11 @@ IsStatusOfScript longest (Some opened) text result =
     × (result ≡ TOO_LONG → longest < length text)
     × (result ≡ NOT_UTF8 → (length text ≤ longest) × ¬ (IsUtf8 text))
     × (result ≢ OK → result ≢ TOO_LONG → result ≢ NOT_UTF8 → result ≡ NO_MEMORY)
+
+-- of a dump
+abbrev pub IsStatusOfDump : Option Behind → ℕ → Type 0
+IsStatusOfDump None result = result ≡ CLOSED
+IsStatusOfDump (Some opened) result = IsDumpStatus opened.session.state result
 
 -- of a call with a template, and with the values that are bound
 abbrev pub IsStatusOfTemplate : Option Behind → List ℕ → ℕ → Type 0

@@ -2,15 +2,14 @@
 ghost use Rattle.std.specs.Prelude.{◌≡◌, ◌≢◌, length, slice_get, IfSome};
 ghost use Rattle.iv_connection.specs.Accounts.{entry_shown, item_at, item_value, seen_value, trigger_at_entry};
 ghost use Rattle.iv_connection.specs.Copying.{Copies};
-ghost use Rattle.iv_cells.specs.Cells.{text_of, cell_of};
+ghost use Rattle.iv_connection.specs.Cells.{text_of, cell_of};
 ghost use Rattle.iv_connection.specs.Statuses.{found};
 ghost use Rattle.sqlkeep_c.specs.Statuses.{status_by, status_if_open};
 
 use crate::handle::{Handle, put, take};
-use iv_cells::Cell;
 use iv_connection::{
-    CLOSED, NOTHING, OK, ShownEntry, ShownItem, copied_if_there, copy_text, entry_at, entry_shown,
-    entry_trigger_at, item_at, item_value, seen_value, write_value,
+    CLOSED, Cell, NOTHING, OK, ShownEntry, ShownItem, copied_if_there, copy_text, entry_at,
+    entry_shown, entry_trigger_at, item_at, item_value, seen_value, write_value,
 };
 use std::alloc::Global;
 

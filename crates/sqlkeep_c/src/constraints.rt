@@ -1,14 +1,16 @@
 //! The catalogue's constraints, by their places.
 ghost use Rattle.std.specs.Prelude.{◌≡◌, ◌≢◌, slice_get, IfSome};
 ghost use Rattle.iv_connection.specs.Catalogue.{constraint_column, constraint_name, constraint_shown, mode_at, referenced_column};
+ghost use Rattle.iv_connection.specs.Conditions.{constraint_condition};
 ghost use Rattle.iv_connection.specs.Copying.{Copies};
 ghost use Rattle.iv_connection.specs.Statuses.{found};
-ghost use Rattle.sqlkeep_c.specs.Statuses.{status_by};
+ghost use Rattle.sqlkeep_c.specs.Statuses.{IsStatusOfFinding, status_by};
 
 use crate::handle::{Handle, put, take};
 use iv_connection::{
-    CLOSED, NOTHING, OK, ShownConstraint, constraint_at, constraint_column, constraint_name,
-    constraint_shown, copied_if_there, mode_at, referenced_column, write_place,
+    CLOSED, NO_MEMORY, NOTHING, OK, ShownConstraint, constraint_at, constraint_column,
+    constraint_condition, constraint_name, constraint_shown, copied, copied_if_there, mode_at,
+    referenced_column, write_place,
 };
 use std::alloc::Global;
 
@@ -64,6 +66,39 @@ pub extern "C" fn sqlkeep_constraint_name(
     let status = copied_if_there(constraint_name(&connection, at), from, buffer, count);
     put(handle, connection);
     status
+}
+
+/// Copies bytes of the condition of the CHECK at this place, as SQL text.
+#[unsafe(no_mangle)]
+pub extern "C" fn sqlkeep_constraint_condition(
+    alloc: Global,
+    handle: &mut Handle,
+    at: usize,
+    from: usize,
+    buffer: &mut [u8],
+    count: &mut usize,
+) -> u32
+    ensures bytes { IfSome handle.old.kept.behind (λ old. result ≡ OK
+        → IfSome (constraint_condition old.session.state.schema at) (λ text.
+        Copies from text buffer.old buffer.new count.new)) }
+    ensures kept { handle.new.kept.behind ≡ handle.old.kept.behind }
+    ensures others { result ≢ OK → (buffer.new ≡ buffer.old) × (count.new ≡ count.old) }
+    ensures status { IsStatusOfFinding (λ old. found (constraint_condition old.session.state.schema at))
+        handle.old.kept.behind result }
+{
+    let Some(connection) = take(handle, alloc) else {
+        return CLOSED;
+    };
+    let written = constraint_condition(alloc, &connection, at);
+    put(handle, connection);
+    match written {
+        Ok(Some(text)) => {
+            *count = copied(text.as_str().as_bytes(), from, buffer);
+            OK
+        }
+        Ok(None) => NOTHING,
+        Err(_) => NO_MEMORY,
+    }
 }
 
 /// A column of the constraint at this place, as its place in the constraint's table.

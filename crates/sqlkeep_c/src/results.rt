@@ -1,6 +1,6 @@
 //! The rows of a query apart from the session that gave them.
 ghost use Rattle.std.specs.Prelude.{◌≡◌, ◌≢◌, [], None, Ok, Some, IfSome, drop, slice_get};
-ghost use Rattle.iv_cells.specs.Cells.{AreCopied};
+ghost use Rattle.iv_connection.specs.Cells.{AreCopied};
 ghost use Rattle.iv_machine.specs.declared.answer.Answer.TheVariants as answer;
 ghost use Rattle.iv_connection.specs.Copying.{Copies};
 ghost use Rattle.iv_connection.specs.Results.{last_names, names_of, result_shown, rows_given};
@@ -10,10 +10,9 @@ ghost use Rattle.sqlkeep_c.specs.ResultStatuses.{IsStatusOfTaking, result_status
 
 use crate::handle::{Handle, put, take};
 use crate::result_handle::{ResultHandle, put_rows, take_rows};
-use iv_cells::{Cell, TakenRows};
 use iv_connection::{
-    CLOSED, OK, OPEN, ShownResult, copied_if_there, copy_rows_of, result_column, result_shown,
-    take_result,
+    CLOSED, Cell, OK, OPEN, ShownResult, TakenRows, copied_if_there, copy_rows_of, result_column,
+    result_shown, take_result,
 };
 use std::alloc::Global;
 

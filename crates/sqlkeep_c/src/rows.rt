@@ -3,12 +3,14 @@ ghost use Rattle.std.specs.Prelude.{◌≡◌, ◌≢◌, drop, length, IfSome};
 ghost use Rattle.iv_connection.specs.Copying.{Copies};
 ghost use Rattle.iv_connection.specs.Statuses.{found};
 ghost use Rattle.sqlkeep_c.specs.Statuses.{status_by, status_if_open};
-ghost use Rattle.iv_cells.specs.Cells.{AreCopied, cell_of, text_of};
+ghost use Rattle.iv_connection.specs.Cells.{AreCopied, cell_of, text_of};
 ghost use Rattle.iv_connection.specs.Rows.{row_at, rows_of, value_at};
 
 use crate::handle::{Handle, put, take};
-use iv_cells::{Cell, TakenRows, cell_of, text_of};
-use iv_connection::{CLOSED, NOTHING, OK, copied, copy_rows_from, rows_of, value_at};
+use iv_connection::{
+    CLOSED, Cell, NOTHING, OK, TakenRows, cell_of, copied, copy_rows_from, rows_of, text_of,
+    value_at,
+};
 use std::alloc::Global;
 
 /// How many values a row of the last outcome has.

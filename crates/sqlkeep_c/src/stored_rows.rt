@@ -1,16 +1,16 @@
 //! The rows of the database by their numbers.
 ghost use Rattle.std.specs.Prelude.{◌≡◌, ◌≢◌, IfSome};
 ghost use Rattle.iv_machine.specs.Databases.{row_at};
-ghost use Rattle.iv_cells.specs.Cells.{cell_of, text_of};
+ghost use Rattle.iv_connection.specs.Cells.{cell_of, text_of};
 ghost use Rattle.iv_connection.specs.Copying.{Copies};
 ghost use Rattle.iv_connection.specs.Statuses.{found};
 ghost use Rattle.iv_connection.specs.StoredRows.{stored_row_shown, stored_value};
 ghost use Rattle.sqlkeep_c.specs.Statuses.{status_by};
 
 use crate::handle::{Handle, put, take};
-use iv_cells::{Cell, cell_of, text_of};
 use iv_connection::{
-    CLOSED, NOTHING, OK, ShownStoredRow, copied, stored_row, stored_row_shown, stored_value,
+    CLOSED, Cell, NOTHING, OK, ShownStoredRow, cell_of, copied, stored_row, stored_row_shown,
+    stored_value, text_of,
 };
 use std::alloc::Global;
 

@@ -2,15 +2,14 @@
 ghost use Rattle.std.specs.Prelude.{◌≡◌, ◌≢◌, length, IfSome};
 ghost use Rattle.iv_connection.specs.Catalogue.{catalogue_shown, column_at, column_name, columns_at, kind_shown, table_name};
 ghost use Rattle.iv_connection.specs.Copying.{Copies};
-ghost use Rattle.iv_cells.specs.Cells.{text_of, cell_of};
+ghost use Rattle.iv_connection.specs.Cells.{text_of, cell_of};
 ghost use Rattle.iv_connection.specs.Statuses.{found};
 ghost use Rattle.sqlkeep_c.specs.Statuses.{status_by, status_if_open};
 
 use crate::handle::{Handle, put, take};
-use iv_cells::{Cell, cell_of, text_of};
 use iv_connection::{
-    CLOSED, NOTHING, OK, ShownCatalogue, ShownColumn, column_at, column_name, columns_at, copied,
-    copied_if_there, kind_shown, table_name,
+    CLOSED, Cell, NOTHING, OK, ShownCatalogue, ShownColumn, cell_of, column_at, column_name,
+    columns_at, copied, copied_if_there, kind_shown, table_name, text_of,
 };
 use std::alloc::Global;
 

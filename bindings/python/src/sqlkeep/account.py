@@ -8,7 +8,7 @@ from typing import Dict, Iterator, List, Optional, Tuple, Union
 
 from .values import Value, parse_values, write_values
 
-__all__ = ["Account", "Action", "Change", "Event", "NameFault", "Nested", "Trigger", "Violation", "parse_account"]
+__all__ = ["Account", "Action", "Change", "Event", "NameFault", "Nested", "Reason", "Trigger", "Violation", "parse_account"]
 
 Row = Tuple[Value, ...]
 
@@ -90,6 +90,16 @@ class NameFault:
 
 
 @dataclass(frozen=True)
+class Reason:
+    """Why a statement is refused, in words."""
+
+    text: str
+
+    def __str__(self) -> str:
+        return self.text
+
+
+@dataclass(frozen=True)
 class Nested:
     """The statement at this place of a trigger's body, with what happened in it."""
 
@@ -113,7 +123,7 @@ class Trigger:
         return f"trigger {self.name}{''.join(rows)}"
 
 
-Event = Union[Change, Action, Trigger, Violation, NameFault]
+Event = Union[Change, Action, Trigger, Violation, NameFault, Reason]
 
 BY_REFERENCE = {"missing": "which isn't there", "restrict": "which RESTRICT protects", "conflict": "and another foreign key sets a column otherwise"}
 BY_NULLS = {"null in key": "has a null in its key", "some nulls": "has some nulls in its key"}
@@ -144,6 +154,11 @@ class Account:
     def name(self) -> Optional[NameFault]:
         """The name that a refusal is about."""
         return next((event for event in self.events if isinstance(event, NameFault)), None)
+
+    @property
+    def reason(self) -> Optional[Reason]:
+        """Why the statement is refused, where its text and the catalogue tell it."""
+        return next((event for event in self.events if isinstance(event, Reason)), None)
 
     def walk(self) -> Iterator[Event]:
         """All events in their order, also those in triggers."""
@@ -198,6 +213,23 @@ ACTION = re.compile(r"(\w+) (CASCADE|SET NULL|SET DEFAULT) on (\w+) row (\d+)\n"
 VIOLATION = re.compile(rf"(\w+): (\w+) row (\d+) {ROW} ")
 NAME = re.compile(r"(table|column|row variable|trigger|constraint|REFERENCING name) (\w+(?:\.\w+)?) (isn't there|is there already|comes twice)\n")
 STATEMENT = re.compile(r"statement (\d+)\n")
+# A text in an expression may hold anything between its quotes.
+WRITTEN = r"(?:[^'\n]|'[^']*')+"
+TYPE = r"(?:an INTEGER|a VARCHAR\(\d+\))"
+REASONS = [
+    r"(?:tuple \d+ has|the query gives) \d+ values? for \d+ columns? of \w+",
+    rf"{WRITTEN} is (?:a text|an integer), and (?:column \w+ of \w+|\w+\.\w+) is {TYPE}",
+    rf"{WRITTEN} is (?:compared with {WRITTEN}, and only one of them is a text|a text, and arithmetic takes integers)",
+    rf"column \w+(?: of \w+)? is {TYPE}, and (?:column \w+ of \w+ is {TYPE}|\d+ is the (?:most|least)|its DEFAULT is {WRITTEN})",
+    r"(?:table|trigger) \w+ (?:has no column|would have [^\n]*)",
+    r"constraint \w+(?: (?:is|has|refers to|would have) |: column )[^\n]*",
+    r"REFERENCING (?:names the|name \w+ is for) [^\n]*",
+    r"statement \d+ (?:is|sets) [^\n]*",
+    r"(?:there would be \d+|it would be trigger \d+) [^\n]*",
+    r"savepoint \w+ isn't there",
+    r"no text is this statement",
+]
+REASON = re.compile(rf"({'|'.join(REASONS)})\n")
 MATTERS = [
     ("condition", re.compile(r"makes its condition false\n")),
     ("null", re.compile(r"has NULL in (?P<column>\w+)\n")),
@@ -253,7 +285,7 @@ class Reader:
         """The event at this indentation; None where there is none."""
         if not self.text.startswith(indent, self.at) or self.text.startswith(" ", self.at + len(indent)):
             return None
-        return self.change(indent) or self.action(indent) or self.trigger(indent) or self.violation(indent) or self.name(indent)
+        return self.change(indent) or self.action(indent) or self.trigger(indent) or self.violation(indent) or self.name(indent) or self.reason(indent)
 
     def change(self, indent: str) -> Optional[Change]:
         found = self.take(CHANGE, indent)
@@ -300,6 +332,10 @@ class Reader:
     def name(self, indent: str) -> Optional[NameFault]:
         found = self.take(NAME, indent)
         return None if found is None else NameFault(found[1], found[2], found[3])
+
+    def reason(self, indent: str) -> Optional[Reason]:
+        found = self.take(REASON, indent)
+        return None if found is None else Reason(found[1])
 
 
 def violation_of(head: "re.Match[str]", why: str, found: "re.Match[str]") -> Violation:

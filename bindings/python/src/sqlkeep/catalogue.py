@@ -42,7 +42,8 @@ class Table:
 @dataclass(frozen=True)
 class Constraint:
     """A constraint: its kind, as `PRIMARY KEY`, its table, and the columns that it is of, none for a CHECK. A foreign key has the
-    table and the columns that it refers to, and its actions. `deferred` is its mode when the catalogue was read."""
+    table and the columns that it refers to, and its actions. `deferred` is its mode when the catalogue was read, and `condition` that of a
+    CHECK as SQL text."""
 
     name: str
     kind: str
@@ -57,6 +58,7 @@ class Constraint:
     on_delete: str | None = None
     on_update: str | None = None
     deferred: bool = False
+    condition: str | None = None
 
 
 @dataclass(frozen=True)
@@ -106,12 +108,13 @@ def names_of(table: Table, columns: list[int]) -> tuple[str, ...]:
 def constraint_of(
     tables: list[Table], name: str, kind: int, table: int, columns: list[int], deferrable: int, deferred: int, not_distinct: int,
     referenced: int, referenced_columns: list[int], match_full: int, on_delete: int, on_update: int, mode: int,
+    condition: str | None,
 ) -> Constraint:
     is_reference = KINDS[kind] == "FOREIGN KEY"
     return Constraint(
         name, KINDS[kind], tables[table].name, names_of(tables[table], columns), bool(deferrable), bool(deferred), bool(not_distinct),
         tables[referenced].name if is_reference else None, names_of(tables[referenced], referenced_columns) if is_reference else (), bool(match_full),
-        ACTIONS[on_delete] if is_reference else None, ACTIONS[on_update] if is_reference else None, bool(mode),
+        ACTIONS[on_delete] if is_reference else None, ACTIONS[on_update] if is_reference else None, bool(mode), condition,
     )
 
 

@@ -7,11 +7,12 @@ from .answers import CHANGED, DONE, error_of
 from .cursor import Cursor, values_of
 from .groups import row_of_values
 from .plans import COMMIT, DATA, WANTS_TRANSACTION, plan_of, plans
+from .text import statements
 
 TYPE_CHECKING = False
 if TYPE_CHECKING:
     from types import TracebackType
-    from typing import Any, Iterable, Literal, Sequence
+    from typing import Any, Iterable, Iterator, Literal, Sequence
 
     from .session import Outcome, Pending, Session
     from .values import Value
@@ -157,6 +158,12 @@ class Connection:
     def pending(self) -> list[Pending]:
         """What COMMIT would find: the violations of deferred constraints, each as a constraint's name and a row."""
         return self._native().pending()
+
+    def iterdump(self) -> Iterator[str]:
+        """The statements that make the database again, each with its semicolon, as sqlite3 has them. ProgrammingError where a transaction
+        is open."""
+        scripts = self._native().dump()
+        return (text[start:end] for text in scripts for start, end in statements(text))
 
     # ---- for cursors
 

@@ -89,6 +89,12 @@ class Error(Exception):
         return fault.name if fault is not None else None
 
     @property
+    def reason(self) -> str | None:
+        """Why the statement was refused, for causes 3, 7, 8, 9 and 21."""
+        told = self.account.reason if self.account is not None else None
+        return told.text if told is not None else None
+
+    @property
     def violations(self) -> list[Violation]:
         """The constraints and rows that the refusal is about: one of a statement, all that are pending of a COMMIT."""
         return self.account.violations if self.account is not None else []
@@ -208,7 +214,8 @@ def matter_of(error: Error, refusal: Refusal, sentence: str) -> str:
         more = len(error.violations) - 1
         others = f", and {more} more violation{'s' if more > 1 else ''}" if more > 0 else ""
         return error.violations[0].reason + others + ("; the transaction is rolled back" if refusal.cause == 19 else "")
-    fault = error.account.name if error.account is not None else None
-    if fault is not None:
-        return str(fault)
+    account = error.account
+    told = (account.name or account.reason) if account is not None else None
+    if told is not None:
+        return str(told)
     return f"row {refusal.row}: {sentence}" if refusal.row is not None else sentence

@@ -211,6 +211,12 @@ class Session:
         found = self._engine.row(number)
         return None if found is None else StoredRow(number, found[0], tuple(found[1]))
 
+    def dump(self) -> list[str]:
+        """The database as scripts that make it again, to be executed one after another in a new session: each table with its constraints and
+        its rows, in creation order, then the triggers. Rows get new numbers. ProgrammingError where a transaction is open, OperationalError
+        where a row would need a script that is too long, or memory was refused."""
+        return self._engine.dump()
+
     def work(self) -> Work:
         """What the last statement did."""
         return Work(*self._engine.work())

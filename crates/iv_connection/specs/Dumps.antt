@@ -1,0 +1,13 @@
+-- A dump that is kept, and whether there is one.
+use Rattle.std.specs.Prelude.{◌≡◌, ◌≢◌, ℕ, List, map, MatchBool, string_bytes}
+use Rattle.iv_machine.specs.Machine.{State, is_open}
+use Rattle.iv_connection.specs.declared.connection.Connection.{Connection}
+use Rattle.iv_connection.specs.declared.status.TheConstants.{OK, IN_TRANSACTION, NO_MEMORY, TOO_LONG}
+
+-- the scripts of the last dump
+abbrev pub scripts_of : Connection → List (List ℕ)
+scripts_of c = map string_bytes c.dump.items
+
+-- A dump is refused while a transaction is open. Otherwise a statement may be too long for a script, or an allocation may fail.
+abbrev pub IsDumpStatus : State → ℕ → Type 0
+IsDumpStatus s result = MatchBool (is_open s) (result ≡ IN_TRANSACTION) (result ≢ OK → result ≢ TOO_LONG → result ≡ NO_MEMORY)

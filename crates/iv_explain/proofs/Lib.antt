@@ -1,0 +1,5 @@
+pub mod GeneratedNames
+pub mod SpelledLemmas
+pub mod Trees
+pub mod Computed
+pub mod ComputedNames

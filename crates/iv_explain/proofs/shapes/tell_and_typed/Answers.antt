@@ -1,0 +1,11 @@
+use Rattle.std.proofs.Common.{◌++◌, codes, refl}
+use Rattle.iv_explain.specs.Reasons.{typed_text}
+use Rattle.iv_explain.proofs.Trees.{two}
+use Rattle.iv_explain.proofs.shapes.tell_and_typed.Goals as goal
+
+pub returns : goal.returns
+returns g c =
+    two c.args.format (g.W.Sink.state c.args.writer.now) (g.W.Sink.state c.tell.new.writer) (g.W.Sink.state c.tell_typed.new.writer) c.tell_typed.result
+    (codes ", and ") (typed_text c.args.table.now c.args.column.now c.args.kind)
+    (codes ", and " ++ typed_text c.args.table.now c.args.column.now c.args.kind)
+    refl c.in_ok-tell.ensures c.tell_typed.ensures

@@ -1,0 +1,9 @@
+pub mod Spelled
+pub mod Expressions
+pub mod Names
+pub mod JsonNames
+pub mod Reasons
+pub mod Explanations
+pub mod Seen
+pub mod WorkedReasons
+pub mod WorkedNames

@@ -1,0 +1,3 @@
+CREATE TABLE t (a INT);
+INSERT INTO t
+  VALUE (1);

@@ -1,0 +1,2 @@
+-- Nothing is run, so nothing is refused.
+SELECT * FROM absent;
