@@ -8,7 +8,16 @@ from sqlkeep import Action, Answer, Change, Nested, Refusal, Trigger, Violation
 from sqlkeep.account import NameFault
 
 ROOT = Path(os.environ.get("SQLKEEP_ROOT", Path(__file__).resolve().parents[3]))
-STORED = sorted(path for folder in ("examples", "tests/scripts") for kind in ("account", "out") for path in (ROOT / folder).glob(f"*.{kind}"))
+
+
+def is_transcript(path):
+    """Whether a stored text is a transcript, and not a dump or a layout."""
+    words = path.with_suffix(".args")
+    return not words.exists() or not {"--dump", "--format"} & set(words.read_text("utf-8").split())
+
+
+FOUND = [path for folder in ("examples", "tests/scripts") for kind in ("account", "out") for path in (ROOT / folder).glob(f"*.{kind}")]
+STORED = sorted(path for path in FOUND if is_transcript(path))
 
 STOCK = """  insert SALE row 7 (1, 2)
   insert SALE row 8 (2, 1)
