@@ -135,10 +135,14 @@ def named(is_all):
             yield 'the tour with accounts: ' + file, run.read('../examples', file), ['--explain']
 
 
+# A run that is refused memory has a folder of its own.
+SCRIPTS_FOLDER = os.path.join(os.path.dirname(os.path.abspath(__file__)), 'scripts')
+
 # Words with which no script is run: such a run ends with the line, or is as without refusal.
 WORDS = [
     ('the help text', ['--help']), ('a depth that is none', ['--depth', '0']), ('an unknown word', ['--unknown']), ('a file that is not there', ['absent.sql']),
-    ('a layout', ['--format', 'options_format.sql']), ('the layout of a fault', ['--format', 'options_format_fault.sql'])]
+    ('a layout', ['--format', os.path.join(SCRIPTS_FOLDER, 'options_format.sql')]),
+    ('the layout of a fault', ['--format', os.path.join(SCRIPTS_FOLDER, 'options_format_fault.sql')])]
 
 
 def plan(is_all, is_plain):
