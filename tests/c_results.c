@@ -112,7 +112,7 @@ static int messages(sqlkeep *session) {
     WANT(run(session, "DELETE FROM u;", &outcome) && says(session, "refused: Signal, trigger NO_ONE: it's so"));
     WANT(sqlkeep_message(session, 9, bytes, sizeof bytes, &copied) == SQLKEEP_OK && copied == 9 && memcmp(bytes, "Signal, t", 9) == 0);
     WANT(sqlkeep_message(session, 999, bytes, sizeof bytes, &copied) == SQLKEEP_OK && copied == 0);
-    WANT(run(session, "START TRANSACTION; ROLLBACK TO SAVEPOINT s;", &outcome) && says(session, "refused: UnknownSavepoint"));
+    WANT(run(session, "START TRANSACTION; ROLLBACK TO SAVEPOINT s;", &outcome) && says(session, "refused: UnknownSavepoint: savepoint S isn't there"));
     WANT(run(session, "ROLLBACK;", &outcome));
     WANT(strcmp(sqlkeep_status_text(SQLKEEP_NO_MEMORY), "out of memory") == 0 && strcmp(sqlkeep_status_text(77), "unknown status") == 0);
     return 0;
