@@ -429,7 +429,7 @@ uint32_t sqlkeep_transcript(sqlkeep *handle, size_t from, uint8_t *buffer, size_
    ROLLBACK TO SAVEPOINT. */
 
 /* Reads the statements of a text and keeps them, in place of those before. Nothing is executed, and the last outcome stays;
-   sqlkeep_lines then no longer tells the name that it is about, since its statement is gone.
+   sqlkeep_lines then no longer tells the name or the reason that it is about, since its statement is gone.
    SQLKEEP_CLOSED, SQLKEEP_NOT_UTF8, SQLKEEP_NO_MEMORY. */
 uint32_t sqlkeep_read(sqlkeep *handle, const uint8_t *text, size_t length, sqlkeep_script *script);
 
@@ -632,7 +632,7 @@ uint32_t sqlkeep_signal(sqlkeep *handle, size_t from, uint8_t *buffer, size_t si
    "refused: Violation, constraint BOOK_KEY, row 7, trigger LOG_IT" or "refused: Unknown: table BOKO isn't there". It names what the
    cause speaks of: the constraint, the row, the trigger, the text of the SIGNAL as it is, and the name that isn't there, is there
    already or comes twice. Of an accepted statement it is "done", "rows changed: 2" or "rows: 2". It is to be called before the next
-   statement is executed; the name at fault is told up to the next sqlkeep_read. SQLKEEP_CLOSED, SQLKEEP_NO_MEMORY. */
+   statement is executed; the name at fault or the reason is told up to the next sqlkeep_read. SQLKEEP_CLOSED, SQLKEEP_NO_MEMORY. */
 uint32_t sqlkeep_message(sqlkeep *handle, size_t from, uint8_t *buffer, size_t size, size_t *copied);
 
 /* ---- the account of the last statement
