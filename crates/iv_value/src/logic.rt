@@ -10,8 +10,7 @@ impl Truth {
         ensures { result ≡ truth_and self other }
     {
         match (self, other) {
-            (Truth::False, _) => Truth::False,
-            (_, Truth::False) => Truth::False,
+            (Truth::False, _) | (_, Truth::False) => Truth::False,
             (Truth::True, other) => other,
             (Truth::Unknown, _) => Truth::Unknown,
         }
