@@ -445,9 +445,11 @@ def try_some(rounds, jobs, keep, minutes):
     with tempfile.TemporaryDirectory(prefix="edits-", dir=sandboxes.place()) as sandbox, ThreadPoolExecutor(jobs) as pool:
         begun = {pool.submit(tried_in_turn, crate, rounds[crate], sandbox, until): crate for crate in first}
         for done in as_completed(begun):
-            crate = begun[done]
-            refused_now, kept_now = report(crate, rounds[crate], done.result(), keep)
+            crate, said = begun[done], done.result()
+            refused_now, kept_now = report(crate, rounds[crate], said, keep)
             passed, failed = passed + refused_now, failed + kept_now
+            if len(said) == len(rounds[crate]) and not kept_now:
+                remember([crate])
     skipped = sum(len(one) for each in rounds.values() for one in each) - passed - failed
     return passed, failed, skipped
 
