@@ -148,6 +148,7 @@ def outcome_lines(outcome):
         yield '%(number)d refused %(cause)d %(name)s' % outcome + details(outcome)
     elif kind == 'rows':
         yield '%d rows %d' % (outcome['number'], len(outcome['rows']))
+        yield from ['  columns ' + ', '.join(outcome['columns'])] if 'columns' in outcome else []
         yield from ('| ' + row_text(row) for row in outcome['rows'])
     else:
         yield '%d ok' % outcome['number'] + (' %d' % outcome['count'] if kind == 'changed' else '')

@@ -21,5 +21,5 @@ pub use json::{
     write_outcome_members, write_text_member,
 };
 pub use json_account::write_json_account;
-pub use outcome::{cause_words, signal_text, write_outcome};
+pub use outcome::{cause_words, signal_text, write_first_line, write_outcome, write_row_lines};
 pub use write::{write_all, write_number};

@@ -16,13 +16,14 @@ use Rattle.iv_step.specs.Step.{step}
 use Rattle.iv_step.specs.Sure.{never_refused}
 use Rattle.iv_step.specs.Telling.{commits, statement_told}
 use Rattle.iv_print.specs.AccountLines.{account_text}
-use Rattle.iv_print.specs.Lines.{line}
+use Rattle.iv_print.specs.Lines.{first_line, row_lines}
 use Rattle.iv_print.specs.Sinks.{SinkState}
 use Rattle.iv_print.specs.declared.format.Format.{Format}
 use Rattle.iv_print.specs.declared.format.Format.TheVariants.{Words, Json}
 use Rattle.iv_print.specs.declared.format.Style.{Style}
 use Rattle.iv_script.specs.declared.summary.Summary.{Summary}
 use Rattle.iv_script.specs.JsonLines.{json_closing, json_line}
+use Rattle.iv_explain.specs.Columns.{columns_line}
 use Rattle.iv_explain.specs.Explanations.{explained_line}
 use Rattle.iv_script.specs.FaultLines.{place_lines}
 
@@ -90,9 +91,15 @@ abbrev pub name_line_of : Bool → Schema → Option Statement → Result Answer
 name_line_of true s (Some st) (Err r) = explained_line s st r.cause
 name_line_of _ s st _ = []
 
+-- The line of the columns of a query that is accepted, where accounts are asked for and the statement is known.
+abbrev pub columns_line_of : Bool → Schema → Option Statement → Result Answer Refusal → List ℕ
+columns_line_of true s (Some st) (Ok a) = columns_line s st
+columns_line_of _ s st _ = []
+
 -- in this format, with accounts or without
 abbrev pub lines_in : Format → Bool → ℕ → Option Statement → Schema → Result Answer Refusal → List Entry → List ℕ
-lines_in Words asked n st s r told = line n r s ++ (account_text s r told ++ name_line_of asked s st r)
+lines_in Words asked n st s r told =
+    first_line n r s ++ (columns_line_of asked s st r ++ (row_lines r ++ (account_text s r told ++ name_line_of asked s st r)))
 lines_in Json asked n st s r told = json_line asked n st s r told
 
 -- The lines of the outcome of the n-th statement, those of its account, with the catalogue as it is directly after it, and the name or the
