@@ -155,6 +155,8 @@ def outcome_lines(outcome):
     yield from ('  ' + line for line in account_lines(outcome.get('account', [])))
     yield from [about_text(outcome['about'])] if 'about' in outcome else []
     yield from ['  ' + outcome['reason']] if 'reason' in outcome else []
+    yield from ('  now pending ' + line for entry in outcome.get('now_pending', []) for line in entry_lines(entry))
+    yield from ('  no longer pending %(constraint)s: %(table)s row %(row)d' % gone for gone in outcome.get('no_longer_pending', []))
 
 
 def fault_lines(fault, explain):

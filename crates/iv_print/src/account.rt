@@ -76,7 +76,7 @@ fn write_column_in<W: Sink>(
 }
 
 // A table and the number of a row of it.
-fn write_numbered<W: Sink>(
+pub(crate) fn write_numbered<W: Sink>(
     sink: &mut W,
     catalogue: &Catalogue,
     table: TableId,
@@ -459,7 +459,7 @@ fn write_constraint_rule<W: Sink>(
 }
 
 // The first of the rows, and what is wrong with it.
-fn write_fault_rows<W: Sink>(
+pub(crate) fn write_fault_rows<W: Sink>(
     sink: &mut W,
     catalogue: &Catalogue,
     outcome: &Result<Answer, Refusal>,

@@ -40,7 +40,7 @@ fn write_table<W: Sink>(sink: &mut W, table: Option<&Table>) -> Result<(), Devic
 }
 
 // The table and the number of a row.
-fn write_place<W: Sink>(
+pub(crate) fn write_place<W: Sink>(
     sink: &mut W,
     catalogue: &Catalogue,
     table: TableId,

@@ -9,6 +9,7 @@ mod format;
 mod json;
 mod json_account;
 mod outcome;
+mod pending;
 mod write;
 
 pub use account::write_account;
@@ -22,4 +23,5 @@ pub use json::{
 };
 pub use json_account::write_json_account;
 pub use outcome::{cause_words, signal_text, write_first_line, write_outcome, write_row_lines};
+pub use pending::{write_pending_lines, write_pending_members};
 pub use write::{write_all, write_number};

@@ -8,6 +8,7 @@ ghost use Rattle.iv_script.specs.Places.{place_at};
 
 use crate::fault_line::wrong_word;
 use crate::hint::fault_hint;
+use crate::lines::Told;
 use crate::place::{Place, place_at};
 use crate::telling::Telling;
 use iv_account::Entry;
@@ -17,7 +18,8 @@ use iv_lex::{Token, TokenKind, kind_text};
 use iv_parse::SyntaxFault;
 use iv_print::{
     DeviceFault, Sink, write_all, write_json_account, write_json_text, write_key, write_member,
-    write_number, write_number_member, write_outcome_members, write_text_member,
+    write_number, write_number_member, write_outcome_members, write_pending_members,
+    write_text_member,
 };
 use iv_step::Outcome;
 use iv_syntax::Statement;
@@ -119,16 +121,24 @@ pub fn write_json_line<W: Sink>(
     statement: Option<&Statement>,
     outcome: &Outcome,
     catalogue: &Catalogue,
-    account: &[Entry],
+    told: Told<'_>,
 ) -> Result<(), DeviceFault>
     ensures { Writes (W.state writer.old) (W.state writer.new) result
-        (json_line telling.style.explain number (option_copied statement.entry) catalogue.now outcome.now account.now) }
+        (json_line telling.style.explain number (option_copied statement.entry) catalogue.now outcome.now
+        told.entry.account.now told.entry.came.now told.entry.went.now) }
 {
     write_number_key(writer, number)?;
     write_outcome_members(writer, outcome, catalogue)?;
     write_columns(writer, telling, statement, outcome, catalogue)?;
     write_about(writer, telling, catalogue, statement, outcome)?;
-    write_account_member(writer, telling.style.explain, catalogue, outcome, account)?;
+    write_account_member(
+        writer,
+        telling.style.explain,
+        catalogue,
+        outcome,
+        told.account,
+    )?;
+    write_pending_members(writer, catalogue, told.came, told.went)?;
     write_all(writer, b"}\n")
 }
 
