@@ -97,7 +97,8 @@ typedef struct sqlkeep_summary {
     /* 1 where something is left of the text that is no statement, else 0; and the byte, from 0, where that begins. */
     uint64_t has_fault;
     uint64_t fault_at;
-    /* How many refused COMMITs have an empty account, since memory was refused for it; 0 where no accounts are asked for. */
+    /* How many refused COMMITs have an empty account, or statements no lines of what is pending, since memory was refused for
+       it; 0 where no accounts are asked for. */
     uint64_t untold;
 } sqlkeep_summary;
 

@@ -157,12 +157,15 @@ def outcome_lines(outcome):
         yield '%(number)d refused %(cause)d %(name)s' % outcome + details(outcome)
     elif kind == 'rows':
         yield '%d rows %d' % (outcome['number'], len(outcome['rows']))
+        yield from ['  columns ' + ', '.join(outcome['columns'])] if 'columns' in outcome else []
         yield from ('| ' + row_text(row) for row in outcome['rows'])
     else:
         yield '%d ok' % outcome['number'] + (' %d' % outcome['count'] if kind == 'changed' else '')
     yield from ('  ' + line for line in account_lines(outcome.get('account', [])))
     yield from [about_text(outcome['about'])] if 'about' in outcome else []
     yield from ['  ' + outcome['reason']] if 'reason' in outcome else []
+    yield from ('  now pending ' + line for entry in outcome.get('now_pending', []) for line in entry_lines(entry))
+    yield from ('  no longer pending %(constraint)s: %(table)s row %(row)d' % gone for gone in outcome.get('no_longer_pending', []))
 
 
 def fault_lines(fault, explain):

@@ -517,7 +517,7 @@ fn write_constraint_rule<W: Sink>(
 }
 
 // The first of the rows, and what is wrong with it.
-fn write_fault_rows<W: Sink>(
+pub(crate) fn write_fault_rows<W: Sink>(
     sink: &mut W,
     catalogue: &Catalogue,
     outcome: &Result<Answer, Refusal>,

@@ -93,3 +93,15 @@ fn a_rollback_is_told_nothing(rt: HostRuntime) {
     ];
     shows::<PlainStore>(&rt, rt.alloc(), DEFERRED, &CALLS, "")
 }
+
+#[test]
+fn what_is_pending_is_told_with_its_rows(rt: HostRuntime) {
+    static CALLS: [Call; 2] = [Call::Execute, Call::Violations];
+    shows::<PlainStore>(
+        &rt,
+        rt.alloc(),
+        DEFERRED,
+        &CALLS,
+        "faulted 0 1, 1; faulted 0 3, 3; ",
+    )
+}
