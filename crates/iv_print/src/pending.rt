@@ -5,8 +5,9 @@ ghost use Rattle.std.specs.Option.{option_copied};
 ghost use Rattle.iv_machine.specs.declared.answer.Answer.TheVariants.{Done};
 ghost use Rattle.iv_print.specs.Lines.{name_of};
 ghost use Rattle.iv_print.specs.AccountLines.{fault_rows_text};
+ghost use Rattle.iv_print.specs.Json.{member};
 ghost use Rattle.iv_print.specs.JsonAccounts.{json_account};
-ghost use Rattle.iv_print.specs.PendingLines.{came_line, came_member, further_went, pending_lines, pending_members, row_of_members, row_of_text, went_line, went_member, went_object};
+ghost use Rattle.iv_print.specs.PendingLines.{came_line, came_member, further_went, pending_lines, pending_members, row_of_members, row_of_text, went_line, went_member, went_object, went_objects};
 ghost use Rattle.iv_print.specs.Writing.{Writes};
 
 use crate::account::{write_fault_rows, write_numbered};
@@ -105,6 +106,18 @@ fn write_row_of<W: Sink>(
     }
 }
 
+fn write_row_at<W: Sink>(
+    sink: &mut W,
+    catalogue: &Catalogue,
+    constraint: ConstraintId,
+    row: u64,
+) -> Result<(), DeviceFault>
+    ensures { Writes (W.state sink.old) (W.state sink.new) result
+        (row_of_text catalogue.now (slice_get catalogue.now.constraints constraint) row) }
+{
+    write_row_of(sink, catalogue, catalogue.constraint(constraint), row)
+}
+
 fn write_went<W: Sink>(
     sink: &mut W,
     catalogue: &Catalogue,
@@ -115,12 +128,7 @@ fn write_went<W: Sink>(
     write_all(sink, b"  no longer pending ")?;
     write_name(sink, catalogue.constraints(), fault.constraint)?;
     write_all(sink, b": ")?;
-    write_row_of(
-        sink,
-        catalogue,
-        catalogue.constraint(fault.constraint),
-        fault.row,
-    )?;
+    write_row_at(sink, catalogue, fault.constraint, fault.row)?;
     write_all(sink, b"\n")
 }
 
@@ -250,6 +258,37 @@ fn write_more_went<W: Sink>(
     Ok(())
 }
 
+fn write_went_objects<W: Sink>(
+    sink: &mut W,
+    catalogue: &Catalogue,
+    faults: &[Fault],
+) -> Result<(), DeviceFault>
+    ensures { Writes (W.state sink.old) (W.state sink.new) result
+        (went_objects catalogue.now faults.now) }
+{
+    match faults {
+        [] => write_all(sink, b""),
+        [fault, more @ ..] => {
+            write_went_object(sink, catalogue, fault)?;
+            write_more_went(sink, catalogue, more)
+        }
+    }
+}
+
+fn write_went_list<W: Sink>(
+    sink: &mut W,
+    catalogue: &Catalogue,
+    faults: &[Fault],
+) -> Result<(), DeviceFault>
+    ensures { Writes (W.state sink.old) (W.state sink.new) result
+        (member (codes "no_longer_pending") ++ (codes "[" ++ (went_objects catalogue.now faults.now ++ codes "]"))) }
+{
+    write_member(sink, b"no_longer_pending")?;
+    write_all(sink, b"[")?;
+    write_went_objects(sink, catalogue, faults)?;
+    write_all(sink, b"]")
+}
+
 fn write_went_member<W: Sink>(
     sink: &mut W,
     catalogue: &Catalogue,
@@ -260,13 +299,7 @@ fn write_went_member<W: Sink>(
 {
     match faults {
         [] => write_all(sink, b""),
-        [fault, more @ ..] => {
-            write_member(sink, b"no_longer_pending")?;
-            write_all(sink, b"[")?;
-            write_went_object(sink, catalogue, fault)?;
-            write_more_went(sink, catalogue, more)?;
-            write_all(sink, b"]")
-        }
+        [_, ..] => write_went_list(sink, catalogue, faults),
     }
 }
 
