@@ -112,7 +112,7 @@ static int transition(sqlkeep *session) {
     return 0;
 }
 
-/* update P; G: C row (1, 'a') refers to P ('a'), and F sets X to 'none', where G sets it to 'cd'. P is the table 4, and C 5. */
+/* update P; G: C row (1, 'a') refers to P ('a'), and F sets X to 'none', where G sets it to 'cd'. P is the table 4, and C 5; F is the constraint 6, and G 7. */
 static int disagreement(sqlkeep *session) {
     sqlkeep_outcome outcome;
     sqlkeep_entry_shown entry;
@@ -128,10 +128,10 @@ static int disagreement(sqlkeep *session) {
     WANT(executed(session, "UPDATE p SET k = 'b', l = 'cd';", &outcome) == SQLKEEP_REFUSED && outcome.cause == SQLKEEP_CAUSE_ACTION_CONFLICT);
     WANT(sqlkeep_entries(session, &count) == SQLKEEP_OK && count == 2);
     WANT(sqlkeep_entry(session, 1, &entry) == SQLKEEP_OK && entry.kind == SQLKEEP_ENTRY_DISAGREEMENT && entry.items == 1 && entry.is_unknown == 0);
-    WANT(entry.constraint == outcome.constraint && entry.row == outcome.row);
+    WANT(entry.constraint == 7 && entry.row == outcome.row);
     WANT(sqlkeep_entry_item(session, 1, 0, &item) == SQLKEEP_OK && item.table == 5 && item.row == entry.row && item.has_new == 1);
     WANT(is_integer(session, 1, 0, SQLKEEP_NEW, 0, 1) && is_text(session, 1, 0, SQLKEEP_NEW, 1, "a"));
-    WANT(sqlkeep_disagreement(session, 1, &how) == SQLKEEP_OK && how.earlier == entry.constraint - 1 && how.column == 1);
+    WANT(sqlkeep_disagreement(session, 1, &how) == SQLKEEP_OK && how.earlier == 6 && how.column == 1);
     WANT(how.earlier_value.kind == SQLKEEP_TEXT && how.earlier_value.length == 4 && how.value.kind == SQLKEEP_TEXT && how.value.length == 2);
     WANT(sqlkeep_disagreement_text(session, 1, SQLKEEP_OLD, 0, bytes, sizeof bytes, &count) == SQLKEEP_OK && count == 4 && memcmp(bytes, "none", 4) == 0);
     WANT(sqlkeep_disagreement_text(session, 1, SQLKEEP_NEW, 1, bytes, sizeof bytes, &count) == SQLKEEP_OK && count == 1 && bytes[0] == 'd');
