@@ -4,10 +4,12 @@
 mod account;
 mod buffered;
 mod cause;
+mod conflict;
 mod device;
 mod format;
 mod json;
 mod json_account;
+mod json_conflict;
 mod outcome;
 mod pending;
 mod write;

@@ -62,7 +62,8 @@ pub(crate) fn write_borrowed<W: Sink>(sink: &mut W, value: ValueRef<'_>) -> Resu
     }
 }
 
-fn write_value<W: Sink>(sink: &mut W, value: &Value) -> Result<(), DeviceFault>
+/// A value as text.
+pub(crate) fn write_value<W: Sink>(sink: &mut W, value: &Value) -> Result<(), DeviceFault>
     ensures { Writes (W.state sink.old) (W.state sink.new) result (value_text value.now) }
 {
     write_borrowed(sink, value.as_ref())
