@@ -14,17 +14,10 @@ use Rattle.iv_print.specs.JsonAccounts.{json_account, place_members}
 
 -- ---- in words
 
--- how the line of a violation that came begins, and that of one that went
-unfoldable pub now_words : List ℕ
-now_words = codes "  now pending "
-
-unfoldable pub no_longer_words : List ℕ
-no_longer_words = codes "  no longer pending "
-
 -- a violation that came, in the words of an account
 abbrev pub came_line : Schema → Entry → List ℕ
 came_line s (Faulted fault rows) =
-    now_words
+    codes "  now pending "
     ++ (name_of (slice_get s.constraints fault.constraint)
     ++ (codes ": " ++ (fault_rows_text s (Ok Done) (slice_get s.constraints fault.constraint) rows ++ codes "\n")))
 came_line s _ = []
@@ -37,7 +30,7 @@ row_of_text s None row = []
 -- a violation that went
 abbrev pub went_line : Schema → Fault → List ℕ
 went_line s f =
-    no_longer_words
+    codes "  no longer pending "
     ++ (name_of (slice_get s.constraints f.constraint) ++ (codes ": " ++ (row_of_text s (slice_get s.constraints f.constraint) f.row ++ codes "\n")))
 
 -- The lines of the violations that came, and then of those that went.
@@ -46,16 +39,10 @@ pending_lines s came went = flat_map (came_line s) came ++ flat_map (went_line s
 
 -- ---- in JSON
 
-unfoldable pub now_member : List ℕ
-now_member = member (codes "now_pending")
-
-unfoldable pub no_longer_member : List ℕ
-no_longer_member = member (codes "no_longer_pending")
-
 -- those that came, if any did
 abbrev pub came_member : Schema → List Entry → List ℕ
 came_member s [] = []
-came_member s (entry ∷ entries) = now_member ++ json_account s (Ok Done) (entry ∷ entries)
+came_member s (entry ∷ entries) = member (codes "now_pending") ++ json_account s (Ok Done) (entry ∷ entries)
 
 abbrev pub row_of_members : Schema → Option Constraint → ℕ → List ℕ
 row_of_members s (Some k) row = place_members s k.table row
@@ -75,7 +62,7 @@ further_went s f = codes "," ++ went_object s f
 abbrev pub went_member : Schema → List Fault → List ℕ
 went_member s [] = []
 went_member s (f ∷ faults) =
-    no_longer_member ++ (codes "[" ++ (went_object s f ++ (flat_map (further_went s) faults ++ codes "]")))
+    member (codes "no_longer_pending") ++ (codes "[" ++ (went_object s f ++ (flat_map (further_went s) faults ++ codes "]")))
 
 -- The members of the violations that came and of those that went.
 abbrev pub pending_members : Schema → List Entry → List Fault → List ℕ

@@ -6,7 +6,7 @@ ghost use Rattle.iv_machine.specs.declared.answer.Answer.TheVariants.{Done};
 ghost use Rattle.iv_print.specs.Lines.{name_of};
 ghost use Rattle.iv_print.specs.AccountLines.{fault_rows_text};
 ghost use Rattle.iv_print.specs.JsonAccounts.{json_account};
-ghost use Rattle.iv_print.specs.PendingLines.{came_line, came_member, further_went, no_longer_member, no_longer_words, now_member, now_words, pending_lines, pending_members, row_of_members, row_of_text, went_line, went_member, went_object};
+ghost use Rattle.iv_print.specs.PendingLines.{came_line, came_member, further_went, pending_lines, pending_members, row_of_members, row_of_text, went_line, went_member, went_object};
 ghost use Rattle.iv_print.specs.Writing.{Writes};
 
 use crate::account::{write_fault_rows, write_numbered};
@@ -21,20 +21,6 @@ use iv_expr::StoredRow;
 use iv_machine::Answer;
 
 // ---- in words
-
-#[tactic(auto, unfolding(crate::specs::PendingLines::now_words))]
-fn write_now<W: Sink>(sink: &mut W) -> Result<(), DeviceFault>
-    ensures { Writes (W.state sink.old) (W.state sink.new) result now_words }
-{
-    write_all(sink, b"  now pending ")
-}
-
-#[tactic(auto, unfolding(crate::specs::PendingLines::no_longer_words))]
-fn write_no_longer<W: Sink>(sink: &mut W) -> Result<(), DeviceFault>
-    ensures { Writes (W.state sink.old) (W.state sink.new) result no_longer_words }
-{
-    write_all(sink, b"  no longer pending ")
-}
 
 // The first of the rows, and what is wrong with it.
 fn write_rows<W: Sink>(
@@ -59,13 +45,13 @@ fn write_violation<W: Sink>(
     rows: &[StoredRow],
 ) -> Result<(), DeviceFault>
     ensures { Writes (W.state sink.old) (W.state sink.new) result
-        (now_words
+        (codes "  now pending "
         ++ (name_of (slice_get catalogue.now.constraints constraint)
         ++ (codes ": "
         ++ (fault_rows_text catalogue.now (Ok Done) (slice_get catalogue.now.constraints constraint) rows.now
         ++ codes "\n")))) }
 {
-    write_now(sink)?;
+    write_all(sink, b"  now pending ")?;
     write_name(sink, catalogue.constraints(), constraint)?;
     write_all(sink, b": ")?;
     write_rows(sink, catalogue, constraint, rows)?;
@@ -126,7 +112,7 @@ fn write_went<W: Sink>(
 ) -> Result<(), DeviceFault>
     ensures { Writes (W.state sink.old) (W.state sink.new) result (went_line catalogue.now fault.now) }
 {
-    write_no_longer(sink)?;
+    write_all(sink, b"  no longer pending ")?;
     write_name(sink, catalogue.constraints(), fault.constraint)?;
     write_all(sink, b": ")?;
     write_row_of(
@@ -170,20 +156,6 @@ pub fn write_pending_lines<W: Sink>(
 
 // ---- in JSON
 
-#[tactic(auto, unfolding(crate::specs::PendingLines::now_member))]
-fn write_now_member<W: Sink>(sink: &mut W) -> Result<(), DeviceFault>
-    ensures { Writes (W.state sink.old) (W.state sink.new) result now_member }
-{
-    write_member(sink, b"now_pending")
-}
-
-#[tactic(auto, unfolding(crate::specs::PendingLines::no_longer_member))]
-fn write_no_longer_member<W: Sink>(sink: &mut W) -> Result<(), DeviceFault>
-    ensures { Writes (W.state sink.old) (W.state sink.new) result no_longer_member }
-{
-    write_member(sink, b"no_longer_pending")
-}
-
 fn write_entries<W: Sink>(
     sink: &mut W,
     catalogue: &Catalogue,
@@ -198,18 +170,6 @@ fn write_entries<W: Sink>(
     written
 }
 
-fn write_all_entries<W: Sink>(
-    sink: &mut W,
-    catalogue: &Catalogue,
-    entries: &[Entry],
-) -> Result<(), DeviceFault>
-    ensures { Writes (W.state sink.old) (W.state sink.new) result
-        (now_member ++ json_account catalogue.now (Ok Done) entries.now) }
-{
-    write_now_member(sink)?;
-    write_entries(sink, catalogue, entries)
-}
-
 fn write_came_member<W: Sink>(
     sink: &mut W,
     catalogue: &Catalogue,
@@ -218,10 +178,13 @@ fn write_came_member<W: Sink>(
     ensures { Writes (W.state sink.old) (W.state sink.new) result
         (came_member catalogue.now entries.now) }
 {
-    if entries.is_empty() {
-        return write_all(sink, b"");
+    match entries {
+        [] => write_all(sink, b""),
+        [_, ..] => {
+            write_member(sink, b"now_pending")?;
+            write_entries(sink, catalogue, entries)
+        }
     }
-    write_all_entries(sink, catalogue, entries)
 }
 
 fn write_row_members<W: Sink>(
@@ -298,7 +261,7 @@ fn write_went_member<W: Sink>(
     match faults {
         [] => write_all(sink, b""),
         [fault, more @ ..] => {
-            write_no_longer_member(sink)?;
+            write_member(sink, b"no_longer_pending")?;
             write_all(sink, b"[")?;
             write_went_object(sink, catalogue, fault)?;
             write_more_went(sink, catalogue, more)?;
