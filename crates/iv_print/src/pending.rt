@@ -38,6 +38,23 @@ fn write_rows<W: Sink>(
     written
 }
 
+// Those after a colon.
+fn write_what<W: Sink>(
+    sink: &mut W,
+    catalogue: &Catalogue,
+    constraint: ConstraintId,
+    rows: &[StoredRow],
+) -> Result<(), DeviceFault>
+    ensures { Writes (W.state sink.old) (W.state sink.new) result
+        (codes ": "
+        ++ (fault_rows_text catalogue.now (Ok Done) (slice_get catalogue.now.constraints constraint) rows.now
+        ++ codes "\n")) }
+{
+    write_all(sink, b": ")?;
+    write_rows(sink, catalogue, constraint, rows)?;
+    write_all(sink, b"\n")
+}
+
 fn write_violation<W: Sink>(
     sink: &mut W,
     catalogue: &Catalogue,
@@ -53,9 +70,7 @@ fn write_violation<W: Sink>(
 {
     write_all(sink, b"  now pending ")?;
     write_name(sink, catalogue.constraints(), constraint)?;
-    write_all(sink, b": ")?;
-    write_rows(sink, catalogue, constraint, rows)?;
-    write_all(sink, b"\n")
+    write_what(sink, catalogue, constraint, rows)
 }
 
 fn write_came<W: Sink>(
@@ -105,6 +120,27 @@ fn write_row_of<W: Sink>(
     }
 }
 
+// The row after a colon.
+fn write_where<W: Sink>(
+    sink: &mut W,
+    catalogue: &Catalogue,
+    fault: &Fault,
+) -> Result<(), DeviceFault>
+    ensures { Writes (W.state sink.old) (W.state sink.new) result
+        (codes ": "
+        ++ (row_of_text catalogue.now (slice_get catalogue.now.constraints fault.now.constraint) fault.now.row
+        ++ codes "\n")) }
+{
+    write_all(sink, b": ")?;
+    write_row_of(
+        sink,
+        catalogue,
+        catalogue.constraint(fault.constraint),
+        fault.row,
+    )?;
+    write_all(sink, b"\n")
+}
+
 fn write_went<W: Sink>(
     sink: &mut W,
     catalogue: &Catalogue,
@@ -114,14 +150,7 @@ fn write_went<W: Sink>(
 {
     write_all(sink, b"  no longer pending ")?;
     write_name(sink, catalogue.constraints(), fault.constraint)?;
-    write_all(sink, b": ")?;
-    write_row_of(
-        sink,
-        catalogue,
-        catalogue.constraint(fault.constraint),
-        fault.row,
-    )?;
-    write_all(sink, b"\n")
+    write_where(sink, catalogue, fault)
 }
 
 fn write_all_went<W: Sink>(
@@ -250,6 +279,23 @@ fn write_more_went<W: Sink>(
     Ok(())
 }
 
+fn write_went_array<W: Sink>(
+    sink: &mut W,
+    catalogue: &Catalogue,
+    fault: &Fault,
+    more: &[Fault],
+) -> Result<(), DeviceFault>
+    ensures { Writes (W.state sink.old) (W.state sink.new) result
+        (codes "["
+        ++ (went_object catalogue.now fault.now
+        ++ (flat_map (further_went catalogue.now) more.now ++ codes "]"))) }
+{
+    write_all(sink, b"[")?;
+    write_went_object(sink, catalogue, fault)?;
+    write_more_went(sink, catalogue, more)?;
+    write_all(sink, b"]")
+}
+
 fn write_went_member<W: Sink>(
     sink: &mut W,
     catalogue: &Catalogue,
@@ -262,10 +308,7 @@ fn write_went_member<W: Sink>(
         [] => write_all(sink, b""),
         [fault, more @ ..] => {
             write_member(sink, b"no_longer_pending")?;
-            write_all(sink, b"[")?;
-            write_went_object(sink, catalogue, fault)?;
-            write_more_went(sink, catalogue, more)?;
-            write_all(sink, b"]")
+            write_went_array(sink, catalogue, fault, more)
         }
     }
 }
