@@ -106,8 +106,9 @@ function accountLabel({ account, answer, wentBack }) {
   const changes = counts.map(([kind, number]) => count(number, kind)).join(", ");
   const actions = account.filter((entry) => entry.kind === "action").length;
   const runs = account.filter((entry) => entry.kind === "trigger").length;
+  const skipped = account.filter((entry) => entry.kind === "skipped").length;
   const faults = account.filter((entry) => entry.kind === "violation").length;
-  const parts = [changes, actions && count(actions, "action"), runs && count(runs, "trigger run"), faults && count(faults, "violation"), wentBack.length && `${count(wentBack.length, "row")} went back`];
+  const parts = [changes, actions && count(actions, "action"), runs && count(runs, "trigger run"), skipped && `${count(skipped, "trigger")} skipped`, faults && count(faults, "violation"), wentBack.length && `${count(wentBack.length, "row")} went back`];
   return `Picture of the account: ${parts.filter(Boolean).join(", ")}${answer.kind === "refused" ? "; the statement is refused" : ""}. The account as text follows.`;
 }
 

@@ -214,17 +214,20 @@ abbrev pub refers_text : Schema → List Value → Option Constraint → List �
 refers_text s values (Some k) = rule_refers_text s values k.rule
 refers_text s values None = []
 
--- what the earlier foreign key sets a column of the table to, and what this one does
-abbrev pub settings_text : Schema → ℕ → ℕ → Disagreement → List ℕ
-settings_text s table constraint how =
+-- what the earlier foreign key sets a column of the table to
+abbrev pub earlier_text : Schema → ℕ → Disagreement → List ℕ
+earlier_text s table how =
     codes ", and "
     ++ (name_of (slice_get s.constraints how.earlier)
-    ++ (codes " sets "
-    ++ (column_name_in (slice_get s.tables table) how.column
-    ++ (codes " to "
-    ++ (value_text how.earlier_value
-    ++ (codes ", where "
-    ++ (name_of (slice_get s.constraints constraint) ++ (codes " sets it to " ++ value_text how.value))))))))
+    ++ (codes " sets " ++ (column_name_in (slice_get s.tables table) how.column ++ (codes " to " ++ value_text how.earlier_value))))
+
+-- what this one sets it to
+abbrev pub later_text : Schema → ℕ → Disagreement → List ℕ
+later_text s constraint how =
+    codes ", where " ++ (name_of (slice_get s.constraints constraint) ++ (codes " sets it to " ++ value_text how.value))
+
+abbrev pub settings_text : Schema → ℕ → ℕ → Disagreement → List ℕ
+settings_text s table constraint how = earlier_text s table how ++ later_text s constraint how
 
 -- the first of the rows, the key to which it refers, and how the two foreign keys disagree
 abbrev pub conflict_text : Schema → ℕ → List StoredRow → Disagreement → List ℕ

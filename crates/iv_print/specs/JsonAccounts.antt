@@ -221,8 +221,11 @@ skipped_entry s id seen =
     ++ (member (codes "trigger") ++ (json_text (trigger_name (trigger_numbered s id)) ++ skipped_members seen))
 
 -- a statement that ends as it begins
+abbrev pub changes_nothing : List ℕ
+changes_nothing = member (codes "changes_nothing") ++ codes "true"
+
 abbrev pub nothing_member : Bool → List ℕ
-nothing_member true = member (codes "changes_nothing") ++ codes "true"
+nothing_member true = changes_nothing
 nothing_member false = []
 
 -- A nested statement by its place in the trigger's body. Its entries follow, in an array that its end closes.

@@ -58,11 +58,14 @@ went_object s f =
 abbrev pub further_went : Schema → Fault → List ℕ
 further_went s f = codes "," ++ went_object s f
 
+abbrev pub went_objects : Schema → List Fault → List ℕ
+went_objects s [] = []
+went_objects s (f ∷ faults) = went_object s f ++ flat_map (further_went s) faults
+
 -- those that went, if any did
 abbrev pub went_member : Schema → List Fault → List ℕ
 went_member s [] = []
-went_member s (f ∷ faults) =
-    member (codes "no_longer_pending") ++ (codes "[" ++ (went_object s f ++ (flat_map (further_went s) faults ++ codes "]")))
+went_member s (f ∷ faults) = member (codes "no_longer_pending") ++ (codes "[" ++ (went_objects s (f ∷ faults) ++ codes "]"))
 
 -- The members of the violations that came and of those that went.
 abbrev pub pending_members : Schema → List Entry → List Fault → List ℕ

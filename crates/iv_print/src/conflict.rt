@@ -2,7 +2,7 @@
 ghost use Rattle.std.specs.Prelude.{◌≡◌, slice_get};
 ghost use Rattle.std.specs.Option.{option_copied};
 ghost use Rattle.iv_print.specs.Writing.{Writes};
-ghost use Rattle.iv_print.specs.AccountLines.{conflict_line, conflict_text, refers_text, rule_refers_text, settings_text};
+ghost use Rattle.iv_print.specs.AccountLines.{conflict_line, conflict_text, earlier_text, later_text, refers_text, rule_refers_text, settings_text};
 
 use crate::account::{
     write_column_in, write_indent, write_listed, write_numbered, write_referenced,
@@ -47,6 +47,40 @@ fn write_refers<W: Sink>(
     }
 }
 
+// What the earlier foreign key sets a column to.
+fn write_earlier<W: Sink>(
+    sink: &mut W,
+    catalogue: &Catalogue,
+    table: TableId,
+    how: &Disagreement,
+) -> Result<(), DeviceFault>
+    ensures { Writes (W.state sink.old) (W.state sink.new) result
+        (earlier_text catalogue.now table how.now) }
+{
+    write_all(sink, b", and ")?;
+    write_name(sink, catalogue.constraints(), how.earlier)?;
+    write_all(sink, b" sets ")?;
+    write_column_in(sink, catalogue.table(table), how.column)?;
+    write_all(sink, b" to ")?;
+    write_value(sink, &how.earlier_value)
+}
+
+// What this one sets it to.
+fn write_later<W: Sink>(
+    sink: &mut W,
+    catalogue: &Catalogue,
+    constraint: ConstraintId,
+    how: &Disagreement,
+) -> Result<(), DeviceFault>
+    ensures { Writes (W.state sink.old) (W.state sink.new) result
+        (later_text catalogue.now constraint how.now) }
+{
+    write_all(sink, b", where ")?;
+    write_name(sink, catalogue.constraints(), constraint)?;
+    write_all(sink, b" sets it to ")?;
+    write_value(sink, &how.value)
+}
+
 // What the earlier foreign key sets a column to, and what this one does.
 fn write_settings<W: Sink>(
     sink: &mut W,
@@ -58,16 +92,8 @@ fn write_settings<W: Sink>(
     ensures { Writes (W.state sink.old) (W.state sink.new) result
         (settings_text catalogue.now table constraint how.now) }
 {
-    write_all(sink, b", and ")?;
-    write_name(sink, catalogue.constraints(), how.earlier)?;
-    write_all(sink, b" sets ")?;
-    write_column_in(sink, catalogue.table(table), how.column)?;
-    write_all(sink, b" to ")?;
-    write_value(sink, &how.earlier_value)?;
-    write_all(sink, b", where ")?;
-    write_name(sink, catalogue.constraints(), constraint)?;
-    write_all(sink, b" sets it to ")?;
-    write_value(sink, &how.value)
+    write_earlier(sink, catalogue, table, how)?;
+    write_later(sink, catalogue, constraint, how)
 }
 
 // The first of the rows, the key to which it refers, and how the foreign keys disagree.

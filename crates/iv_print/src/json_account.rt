@@ -7,7 +7,7 @@ ghost use Rattle.iv_key.specs.Keys.{key_of};
 ghost use Rattle.iv_print.specs.Writing.{Writes};
 ghost use Rattle.iv_print.specs.AccountLines.{column_name, column_name_in, table_name};
 ghost use Rattle.iv_print.specs.Json.{further_value, json_text, json_values};
-ghost use Rattle.iv_print.specs.JsonAccounts.{acted_entry, acting_members, action_name, because, began_entry, begins, changed_entry, constraint_rule_members, ends, entry_key, equal_members, event_member, event_name, further_action, further_change, json_account, json_action, json_actions, json_change, json_changes, json_entries, json_entry, key_members, nothing_member, null_members, place_members, ran_entry, reference_members, reference_reason, referenced_members, rule_members, saw_member, seen_members, skipped_entry, skipped_members, separator, side_member, side_members, violation_entry, violation_members};
+ghost use Rattle.iv_print.specs.JsonAccounts.{acted_entry, acting_members, action_name, because, began_entry, begins, changed_entry, changes_nothing, constraint_rule_members, ends, entry_key, equal_members, event_member, event_name, further_action, further_change, json_account, json_action, json_actions, json_change, json_changes, json_entries, json_entry, key_members, nothing_member, null_members, place_members, ran_entry, reference_members, reference_reason, referenced_members, rule_members, saw_member, seen_members, skipped_entry, skipped_members, separator, side_member, side_members, violation_entry, violation_members};
 ghost use Rattle.iv_machine.specs.BeforeTriggers.{event_of_change};
 
 use crate::account::{depth_after, ends_next, truth_name};
@@ -596,12 +596,18 @@ fn write_skipped<W: Sink>(
     write_skipped_view(sink, seen)
 }
 
+fn write_changes_nothing<W: Sink>(sink: &mut W) -> Result<(), DeviceFault>
+    ensures { Writes (W.state sink.old) (W.state sink.new) result changes_nothing }
+{
+    write_member(sink, b"changes_nothing")?;
+    write_all(sink, b"true")
+}
+
 fn write_nothing<W: Sink>(sink: &mut W, nothing: bool) -> Result<(), DeviceFault>
     ensures { Writes (W.state sink.old) (W.state sink.new) result (nothing_member nothing) }
 {
     if nothing {
-        write_member(sink, b"changes_nothing")?;
-        write_all(sink, b"true")
+        write_changes_nothing(sink)
     } else {
         write_all(sink, b"")
     }

@@ -5,8 +5,9 @@ ghost use Rattle.std.specs.Option.{option_copied};
 ghost use Rattle.iv_machine.specs.declared.answer.Answer.TheVariants.{Done};
 ghost use Rattle.iv_print.specs.Lines.{name_of};
 ghost use Rattle.iv_print.specs.AccountLines.{fault_rows_text};
+ghost use Rattle.iv_print.specs.Json.{member};
 ghost use Rattle.iv_print.specs.JsonAccounts.{json_account};
-ghost use Rattle.iv_print.specs.PendingLines.{came_line, came_member, further_went, pending_lines, pending_members, row_of_members, row_of_text, went_line, went_member, went_object};
+ghost use Rattle.iv_print.specs.PendingLines.{came_line, came_member, further_went, pending_lines, pending_members, row_of_members, row_of_text, went_line, went_member, went_object, went_objects};
 ghost use Rattle.iv_print.specs.Writing.{Writes};
 
 use crate::account::{write_fault_rows, write_numbered};
@@ -38,23 +39,6 @@ fn write_rows<W: Sink>(
     written
 }
 
-// Those after a colon.
-fn write_what<W: Sink>(
-    sink: &mut W,
-    catalogue: &Catalogue,
-    constraint: ConstraintId,
-    rows: &[StoredRow],
-) -> Result<(), DeviceFault>
-    ensures { Writes (W.state sink.old) (W.state sink.new) result
-        (codes ": "
-        ++ (fault_rows_text catalogue.now (Ok Done) (slice_get catalogue.now.constraints constraint) rows.now
-        ++ codes "\n")) }
-{
-    write_all(sink, b": ")?;
-    write_rows(sink, catalogue, constraint, rows)?;
-    write_all(sink, b"\n")
-}
-
 fn write_violation<W: Sink>(
     sink: &mut W,
     catalogue: &Catalogue,
@@ -70,7 +54,9 @@ fn write_violation<W: Sink>(
 {
     write_all(sink, b"  now pending ")?;
     write_name(sink, catalogue.constraints(), constraint)?;
-    write_what(sink, catalogue, constraint, rows)
+    write_all(sink, b": ")?;
+    write_rows(sink, catalogue, constraint, rows)?;
+    write_all(sink, b"\n")
 }
 
 fn write_came<W: Sink>(
@@ -120,25 +106,16 @@ fn write_row_of<W: Sink>(
     }
 }
 
-// The row after a colon.
-fn write_where<W: Sink>(
+fn write_row_at<W: Sink>(
     sink: &mut W,
     catalogue: &Catalogue,
-    fault: &Fault,
+    constraint: ConstraintId,
+    row: u64,
 ) -> Result<(), DeviceFault>
     ensures { Writes (W.state sink.old) (W.state sink.new) result
-        (codes ": "
-        ++ (row_of_text catalogue.now (slice_get catalogue.now.constraints fault.now.constraint) fault.now.row
-        ++ codes "\n")) }
+        (row_of_text catalogue.now (slice_get catalogue.now.constraints constraint) row) }
 {
-    write_all(sink, b": ")?;
-    write_row_of(
-        sink,
-        catalogue,
-        catalogue.constraint(fault.constraint),
-        fault.row,
-    )?;
-    write_all(sink, b"\n")
+    write_row_of(sink, catalogue, catalogue.constraint(constraint), row)
 }
 
 fn write_went<W: Sink>(
@@ -150,7 +127,9 @@ fn write_went<W: Sink>(
 {
     write_all(sink, b"  no longer pending ")?;
     write_name(sink, catalogue.constraints(), fault.constraint)?;
-    write_where(sink, catalogue, fault)
+    write_all(sink, b": ")?;
+    write_row_at(sink, catalogue, fault.constraint, fault.row)?;
+    write_all(sink, b"\n")
 }
 
 fn write_all_went<W: Sink>(
@@ -279,20 +258,34 @@ fn write_more_went<W: Sink>(
     Ok(())
 }
 
-fn write_went_array<W: Sink>(
+fn write_went_objects<W: Sink>(
     sink: &mut W,
     catalogue: &Catalogue,
-    fault: &Fault,
-    more: &[Fault],
+    faults: &[Fault],
 ) -> Result<(), DeviceFault>
     ensures { Writes (W.state sink.old) (W.state sink.new) result
-        (codes "["
-        ++ (went_object catalogue.now fault.now
-        ++ (flat_map (further_went catalogue.now) more.now ++ codes "]"))) }
+        (went_objects catalogue.now faults.now) }
 {
+    match faults {
+        [] => write_all(sink, b""),
+        [fault, more @ ..] => {
+            write_went_object(sink, catalogue, fault)?;
+            write_more_went(sink, catalogue, more)
+        }
+    }
+}
+
+fn write_went_list<W: Sink>(
+    sink: &mut W,
+    catalogue: &Catalogue,
+    faults: &[Fault],
+) -> Result<(), DeviceFault>
+    ensures { Writes (W.state sink.old) (W.state sink.new) result
+        (member (codes "no_longer_pending") ++ (codes "[" ++ (went_objects catalogue.now faults.now ++ codes "]"))) }
+{
+    write_member(sink, b"no_longer_pending")?;
     write_all(sink, b"[")?;
-    write_went_object(sink, catalogue, fault)?;
-    write_more_went(sink, catalogue, more)?;
+    write_went_objects(sink, catalogue, faults)?;
     write_all(sink, b"]")
 }
 
@@ -306,10 +299,7 @@ fn write_went_member<W: Sink>(
 {
     match faults {
         [] => write_all(sink, b""),
-        [fault, more @ ..] => {
-            write_member(sink, b"no_longer_pending")?;
-            write_went_array(sink, catalogue, fault, more)
-        }
+        [_, ..] => write_went_list(sink, catalogue, faults),
     }
 }
 

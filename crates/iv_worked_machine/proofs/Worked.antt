@@ -245,6 +245,7 @@ accounts = record {
   two_keys_disagree = refl;
   second_column_of_the_later_key = refl;
   first_of_two_earlier_keys = refl;
+  conflict_of_a_row_of_the_wave = refl;
   first_other_row = refl;
   null_primary_keys = refl;
   nulls_not_distinct = refl;

@@ -389,6 +389,16 @@ pub record WorkedAccounts : Type 0 where
       ∷ Disagreed (fault 3 2) (stored 1 2 (1 ∷ 1 ∷ 1 ∷ []) ∷ [])
       (record { earlier = 1; column = 1; earlier_value = int 6; value = Null })
       ∷ []
+  -- CREATE TABLE t (k INT PRIMARY KEY, l INT UNIQUE, x INT REFERENCES t (k) ON UPDATE CASCADE REFERENCES t (l) ON UPDATE CASCADE);
+  -- INSERT INTO t VALUES (1, 1, 1); UPDATE t SET k = 2, l = 3; the row is told as it was before the wave
+  pub conflict_of_a_row_of_the_wave : told (
+      create_table (integer_column ∷ integer_column ∷ integer_column ∷ [])
+      (not_deferrable 0 (rule.PrimaryKey (0 ∷ [])) ∷ not_deferrable 0 (rule.Unique Distinct (1 ∷ []))
+      ∷ not_deferrable 0 (references_rule 2 0 0 NoAction Cascade) ∷ not_deferrable 0 (references_rule 2 0 1 NoAction Cascade) ∷ [])
+      ∷ insert_row 0 (numbers (1 ∷ 1 ∷ 1 ∷ [])) ∷ update 0 (setting 0 (number 2) ∷ setting 1 (number 3) ∷ []) Always ∷ [])
+      ≡ Changed (updated 0 1 (1 ∷ 1 ∷ 1 ∷ []) (2 ∷ 3 ∷ 1 ∷ []) ∷ [])
+      ∷ Disagreed (fault 3 1) (stored 0 1 (1 ∷ 1 ∷ 1 ∷ []) ∷ []) (record { earlier = 2; column = 2; earlier_value = int 2; value = int 3 })
+      ∷ []
   -- ---- rows of a violation
   -- CREATE TABLE t (a INT UNIQUE); INSERT INTO t VALUES (1), (1), (1); the first other row of the key
   pub first_other_row : told (
